@@ -1,0 +1,11 @@
+-- When an object of the outside may say that it failed: a count of its faults never falls, and it answers
+-- Failed only where this count rose in the call. A count that stands at the greatest u64 counts as risen.
+use Rattle.std.specs.Prelude.{ℕ, ◌+◌, ◌-◌, ◌^◌, ◌≤◌, min, Result, OnErr}
+
+abbrev pub Rose : ℕ → ℕ → Type 0
+Rose before now = min (before + 1) (2 ^ 64 - 1) ≤ now
+
+-- The count did not fall, and an error has its cause in it.
+pub record HasCause {T E : Type 0} (before now : ℕ) (result : Result T E) : Type 0 where
+  pub later : before ≤ now
+  pub failed : OnErr result (Rose before now)
