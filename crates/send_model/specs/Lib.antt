@@ -6,3 +6,16 @@ pub mod Command
 pub mod Spelling
 pub mod Reading
 pub mod Path
+pub mod Map
+pub mod Subvolume
+pub mod Edit
+pub mod Clone
+pub mod Store
+pub mod Receive
+pub mod Order
+pub mod Outside
+pub mod Provenance
+pub mod Counts
+pub mod Composed
+pub mod Answer
+pub mod Headline

@@ -8,7 +8,7 @@ use Rattle.std.specs.Int.{w16, w32, to_le_bytes, from_le_bytes}
 use Rattle.send_model.specs.Refusal.{Refusal, BadMagic, BadVersion, Truncated, LongCommand, BadChecksum, UnknownCommand, BadAttribute, MissingAttribute, BadTime, NotBuilt}
 use Rattle.send_model.specs.Chain.{◌>>=◌, ◌>>◌, require, refuse_if, found}
 use Rattle.send_model.specs.Attribute.{Form, AnIdentifier, ANumber, AMoment, AnyBytes, form_of, Time, second, last_attribute, DATA, is_one_of}
-use Rattle.send_model.specs.Command.{Kind, SUBVOL, MKFILE, WRITE, END, Command, End, row, kind_of_number, command_with, time_in}
+use Rattle.send_model.specs.Command.{Kind, SUBVOL, SNAPSHOT, MKFILE, WRITE, TRUNCATE, END, UPDATE_EXTENT, Command, End, row, kind_of_number, command_with, time_in}
 use Rattle.send_model.specs.Spelling.{Attribute, magic, value_of, frame_checksum, greatest_body}
 
 -- Numbers of two and four bytes at the front of a list.
@@ -127,16 +127,20 @@ command_of version number attributes = do
 
 -- ---- which commands the program takes today
 
--- The kinds that are taken, at a command's number in its file. The others are NotBuilt.
-unfoldable pub is_taken : ℕ → Kind → Bool
-is_taken command SUBVOL = command == 1
-is_taken command MKFILE = true
-is_taken command WRITE = true
-is_taken command END = true
-is_taken command _ = false
+-- The kinds that are taken. The others are NotBuilt.
+unfoldable pub is_taken : Kind → Bool
+is_taken SUBVOL = true
+is_taken SNAPSHOT = true
+is_taken MKFILE = true
+is_taken WRITE = true
+is_taken TRUNCATE = true
+is_taken END = true
+is_taken UPDATE_EXTENT = true
+is_taken _ = false
 
-abbrev pub taken : ℕ → ℕ → ℕ → Result (Unit {0}) Refusal
-taken version command number = elim (kind_of_number version number) [ None ↦ Ok tt | Some kind ↦ require (is_taken command kind) (NotBuilt number) ]
+-- A known number whose command is not taken yet is refused; an unknown one is left to the next rule.
+unfoldable pub taken : ℕ → ℕ → Result (Unit {0}) Refusal
+taken version number = elim (kind_of_number version number) [ None ↦ Ok tt | Some kind ↦ require (is_taken kind) (NotBuilt number) ]
 
 -- ---- a file
 
@@ -183,7 +187,7 @@ unfoldable pub front_of : ℕ → ℕ → ℕ → ℕ → List ℕ → Result Fr
 front_of file version number offset bytes = do
   frame ← frame_at bytes
   attributes ← attributes_at version frame.body
-  taken version number frame.number
+  taken version frame.number
   command ← command_of version frame.number attributes
   Ok (record { item = record { file = file; number = number; offset = offset; version = version; data_at = data_place offset attributes; command = command }; rest = frame.rest })
 
