@@ -1,1 +1,2 @@
 mod ReadingExamples
+mod Sorts

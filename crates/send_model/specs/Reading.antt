@@ -215,7 +215,7 @@ may_end _ _ = false
 -- The items of the bytes from a place on, where the next command has the given number. The first number bounds how many
 -- headers and commands there are; one more than the length of the bytes is always enough.
 unfoldable pub reads_from : ℕ → ℕ → Due → ℕ → ℕ → List ℕ → Reading
-reads_from zero file due number offset bytes = record { items = []; end = Whole }
+reads_from zero file due number offset bytes = faulty file number offset Truncated
 reads_from (suc n) file HeaderDue number offset bytes = elim (stream_version bytes) [
     | Err refusal ↦ faulty file number offset refusal
     | Ok version ↦ reads_from n file (CommandDue version) number (offset + header_len) (drop header_len bytes)

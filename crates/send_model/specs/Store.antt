@@ -100,12 +100,14 @@ pub record Stepped (C : Type 0) : Type 0 where
 abbrev pub unfinished : {C : Type 0} → Head → Entry C
 unfinished head = record { name = head.name; key = head.key; parent = head.parent; contents = None }
 
+-- What stands after a head: a new part that starts from a subvolume, or no part and the refusal.
+abbrev pub entered : {C : Type 0} → Store C → Head → Result (Subvolume C) Refusal → Stepped C
+entered store head (Err refusal) = record { state = record { store = store; part = None }; refusal = Some refusal }
+entered store head (Ok start) = record { state = record { store = store ++ unfinished head ∷ []; part = Some (record { key = head.key; subvolume = start }) }; refusal = None }
+
 -- A head completes the part before it; then it begins the new one, or is refused and there is no part.
 unfoldable pub step_head : {C : Type 0} → State C → Head → Stepped C
-step_head state head = elim (begun (completed state) head) [
-    | Err refusal ↦ record { state = record { store = completed state; part = None }; refusal = Some refusal }
-    | Ok start ↦ record { state = record { store = completed state ++ unfinished head ∷ []; part = Some (record { key = head.key; subvolume = start }) }; refusal = None }
-  ]
+step_head state head = entered (completed state) head (begun (completed state) head)
 
 -- The subvolume that a clone reads: the part as it is, where it names the part's own uuid, else the complete one of the key.
 abbrev pub clone_source : {C : Type 0} → Store C → Part C → Key → Option (Subvolume C)
@@ -118,13 +120,15 @@ edit_part zero_cell put store part (Clone path offset clone_uuid clone_ctransid 
       (bytes_eq clone_uuid part.key.uuid) path offset clone_path clone_offset clone_len
 edit_part zero_cell put store part command = edit zero_cell put command part.subvolume
 
+-- What stands after an edit: the part with another subvolume, or as it was, and the refusal.
+abbrev pub edited : {C : Type 0} → Store C → Part C → Result (Subvolume C) Refusal → Stepped C
+edited store part (Err refusal) = record { state = record { store = store; part = Some part }; refusal = Some refusal }
+edited store part (Ok s) = record { state = record { store = store; part = Some (record { key = part.key; subvolume = s }) }; refusal = None }
+
 unfoldable pub step_edit : {C : Type 0} → C → List C → State C → Command → Stepped C
 step_edit zero_cell put state command = elim state.part [
     | None ↦ record { state = state; refusal = Some NoSubvolume }
-    | Some part ↦ elim (edit_part zero_cell put state.store part command) [
-        | Err refusal ↦ record { state = state; refusal = Some refusal }
-        | Ok s ↦ record { state = record { store = state.store; part = Some (record { key = part.key; subvolume = s }) }; refusal = None }
-      ]
+    | Some part ↦ edited state.store part (edit_part zero_cell put state.store part command)
   ]
 
 -- One command, where a WRITE puts the given cells: a head, END, or an edit of the part.
