@@ -1,2 +1,5 @@
 mod ReadingExamples
 mod Sorts
+mod Runs
+mod Stores
+mod Merging

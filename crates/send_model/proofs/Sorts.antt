@@ -50,7 +50,7 @@ pub plain_step_without : {C : Type 0} (zero_cell : C) (put : List C) (store : St
 unfolding step_edit
 plain_step_without zero_cell put store c h = rw (plain_step_edit zero_cell put (record { store = store; part = None }) c h) refl
 
-same_inside : {A : Type 0} {x y : A} → Some x ≡ Some y → x ≡ y
+pub same_inside : {A : Type 0} {x y : A} → Some x ≡ Some y → x ≡ y
 same_inside {x = x} e = ap (λ o. unwrap_or o x) e
 
 pub head_step : {C : Type 0} (zero_cell : C) (put : List C) (state : State C) (c : Command) (h : Head) → head_of c ≡ Some h → step zero_cell put state c ≡ step_head state h

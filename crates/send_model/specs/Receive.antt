@@ -21,14 +21,18 @@ pub record Run (C : Type 0) : Type 0 where
   pub state : State C
   pub refused : Option Verdict
 
+-- What follows an item's step: the run of the rest, or the verdict on a step that was refused.
+abbrev pub then_run : {C : Type 0} → Item → Stepped C → Run C → Run C
+then_run item stepped rest = elim stepped.refusal [
+    | Some refusal ↦ record { state = stepped.state; refused = Some (verdict_of item refusal) }
+    | None ↦ rest
+  ]
+
 -- The commands of items in order, where each WRITE puts the cells of its item.
 unfoldable pub run_items : {C : Type 0} → C → (Item → List C) → State C → List Item → Run C
 run_items zero_cell cells state [] = record { state = state; refused = None }
 run_items zero_cell cells state (item ∷ items) = let stepped = step zero_cell (cells item) state item.command in
-    elim stepped.refusal [
-      | Some refusal ↦ record { state = stepped.state; refused = Some (verdict_of item refusal) }
-      | None ↦ run_items zero_cell cells stepped.state items
-    ]
+    then_run item stepped (run_items zero_cell cells stepped.state items)
 
 -- The fault with which reading ended, if any.
 abbrev pub fault_of : Ending → Option Verdict
