@@ -3,3 +3,4 @@ mod Sorts
 mod Runs
 mod Stores
 mod Merging
+mod Composing

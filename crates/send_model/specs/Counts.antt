@@ -1,7 +1,7 @@
 -- The literal bytes and the clones among commands.
 use Rattle.std.specs.Prelude.{ℕ, ◌+◌, Bool, true, false, not, ◌&&◌, List, [], ◌∷◌, map, length, Option, None, sum, if◌then◌else◌}
 use Rattle.std.specs.List.{count_by}
-use Rattle.send_model.specs.Command.{Command, Clone}
+use Rattle.send_model.specs.Command.{Command, Clone, End}
 use Rattle.send_model.specs.Reading.{Item, input}
 use Rattle.send_model.specs.Receive.{bytes_of}
 use Rattle.send_model.specs.Order.{commands_of}
@@ -18,6 +18,14 @@ is_clone _ = false
 
 unfoldable pub clones : List Command → ℕ
 clones commands = count_by is_clone commands
+
+abbrev pub is_end : Command → Bool
+is_end End = true
+is_end _ = false
+
+-- How many streams the commands make: each ends with one END.
+unfoldable pub streams : List Command → ℕ
+streams commands = count_by is_end commands
 
 -- The clones that are not redirected, where the current part has the given uuid.
 unfoldable pub kept_from : List (List ℕ) → Option (List ℕ) → List Command → ℕ

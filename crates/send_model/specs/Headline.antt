@@ -3,16 +3,16 @@
 -- the last name nor uuid, accepts it and gets exactly the last stream's subvolume; and it writes literally only the streams' own
 -- bytes and cloned blocks that no outside subvolume carries.
 use Rattle.std.specs.Prelude.{◌≡◌, ◌≢◌, ℕ, ◌+◌, false, List, [], ◌∷◌, ◌++◌, length, Option, None, Some, ◌⊎◌}
-use Rattle.std.specs.List.{Contains}
-use Rattle.send_model.specs.Command.{Command, End}
-use Rattle.send_model.specs.Reading.{Item, Whole, Reading, reads, input}
+use Rattle.std.specs.List.{AllByRecursion}
+use Rattle.send_model.specs.Command.{Command}
+use Rattle.send_model.specs.Reading.{Whole, reads, input}
 use Rattle.send_model.specs.Subvolume.{Subvolume}
 use Rattle.send_model.specs.Store.{Key, Head, Entry, Store, IsStore, has_name, has_uuid, find}
 use Rattle.send_model.specs.Receive.{IsAccepted, receive}
-use Rattle.send_model.specs.Order.{heads, commands_of, IsConsecutive}
-use Rattle.send_model.specs.Outside.{outside, all_keys_named, SameOn}
+use Rattle.send_model.specs.Order.{heads, heads_of, commands_of, IsConsecutive}
+use Rattle.send_model.specs.Outside.{outside, all_keys_named, IsAmong, SameOn}
 use Rattle.send_model.specs.Provenance.{uncarried, runs}
-use Rattle.send_model.specs.Counts.{literal, clones, kept}
+use Rattle.send_model.specs.Counts.{literal, clones, streams, kept}
 use Rattle.send_model.specs.Composed.{first_head, last_head}
 
 -- The commands of a stream that was written.
@@ -46,13 +46,13 @@ pub record IsComposed (base : Store ℕ) (files : List (List ℕ)) (written : Li
   pub subvolume_is : find (receive base files).state.store last.key ≡ Some subvolume
   -- one stream with one part
   pub whole : (reads 1 written).end ≡ Whole
-  pub one_part : length (heads (reads 1 written).items) ≡ 1
-  pub one_end : (i : Item) → Contains (reads 1 written).items i → i.command ≡ End → i.number ≡ length (reads 1 written).items
+  pub one_part : length (heads_of (commands_in written)) ≡ 1
+  pub one_stream : streams (commands_in written) ≡ 1
   -- every such store accepts it, keeps what it had, and gets exactly the last part's subvolume
   pub accepted_by : (store : Store ℕ) → CanReceive base files last store → IsAccepted (receive store (written ∷ []))
   pub gets : (store : Store ℕ) → CanReceive base files last store → (receive store (written ∷ [])).state.store ≡ store ++ last_entry first last subvolume ∷ []
   -- it names only the outside subvolumes, beside itself
-  pub names_only : (key : Key) → Contains (all_keys_named (commands_in written)) key → Contains (outside files) key ⊎ (key ≡ last.key)
+  pub names_only : AllByRecursion (λ key. IsAmong key (outside files) ⊎ (key ≡ last.key)) (all_keys_named (commands_in written))
   -- its literal bytes are the files' own and those of cloned blocks that no outside subvolume carries
   pub literal_bytes : literal (commands_in written) ≡ literal (commands_of (input files).items) + uncarried base files
   pub clone_count : clones (commands_in written) ≡ kept files + runs base files

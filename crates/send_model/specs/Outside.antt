@@ -1,5 +1,5 @@
 -- What files need of a store beside their own parts: the subvolumes that they name as parents and as sources of clones.
-use Rattle.std.specs.Prelude.{◌≡◌, ℕ, Bool, not, List, [], ◌∷◌, ◌++◌, map, Option, None, Some, if◌then◌else◌}
+use Rattle.std.specs.Prelude.{◌≡◌, ◌⊎◌, ℕ, Bool, not, List, [], ◌∷◌, ◌++◌, map, Option, None, Some, if◌then◌else◌}
 use Rattle.std.specs.List.{list_any, filter, flat_map, AllByRecursion}
 use Rattle.std.specs.Str.{bytes_eq}
 use Rattle.send_model.specs.Command.{Command, Snapshot, Clone}
@@ -37,6 +37,11 @@ keys_outside items = filter (λ key. not (is_among (part_uuids items) key.uuid))
 
 unfoldable pub outside : List (List ℕ) → List Key
 outside files = keys_outside (input files).items
+
+-- A key is one of some keys.
+abbrev pub IsAmong : Key → List Key → Type 0
+IsAmong key [] = ⊥
+IsAmong key (k ∷ keys) = (k ≡ key) ⊎ IsAmong key keys
 
 -- Two stores find the same under each of the keys.
 abbrev pub SameOn : {C : Type 0} → Store C → Store C → List Key → Type 0
