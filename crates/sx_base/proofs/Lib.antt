@@ -1,0 +1,4 @@
+pub mod EscapedExamples
+pub mod EscapedSteps
+pub mod FileSteps
+pub mod Pieces

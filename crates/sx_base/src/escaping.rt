@@ -1,0 +1,49 @@
+// The escaped form of bytes.
+ghost use Rattle.std.specs.Prelude.{◌≡◌, ℕ, ◌<◌, ◌++◌, OnOk, OnErr};
+ghost use Rattle.sx_base.specs.Escaped.{is_plain, hex_digit, escaped_byte, escaped};
+
+use crate::blob::Blob;
+use std::alloc::AllocError;
+
+/// Appends the escaped form of the bytes, or changes nothing where there is no memory. Visible characters of
+/// ASCII but the backslash stand for themselves; every other byte is `\x` and two lower hexadecimal digits.
+pub fn escape_into(bytes: &[u8], to: &mut Blob) -> Result<(), AllocError>
+    ensures appended { OnOk result (to.new ≡ to.old ++ escaped bytes.now) }
+    ensures same { OnErr result (to.new ≡ to.old) }
+{
+    let start = to.as_slice().len();
+    for byte in bytes {
+        if let Err(refused) = push_escaped(*byte, to) {
+            to.cut(start);
+            return Err(refused);
+        }
+    }
+    Ok(())
+}
+
+#[tactic(auto, unfolding(crate::specs::Escaped::escaped_byte))]
+fn push_escaped(byte: u8, to: &mut Blob) -> Result<(), AllocError>
+    ensures appended { OnOk result (to.new ≡ to.old ++ escaped_byte byte) }
+    ensures same { OnErr result (to.new ≡ to.old) }
+{
+    if stands_for_itself(byte) {
+        to.push_all(&[byte])
+    } else {
+        to.push_all(&[b'\\', b'x', digit(byte / 16), digit(byte % 16)])
+    }
+}
+
+#[tactic(auto, unfolding(crate::specs::Escaped::is_plain))]
+fn stands_for_itself(byte: u8) -> bool
+    ensures { result ≡ is_plain byte }
+{
+    0x21 <= byte && byte <= 0x7e && byte != b'\\'
+}
+
+#[tactic(auto, unfolding(crate::specs::Escaped::hex_digit))]
+fn digit(n: u8) -> u8
+    requires { n < 16 }
+    ensures { result ≡ hex_digit n }
+{
+    if n < 10 { b'0' + n } else { b'a' - 10 + n }
+}
