@@ -1,2 +1,4 @@
 pub mod ChecksumLaws
 pub mod ChecksumExamples
+mod ReadingExamples
+mod Sorts

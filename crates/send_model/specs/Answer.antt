@@ -1,0 +1,72 @@
+-- What the program's words ask for, and how it answers: the exit status and the line on standard error.
+use Rattle.std.specs.Prelude.{ℕ, ◌+◌, ◌-◌, Bool, false, ◌&&◌, List, [], ◌∷◌, ◌++◌, length, replicate, Option, None, Some, codes, if◌then◌else◌}
+use Rattle.std.specs.Fmt.{decimal, digits}
+use Rattle.std.specs.Str.{bytes_eq}
+use Rattle.send_model.specs.Refusal.{Refusal, refusal_number, refusal_name, BadVersion, LongCommand, BadChecksum, UnknownCommand, BadAttribute, MissingAttribute, NotBuilt}
+use Rattle.send_model.specs.Reading.{Verdict}
+
+-- A request: compose the files from a place in the words on, over the store at another.
+pub data Request : Type 0 where
+  Compose : (store : ℕ) (files : ℕ) → Request
+
+-- The words `compose none FILE..`, with at least one FILE; no other words mean anything.
+unfoldable pub request : List (List ℕ) → Option Request
+request (word ∷ store ∷ file ∷ files) = if bytes_eq word (codes "compose") && bytes_eq store (codes "none") then Some (Compose 1 2) else None
+request _ = None
+
+pub data Answer : Type 0 where
+  Done : Answer
+  Refused : Verdict → Answer
+  Usage : Answer
+  InputFault : Answer
+  OutputFault : Answer
+  NoMemory : Answer
+  InputTooLong : (file : ℕ) → Answer
+
+unfoldable pub status_of : Answer → ℕ
+status_of Done = 0
+status_of (Refused verdict) = 1
+status_of Usage = 2
+status_of InputFault = 3
+status_of OutputFault = 4
+status_of NoMemory = 7
+status_of (InputTooLong file) = 11
+
+-- A checksum in eight lower hexadecimal digits.
+unfoldable pub eight_digits : ℕ → List ℕ
+eight_digits n = replicate (8 - length (digits 16 false n)) 48 ++ digits 16 false n
+
+-- A field after a space.
+abbrev pub and_field : List ℕ → List ℕ
+and_field text = 32 ∷ text
+
+abbrev pub and_number : ℕ → List ℕ
+and_number n = and_field (decimal n)
+
+-- The values that a refusal keeps, as a note prints them.
+unfoldable pub kept_values : Refusal → List ℕ
+kept_values (BadVersion version) = and_number version
+kept_values (LongCommand len) = and_number len
+kept_values (BadChecksum stored computed) = and_field (eight_digits stored) ++ and_field (eight_digits computed)
+kept_values (UnknownCommand number) = and_number number
+kept_values (BadAttribute kind) = and_number kind
+kept_values (MissingAttribute kind) = and_number kind
+kept_values (NotBuilt number) = and_number number
+kept_values _ = []
+
+unfoldable pub verdict_text : Verdict → List ℕ
+verdict_text v = codes "refused" ++ and_number v.file ++ and_number v.command ++ and_number v.offset
+    ++ and_number (refusal_number v.refusal) ++ and_field (refusal_name v.refusal) ++ kept_values v.refusal
+
+abbrev pub line : List ℕ → List ℕ
+line text = text ++ 10 ∷ []
+
+-- The line on standard error: nothing where all went well.
+unfoldable pub note_of : Answer → List ℕ
+note_of Done = []
+note_of (Refused verdict) = line (verdict_text verdict)
+note_of Usage = line (codes "usage")
+note_of InputFault = line (codes "input fault")
+note_of OutputFault = line (codes "output fault")
+note_of NoMemory = line (codes "no memory")
+note_of (InputTooLong file) = line (codes "input too long" ++ and_number file)

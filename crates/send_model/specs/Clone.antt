@@ -1,0 +1,52 @@
+-- What CLONE does: cells of a file of the part itself, or of a complete subvolume, take the place of cells of a file.
+-- The rules are this project's profile of the FICLONERANGE call, ioctl_ficlonerange(2).
+use Rattle.std.specs.Prelude.{ℕ, ◌+◌, ◌%◌, ◌==◌, Bool, ◌&&◌, ◌||◌, not, List, [], length, take, drop, Option, Some, None, Result, Ok, Err, nat_lt, nat_le, is_some}
+use Rattle.send_model.specs.Refusal.{Refusal, BadPath, NoSource, NotFile, BadRange, Unaligned, FileTooBig, Overlap}
+use Rattle.send_model.specs.Chain.{◌>>=◌, ◌>>◌, require, refuse_if, found}
+use Rattle.send_model.specs.Path.{path_names}
+use Rattle.send_model.specs.Subvolume.{Inode, Subvolume, inode_at, is_file, walk}
+use Rattle.send_model.specs.Edit.{greatest_end, overwritten, change_inode, set_cells}
+
+-- The cells of an inode, none where it is not there.
+unfoldable pub cells_of : {C : Type 0} → Subvolume C → ℕ → List C
+cells_of s ino = elim (inode_at s ino) [ None ↦ [] | Some inode ↦ inode.cells ]
+
+abbrev pub block_len : ℕ
+block_len = 4_096
+
+-- The range of the source begins and ends in it; it and its place are whole blocks, but that it may be short at the source's end.
+abbrev pub is_aligned : ℕ → ℕ → ℕ → ℕ → Bool
+is_aligned offset from len size =
+    (offset % block_len == 0) && (from % block_len == 0) && ((len % block_len == 0) || (from + len == size))
+
+-- Two ranges of one length share a place.
+abbrev pub overlap : ℕ → ℕ → ℕ → Bool
+overlap a b len = nat_lt a (b + len) && nat_lt b (a + len)
+
+-- The inode that a clone writes to, and the cells that it puts there.
+pub record Cloned (C : Type 0) : Type 0 where
+  pub ino : ℕ
+  pub cells : List C
+
+-- Every refusal of a CLONE in its order, for the part, the subvolume of the source (nothing where there is none), whether
+-- that is the part itself, and the command's values.
+unfoldable pub cloned : {C : Type 0} → Subvolume C → Option (Subvolume C) → Bool → List ℕ → ℕ → List ℕ → ℕ → ℕ → Result (Cloned C) Refusal
+cloned part source is_own path offset clone_path from len = do
+  require (is_some (path_names path)) BadPath
+  require (is_some (path_names clone_path)) BadPath
+  other ← found source NoSource
+  ino ← walk part path
+  require (is_file part ino) NotFile
+  source_ino ← walk other clone_path
+  require (is_file other source_ino) NotFile
+  refuse_if ((len == 0) || nat_lt (length (cells_of other source_ino)) (from + len)) BadRange
+  require (is_aligned offset from len (length (cells_of other source_ino))) Unaligned
+  require (nat_le (offset + len) greatest_end) FileTooBig
+  refuse_if (is_own && (source_ino == ino) && overlap offset from len) Overlap
+  Ok (record { ino = ino; cells = take len (drop from (cells_of other source_ino)) })
+
+-- The part after the clone.
+unfoldable pub clone : {C : Type 0} → C → Subvolume C → Option (Subvolume C) → Bool → List ℕ → ℕ → List ℕ → ℕ → ℕ → Result (Subvolume C) Refusal
+clone zero_cell part source is_own path offset clone_path from len = do
+  range ← cloned part source is_own path offset clone_path from len
+  Ok (change_inode range.ino (set_cells (overwritten zero_cell offset range.cells)) part)

@@ -1,0 +1,86 @@
+-- The one list of commands that stands for several parts: the first part's head with the name and the key of the last, the
+-- commands of all parts in order, and END. A clone inside a part names the new part; one from an earlier part gives way to
+-- clones of the outside places that carry its blocks, and to writes of its other bytes.
+use Rattle.std.specs.Prelude.{ℕ, zero, suc, ◌+◌, List, [], ◌∷◌, ◌++◌, take, drop, length, Option, None, Some, if◌then◌else◌}
+use Rattle.std.specs.List.{flat_map}
+use Rattle.std.specs.Option.{unwrap_or}
+use Rattle.send_model.specs.Command.{Command, Subvol, Snapshot, Write, Clone, End}
+use Rattle.send_model.specs.Reading.{Item, input}
+use Rattle.send_model.specs.Subvolume.{Subvolume, first_path}
+use Rattle.send_model.specs.Store.{Key, Head, head_of, Store, State, find}
+use Rattle.send_model.specs.Receive.{start_of}
+use Rattle.send_model.specs.Order.{heads}
+use Rattle.send_model.specs.Outside.{part_uuids}
+use Rattle.send_model.specs.Provenance.{Place, Traced, Piece, Carried, Literal, traced_store, traced_step, uuid_after, is_own, is_redirected, clone_range, pieces_of}
+
+abbrev pub first_head : List Head → Option Head
+first_head [] = None
+first_head (head ∷ rest) = Some head
+
+abbrev pub last_head : List Head → Option Head
+last_head [] = None
+last_head (head ∷ []) = Some head
+last_head (head ∷ more ∷ rest) = last_head (more ∷ rest)
+
+-- The head of a part with a name and a key, a full stream's or a snapshot's.
+abbrev pub head_command : List ℕ → Key → Option Key → Command
+head_command name key None = Subvol key.uuid key.ctransid name
+head_command name key (Some parent) = Snapshot key.uuid key.ctransid name parent.uuid parent.ctransid
+
+-- ---- the pieces of a redirected clone
+
+-- The greatest number of bytes that one WRITE carries.
+abbrev pub write_len : ℕ
+write_len = 49_152
+
+-- Bytes as WRITE commands; the first number bounds how many there are.
+abbrev pub writes_from : ℕ → List ℕ → ℕ → List ℕ → List Command
+writes_from zero path offset bytes = []
+writes_from (suc n) path offset [] = []
+writes_from (suc n) path offset (b ∷ bytes) = Write path offset (take write_len (b ∷ bytes)) ∷ writes_from n path (offset + write_len) (drop write_len (b ∷ bytes))
+
+-- The first path of an inode of a store's subvolume.
+abbrev pub path_of : Store ℕ → Place → List ℕ
+path_of store place = elim (find store place.key) [ None ↦ [] | Some s ↦ unwrap_or (first_path s place.ino) [] ]
+
+-- The commands of one piece of a clone to a path and an offset.
+abbrev pub piece_commands : Store ℕ → List ℕ → ℕ → Piece → List Command
+piece_commands store path offset (Literal at bytes) = writes_from (length bytes) path (offset + at) bytes
+piece_commands store path offset (Carried at place len) = Clone path (offset + at) place.key.uuid place.key.ctransid (path_of store place) place.offset len ∷ []
+
+-- ---- the list
+
+-- What stands for a CLONE: itself, itself with the new part's key, or its pieces.
+abbrev pub clone_commands : Store ℕ → List (List ℕ) → Key → State Traced → Option (List ℕ) → Command → List Command
+clone_commands store parts last state current (Clone path offset clone_uuid clone_ctransid clone_path clone_offset clone_len) =
+    if is_own current clone_uuid then Clone path offset last.uuid last.ctransid clone_path clone_offset clone_len ∷ []
+    else (if is_redirected parts current (Clone path offset clone_uuid clone_ctransid clone_path clone_offset clone_len)
+      then flat_map (piece_commands store path offset) (pieces_of store (clone_range state (Clone path offset clone_uuid clone_ctransid clone_path clone_offset clone_len)))
+      else Clone path offset clone_uuid clone_ctransid clone_path clone_offset clone_len ∷ [])
+clone_commands store parts last state current command = command ∷ []
+
+-- What stands for a command: nothing for a head or END.
+abbrev pub commands_for : Store ℕ → List (List ℕ) → Key → State Traced → Option (List ℕ) → Command → List Command
+commands_for store parts last state current End = []
+commands_for store parts last state current command = elim (head_of command) [ Some head ↦ [] | None ↦ clone_commands store parts last state current command ]
+
+unfoldable pub composed_from : Store ℕ → List (List ℕ) → Key → State Traced → Option (List ℕ) → List Item → List Command
+composed_from store parts last state current [] = []
+composed_from store parts last state current (item ∷ items) =
+    commands_for store parts last state current item.command
+    ++ composed_from store parts last (traced_step state item).state (uuid_after current item.command) items
+
+-- The composed commands of items received into a base, as the part that the last head names; without END.
+unfoldable pub composed_edits : Store ℕ → Key → List Item → List Command
+composed_edits store last items = composed_from store (part_uuids items) last (start_of (traced_store store)) None items
+
+-- The whole list for a first and a last head.
+unfoldable pub composed_with : Store ℕ → Head → Head → List Item → List Command
+composed_with store first last items = head_command last.name last.key first.parent ∷ (composed_edits store last.key items ++ End ∷ [])
+
+-- The composed commands of files received into a base; none where they hold no part.
+unfoldable pub composed : Store ℕ → List (List ℕ) → List Command
+composed store files = let items = (input files).items in elim (first_head (heads items)) [
+    | None ↦ []
+    | Some first ↦ elim (last_head (heads items)) [ None ↦ [] | Some last ↦ composed_with store first last items ]
+  ]

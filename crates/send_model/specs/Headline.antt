@@ -1,0 +1,62 @@
+-- The headline: for every store and every list of consecutive streams that it accepts in order, compose writes one stream that
+-- names only the first stream's parent and subvolumes outside the list; every store holding these same subvolumes, and neither
+-- the last name nor uuid, accepts it and gets exactly the last stream's subvolume; and it writes literally only the streams' own
+-- bytes and cloned blocks that no outside subvolume carries.
+use Rattle.std.specs.Prelude.{◌≡◌, ◌≢◌, ℕ, ◌+◌, false, List, [], ◌∷◌, ◌++◌, length, Option, None, Some, ◌⊎◌}
+use Rattle.std.specs.List.{Contains}
+use Rattle.send_model.specs.Command.{Command, End}
+use Rattle.send_model.specs.Reading.{Item, Whole, Reading, reads, input}
+use Rattle.send_model.specs.Subvolume.{Subvolume}
+use Rattle.send_model.specs.Store.{Key, Head, Entry, Store, IsStore, has_name, has_uuid, find}
+use Rattle.send_model.specs.Receive.{IsAccepted, receive}
+use Rattle.send_model.specs.Order.{heads, commands_of, IsConsecutive}
+use Rattle.send_model.specs.Outside.{outside, all_keys_named, SameOn}
+use Rattle.send_model.specs.Provenance.{uncarried, runs}
+use Rattle.send_model.specs.Counts.{literal, clones, kept}
+use Rattle.send_model.specs.Composed.{first_head, last_head}
+
+-- The commands of a stream that was written.
+abbrev pub commands_in : List ℕ → List Command
+commands_in written = commands_of (reads 1 written).items
+
+-- A store that the composed stream can be received into: it finds the same outside subvolumes as the base, and has
+-- neither the last part's name nor its uuid.
+pub record CanReceive (base : Store ℕ) (files : List (List ℕ)) (last : Head) (store : Store ℕ) : Type 0 where
+  pub lawful : IsStore store
+  pub same : SameOn base store (outside files)
+  pub no_name : has_name last.name store ≡ false
+  pub no_uuid : has_uuid last.key.uuid store ≡ false
+
+-- The entry that such a store gets: the last part's name, key and subvolume, with the first part's parent.
+abbrev pub last_entry : Head → Head → Subvolume ℕ → Entry ℕ
+last_entry first last subvolume = record { name = last.name; key = last.key; parent = first.parent; contents = Some subvolume }
+
+-- What compose promises of what it wrote for files over a base, which is the store without the files' own parts.
+pub record IsComposed (base : Store ℕ) (files : List (List ℕ)) (written : List ℕ) : Type 0 where
+  -- the files are read to a whole end, and their parts are accepted in order, each after the first a snapshot of the one before
+  pub read_whole : (input files).end ≡ Whole
+  pub accepted : IsAccepted (receive base files)
+  pub consecutive : IsConsecutive (input files).items
+  -- the first and the last part, and the subvolume that the last one makes
+  pub first : Head
+  pub last : Head
+  pub subvolume : Subvolume ℕ
+  pub first_is : first_head (heads (input files).items) ≡ Some first
+  pub last_is : last_head (heads (input files).items) ≡ Some last
+  pub subvolume_is : find (receive base files).state.store last.key ≡ Some subvolume
+  -- one stream with one part
+  pub whole : (reads 1 written).end ≡ Whole
+  pub one_part : length (heads (reads 1 written).items) ≡ 1
+  pub one_end : (i : Item) → Contains (reads 1 written).items i → i.command ≡ End → i.number ≡ length (reads 1 written).items
+  -- every such store accepts it, keeps what it had, and gets exactly the last part's subvolume
+  pub accepted_by : (store : Store ℕ) → CanReceive base files last store → IsAccepted (receive store (written ∷ []))
+  pub gets : (store : Store ℕ) → CanReceive base files last store → (receive store (written ∷ [])).state.store ≡ store ++ last_entry first last subvolume ∷ []
+  -- it names only the outside subvolumes, beside itself
+  pub names_only : (key : Key) → Contains (all_keys_named (commands_in written)) key → Contains (outside files) key ⊎ (key ≡ last.key)
+  -- its literal bytes are the files' own and those of cloned blocks that no outside subvolume carries
+  pub literal_bytes : literal (commands_in written) ≡ literal (commands_of (input files).items) + uncarried base files
+  pub clone_count : clones (commands_in written) ≡ kept files + runs base files
+
+-- What stands on standard output does not read as a whole stream.
+abbrev pub IsUnfinished : List ℕ → Type 0
+IsUnfinished written = (reads 1 written).end ≢ Whole

@@ -1,0 +1,43 @@
+-- What files need of a store beside their own parts: the subvolumes that they name as parents and as sources of clones.
+use Rattle.std.specs.Prelude.{◌≡◌, ℕ, Bool, not, List, [], ◌∷◌, ◌++◌, map, Option, None, Some, if◌then◌else◌}
+use Rattle.std.specs.List.{list_any, filter, flat_map, AllByRecursion}
+use Rattle.std.specs.Str.{bytes_eq}
+use Rattle.send_model.specs.Command.{Command, Snapshot, Clone}
+use Rattle.send_model.specs.Reading.{Item, Reading, input}
+use Rattle.send_model.specs.Store.{Key, Head, Store, find}
+use Rattle.send_model.specs.Order.{heads, commands_of}
+
+-- The uuids of the parts.
+abbrev pub part_uuids : List Item → List (List ℕ)
+part_uuids items = map (λ head. head.key.uuid) (heads items)
+
+abbrev pub is_among : List (List ℕ) → List ℕ → Bool
+is_among uuids uuid = list_any (λ u. bytes_eq u uuid) uuids
+
+-- A store without the subvolumes that have one of the uuids.
+abbrev pub store_without : {C : Type 0} → List (List ℕ) → Store C → Store C
+store_without uuids store = filter (λ e. not (is_among uuids e.key.uuid)) store
+
+-- The base: the store without the files' own parts, which it may have already.
+unfoldable pub base : {C : Type 0} → Store C → List (List ℕ) → Store C
+base store files = store_without (part_uuids (input files).items) store
+
+-- The key that a command names beside its own: a parent or the source of a clone.
+abbrev pub keys_named : Command → List Key
+keys_named (Snapshot uuid ctransid path clone_uuid clone_ctransid) = record { uuid = clone_uuid; ctransid = clone_ctransid } ∷ []
+keys_named (Clone path offset clone_uuid clone_ctransid clone_path clone_offset clone_len) = record { uuid = clone_uuid; ctransid = clone_ctransid } ∷ []
+keys_named _ = []
+
+abbrev pub all_keys_named : List Command → List Key
+all_keys_named commands = flat_map keys_named commands
+
+-- The keys that are named and are no part's.
+abbrev pub keys_outside : List Item → List Key
+keys_outside items = filter (λ key. not (is_among (part_uuids items) key.uuid)) (all_keys_named (commands_of items))
+
+unfoldable pub outside : List (List ℕ) → List Key
+outside files = keys_outside (input files).items
+
+-- Two stores find the same under each of the keys.
+abbrev pub SameOn : {C : Type 0} → Store C → Store C → List Key → Type 0
+SameOn s t keys = AllByRecursion (λ key. find s key ≡ find t key) keys

@@ -1,0 +1,140 @@
+-- A store: the subvolumes that were received, in the order in which they began, and one command's step on it.
+-- Source: the btrfs-receive manual, and process_subvol, process_snapshot and process_clone in cmds/receive.c.
+use Rattle.std.specs.Prelude.{◌≡◌, ℕ, ◌==◌, Bool, true, false, not, ◌&&◌, List, [], ◌∷◌, ◌++◌, map, Option, None, Some, Result, Ok, Err, if◌then◌else◌}
+use Rattle.std.specs.List.{list_any, AllPairs}
+use Rattle.std.specs.Str.{bytes_eq}
+use Rattle.send_model.specs.Refusal.{Refusal, NoSubvolume, BadName, NameThere, UuidThere, NoParent}
+use Rattle.send_model.specs.Chain.{◌>>=◌, ◌>>◌, require, refuse_if, found}
+use Rattle.send_model.specs.Path.{is_name}
+use Rattle.send_model.specs.Command.{Command, Subvol, Snapshot, Clone, End}
+use Rattle.send_model.specs.Subvolume.{Subvolume, root_alone}
+use Rattle.send_model.specs.Edit.{edit}
+use Rattle.send_model.specs.Clone.{clone}
+
+-- What names a complete subvolume: the sender's uuid and transaction number.
+pub record Key : Type 0 where
+  pub uuid : List ℕ
+  pub ctransid : ℕ
+
+abbrev pub same_key : Key → Key → Bool
+same_key a b = bytes_eq a.uuid b.uuid && (a.ctransid == b.ctransid)
+
+-- A subvolume of a store. It has no contents while it is unfinished.
+pub record Entry (C : Type 0) : Type 0 where
+  pub name : List ℕ
+  pub key : Key
+  pub parent : Option Key
+  pub contents : Option (Subvolume C)
+
+abbrev pub Store : Type 0 → Type 0
+Store C = List (Entry C)
+
+abbrev pub has_name : {C : Type 0} → List ℕ → Store C → Bool
+has_name name store = list_any (λ e. bytes_eq e.name name) store
+
+abbrev pub has_uuid : {C : Type 0} → List ℕ → Store C → Bool
+has_uuid uuid store = list_any (λ e. bytes_eq e.key.uuid uuid) store
+
+-- No name and no uuid stands twice.
+abbrev pub IsStore : {C : Type 0} → Store C → Type 0
+IsStore [] = Unit {0}
+IsStore (e ∷ store) = (has_name e.name store ≡ false) × (has_uuid e.key.uuid store ≡ false) × IsStore store
+
+-- The complete subvolume that a key finds, if any.
+unfoldable pub find : {C : Type 0} → Store C → Key → Option (Subvolume C)
+find [] key = None
+find (e ∷ store) key = if same_key e.key key then elim e.contents [ None ↦ find store key | Some s ↦ Some s ] else find store key
+
+-- ---- a part: a head and the commands up to the next head or END
+
+-- The part that is being received: its key and its subvolume so far.
+pub record Part (C : Type 0) : Type 0 where
+  pub key : Key
+  pub subvolume : Subvolume C
+
+pub record State (C : Type 0) : Type 0 where
+  pub store : Store C
+  pub part : Option (Part C)
+
+-- The unfinished entry of a uuid gets its contents.
+unfoldable pub with_contents : {C : Type 0} → List ℕ → Subvolume C → Store C → Store C
+with_contents uuid s [] = []
+with_contents uuid s (e ∷ store) = if bytes_eq e.key.uuid uuid then record e { contents = Some s } ∷ store else e ∷ with_contents uuid s store
+
+-- A part that is complete.
+unfoldable pub completed : {C : Type 0} → State C → Store C
+completed state = elim state.part [ None ↦ state.store | Some part ↦ with_contents part.key.uuid part.subvolume state.store ]
+
+-- The name, the key and the parent's key of a head.
+pub record Head : Type 0 where
+  pub name : List ℕ
+  pub key : Key
+  pub parent : Option Key
+
+abbrev pub head_of : Command → Option Head
+head_of (Subvol uuid ctransid path) = Some (record { name = path; key = record { uuid = uuid; ctransid = ctransid }; parent = None })
+head_of (Snapshot uuid ctransid path clone_uuid clone_ctransid) = Some (record { name = path; key = record { uuid = uuid; ctransid = ctransid }; parent = Some (record { uuid = clone_uuid; ctransid = clone_ctransid }) })
+head_of _ = None
+
+-- The subvolume that a part starts from: a root alone, or its parent's.
+abbrev pub start_from : {C : Type 0} → Store C → Option Key → Result (Subvolume C) Refusal
+start_from store None = Ok root_alone
+start_from store (Some parent) = found (find store parent) NoParent
+
+-- What a head begins, or its refusal: a bad name, a name or a uuid that is there, no parent.
+unfoldable pub begun : {C : Type 0} → Store C → Head → Result (Subvolume C) Refusal
+begun store head = do
+  require (is_name head.name) BadName
+  refuse_if (has_name head.name store) NameThere
+  refuse_if (has_uuid head.key.uuid store) UuidThere
+  start_from store head.parent
+
+-- ---- the step
+
+-- What a step leaves, and its refusal if there is one.
+pub record Stepped (C : Type 0) : Type 0 where
+  pub state : State C
+  pub refusal : Option Refusal
+
+-- A new entry, unfinished.
+abbrev pub unfinished : {C : Type 0} → Head → Entry C
+unfinished head = record { name = head.name; key = head.key; parent = head.parent; contents = None }
+
+-- What stands after a head: a new part that starts from a subvolume, or no part and the refusal.
+abbrev pub entered : {C : Type 0} → Store C → Head → Result (Subvolume C) Refusal → Stepped C
+entered store head (Err refusal) = record { state = record { store = store; part = None }; refusal = Some refusal }
+entered store head (Ok start) = record { state = record { store = store ++ unfinished head ∷ []; part = Some (record { key = head.key; subvolume = start }) }; refusal = None }
+
+-- A head completes the part before it; then it begins the new one, or is refused and there is no part.
+unfoldable pub step_head : {C : Type 0} → State C → Head → Stepped C
+step_head state head = entered (completed state) head (begun (completed state) head)
+
+-- The subvolume that a clone reads: the part as it is, where it names the part's own uuid, else the complete one of the key.
+abbrev pub clone_source : {C : Type 0} → Store C → Part C → Key → Option (Subvolume C)
+clone_source store part key = if bytes_eq key.uuid part.key.uuid then Some part.subvolume else find store key
+
+-- The edit of a part by a command that is neither a head nor END. Only a CLONE looks at the store.
+unfoldable pub edit_part : {C : Type 0} → C → List C → Store C → Part C → Command → Result (Subvolume C) Refusal
+edit_part zero_cell put store part (Clone path offset clone_uuid clone_ctransid clone_path clone_offset clone_len) =
+    clone zero_cell part.subvolume (clone_source store part (record { uuid = clone_uuid; ctransid = clone_ctransid }))
+      (bytes_eq clone_uuid part.key.uuid) path offset clone_path clone_offset clone_len
+edit_part zero_cell put store part command = edit zero_cell put command part.subvolume
+
+-- What stands after an edit: the part with another subvolume, or as it was, and the refusal.
+abbrev pub edited : {C : Type 0} → Store C → Part C → Result (Subvolume C) Refusal → Stepped C
+edited store part (Err refusal) = record { state = record { store = store; part = Some part }; refusal = Some refusal }
+edited store part (Ok s) = record { state = record { store = store; part = Some (record { key = part.key; subvolume = s }) }; refusal = None }
+
+unfoldable pub step_edit : {C : Type 0} → C → List C → State C → Command → Stepped C
+step_edit zero_cell put state command = elim state.part [
+    | None ↦ record { state = state; refusal = Some NoSubvolume }
+    | Some part ↦ edited state.store part (edit_part zero_cell put state.store part command)
+  ]
+
+-- One command, where a WRITE puts the given cells: a head, END, or an edit of the part.
+unfoldable pub step : {C : Type 0} → C → List C → State C → Command → Stepped C
+step zero_cell put state End = record { state = record { store = completed state; part = None }; refusal = None }
+step zero_cell put state command = elim (head_of command) [
+    | Some head ↦ step_head state head
+    | None ↦ step_edit zero_cell put state command
+  ]
