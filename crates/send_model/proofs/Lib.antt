@@ -1,3 +1,5 @@
+pub mod ChecksumLaws
+pub mod ChecksumExamples
 mod ReadingExamples
 mod Sorts
 mod Runs

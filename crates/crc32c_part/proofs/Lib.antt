@@ -1,0 +1,2 @@
+mod TableRule
+mod BlockLemmas
