@@ -1,0 +1,2 @@
+pub mod DiskImages
+pub mod DiskMoments
