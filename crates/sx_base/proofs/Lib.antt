@@ -2,3 +2,5 @@ pub mod EscapedExamples
 pub mod EscapedSteps
 pub mod FileSteps
 pub mod Pieces
+pub mod DiskImages
+pub mod DiskMoments

@@ -5,3 +5,5 @@ pub mod Memory
 pub mod Outside
 pub mod Refusals
 pub mod Stored
+pub mod Disk
+pub mod Crash

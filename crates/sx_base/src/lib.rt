@@ -4,6 +4,7 @@
 
 mod blob;
 mod escaping;
+mod disk;
 mod failed;
 mod inputs;
 mod mem_inputs;
@@ -21,6 +22,7 @@ mod whole;
 
 pub use blob::Blob;
 pub use escaping::escape_into;
+pub use disk::Disk;
 pub use failed::Failed;
 pub use inputs::Inputs;
 pub use mem_inputs::MemInputs;

@@ -1,0 +1,68 @@
+-- What a disk holds, and what a crash may leave of it. A crash is a loss of power: what was stable stays, and of
+-- what was written since the last successful sync any part may have reached the disk.
+use Rattle.std.specs.Prelude.{◌≡◌, ◌⊎◌, ℕ, zero, suc, ◌+◌, ◌-◌, ◌≤◌, max, Option, Some, None, List, [], ◌∷◌, ◌++◌, length, take, drop, map}
+use Rattle.sx_base.specs.Causes.{Rose}
+
+-- What is known of the disk since its last successful sync. For each place below the least size since then, `known`
+-- has the byte that is stable there, or None where a range written since then holds the place; `greatest` is the
+-- greatest size since then.
+pub record Pending : Type 0 where
+  pub known : List (Option ℕ)
+  pub greatest : ℕ
+
+-- The bytes are at least as many as those known, and have each known byte at its place.
+abbrev pub Agrees : List (Option ℕ) → List ℕ → Type 0
+Agrees [] image = Unit {0}
+Agrees (place ∷ known) [] = ⊥
+Agrees (None ∷ known) (byte ∷ image) = Agrees known image
+Agrees (Some stable ∷ known) (byte ∷ image) = (byte ≡ stable) × Agrees known image
+
+-- An image that a crash may leave: its length lies between the least and the greatest size, and it has the known
+-- bytes. All its other bytes may be anything.
+pub record IsImage (pending : Pending) (image : List ℕ) : Type 0 where
+  pub known : Agrees pending.known image
+  pub short : length image ≤ pending.greatest
+
+-- Nothing is known any more of `count` places from `at` on.
+abbrev pub forget : ℕ → ℕ → List (Option ℕ) → List (Option ℕ)
+forget at count [] = []
+forget (suc at) count (place ∷ known) = place ∷ forget at count known
+forget zero (suc count) (place ∷ known) = None ∷ forget zero count known
+forget zero zero (place ∷ known) = place ∷ known
+
+-- After a write of `count` bytes at `at`, whether it was done or failed.
+abbrev pub written : ℕ → ℕ → Pending → Pending
+written at count pending = record { known = forget at count pending.known; greatest = max pending.greatest (at + count) }
+
+-- After a cut to this size, whether it was done or failed: the size was reached.
+abbrev pub shortened : ℕ → Pending → Pending
+shortened size pending = record { known = take size pending.known; greatest = pending.greatest }
+
+-- After a successful sync: all bytes are known, and there are no others.
+abbrev pub settled : List ℕ → Pending
+settled bytes = record { known = map Some bytes; greatest = length bytes }
+
+-- The bytes with this piece in place of those from `at` on, the last of them past the end if it is long.
+abbrev pub overwritten : ℕ → List ℕ → List ℕ → List ℕ
+overwritten at piece bytes = take at bytes ++ piece ++ drop (at + length piece) bytes
+
+-- What is read and what a crash may leave are as before.
+pub record IsAsBefore (seen_old seen_new : List ℕ) (pending_old pending_new : Pending) : Type 0 where
+  pub seen : seen_new ≡ seen_old
+  pub pending : pending_new ≡ pending_old
+
+-- The first `count` bytes of the buffer are those of the bytes from `at` on.
+pub record IsReadAt (bytes : List ℕ) (at : ℕ) (buffer : List ℕ) (count : ℕ) : Type 0 where
+  pub within : count ≤ length bytes - at
+  pub same : take count buffer ≡ take count (drop at bytes)
+
+-- A clock that rose: a count that stands at the greatest u64 counts as risen.
+pub record Rises (before now : ℕ) : Type 0 where
+  pub later : before ≤ now
+  pub rose : Rose before now
+
+-- Time goes on: a crash at some moment since t may have left what one since t may have left before the call, or
+-- what one may leave now, and nothing else.
+pub record Elapses (before : ℕ) (past since : ℕ → List ℕ → Type 0) (pending : Pending) : Type 0 where
+  pub nothing_else : (t : ℕ) (image : List ℕ) → t ≤ before → since t image → past t image ⊎ IsImage pending image
+  pub keeps : (t : ℕ) (image : List ℕ) → t ≤ before → past t image → since t image
