@@ -6,3 +6,4 @@ mod Runs
 mod Stores
 mod Merging
 mod Composing
+mod Frames

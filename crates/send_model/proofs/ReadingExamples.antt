@@ -5,7 +5,7 @@ use Rattle.send_model.specs.Checksum.{crc_of, crc_byte, shift, shifts}
 use Rattle.send_model.specs.Attribute.{form_of}
 use Rattle.send_model.specs.Command.{Command, Subvol, Snapshot, MkFile, Write, End, row, kind_of_number}
 use Rattle.send_model.specs.Spelling.{canonical, canonical_all, stream_header, frame_of, frame_checksum, attributes_of, attribute_bytes, body_of}
-use Rattle.send_model.specs.Reading.{Item, Reading, Whole, reads, reads_from, front_of, frame_at, stream_version, attributes_at, attributes_from, taken, is_taken, command_of, wanted_there, input, input_from}
+use Rattle.send_model.specs.Reading.{Item, Reading, Whole, reads, reads_from, front_of, frame_at, frame_with, number16, number32, stream_version, attributes_at, attributes_from, taken, is_taken, command_of, wanted_there, input, input_from}
 use Rattle.send_model.specs.Order.{commands_of}
 
 abbrev uuid : ℕ → List ℕ
@@ -37,5 +37,5 @@ first_read : reads 1 first_stream ≡ record {
       ∷ [];
     end = Whole;
   }
-unfolding first_stream reads reads_from front_of frame_at stream_version attributes_at attributes_from taken is_taken command_of wanted_there kind_of_number row form_of frame_checksum crc_of crc_byte shifts shift
+unfolding first_stream reads reads_from front_of number16 number32 frame_with frame_at stream_version attributes_at attributes_from taken is_taken command_of wanted_there kind_of_number row form_of frame_checksum crc_of crc_byte shifts shift
 first_read = refl

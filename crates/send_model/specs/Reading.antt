@@ -12,10 +12,10 @@ use Rattle.send_model.specs.Command.{Kind, SUBVOL, SNAPSHOT, MKFILE, WRITE, TRUN
 use Rattle.send_model.specs.Spelling.{Attribute, magic, value_of, frame_checksum, greatest_body}
 
 -- Numbers of two and four bytes at the front of a list.
-abbrev pub number16 : List ℕ → ℕ
+unfoldable pub number16 : List ℕ → ℕ
 number16 bytes = from_le_bytes w16 (take 2 bytes)
 
-abbrev pub number32 : List ℕ → ℕ
+unfoldable pub number32 : List ℕ → ℕ
 number32 bytes = from_le_bytes w32 (take 4 bytes)
 
 -- ---- the stream header
@@ -46,18 +46,20 @@ pub record Frame : Type 0 where
   pub body : List ℕ
   pub rest : List ℕ
 
--- The frame in front: too few bytes for a header, too long a body, too few bytes for it, another checksum.
+-- The frame whose header says a length, a number and a checksum, before the bytes after the header: too long a body, too few
+-- bytes for it, another checksum.
+unfoldable pub frame_with : ℕ → ℕ → ℕ → List ℕ → Result Frame Refusal
+frame_with len number stored after = do
+  refuse_if (nat_lt greatest_body len) (LongCommand len)
+  require (nat_le len (length after)) Truncated
+  require (stored == frame_checksum len number (take len after)) (BadChecksum stored (frame_checksum len number (take len after)))
+  Ok (record { number = number; body = take len after; rest = drop len after })
+
+-- The frame in front of bytes, which are too few for a header or begin with one.
 unfoldable pub frame_at : List ℕ → Result Frame Refusal
 frame_at bytes = do
   require (nat_le frame_header_len (length bytes)) Truncated
-  refuse_if (nat_lt greatest_body (number32 bytes)) (LongCommand (number32 bytes))
-  require (nat_le (number32 bytes) (length bytes - frame_header_len)) Truncated
-  let len : ℕ = number32 bytes in
-    let number : ℕ = number16 (drop 4 bytes) in
-    let stored : ℕ = number32 (drop 6 bytes) in
-    let body : List ℕ = take len (drop frame_header_len bytes) in
-    let computed : ℕ = frame_checksum len number body in
-    require (stored == computed) (BadChecksum stored computed) >> Ok (record { number = number; body = body; rest = drop (frame_header_len + len) bytes })
+  frame_with (number32 bytes) (number16 (drop 4 bytes)) (number32 (drop 6 bytes)) (drop frame_header_len bytes)
 
 -- ---- the attributes
 
