@@ -7,3 +7,4 @@ mod Stores
 mod Merging
 mod Composing
 mod Frames
+mod Attributes
