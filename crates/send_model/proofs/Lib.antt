@@ -8,3 +8,4 @@ mod Merging
 mod Composing
 mod Frames
 mod Attributes
+mod Commands

@@ -116,8 +116,12 @@ abbrev pub bytes_at : List Attribute → ℕ → List ℕ
 bytes_at attributes kind = unwrap_or (value_of kind attributes) []
 
 -- A moment among the wanted attributes has less than a second of nanoseconds.
+abbrev pub nanos_lawful : Form → List ℕ → Bool
+nanos_lawful AMoment bytes = nat_lt (time_in bytes).nanos second
+nanos_lawful _ bytes = true
+
 abbrev pub moment_lawful : List Attribute → ℕ → Bool
-moment_lawful attributes kind = elim (form_of kind) [ AMoment ↦ nat_lt (time_in (bytes_at attributes kind)).nanos second | _ ↦ true ]
+moment_lawful attributes kind = nanos_lawful (form_of kind) (bytes_at attributes kind)
 
 -- The command of a number with these attributes: no such number, an attribute missing or of a wrong length, a bad time.
 unfoldable pub command_of : ℕ → ℕ → List Attribute → Result Command Refusal
