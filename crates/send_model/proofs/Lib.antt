@@ -9,3 +9,4 @@ mod Composing
 mod Frames
 mod Attributes
 mod Commands
+mod Canonical
