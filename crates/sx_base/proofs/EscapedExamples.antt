@@ -1,6 +1,6 @@
 -- Worked examples of the escaped form: a target with a blank, a backslash, bytes outside ASCII, and both ends
 -- of the bytes that stand for themselves.
-use Rattle.std.proofs.Common.{◌≡◌, List, [], ◌∷◌, refl}
+use Rattle.std.proofs.Common.{◌≡◌, [], ◌∷◌, refl}
 use Rattle.std.specs.Prelude.{codes}
 use Rattle.sx_base.specs.Escaped.{escaped, escaped_byte, is_plain, hex_digit}
 

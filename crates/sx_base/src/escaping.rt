@@ -1,5 +1,6 @@
 // The escaped form of bytes.
-ghost use Rattle.std.specs.Prelude.{◌≡◌, ℕ, ◌<◌, ◌++◌, OnOk, OnErr};
+ghost use Rattle.std.specs.Prelude.{◌≡◌, ℕ, ◌<◌, ◌++◌, OnOk, OnErr, false};
+ghost use Rattle.sx_base.specs.Bytes.{IsFront};
 ghost use Rattle.sx_base.specs.Escaped.{is_plain, hex_digit, escaped_byte, escaped};
 
 use crate::blob::Blob;
@@ -12,25 +13,38 @@ pub fn escape_into(bytes: &[u8], to: &mut Blob) -> Result<(), AllocError>
     ensures same { OnErr result (to.new ≡ to.old) }
 {
     let start = to.as_slice().len();
-    for byte in bytes {
-        if let Err(refused) = push_escaped(*byte, to) {
-            to.cut(start);
-            return Err(refused);
-        }
+    let answer = push_all_escaped(bytes, to);
+    if answer.is_err() {
+        to.cut(start);
     }
-    Ok(())
+    answer
+}
+
+// Bytes that stand for themselves are pushed in whole runs. Without memory some of the form may be there.
+fn push_all_escaped(bytes: &[u8], to: &mut Blob) -> Result<(), AllocError>
+    ensures appended { OnOk result (to.new ≡ to.old ++ escaped bytes.now) }
+    ensures kept { IsFront to.old to.new }
+{
+    let mut from = 0;
+    for at in 0..bytes.len() {
+        let byte = bytes[at];
+        if stands_for_itself(byte) {
+            continue;
+        }
+        to.push_all(&bytes[from..at])?;
+        push_escaped(byte, to)?;
+        from = at + 1;
+    }
+    to.push_all(&bytes[from..])
 }
 
 #[tactic(auto, unfolding(crate::specs::Escaped::escaped_byte))]
 fn push_escaped(byte: u8, to: &mut Blob) -> Result<(), AllocError>
+    requires { is_plain byte ≡ false }
     ensures appended { OnOk result (to.new ≡ to.old ++ escaped_byte byte) }
     ensures same { OnErr result (to.new ≡ to.old) }
 {
-    if stands_for_itself(byte) {
-        to.push_all(&[byte])
-    } else {
-        to.push_all(&[b'\\', b'x', digit(byte / 16), digit(byte % 16)])
-    }
+    to.push_all(&[b'\\', b'x', digit(byte / 16), digit(byte % 16)])
 }
 
 #[tactic(auto, unfolding(crate::specs::Escaped::is_plain))]

@@ -1,4 +1,4 @@
-use Rattle.std.proofs.Common.{◌≡◌, ℕ, List, ap, sym, ◌∙◌, Bool, true, false}
+use Rattle.std.proofs.Common.{◌≡◌, sym, ◌∙◌, true, false}
 use Rattle.std.specs.Prelude.{bytes_eq}
 use Rattle.std.specs.String.{string_bytes}
 use Rattle.sx_base.proofs.FileSteps.{file_found, file_passed, no_file}

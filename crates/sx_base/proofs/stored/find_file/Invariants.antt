@@ -1,5 +1,5 @@
-use Rattle.std.proofs.Common.{◌≡◌, ◌-◌, length, min, ◌++◌, ◌∷◌, [], ℕ, ◌+◌, ◌*◌, ◌<◌, ◌≤◌, drop}
-use Rattle.sx_base.specs.Outside.{file_at, IsPieceAt}
+use Rattle.std.proofs.Common.{◌≡◌, drop}
+use Rattle.sx_base.specs.Outside.{file_at}
 use Rattle.sx_base.specs.Stored.{as_files}
 use Rattle.sx_base.proofs.stored.find_file.Given as goal
 

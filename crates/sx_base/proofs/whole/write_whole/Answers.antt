@@ -1,4 +1,4 @@
-use Rattle.std.proofs.Common.{ℕ, ◌≤◌, ◌-◌, length, arith}
+use Rattle.std.proofs.Common.{◌≤◌, ◌-◌, length, arith}
 use Rattle.sx_base.proofs.Pieces.{Appends-more}
 use Rattle.sx_base.proofs.whole.write_whole.Goals as goal
 
