@@ -10,3 +10,4 @@ mod Frames
 mod Attributes
 mod Commands
 mod Canonical
+mod Streams

@@ -218,20 +218,26 @@ abbrev pub may_end : Due → List ℕ → Bool
 may_end HeaderDue [] = true
 may_end _ _ = false
 
+-- Nothing more is due, and nothing more is there.
+abbrev pub ended : Reading
+ended = record { items = []; end = Whole }
+
+-- Reading goes on with a value, or stops at a refusal.
+abbrev pub go_on : {A : Type 0} → (A → Reading) → (Refusal → Reading) → Result A Refusal → Reading
+go_on more stop (Ok x) = more x
+go_on more stop (Err refusal) = stop refusal
+
 -- The items of the bytes from a place on, where the next command has the given number. The first number bounds how many
 -- headers and commands there are; one more than the length of the bytes is always enough.
 unfoldable pub reads_from : ℕ → ℕ → Due → ℕ → ℕ → List ℕ → Reading
 reads_from zero file due number offset bytes = faulty file number offset Truncated
-reads_from (suc n) file HeaderDue number offset bytes = elim (stream_version bytes) [
-    | Err refusal ↦ faulty file number offset refusal
-    | Ok version ↦ reads_from n file (CommandDue version) number (offset + header_len) (drop header_len bytes)
-  ]
-reads_from (suc n) file (CommandDue version) number offset bytes = elim (front_of file version number offset bytes) [
-    | Err refusal ↦ faulty file number offset refusal
-    | Ok front ↦ with_item front.item (
-        if may_end (due_after version front.item.command) front.rest then record { items = []; end = Whole }
-        else reads_from n file (due_after version front.item.command) (number + 1) (offset + (length bytes - length front.rest)) front.rest)
-  ]
+reads_from (suc n) file HeaderDue number offset bytes =
+    go_on (λ version. reads_from n file (CommandDue version) number (offset + header_len) (drop header_len bytes)) (faulty file number offset) (stream_version bytes)
+reads_from (suc n) file (CommandDue version) number offset bytes =
+    go_on (λ front. with_item front.item (
+        if may_end (due_after version front.item.command) front.rest then ended
+        else reads_from n file (due_after version front.item.command) (number + 1) (offset + (length bytes - length front.rest)) front.rest))
+      (faulty file number offset) (front_of file version number offset bytes)
 
 -- A whole file, which is the given one of several.
 unfoldable pub reads : ℕ → List ℕ → Reading
@@ -246,7 +252,7 @@ joined first others = elim first.end [
 
 -- Files one after the other, counted from the given number, up to the first fault.
 unfoldable pub input_from : ℕ → List (List ℕ) → Reading
-input_from file [] = record { items = []; end = Whole }
+input_from file [] = ended
 input_from file (bytes ∷ files) = joined (reads file bytes) (input_from (file + 1) files)
 
 unfoldable pub input : List (List ℕ) → Reading
