@@ -166,7 +166,7 @@ pub body_short : (c : Command) → IsSpellable c → length (body_of (attributes
 unfolding IsSpellable attributes_of
 body_short c fits = le_trans (body_len (row (kind_of c)).wanted (fields_of c) fits) (rooms_short c)
 
-body_is_bytes : (version : ℕ) (attributes : List Attribute) → AreAttributes version attributes → IsBytes (body_of attributes)
+pub body_is_bytes : (version : ℕ) (attributes : List Attribute) → AreAttributes version attributes → IsBytes (body_of attributes)
 unfolding body_of attribute_bytes
 body_is_bytes version [] are = tt
 body_is_bytes version (a ∷ rest) are =

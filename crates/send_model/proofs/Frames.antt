@@ -19,12 +19,12 @@ frame_with_body body rest number short =
     let same : (sum == sum) ≡ true = eq-eqb sum sum refl in
     rw (fits, there, take-append_seam body rest, drop-append_seam body rest) (rw same refl)
 
-frame_at_by : (bytes after : List ℕ) (len number sum : ℕ) → 10 ≤ length bytes → number32 bytes ≡ len → number16 (drop 4 bytes) ≡ number → number32 (drop 6 bytes) ≡ sum → drop 10 bytes ≡ after → frame_at bytes ≡ frame_with len number sum after
+pub frame_at_by : (bytes after : List ℕ) (len number sum : ℕ) → 10 ≤ length bytes → number32 bytes ≡ len → number16 (drop 4 bytes) ≡ number → number32 (drop 6 bytes) ≡ sum → drop 10 bytes ≡ after → frame_at bytes ≡ frame_with len number sum after
 unfolding frame_at
 frame_at_by bytes after len number sum long a b c d = let there : nat_le frame_header_len (length bytes) ≡ true = le-leb _ _ long in rw (there, a, b, c, d) refl
 
 -- The header of a frame says its numbers.
-header_says : (len number sum : ℕ) (tail : List ℕ) → len < 2 ^ 32 → number < 2 ^ 16 → sum < 2 ^ 32
+pub header_says : (len number sum : ℕ) (tail : List ℕ) → len < 2 ^ 32 → number < 2 ^ 16 → sum < 2 ^ 32
     → let bytes = to_le_bytes w32 len ++ to_le_bytes w16 number ++ to_le_bytes w32 sum ++ tail in
       (number32 bytes ≡ len) × (number16 (drop 4 bytes) ≡ number) × (number32 (drop 6 bytes) ≡ sum) × (drop 10 bytes ≡ tail) × (10 ≤ length bytes)
 unfolding number16 number32

@@ -11,3 +11,4 @@ mod Attributes
 mod Commands
 mod Canonical
 mod Streams
+mod Prefixes

@@ -20,12 +20,12 @@ pub record IsWritable (c : Command) : Type 0 where
 abbrev pub IsInner : Command → Type 0
 IsInner c = IsWritable c × (is_end c ≡ false)
 
-inner_due : (version : ℕ) (c : Command) → is_end c ≡ false → due_after version c ≡ CommandDue version
+pub inner_due : (version : ℕ) (c : Command) → is_end c ≡ false → due_after version c ≡ CommandDue version
 inner_due version End h = absurd (true≢false h)
 inner_due version c h = refl
 
 -- Reading a command in front of other bytes.
-front_item : (file number offset : ℕ) (c : Command) → IsWritable c → (rest : List ℕ) → (item : Item) × (item.command ≡ c) × (front_of file 1 number offset (canonical 1 c ++ rest) ≡ Ok (record { item = item; rest = rest }))
+pub front_item : (file number offset : ℕ) (c : Command) → IsWritable c → (rest : List ℕ) → (item : Item) × (item.command ≡ c) × (front_of file 1 number offset (canonical 1 c ++ rest) ≡ Ok (record { item = item; rest = rest }))
 front_item file number offset c w rest =
     let s = canonical_spells 1 c w.spellable in
     (record { file = file; number = number; offset = offset; version = 1; data_at = data_place offset s.attributes; command = c }, refl, spelled_front file 1 number offset (canonical 1 c) rest c s w.taken_kind)
@@ -36,7 +36,7 @@ pub record ReadsAs (r : Reading) (cs : List Command) : Type 0 where
   pub whole : r.end ≡ Whole
 
 -- One step of reading, by what stands in front.
-step_inner : (n file number offset : ℕ) (bytes rest : List ℕ) (item : Item) → front_of file 1 number offset bytes ≡ Ok (record { item = item; rest = rest }) → due_after 1 item.command ≡ CommandDue 1
+pub step_inner : (n file number offset : ℕ) (bytes rest : List ℕ) (item : Item) → front_of file 1 number offset bytes ≡ Ok (record { item = item; rest = rest }) → due_after 1 item.command ≡ CommandDue 1
     → reads_from (suc n) file (CommandDue 1) number offset bytes ≡ with_item item (reads_from n file (CommandDue 1) (number + 1) (offset + (length bytes - length rest)) rest)
 unfolding reads_from
 step_inner n file number offset bytes rest item front due =
@@ -85,11 +85,11 @@ unfolding canonical_all
 commands_long [] = zero-le
 commands_long (c ∷ cs) = omega (arith, length-append (canonical 1 c) (canonical_all 1 cs), canonical_long c, commands_long cs)
 
-header_step : (n file : ℕ) (rest : List ℕ) → reads_from (suc n) file HeaderDue 1 0 (stream_header 1 ++ rest) ≡ reads_from n file (CommandDue 1) 1 header_len rest
+pub header_step : (n file : ℕ) (rest : List ℕ) → reads_from (suc n) file HeaderDue 1 0 (stream_header 1 ++ rest) ≡ reads_from n file (CommandDue 1) 1 header_len rest
 unfolding reads_from stream_header
 header_step n file rest = ap (go_on _ _) (header_read rest)
 
-header_length : (rest : List ℕ) → length (stream_header 1 ++ rest) ≡ 17 + length rest
+pub header_length : (rest : List ℕ) → length (stream_header 1 ++ rest) ≡ 17 + length rest
 unfolding stream_header
 header_length rest = omega arith
 
@@ -102,8 +102,3 @@ stream_read file cs inner =
     let R : Reading → Type 0 = λ r. ReadsAs r (cs ++ End ∷ []) in
     subst R (sym (header_step (length bytes) file rest))
       (reads_commands cs (length bytes) file 1 header_len inner (omega (arith, header_length rest, commands_long (cs ++ End ∷ []), length-append cs (End ∷ []))))
-
--- ---- no whole stream
-
-abbrev pub IsFaulty : Reading → Type 0
-IsFaulty r = r.end ≢ Whole
