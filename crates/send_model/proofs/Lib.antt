@@ -12,3 +12,5 @@ mod Commands
 mod Canonical
 mod Streams
 mod Prefixes
+mod Endings
+mod Headlines

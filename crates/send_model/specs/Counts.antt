@@ -1,6 +1,6 @@
 -- The literal bytes and the clones among commands.
 use Rattle.std.specs.Prelude.{ℕ, ◌+◌, Bool, true, false, not, ◌&&◌, List, [], ◌∷◌, map, length, Option, None, sum, if◌then◌else◌}
-use Rattle.std.specs.List.{count_by}
+use Rattle.std.specs.List.{sum_by, count_by}
 use Rattle.send_model.specs.Command.{Command, Clone, End}
 use Rattle.send_model.specs.Reading.{Item, input}
 use Rattle.send_model.specs.Receive.{bytes_of}
@@ -10,7 +10,7 @@ use Rattle.send_model.specs.Provenance.{uuid_after, is_redirected}
 
 -- The bytes that WRITE commands carry.
 unfoldable pub literal : List Command → ℕ
-literal commands = sum (map (λ command. length (bytes_of command)) commands)
+literal commands = sum_by (λ command. length (bytes_of command)) commands
 
 abbrev pub is_clone : Command → Bool
 is_clone (Clone path offset clone_uuid clone_ctransid clone_path clone_offset clone_len) = true
