@@ -2,16 +2,17 @@
 -- same outside subvolumes, and gives it the last part's subvolume.
 use Rattle.std.specs.Prelude.{◌≡◌, ◌≢◌, ◌⊎◌, ℕ, ◌+◌, Bool, true, false, cond, not, ◌&&◌, ◌||◌, List, [], ◌∷◌, ◌++◌, map, length, Option, None, Some, Result, Ok, Err, sum, if◌then◌else◌}
 use Rattle.std.specs.List.{AllByRecursion, filter, flat_map, list_any, sum_by, count_by}
-use Rattle.std.proofs.Common.{refl, sym, ap, ap₂, subst, ◌∙◌, inl, inr, ⊎_elim, arith, append-nil, append_assoc}
+use Rattle.std.proofs.Common.{refl, sym, ap, ap₂, subst, subst₂, ◌∙◌, inl, inr, ⊎_elim, arith, append-nil, append_assoc}
 use Rattle.std.proofs.lemmas.Bool.{false≢true, true≢false}
 use Rattle.std.proofs.lemmas.List.Sums.{sum_by-cons, sum_by-append}
-use Rattle.send_model.specs.Refusal.{Refusal}
+use Rattle.send_model.specs.Refusal.{Refusal, NoParent}
+use Rattle.send_model.specs.Chain.{found}
 use Rattle.send_model.specs.Command.{Command, Subvol, Snapshot, Clone, End}
 use Rattle.send_model.specs.Spelling.{stream_header, canonical_all}
 use Rattle.send_model.specs.Reading.{Item, Reading, Ending, Whole, Faulty, reads, input, input_from, joined}
 use Rattle.send_model.specs.Subvolume.{Subvolume}
-use Rattle.send_model.specs.Store.{Key, Head, head_of, Entry, Store, State, same_key, find, start_from, has_name, has_uuid}
-use Rattle.send_model.specs.Receive.{Run, run_items, receive_items, receive, byte_cells, bytes_of, start_of, fault_of, first_of, IsAccepted}
+use Rattle.send_model.specs.Store.{Key, Head, head_of, Entry, Store, Part, State, same_key, find, start_from, has_name, has_uuid}
+use Rattle.send_model.specs.Receive.{Run, run_items, receive_items, receive, byte_cells, bytes_of, start_of, fault_of, first_of, with_fault, IsAccepted}
 use Rattle.send_model.specs.Order.{heads, heads_of, commands_of, onto_heads, IsConsecutive}
 use Rattle.send_model.specs.Outside.{IsAmong, is_among, part_uuids, store_without, base, keys_named, all_keys_named, keys_outside, outside, SameOn}
 use Rattle.send_model.specs.Provenance.{Traced, uuid_after, is_redirected, is_own, clone_range, traced_step, traced_store, ranges_from, redirected_ranges, uncarried, runs}
@@ -63,6 +64,10 @@ none_kept : (parts : List (List ℕ)) (current : Option (List ℕ)) (cs : List C
 unfolding kept_from
 none_kept parts current [] n = refl
 none_kept parts current (c ∷ cs) n = rw (n.0, none_kept parts (uuid_after current c) cs n.1) refl
+
+no_kept : (files : List (List ℕ)) → NoClones (commands_of (input files).items) → kept files ≡ 0
+unfolding kept
+no_kept files n = none_kept (part_uuids (input files).items) None (commands_of (input files).items) n
 
 -- ---- counts
 
@@ -189,3 +194,160 @@ without_finds uuids (e ∷ store) key h = one (is_among uuids e.key.uuid) refl (
         other : (b : Bool) → same_key e.key key ≡ b → find (e ∷ store_without uuids store) key ≡ None
         other true s = absurd (true≢false (sym h ∙ ap (λ (k : Key). is_among uuids k.uuid) (sym (same_key_true e.key key s)) ∙ i))
         other false s = rw s more
+
+-- ---- receiving one stream
+
+joined_whole : (items : List Item) (ending : Ending) → ending ≡ Whole → joined (record { items = items; end = ending }) (record { items = []; end = Whole }) ≡ record { items = items ++ []; end = Whole }
+joined_whole items Whole h = refl
+joined_whole items (Faulty verdict) h = cc
+
+one_input : (bytes : List ℕ) → (reads 1 bytes).end ≡ Whole → input (bytes ∷ []) ≡ record { items = (reads 1 bytes).items; end = Whole }
+unfolding input input_from
+one_input bytes h = joined_whole (reads 1 bytes).items (reads 1 bytes).end h ∙ (let f : List Item → Reading = λ is. record { items = is; end = Whole } in ap f (append-nil (reads 1 bytes).items))
+
+pub received_one : (store : Store ℕ) (bytes : List ℕ) (cs : List Command) (end : State ℕ) → ReadsAs (reads 1 bytes) cs → Takes (start_of store) cs end → receive store (bytes ∷ []) ≡ record { state = end; refused = None }
+unfolding receive receive_items
+received_one store bytes cs end r t =
+    let P : List Command → Type 0 = λ ds. Takes (start_of store) ds end in
+    let ran = runs_taken (reads 1 bytes).items (start_of store) end (subst P (sym r.commands) t) in
+    let f : Reading → Run ℕ = λ x. receive_items 0 byte_cells store x in
+    let g : Run ℕ → Run ℕ = λ x. record { state = x.state; refused = first_of x.refused None } in
+    ap f (one_input bytes r.whole) ∙ ap g ran
+
+-- ---- the headline
+
+first_none : {A : Type 0} (a b : Option A) → first_of a b ≡ None → a ≡ None
+first_none None b e = refl
+first_none (Some x) b e = e
+
+-- Everything that is known of files that compose took in order.
+pub record Accepts (store : Store ℕ) (files : List (List ℕ)) (end : State ℕ) : Type 0 where
+  pub whole : (input files).end ≡ Whole
+  pub no_clones : NoClones (commands_of (input files).items)
+  pub consecutive : IsConsecutive (input files).items
+  pub taken : Takes (start_of (base store files)) (commands_of (input files).items) end
+
+-- The head and the edits of the composed list.
+pub record ComposedAs (store : Store ℕ) (files : List (List ℕ)) (head : Command) (edits : List Command) : Type 0 where
+  pub list : composed (base store files) files ≡ head ∷ (edits ++ End ∷ [])
+  pub inner : AllByRecursion IsInner (head ∷ edits)
+
+-- What a part starts from is found outside the files.
+outside_parent : (store : Store ℕ) (files : List (List ℕ)) (name name' : List ℕ) (key key' : Key) (parent : Option Key) (start : Subvolume ℕ) → start_from (base store files) parent ≡ Ok start
+    → AllByRecursion (λ k. IsAmong k (all_keys_named (commands_of (input files).items))) (all_keys_named (head_command name key parent ∷ []))
+    → AllByRecursion (λ k. IsAmong k (outside files)) (all_keys_named (head_command name' key' parent ∷ []))
+unfolding outside base
+outside_parent store files name name' key key' None start from named = tt
+outside_parent store files name name' key key' (Some k) start from named = by_test (is_among (part_uuids (input files).items) k.uuid) refl
+  where
+    parts : List (List ℕ)
+    parts = part_uuids (input files).items
+    by_test : (b : Bool) → is_among (part_uuids (input files).items) k.uuid ≡ b → AllByRecursion (λ q. IsAmong q (keys_outside (input files).items)) (k ∷ [])
+    by_test true e = absurd (let none : find (store_without parts store) k ≡ None = without_finds parts store k e in let at : found None NoParent ≡ Ok start = subst (λ (o : Option (Subvolume ℕ)). found o NoParent ≡ Ok start) none from in cc)
+    by_test false e = (among_kept (λ q. not (is_among parts q.uuid)) k (all_keys_named (commands_of (input files).items)) (ap not e) named.0, tt)
+
+same_start : (base_store store : Store ℕ) (outside_keys : List Key) (name : List ℕ) (key : Key) (parent : Option Key) (start : Subvolume ℕ) → SameOn base_store store outside_keys
+    → AllByRecursion (λ k. IsAmong k outside_keys) (all_keys_named (head_command name key parent ∷ [])) → start_from base_store parent ≡ Ok start → start_from store parent ≡ Ok start
+same_start base_store store outside_keys name key None start same named from = from
+same_start base_store store outside_keys name key (Some k) start same named from =
+    subst (λ (o : Option (Subvolume ℕ)). found o NoParent ≡ Ok start) (among_all (λ q. find base_store q ≡ find store q) k outside_keys same named.0) from
+
+stands_none : (store : Store ℕ) (part : Option (Part ℕ)) (key : Key) (s : Subvolume ℕ) → part ≡ None → Stands store part key s → find store key ≡ Some s
+stands_none store None key s e h = h
+stands_none store (Some part) key s e h = cc
+
+no_part_at_end : (cs : List Command) (state end : State ℕ) → EndsWell cs → heads_of cs ≢ [] → Takes state cs end → end.part ≡ None
+unfolding heads_of
+no_part_at_end cs state end (inl none) some t = absurd (some (ap heads_of none))
+no_part_at_end cs state end (inr ends) some t = no_part_left cs state end ends t
+
+received_all : (store : Store ℕ) (files : List (List ℕ)) (end : State ℕ) → (input files).end ≡ Whole → Takes (start_of store) (commands_of (input files).items) end → receive store files ≡ record { state = end; refused = None }
+unfolding receive receive_items
+received_all store files end whole t =
+    let g : Run ℕ → Ending → Run ℕ = λ x e. with_fault x e in
+    ap₂ g (runs_taken (input files).items (start_of store) end t) whole
+
+head_alone : (name : List ℕ) (key : Key) (parent : Option Key) (cs : List Command) → length (heads_of (head_command name key parent ∷ (edits_of cs ++ End ∷ []))) ≡ 1
+unfolding heads_of
+head_alone name key None cs = rw (edits_heads cs (End ∷ [])) refl
+head_alone name key (Some k) cs = rw (edits_heads cs (End ∷ [])) refl
+
+all_left : (P Q : Key → Type 0) (keys : List Key) → AllByRecursion P keys → AllByRecursion (λ k. P k ⊎ Q k) keys
+all_left P Q [] a = tt
+all_left P Q (k ∷ keys) a = (inl a.0, all_left P Q keys a.1)
+
+-- The composed commands of files that were taken in order, for the last of their heads.
+abbrev pub written_for : Head → Head → List Command → List ℕ
+written_for first last cs = stream_header 1 ++ canonical_all 1 (head_command last.name last.key first.parent ∷ (edits_of cs ++ End ∷ []))
+
+-- The headline, for files that were taken in order and hold no clone.
+module _ (store : Store ℕ) (files : List (List ℕ)) (end : State ℕ) (a : Accepts store files end) where
+  cs : List Command
+  cs = commands_of (input files).items
+
+  c : Comes (base store files) (commands_of (input files).items) end
+  c = comes (commands_of (input files).items) (base store files) end a.no_clones a.consecutive.0 a.consecutive.1 a.taken
+
+  last' : (last : Head) × (last_head (c.first ∷ c.rest) ≡ Some last) × (last.key ≡ last_key c.first.key c.rest)
+  last' = last_of c.first c.rest
+
+  composed_written : (written : List ℕ) → AllByRecursion IsInner (head_command last'.0.name last'.0.key c.first.parent ∷ edits_of (commands_of (input files).items)) → written ≡ written_for c.first last'.0 (commands_of (input files).items)
+      → IsComposed (base store files) files written
+  unfolding c last'
+  composed_written written inner is =
+      let b : Store ℕ = base store files in
+      let items : List Item = (input files).items in
+      let ds : List Command = commands_of items in
+      let first : Head = c.first in
+      let last : Head = last'.0 in
+      let new : Head = record { name = last.name; key = last.key; parent = first.parent } in
+      let hc : Command = head_command last.name last.key first.parent in
+      let list : List Command = hc ∷ (edits_of ds ++ End ∷ []) in
+      let R : List ℕ → Type 0 = λ w. ReadsAs (reads 1 w) list in
+      let ra : ReadsAs (reads 1 written) list = subst R (sym is) (stream_read 1 (hc ∷ edits_of ds) inner) in
+      let A : List Head → Type 0 = λ hs. AreNamed hs in
+      let named = last_named first c.rest (subst A c.heads_are (names ds (start_of b) end a.taken)) last last'.1 in
+      let received = received_all b files end a.whole a.taken in
+      let none = no_part_at_end ds (start_of b) end (input_ends files a.whole) a.consecutive.0 a.taken in
+      let found_last : find end.store last.key ≡ Some c.merged.last = ap (find end.store) last'.2 ∙ stands_none end.store end.part (last_key first.key c.rest) c.merged.last none c.merged.stands in
+      let parent_out = outside_parent store files first.name last.name first.key last.key first.parent c.start c.from c.first_named in
+      let one : (t : Store ℕ) → CanReceive b files last t → receive t (written ∷ []) ≡ record { state = record { store = t ++ last_entry first last c.merged.last ∷ []; part = None }; refused = None } =
+        λ t can. received_one t written list _ ra (received_anywhere new c.start c.merged.last (edits_of ds) t named can.no_name can.no_uuid (same_start b t (outside files) last.name last.key first.parent c.start can.same parent_out c.from) c.merged.merged) in
+      let keys : List Key → Type 0 = λ ks. AllByRecursion (λ key. IsAmong key (outside files) ⊎ (key ≡ last.key)) ks in
+      let no_extra = no_uncarried b files a.no_clones in
+      let kept_is : kept files ≡ 0 = no_kept files a.no_clones in
+      record {
+        read_whole = a.whole;
+        accepted = ap (λ (r : Run ℕ). r.refused) received;
+        consecutive = a.consecutive;
+        first = first;
+        last = last;
+        subvolume = c.merged.last;
+        first_is = ap first_head c.heads_are;
+        last_is = ap last_head c.heads_are ∙ last'.1;
+        subvolume_is = ap (λ (r : Run ℕ). find r.state.store last.key) received ∙ found_last;
+        whole = ra.whole;
+        one_part = ap (λ (es : List Command). length (heads_of es)) ra.commands ∙ head_alone last.name last.key first.parent ds;
+        one_stream = ap streams ra.commands ∙ inner_streams (hc ∷ edits_of ds) inner;
+        accepted_by = λ t can. ap (λ (r : Run ℕ). r.refused) (one t can);
+        gets = λ t can. ap (λ (r : Run ℕ). r.state.store) (one t can);
+        names_only = subst keys (sym (ap all_keys_named ra.commands ∙ keys_composed last.name last.key first.parent ds a.no_clones)) (all_left (λ k. IsAmong k (outside files)) (λ k. k ≡ last.key) _ parent_out);
+        literal_bytes = ap literal ra.commands ∙ literal_composed last.name last.key first.parent ds ∙ (omega (arith, no_extra));
+        clone_count = ap clones ra.commands ∙ clones_composed last.name last.key first.parent ds a.no_clones ∙ (omega (arith, kept_is, no_runs b files a.no_clones));
+      }
+
+-- What compose writes for files that were taken in order: the stream of its one list of commands.
+pub headline : (store : Store ℕ) (files : List (List ℕ)) (end : State ℕ) (written : List ℕ) (first last : Head) → Accepts store files end
+    → first_head (heads (input files).items) ≡ Some first → last_head (heads (input files).items) ≡ Some last
+    → AllByRecursion IsInner (head_command last.name last.key first.parent ∷ edits_of (commands_of (input files).items)) → written ≡ written_for first last (commands_of (input files).items)
+    → IsComposed (base store files) files written
+unfolding c last'
+headline store files end written first last a first_is last_is inner is =
+    let ds : List Command = commands_of (input files).items in
+    let k = c store files end a in
+    let l = last' store files end a in
+    let same_first : first ≡ k.first = same_inside (sym first_is ∙ ap first_head k.heads_are) in
+    let same_last : last ≡ l.0 = same_inside (sym last_is ∙ ap last_head k.heads_are ∙ l.1) in
+    let Q : Head → Head → Type 0 = λ f g. AllByRecursion IsInner (head_command g.name g.key f.parent ∷ edits_of ds) × (written ≡ written_for f g ds) in
+    let q = subst₂ Q same_first same_last (inner, is) in
+    composed_written store files end a written q.0 q.1
