@@ -14,3 +14,4 @@ mod Streams
 mod Prefixes
 mod Endings
 mod Headlines
+mod CellMaps

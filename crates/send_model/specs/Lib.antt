@@ -19,3 +19,4 @@ pub mod Counts
 pub mod Composed
 pub mod Answer
 pub mod Headline
+pub mod Cells
