@@ -15,3 +15,4 @@ mod Prefixes
 mod Endings
 mod Headlines
 mod CellMaps
+mod CellEdits
