@@ -2,3 +2,4 @@ pub mod ChecksumLaws
 pub mod ChecksumExamples
 mod ReadingExamples
 mod Sorts
+pub mod PathLaws
