@@ -1,7 +1,7 @@
 -- A block of sixteen bytes as the parts of its bytes, and a list as its blocks.
 use Rattle.std.proofs.Common.{◌≡◌, ℕ, zero, suc, ◌+◌, ◌*◌, ◌/◌, ◌%◌, ◌^◌, ◌<◌, List, length, take, drop, get_or, bit_xor, bit_and, refl, sym, ap, ◌∙◌, arith, drop-cons, length-drop, zero-mul}
 use Rattle.std.proofs.lemmas.List.{take-append-drop, drop-drop}
-use Rattle.std.proofs.lemmas.Nat.{and_mask, shr-shr}
+use Rattle.std.proofs.lemmas.Nat.{xor_comm, and_mask, shr-shr}
 use Rattle.std.proofs.Math.Seq.{drop-length}
 use Rattle.std.specs.Int.Bits.{xor_assoc, xor_zero_r}
 use Rattle.std.specs.List.{fold}
@@ -86,21 +86,21 @@ from_the_right w x y z rest = simp xor_assoc
 
 -- The first four bytes of a block, into which the 32 bits of the checksum go.
 pub first_four_parts : (crc : ℕ) (b : List ℕ) → crc < 2 ^ 32 → length b ≡ 16 → ((i : ℕ) → get_or b i 0 < 256) →
-    bit_xor
+    bit_xor (crc_of 0 (drop 4 b))
     (bit_xor
     (bit_xor
     (bit_xor (shifts 128 (bit_and (bit_xor crc (get_or b 0 0)) 255))
     (shifts 120 (bit_and (bit_xor (crc / 2 ^ 8) (get_or b 1 0)) 255)))
     (shifts 112 (bit_and (bit_xor (crc / 2 ^ 16) (get_or b 2 0)) 255)))
     (shifts 104 (bit_and (bit_xor (crc / 2 ^ 24) (get_or b 3 0)) 255)))
-    (crc_of 0 (drop 4 b))
     ≡ crc_of crc b
 first_four_parts crc b is_word long are_bytes =
     let w : ℕ = shifts 128 (bit_and (bit_xor crc (get_or b 0 0)) 255) in
     let x : ℕ = shifts 120 (bit_and (bit_xor (crc / 2 ^ 8) (get_or b 1 0)) 255) in
     let y : ℕ = shifts 112 (bit_and (bit_xor (crc / 2 ^ 16) (get_or b 2 0)) 255) in
     let z : ℕ = shifts 104 (bit_and (bit_xor (crc / 2 ^ 24) (get_or b 3 0)) 255) in
-    from_the_right w x y z (crc_of 0 (drop 4 b))
+    xor_comm (crc_of 0 (drop 4 b)) (bit_xor (bit_xor (bit_xor w x) y) z)
+    ∙ from_the_right w x y z (crc_of 0 (drop 4 b))
     ∙ ap (λ (n : ℕ). bit_xor w (bit_xor x (bit_xor y n)))
     (masked_at_place (crc / 2 ^ 24) 0 b 3 12 (omega arith) (are_bytes 3) (omega arith))
     ∙ ap (λ (n : ℕ). bit_xor w (bit_xor x n))

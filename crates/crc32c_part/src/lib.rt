@@ -18,7 +18,8 @@ pub fn update(crc: u32, bytes: &[u8]) -> u32
     let mut sum = crc;
     let (blocks, rest) = bytes.as_chunks::<16>();
     for block in blocks {
-        sum = first_four(sum, block) ^ last_twelve(block);
+        // What does not wait for the sum so far stands first: in the other order this is a third slower.
+        sum = last_twelve(block) ^ first_four(sum, block);
     }
     for byte in rest {
         sum = one_more(sum, *byte);
@@ -37,7 +38,7 @@ fn one_more(crc: u32, byte: u8) -> u32
 // The part of a block's first four bytes, which take in the checksum so far.
 #[inline]
 fn first_four(crc: u32, block: &[u8; 16]) -> u32
-    ensures { bit_xor result (crc_of 0 (drop 4 block.now)) ≡ crc_of crc block.now }
+    ensures { bit_xor (crc_of 0 (drop 4 block.now)) result ≡ crc_of crc block.now }
 {
     stepped(15, ((crc ^ block[0] as u32) & 0xff) as u8)
         ^ stepped(14, ((crc >> 8 ^ block[1] as u32) & 0xff) as u8)

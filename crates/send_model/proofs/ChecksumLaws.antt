@@ -10,16 +10,16 @@ use Rattle.send_model.specs.Checksum.{shift, shifts, crc_byte, crc_of}
 last_bit : (n : ℕ) → (n % 2 ≡ 0) ⊎ (n % 2 ≡ 1)
 last_bit n = elim (cases_eq (n % 2) 0) [ inl even ↦ inl even | inr not_even ↦ inr (omega arith) ]
 
-pub shift-even : (n : ℕ) → n % 2 ≡ 0 → shift n ≡ n / 2
+shift-even : (n : ℕ) → n % 2 ≡ 0 → shift n ≡ n / 2
 unfolding shift
 shift-even n even = rw even refl
 
-pub shift-odd : (n : ℕ) → n % 2 ≡ 1 → shift n ≡ bit_xor (n / 2) 0x82F63B78
+shift-odd : (n : ℕ) → n % 2 ≡ 1 → shift n ≡ bit_xor (n / 2) 0x82F63B78
 unfolding shift
 shift-odd n odd = rw odd refl
 
 -- The second and the third of three change places.
-pub xor_swap : (a b c : ℕ) → bit_xor (bit_xor a b) c ≡ bit_xor (bit_xor a c) b
+xor_swap : (a b c : ℕ) → bit_xor (bit_xor a b) c ≡ bit_xor (bit_xor a c) b
 xor_swap a b c = xor_assoc a b c ∙ ap (bit_xor a) (xor_comm b c) ∙ sym (xor_assoc a c b)
 
 -- What is taken twice falls out.
@@ -60,15 +60,6 @@ pub shifts-add : (j k n : ℕ) → shifts (j + k) n ≡ shifts k (shifts j n)
 unfolding shifts
 shifts-add zero k n = rw zero-add refl
 shifts-add (suc j) k n = rw suc-add (shifts-add j k (shift n))
-
-pub shift_zero : shift 0 ≡ 0
-unfolding shift
-shift_zero = refl
-
-pub shifts_zero : (k : ℕ) → shifts k 0 ≡ 0
-unfolding shifts
-shifts_zero zero = refl
-shifts_zero (suc k) = ap (shifts k) shift_zero ∙ shifts_zero k
 
 -- Bits above the shifted ones only move down.
 pub shifts_high : (k n : ℕ) → shifts k (n * 2 ^ k) ≡ n

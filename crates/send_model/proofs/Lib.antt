@@ -1,18 +1,19 @@
 pub mod ChecksumLaws
 pub mod ChecksumExamples
 mod ReadingExamples
-mod Sorts
-mod Runs
-mod Stores
-mod Merging
-mod Composing
-mod Frames
-mod Attributes
-mod Commands
-mod Canonical
-mod Streams
-mod Prefixes
-mod Endings
-mod Headlines
-mod CellMaps
-mod CellEdits
+pub mod Sorts
+pub mod Runs
+pub mod Stores
+pub mod Merging
+pub mod Composing
+pub mod Frames
+pub mod Attributes
+pub mod Commands
+pub mod Canonical
+pub mod Streams
+pub mod Prefixes
+pub mod Endings
+pub mod Headlines
+pub mod CellMaps
+pub mod CellEdits
+pub mod PathLaws

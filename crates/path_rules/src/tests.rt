@@ -1,0 +1,69 @@
+//! Names and paths at the edges of their rules.
+
+use crate::{name_ok, split};
+
+// How many names a path has, or None where it is no path.
+fn count_names(path: &[u8]) -> Option<usize> {
+    match split(path) {
+        Ok(names) => Some(names.fold(0, |count: usize, _| count.wrapping_add(1))),
+        Err(_) => None,
+    }
+}
+
+#[test]
+fn names(rt: HostRuntime) {
+    let long = [b'n'; 256];
+    for (name, wanted) in [
+        (b"".as_slice(), false),
+        (b".".as_slice(), false),
+        (b"..".as_slice(), false),
+        (b"...".as_slice(), true),
+        (b".profile".as_slice(), true),
+        (b"a/b".as_slice(), false),
+        (b"a\0".as_slice(), false),
+        (b"\xff\n ".as_slice(), true),
+        (&long[..255], true),
+        (&long[..], false),
+    ] {
+        assert_eq!(rt; name_ok(name), wanted, "the name {name:?}");
+    }
+}
+
+#[test]
+fn paths(rt: HostRuntime) {
+    // "n/n/../n", of 4,095 bytes, and with a second byte in the last name.
+    let mut long = [b'n'; 4096];
+    for place in 0..2047 {
+        long[2 * place + 1] = b'/';
+    }
+    for (path, wanted) in [
+        (b"".as_slice(), Some(0)),
+        (b"notes".as_slice(), Some(1)),
+        (b"home/user/notes".as_slice(), Some(3)),
+        (b"/".as_slice(), None),
+        (b"/home".as_slice(), None),
+        (b"home/".as_slice(), None),
+        (b"home//user".as_slice(), None),
+        (b"home/../user".as_slice(), None),
+        (&long[..4095], Some(2048)),
+        (&long[..], None),
+    ] {
+        assert_eq!(rt; count_names(path), wanted, "the path {path:?}");
+    }
+}
+
+#[test]
+fn names_in_order(rt: HostRuntime) {
+    let Ok(mut names) = split(b"home/user/notes") else {
+        panic!(rt; "a path of three names was refused");
+    };
+    for wanted in [
+        Some(b"home".as_slice()),
+        Some(b"user".as_slice()),
+        Some(b"notes".as_slice()),
+        None,
+        None,
+    ] {
+        assert_eq!(rt; names.next(), wanted);
+    }
+}
