@@ -17,3 +17,4 @@ pub mod Headlines
 pub mod CellMaps
 pub mod CellEdits
 pub mod PathLaws
+pub mod CellSteps

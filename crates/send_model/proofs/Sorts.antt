@@ -34,7 +34,7 @@ plain_edit_part zero_cell put store part (Clone path offset clone_uuid clone_ctr
 plain_edit_part zero_cell put store part End h = absurd (false≢true h)
 plain_edit_part zero_cell put store part c h = refl
 
-plain_step_edit : {C : Type 0} (zero_cell : C) (put : List C) (state : State C) (c : Command) → is_plain c ≡ true → step zero_cell put state c ≡ step_edit zero_cell put state c
+pub plain_step_edit : {C : Type 0} (zero_cell : C) (put : List C) (state : State C) (c : Command) → is_plain c ≡ true → step zero_cell put state c ≡ step_edit zero_cell put state c
 unfolding step
 plain_step_edit zero_cell put state (Subvol uuid ctransid path) h = absurd (false≢true h)
 plain_step_edit zero_cell put state (Snapshot uuid ctransid path clone_uuid clone_ctransid) h = absurd (false≢true h)
