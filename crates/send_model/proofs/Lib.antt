@@ -18,3 +18,4 @@ pub mod CellMaps
 pub mod CellEdits
 pub mod PathLaws
 pub mod CellSteps
+pub mod Fuel
