@@ -19,3 +19,4 @@ pub mod CellEdits
 pub mod PathLaws
 pub mod CellSteps
 pub mod Fuel
+pub mod Judging

@@ -1,0 +1,127 @@
+-- The verdict on files, command by command: those that were taken in order lead to the verdict on the rest.
+use Rattle.std.specs.Prelude.{◌≡◌, ◌≢◌, ℕ, Bool, true, false, not, List, [], ◌∷◌, ◌++◌, map, Option, None, Some, if◌then◌else◌}
+use Rattle.std.proofs.Common.{refl, sym, ap, subst, ◌∙◌, append-nil}
+use Rattle.std.proofs.lemmas.Bool.{not-false}
+use Rattle.send_model.specs.Refusal.{Refusal, NotConsecutive}
+use Rattle.send_model.specs.Command.{Command}
+use Rattle.send_model.specs.Reading.{Item, Verdict, Ending, Whole, Faulty, Reading, input}
+use Rattle.send_model.specs.Store.{Key, Head, head_of, same_key, Store, State, Stepped, step}
+use Rattle.send_model.specs.Receive.{byte_cells, verdict_of, fault_of, first_of, start_of}
+use Rattle.send_model.specs.Order.{heads, heads_of, onto_heads, commands_of, EachFollows, is_parent, breaks_order, part_after, then_judge, judge_items, without_parts, last_item, judge_reading, judge}
+use Rattle.send_model.proofs.Runs.{step_of, Takes}
+use Rattle.send_model.proofs.Stores.{same_key_true}
+use Rattle.send_model.proofs.Sorts.{same_inside}
+
+-- The part that the next head has to follow, after items.
+abbrev pub previous_after : Option Key → List Item → Option Key
+previous_after previous [] = previous
+previous_after previous (item ∷ items) = previous_after (part_after previous (head_of item.command)) items
+
+-- No head among the items breaks the order.
+abbrev pub AreOrdered : Option Key → List Item → Type 0
+AreOrdered previous [] = Unit {0}
+AreOrdered previous (item ∷ items) = (breaks_order previous (head_of item.command) ≡ false) × AreOrdered (part_after previous (head_of item.command)) items
+
+pub AreOrdered-append : (previous : Option Key) (items more : List Item) → AreOrdered previous items → AreOrdered (previous_after previous items) more → AreOrdered previous (items ++ more)
+AreOrdered-append previous [] more a b = b
+AreOrdered-append previous (item ∷ items) more a b = (a.0, AreOrdered-append (part_after previous (head_of item.command)) items more a.1 b)
+
+pub previous_after-append : (previous : Option Key) (items more : List Item) → previous_after previous (items ++ more) ≡ previous_after (previous_after previous items) more
+previous_after-append previous [] more = refl
+previous_after-append previous (item ∷ items) more = previous_after-append (part_after previous (head_of item.command)) items more
+
+judge_on : (item : Item) (state : State ℕ) (o : Option Refusal) (breaks : Bool) (rest : Option Verdict) → o ≡ None → breaks ≡ false → then_judge item (record { state = state; refusal = o }) breaks rest ≡ rest
+judge_on item state None false rest e b = refl
+judge_on item state None true rest e b = cc
+judge_on item state (Some r) breaks rest e b = cc
+
+-- Items that were taken in order leave the verdict to those after them.
+pub judge_done : (items more : List Item) (previous : Option Key) (state end : State ℕ) → Takes state (commands_of items) end → AreOrdered previous items
+    → judge_items 0 byte_cells state previous (items ++ more) ≡ judge_items 0 byte_cells end (previous_after previous items) more
+unfolding judge_items
+judge_done [] more previous state end t o = ap (λ (s : State ℕ). judge_items 0 byte_cells s previous more) t
+judge_done (item ∷ items) more previous state end t o =
+    let s = step_of state item.command in
+    judge_on item s.state s.refusal (breaks_order previous (head_of item.command)) _ t.0 o.0
+    ∙ judge_done items more (part_after previous (head_of item.command)) s.state end t.1 o.1
+
+judge_stop : (item : Item) (state : State ℕ) (o : Option Refusal) (breaks : Bool) (rest : Option Verdict) (refusal : Refusal) → o ≡ Some refusal → then_judge item (record { state = state; refusal = o }) breaks rest ≡ Some (verdict_of item refusal)
+judge_stop item state None breaks rest refusal e = cc
+judge_stop item state (Some r) breaks rest refusal e = ap (λ (x : Refusal). Some (verdict_of item x)) (same_inside e)
+
+judge_break : (item : Item) (state : State ℕ) (o : Option Refusal) (breaks : Bool) (rest : Option Verdict) → o ≡ None → breaks ≡ true → then_judge item (record { state = state; refusal = o }) breaks rest ≡ Some (verdict_of item NotConsecutive)
+judge_break item state None true rest e b = refl
+judge_break item state None false rest e b = cc
+judge_break item state (Some r) breaks rest e b = cc
+
+pub judge_refused : (item : Item) (more : List Item) (previous : Option Key) (state : State ℕ) (refusal : Refusal) → (step_of state item.command).refusal ≡ Some refusal → judge_items 0 byte_cells state previous (item ∷ more) ≡ Some (verdict_of item refusal)
+unfolding judge_items
+judge_refused item more previous state refusal e = let s = step_of state item.command in judge_stop item s.state s.refusal (breaks_order previous (head_of item.command)) (judge_items 0 byte_cells s.state (part_after previous (head_of item.command)) more) refusal e
+
+pub judge_unordered : (item : Item) (more : List Item) (previous : Option Key) (state : State ℕ) → (step_of state item.command).refusal ≡ None → breaks_order previous (head_of item.command) ≡ true → judge_items 0 byte_cells state previous (item ∷ more) ≡ Some (verdict_of item NotConsecutive)
+unfolding judge_items
+judge_unordered item more previous state e b = let s = step_of state item.command in judge_break item s.state s.refusal (breaks_order previous (head_of item.command)) (judge_items 0 byte_cells s.state (part_after previous (head_of item.command)) more) e b
+
+-- ---- whole files
+
+abbrev pub empty_store : Store ℕ
+empty_store = []
+
+-- The verdict where an item after those that were taken is refused.
+pub judge_at_item : (files : List (List ℕ)) (items : List Item) (item : Item) (more : List Item) (ending : Ending) (end : State ℕ) (verdict : Verdict) → input files ≡ record { items = items ++ item ∷ more; end = ending } → Takes (start_of empty_store) (commands_of items) end → AreOrdered None items
+    → judge_items 0 byte_cells end (previous_after None items) (item ∷ more) ≡ Some verdict → judge empty_store files ≡ Some verdict
+unfolding judge judge_reading
+judge_at_item files items item more ending end verdict is t o v =
+    let j : Reading → Option Verdict = λ r. judge_reading 0 byte_cells empty_store r in
+    let k : Option Verdict → Option Verdict = λ x. first_of x (first_of (fault_of ending) (without_parts (items ++ item ∷ more) (heads (items ++ item ∷ more)))) in
+    ap j is ∙ ap k (judge_done items (item ∷ more) None (start_of empty_store) end t o ∙ v)
+
+judge_nothing : (state : State ℕ) (previous : Option Key) → judge_items 0 byte_cells state previous [] ≡ None
+unfolding judge_items
+judge_nothing state previous = refl
+
+judged_all : (items : List Item) (end : State ℕ) → Takes (start_of empty_store) (commands_of items) end → AreOrdered None items → judge_items 0 byte_cells (start_of empty_store) None items ≡ None
+judged_all items end t o = ap (judge_items 0 byte_cells (start_of empty_store) None) (sym (append-nil items)) ∙ judge_done items [] None (start_of empty_store) end t o ∙ judge_nothing end (previous_after None items)
+
+-- The verdict where all commands were taken: the fault with which the reading ended, or no part at all, or none.
+pub judge_at_end : (files : List (List ℕ)) (items : List Item) (ending : Ending) (end : State ℕ) → input files ≡ record { items = items; end = ending } → Takes (start_of empty_store) (commands_of items) end → AreOrdered None items
+    → judge empty_store files ≡ first_of (fault_of ending) (without_parts items (heads items))
+unfolding judge judge_reading
+judge_at_end files items ending end is t o =
+    let j : Reading → Option Verdict = λ r. judge_reading 0 byte_cells empty_store r in
+    let k : Option Verdict → Option Verdict = λ x. first_of x (first_of (fault_of ending) (without_parts items (heads items))) in
+    ap j is ∙ ap k (judged_all items end t o)
+
+-- ---- the order of heads
+
+parent_of : (key : Key) (parent : Option Key) → is_parent key parent ≡ true → parent ≡ Some key
+parent_of key None e = cc
+parent_of key (Some k) e = ap Some (same_key_true k key e)
+
+Follows : Option Key → List Head → Type 0
+Follows None hs = EachFollows hs
+Follows (Some key) [] = Unit {0}
+Follows (Some key) (h ∷ hs) = (h.parent ≡ Some key) × EachFollows (h ∷ hs)
+
+follows_each : (h : Head) (hs : List Head) → Follows (Some h.key) hs → EachFollows (h ∷ hs)
+unfolding Follows
+follows_each h [] f = tt
+follows_each h (next ∷ hs) f = f
+
+ordered_on : (previous : Option Key) (o : Option Head) (items : List Item) → breaks_order previous o ≡ false → Follows (part_after previous o) (heads items) → Follows previous (onto_heads o (heads items))
+unfolding Follows
+ordered_on None None items b f = f
+ordered_on None (Some h) items b f = follows_each h (heads items) f
+ordered_on (Some key) None items b f = f
+ordered_on (Some key) (Some h) items b f = (parent_of key h.parent (not-false (is_parent key h.parent) b), follows_each h (heads items) f)
+
+ordered_follows : (previous : Option Key) (items : List Item) → AreOrdered previous items → Follows previous (heads items)
+unfolding Follows heads_of
+ordered_follows None [] o = tt
+ordered_follows (Some key) [] o = tt
+ordered_follows previous (item ∷ items) o = ordered_on previous (head_of item.command) items o.0 (ordered_follows (part_after previous (head_of item.command)) items o.1)
+
+-- Heads in order follow each other.
+pub each_follows : (items : List Item) → AreOrdered None items → EachFollows (heads items)
+unfolding Follows
+each_follows items o = ordered_follows None items o
