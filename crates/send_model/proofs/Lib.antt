@@ -20,3 +20,4 @@ pub mod PathLaws
 pub mod CellSteps
 pub mod Fuel
 pub mod Judging
+pub mod Writing

@@ -1,0 +1,118 @@
+-- What compose has written after some items: nothing before the first head, then the stream's header, the new head and the
+-- edits so far. It is never read as a whole stream before its END.
+use Rattle.std.specs.Prelude.{◌≡◌, ◌≢◌, ℕ, zero, suc, ◌+◌, ◌<◌, ◌≤◌, Bool, true, false, List, [], ◌∷◌, ◌++◌, map, length, take, Option, None, Some}
+use Rattle.std.specs.List.{AllByRecursion, flat_map}
+use Rattle.std.proofs.Common.{refl, sym, ap, ap₂, subst, ◌∙◌, arith, append_assoc, append-nil, length-append, lit≤}
+use Rattle.std.proofs.lemmas.List.{take-append-le}
+use Rattle.std.proofs.lemmas.Bool.{true≢false, false≢true}
+use Rattle.send_model.specs.Refusal.{Refusal, NoSubvolume}
+use Rattle.send_model.specs.Command.{Command, End}
+use Rattle.send_model.specs.Spelling.{stream_header, canonical, canonical_all}
+use Rattle.send_model.specs.Reading.{Item, Reading, Whole, reads}
+use Rattle.send_model.specs.Store.{Key, Head, head_of, Store, State, Stepped, step, completed}
+use Rattle.send_model.specs.Receive.{bytes_of, start_of}
+use Rattle.send_model.specs.Order.{onto_heads, heads_of, commands_of}
+use Rattle.send_model.specs.Composed.{first_head, last_head, head_command}
+use Rattle.send_model.specs.Counts.{is_clone, is_end}
+use Rattle.send_model.specs.Headline.{IsUnfinished}
+use Rattle.send_model.proofs.Sorts.{by_sort, is_plain, plain_step_without}
+use Rattle.send_model.proofs.Runs.{step_of, Takes}
+use Rattle.send_model.proofs.Merging.{NoClones, edit_in, edits_of}
+use Rattle.send_model.proofs.Streams.{IsInner, canonical_long}
+use Rattle.send_model.proofs.Prefixes.{stream_cut}
+
+-- The bytes for the commands so far, where the first head among them is given, as the part of the last head.
+unfoldable pub written_so_far : Head → Option Head → List Command → List ℕ
+written_so_far last None cs = []
+written_so_far last (Some first) cs = stream_header 1 ++ canonical_all 1 (head_command last.name last.key first.parent ∷ edits_of cs)
+
+pub canonical_all-append : (cs ds : List Command) → canonical_all 1 (cs ++ ds) ≡ canonical_all 1 cs ++ canonical_all 1 ds
+unfolding canonical_all
+canonical_all-append [] ds = refl
+canonical_all-append (c ∷ cs) ds = ap (λ (r : List ℕ). canonical 1 c ++ r) (canonical_all-append cs ds) ∙ sym (append_assoc (canonical 1 c) (canonical_all 1 cs) (canonical_all 1 ds))
+
+pub edits_of-append : (cs ds : List Command) → edits_of (cs ++ ds) ≡ edits_of cs ++ edits_of ds
+edits_of-append [] ds = refl
+edits_of-append (c ∷ cs) ds = ap (λ (r : List Command). edit_in (head_of c) c ++ r) (edits_of-append cs ds) ∙ sym (append_assoc (edit_in (head_of c) c) (edits_of cs) (edits_of ds))
+
+pub heads_of-append : (cs ds : List Command) → heads_of (cs ++ ds) ≡ heads_of cs ++ heads_of ds
+unfolding heads_of
+heads_of-append [] ds = refl
+heads_of-append (c ∷ cs) ds = one (head_of c) (heads_of-append cs ds)
+  where
+    one : (o : Option Head) → heads_of (cs ++ ds) ≡ heads_of cs ++ heads_of ds → onto_heads o (heads_of (cs ++ ds)) ≡ onto_heads o (heads_of cs) ++ heads_of ds
+    one None more = more
+    one (Some h) more = ap (λ (r : List Head). h ∷ r) more
+
+-- One more command after the first head.
+pub written-more : (last first : Head) (cs : List Command) (c : Command) → written_so_far last (Some first) (cs ++ c ∷ []) ≡ written_so_far last (Some first) cs ++ canonical_all 1 (edit_in (head_of c) c)
+unfolding written_so_far
+written-more last first cs c =
+    let h : Command = head_command last.name last.key first.parent in
+    let e : List Command = edit_in (head_of c) c in
+    let all : edits_of (cs ++ c ∷ []) ≡ edits_of cs ++ e = edits_of-append cs (c ∷ []) ∙ ap (λ (r : List Command). edits_of cs ++ r) (append-nil e) in
+    ap (λ (r : List Command). stream_header 1 ++ canonical_all 1 (h ∷ r)) all
+    ∙ ap (λ (r : List ℕ). stream_header 1 ++ r) (canonical_all-append (h ∷ edits_of cs) e)
+    ∙ sym (append_assoc (stream_header 1) (canonical_all 1 (h ∷ edits_of cs)) (canonical_all 1 e))
+
+-- ---- before the first head
+
+-- Before the first head, only END can be taken.
+Quiet : List Command → Type 0
+Quiet cs = (store : Store ℕ) (end : State ℕ) → NoClones cs → heads_of cs ≡ [] → Takes (record { store = store; part = None }) cs end → (edits_of cs ≡ []) × (end ≡ record { store = store; part = None })
+
+quiet_head : (c : Command) (head : Head) → head_of c ≡ Some head → (cs : List Command) → Quiet (c ∷ cs)
+unfolding Quiet heads_of
+quiet_head c head h cs store end n none t = absurd (let e : head ∷ heads_of cs ≡ [] = sym (ap (λ (o : Option Head). onto_heads o (heads_of cs)) h) ∙ none in cc)
+
+quiet_end : (cs : List Command) → Quiet cs → Quiet (End ∷ cs)
+unfolding Quiet heads_of step completed
+quiet_end cs ih store end n none t = ih store end n.1 none t.1
+
+quiet_plain : (c : Command) → is_plain c ≡ true → (cs : List Command) → Quiet (c ∷ cs)
+unfolding Quiet
+quiet_plain c h cs store end n none t = absurd (let e : Some NoSubvolume ≡ None = sym (plain_step_without 0 (bytes_of c) store c h) ∙ t.0 in cc)
+
+pub quiet : (cs : List Command) (store : Store ℕ) (end : State ℕ) → NoClones cs → heads_of cs ≡ [] → Takes (record { store = store; part = None }) cs end → (edits_of cs ≡ []) × (end ≡ record { store = store; part = None })
+unfolding Quiet
+quiet [] = λ store end n none t. (refl, sym t)
+quiet (c ∷ cs) = by_sort {P = λ c. Quiet cs → Quiet (c ∷ cs)} (λ c head h ih. quiet_head c head h cs) (quiet_end cs) (λ c h ih store end n none t. absurd (true≢false (sym h ∙ n.0))) (λ c h ih. quiet_plain c h cs) c (quiet cs)
+
+-- The first head.
+pub written-first : (last first : Head) (cs : List Command) → edits_of cs ≡ [] → written_so_far last (Some first) cs ≡ stream_header 1 ++ canonical 1 (head_command last.name last.key first.parent)
+unfolding written_so_far canonical_all
+written-first last first cs none = ap (λ (r : List Command). stream_header 1 ++ canonical_all 1 (head_command last.name last.key first.parent ∷ r)) none ∙ ap (λ (r : List ℕ). stream_header 1 ++ r) (append-nil (canonical 1 (head_command last.name last.key first.parent)))
+
+-- ---- unfinished
+
+header_long : 1 ≤ length (stream_header 1)
+unfolding stream_header
+header_long = lit≤ tt
+
+nothing_unfinished : IsUnfinished []
+nothing_unfinished = stream_cut 1 [] 0 tt (omega (arith, length-append (stream_header 1) (canonical_all 1 (End ∷ [])), header_long))
+
+take_nothing : (k : ℕ) → take {A = ℕ} k [] ≡ []
+take_nothing zero = refl
+take_nothing (suc k) = refl
+
+-- The whole stream, as what stands before its END and END.
+pub whole_parts : (front : List ℕ) (cs : List Command) → front ++ canonical_all 1 (cs ++ End ∷ []) ≡ (front ++ canonical_all 1 cs) ++ canonical 1 End
+unfolding canonical_all
+whole_parts front cs = ap (λ (r : List ℕ). front ++ r) (canonical_all-append cs (End ∷ []) ∙ ap (λ (r : List ℕ). canonical_all 1 cs ++ r) (append-nil (canonical 1 End))) ∙ sym (append_assoc front (canonical_all 1 cs) (canonical 1 End))
+
+-- No front part of what is written before END is read as whole, and no proper one of the whole.
+pub unfinished_part : (cs : List Command) (k : ℕ) → AllByRecursion IsInner cs → k < length ((stream_header 1 ++ canonical_all 1 cs) ++ canonical 1 End) → IsUnfinished (take k ((stream_header 1 ++ canonical_all 1 cs) ++ canonical 1 End))
+unfinished_part cs k inner h =
+    let whole = whole_parts (stream_header 1) cs in
+    let U : List ℕ → Type 0 = λ b. k < length b → IsUnfinished (take k b) in
+    subst U whole (stream_cut 1 cs k inner) h
+
+pub unfinished_so_far : (last : Head) (first : Option Head) (cs : List Command) (k : ℕ) → ((f : Head) → first ≡ Some f → AllByRecursion IsInner (head_command last.name last.key f.parent ∷ edits_of cs)) → k ≤ length (written_so_far last first cs) → IsUnfinished (take k (written_so_far last first cs))
+unfolding written_so_far
+unfinished_so_far last None cs k inner h = let U : List ℕ → Type 0 = λ b. IsUnfinished b in subst U (sym (take_nothing k)) nothing_unfinished
+unfinished_so_far last (Some first) cs k inner h =
+    let es : List Command = head_command last.name last.key first.parent ∷ edits_of cs in
+    let bytes : List ℕ = stream_header 1 ++ canonical_all 1 es in
+    let U : List ℕ → Type 0 = λ b. IsUnfinished b in
+    subst U (take-append-le k bytes (canonical 1 End) h) (unfinished_part es k (inner first refl) (omega (arith, h, length-append bytes (canonical 1 End), canonical_long End)))
