@@ -26,7 +26,7 @@ pub bound : {A B : Type 0} (r : Result A Refusal) (k : A → Result B Refusal) (
 bound (Ok a) k x e = (a, refl, e)
 bound (Err refusal) k x e = cc
 
-ok_same : {A : Type 0} {x y : A} → ◌≡◌ {A = Result A Refusal} (Ok x) (Ok y) → x ≡ y
+pub ok_same : {A : Type 0} {x y : A} → ◌≡◌ {A = Result A Refusal} (Ok x) (Ok y) → x ≡ y
 ok_same {x = x} e = ap (λ r. ok_or_else r x) e
   where
     ok_or_else : {A : Type 0} → Result A Refusal → A → A

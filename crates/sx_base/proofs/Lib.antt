@@ -4,3 +4,4 @@ pub mod FileSteps
 pub mod Pieces
 pub mod DiskImages
 pub mod DiskMoments
+pub mod FilledBuffers

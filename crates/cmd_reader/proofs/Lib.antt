@@ -1,0 +1,2 @@
+mod Fillings
+mod Headers
