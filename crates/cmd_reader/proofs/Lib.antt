@@ -1,2 +1,3 @@
 mod Fillings
 mod Headers
+mod Lefts

@@ -34,7 +34,7 @@ plain_commands_for store parts last state current (Clone path offset clone_uuid 
 plain_commands_for store parts last state current End h = refl
 plain_commands_for store parts last state current c h = refl
 
-plain_composed : (store : Store ℕ) (parts : List (List ℕ)) (last : Key) (items : List Item) (state : State Traced) (current : Option (List ℕ)) → NoClones (commands_of items) → composed_from store parts last state current items ≡ edits_of (commands_of items)
+pub plain_composed : (store : Store ℕ) (parts : List (List ℕ)) (last : Key) (items : List Item) (state : State Traced) (current : Option (List ℕ)) → NoClones (commands_of items) → composed_from store parts last state current items ≡ edits_of (commands_of items)
 unfolding composed_from
 plain_composed store parts last [] state current n = refl
 plain_composed store parts last (item ∷ items) state current n =
@@ -216,7 +216,7 @@ received_one store bytes cs end r t =
 
 -- ---- the headline
 
-first_none : {A : Type 0} (a b : Option A) → first_of a b ≡ None → a ≡ None
+pub first_none : {A : Type 0} (a b : Option A) → first_of a b ≡ None → a ≡ None
 first_none None b e = refl
 first_none (Some x) b e = e
 

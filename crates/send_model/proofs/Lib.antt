@@ -21,3 +21,4 @@ pub mod CellSteps
 pub mod Fuel
 pub mod Judging
 pub mod Writing
+pub mod Composed

@@ -11,10 +11,11 @@ use Rattle.send_model.specs.Chain.{◌>>=◌, ◌>>◌, require, refuse_if}
 use Rattle.send_model.specs.Command.{Command, End, row, kind_of}
 use Rattle.send_model.specs.Spelling.{stream_header, attributes_of, body_of, frame_of, frame_checksum, greatest_body, canonical, canonical_all, IsSpellable}
 use Rattle.send_model.specs.Reading.{Item, Reading, Whole, Faulty, Due, HeaderDue, CommandDue, due_after, with_item, go_on, faulty, Front, front_of, frame_header_len, header_len, stream_version, frame_at, frame_with, reads_from, reads, number16, number32}
+use Rattle.send_model.specs.Laws.{CanWrite}
 use Rattle.send_model.proofs.Frames.{header_says, frame_at_by}
 use Rattle.send_model.proofs.Canonical.{body_short, checksum_small, body_is_bytes, attributes_lawful}
 use Rattle.send_model.proofs.Commands.{number_small}
-use Rattle.send_model.proofs.Streams.{IsWritable, IsInner, inner_due, front_item, step_inner, header_step, header_length, end_writable}
+use Rattle.send_model.proofs.Streams.{IsInner, inner_due, front_item, step_inner, header_step, header_length, end_writable}
 
 abbrev pub IsFaulty : Reading → Type 0
 IsFaulty r = r.end ≢ Whole
@@ -58,7 +59,7 @@ cut_frame number body k small short sum_small h =
         ap frame_at there ∙ cut_body number body j small short sum_small (omega (arith, h, e)))
       (λ below. short_header _ (rw length-take (omega (arith, below)))) (at_least 10 k)
 
-cut_command : (file number offset : ℕ) (c : Command) (k : ℕ) → IsWritable c → k < length (canonical 1 c) → front_of file 1 number offset (take k (canonical 1 c)) ≡ Err Truncated
+cut_command : (file number offset : ℕ) (c : Command) (k : ℕ) → CanWrite c → k < length (canonical 1 c) → front_of file 1 number offset (take k (canonical 1 c)) ≡ Err Truncated
 unfolding front_of canonical
 cut_command file number offset c k w h =
     let body : List ℕ = body_of (attributes_of c) in
@@ -78,7 +79,7 @@ faulty_is r file number offset refusal e = let F : Reading → Type 0 = λ x. Is
 Cut : List Command → Type 0
 Cut cs = (n file number offset k : ℕ) → k < length (canonical_all 1 cs) → IsFaulty (reads_from n file (CommandDue 1) number offset (take k (canonical_all 1 cs)))
 
-cut_first : (c : Command) → IsWritable c → (rest : List ℕ) (n file number offset k : ℕ) → k < length (canonical 1 c) → IsFaulty (reads_from (suc n) file (CommandDue 1) number offset (take k (canonical 1 c ++ rest)))
+cut_first : (c : Command) → CanWrite c → (rest : List ℕ) (n file number offset k : ℕ) → k < length (canonical 1 c) → IsFaulty (reads_from (suc n) file (CommandDue 1) number offset (take k (canonical 1 c ++ rest)))
 cut_first c w rest n file number offset k h =
     let here : take k (canonical 1 c ++ rest) ≡ take k (canonical 1 c) = take-append-le k (canonical 1 c) rest (omega (arith, h)) in
     faulty_is _ file number offset Truncated (ap (reads_from (suc n) file (CommandDue 1) number offset) here ∙ stop_at n file number offset _ Truncated (cut_command file number offset c k w h))

@@ -8,7 +8,7 @@ use Rattle.send_model.specs.Subvolume.{Subvolume}
 use Rattle.send_model.specs.Edit.{edit}
 use Rattle.send_model.specs.Store.{Key, Head, head_of, Store, Part, State, Stepped, step, step_head, step_edit, edit_part, edited}
 use Rattle.send_model.specs.Outside.{keys_named}
-use Rattle.send_model.specs.Counts.{is_clone}
+use Rattle.send_model.specs.Counts.{is_clone, is_end}
 
 abbrev pub is_plain : Command → Bool
 is_plain (Subvol uuid ctransid path) = false
@@ -73,3 +73,11 @@ plain_names_nothing c h = refl
 pub plain_is_no_clone : (c : Command) → is_plain c ≡ true → is_clone c ≡ false
 plain_is_no_clone (Clone path offset clone_uuid clone_ctransid clone_path clone_offset clone_len) h = absurd (false≢true h)
 plain_is_no_clone c h = refl
+
+-- What is no head, no END and no clone is a plain edit.
+pub plain_from : (c : Command) → is_clone c ≡ false → is_end c ≡ false → head_of c ≡ None → is_plain c ≡ true
+plain_from (Subvol uuid ctransid path) clone end head = cc
+plain_from (Snapshot uuid ctransid path clone_uuid clone_ctransid) clone end head = cc
+plain_from (Clone path offset clone_uuid clone_ctransid clone_path clone_offset clone_len) clone end head = cc
+plain_from End clone end head = cc
+plain_from c clone end head = refl

@@ -9,23 +9,19 @@ use Rattle.send_model.specs.Spelling.{stream_header, IsSpellable, canonical, can
 use Rattle.send_model.specs.Reading.{Item, Reading, Whole, Faulty, Due, HeaderDue, CommandDue, due_after, may_end, with_item, go_on, ended, is_taken, taken, Front, front_of, data_place, header_len, stream_version, reads_from, reads, number32}
 use Rattle.send_model.specs.Order.{commands_of}
 use Rattle.send_model.specs.Counts.{is_end}
+use Rattle.send_model.specs.Laws.{CanWrite}
 use Rattle.send_model.proofs.Canonical.{canonical_spells, spelled_front}
-
--- A command that the program takes and can spell.
-pub record IsWritable (c : Command) : Type 0 where
-  pub spellable : IsSpellable c
-  pub taken_kind : taken 1 (row (kind_of c)).number ≡ Ok tt
 
 -- A command inside a stream.
 abbrev pub IsInner : Command → Type 0
-IsInner c = IsWritable c × (is_end c ≡ false)
+IsInner c = CanWrite c × (is_end c ≡ false)
 
 pub inner_due : (version : ℕ) (c : Command) → is_end c ≡ false → due_after version c ≡ CommandDue version
 inner_due version End h = absurd (true≢false h)
 inner_due version c h = refl
 
 -- Reading a command in front of other bytes.
-pub front_item : (file number offset : ℕ) (c : Command) → IsWritable c → (rest : List ℕ) → (item : Item) × (item.command ≡ c) × (front_of file 1 number offset (canonical 1 c ++ rest) ≡ Ok (record { item = item; rest = rest }))
+pub front_item : (file number offset : ℕ) (c : Command) → CanWrite c → (rest : List ℕ) → (item : Item) × (item.command ≡ c) × (front_of file 1 number offset (canonical 1 c ++ rest) ≡ Ok (record { item = item; rest = rest }))
 front_item file number offset c w rest =
     let s = canonical_spells 1 c w.spellable in
     (record { file = file; number = number; offset = offset; version = 1; data_at = data_place offset s.attributes; command = c }, refl, spelled_front file 1 number offset (canonical 1 c) rest c s w.taken_kind)
@@ -48,7 +44,7 @@ unfolding reads_from
 step_end n file number offset bytes item front is =
     ap (go_on _ _) front ∙ ap (λ (c : Command). with_item item (if may_end (due_after 1 c) [] then ended else reads_from n file (due_after 1 c) (number + 1) (offset + (length bytes - 0)) [])) is
 
-pub end_writable : IsWritable End
+pub end_writable : CanWrite End
 unfolding IsSpellable taken is_taken kind_of_number row
 end_writable = record { spellable = tt; taken_kind = refl }
 

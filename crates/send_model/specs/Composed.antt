@@ -79,8 +79,9 @@ unfoldable pub composed_with : Store ℕ → Head → Head → List Item → Lis
 composed_with store first last items = head_command last.name last.key first.parent ∷ (composed_edits store last.key items ++ End ∷ [])
 
 -- The composed commands of files received into a base; none where they hold no part.
+abbrev pub composed_for : Store ℕ → Option Head → Option Head → List Item → List Command
+composed_for store (Some first) (Some last) items = composed_with store first last items
+composed_for store _ _ items = []
+
 unfoldable pub composed : Store ℕ → List (List ℕ) → List Command
-composed store files = let items = (input files).items in elim (first_head (heads items)) [
-    | None ↦ []
-    | Some first ↦ elim (last_head (heads items)) [ None ↦ [] | Some last ↦ composed_with store first last items ]
-  ]
+composed store files = let items = (input files).items in composed_for store (first_head (heads items)) (last_head (heads items)) items

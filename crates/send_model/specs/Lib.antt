@@ -20,3 +20,4 @@ pub mod Composed
 pub mod Answer
 pub mod Headline
 pub mod Cells
+pub mod Laws

@@ -1,0 +1,28 @@
+-- A reader that stands somewhere in a file, and what is left to read from there.
+use Rattle.std.specs.Prelude.{ℕ, suc, ◌+◌, Bool, true, false, ◌&&◌, List, [], ◌∷◌, length, drop, nat_lt, if◌then◌else◌}
+use Rattle.send_model.specs.Reading.{Reading, Due, HeaderDue, CommandDue, ended, reads_from}
+
+-- The file's number and name, what is due, the number of the next command, and the place in the file.
+pub record Reader : Type 0 where
+  pub file : ℕ
+  pub name : List ℕ
+  pub due : Due
+  pub number : ℕ
+  pub offset : ℕ
+
+abbrev pub is_header_due : Due → Bool
+is_header_due HeaderDue = true
+is_header_due (CommandDue version) = false
+
+abbrev pub is_empty : List ℕ → Bool
+is_empty [] = true
+is_empty (b ∷ bytes) = false
+
+-- A stream has ended here, so the file may end.
+abbrev pub may_end_here : Reader → Bool
+may_end_here r = is_header_due r.due && nat_lt 1 r.number
+
+-- What is left to read of a file.
+unfoldable pub left : Reader → List ℕ → Reading
+left r file = if may_end_here r && is_empty (drop r.offset file) then ended
+    else reads_from (suc (length (drop r.offset file))) r.file r.due r.number r.offset (drop r.offset file)

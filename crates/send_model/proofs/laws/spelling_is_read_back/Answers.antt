@@ -1,0 +1,8 @@
+use Rattle.send_model.proofs.Canonical.{spelled_front, canonical_spells}
+use Rattle.send_model.proofs.laws.spelling_is_read_back.Goals as goal
+
+pub returns-clause-spelled : goal.returns-clause-spelled
+returns-clause-spelled c = spelled_front
+
+pub returns-clause-canonical : goal.returns-clause-canonical
+returns-clause-canonical c = canonical_spells
