@@ -44,7 +44,8 @@ impl<O: Origin> Extents<O> {
 
     /// How many cells there are.
     pub fn size(&self) -> u64
-        ensures { result ≡ length self.now }
+        ensures count { result ≡ length self.now }
+        ensures fits { result < 2 ^ 63 }
     {
         self.size
     }
@@ -53,9 +54,11 @@ impl<O: Origin> Extents<O> {
     pub fn copy(&self) -> Result<Extents<O>, AllocError>
         ensures { IfOk result (λ copy. copy ≡ self.now) }
     {
-        let mut copy = Extents::new(self.alloc);
-        copy.copy_range(0, self, 0, self.size)?;
-        Ok(copy)
+        Ok(Extents {
+            runs: self.runs.clone()?,
+            size: self.size,
+            alloc: self.alloc,
+        })
     }
 
     /// Puts a run of `len` cells from `origin` in place of the cells from `at` on. Fails for want of memory alone.

@@ -8,10 +8,18 @@ use std::alloc::AllocError;
 use std::collections::BTreeMap;
 
 /// So many cells, the first of which is `origin`, and each further one the origin advanced by one more.
-#[derive(Clone, Copy)]
+#[derive(Copy)]
 pub(crate) struct Run<O> {
     pub(crate) origin: O,
     pub(crate) len: u64,
+}
+
+impl<O: Copy> Clone for Run<O> {
+    ghost is_clone = { λ run copy. copy ≡ run };
+
+    fn clone(&self) -> Result<Run<O>, AllocError> {
+        Ok(*self)
+    }
 }
 
 /// The last run that begins below `limit`, with the place where it begins.
