@@ -33,7 +33,8 @@ module _ {C : Type 0} (empty : C) where
   unfolding put_cells
   put_none at cells = refl
 
-  put_some : (at : ℕ) (new cells : List C) → 0 < length new → put_cells empty at new cells ≡ resize_cells empty at cells ++ new ++ drop (at + length new) cells
+  -- some new cells
+  pub put_some : (at : ℕ) (new cells : List C) → 0 < length new → put_cells empty at new cells ≡ resize_cells empty at cells ++ new ++ drop (at + length new) cells
   unfolding put_cells
   put_some at [] cells h = absurd (omega arith)
   put_some at (c ∷ cs) cells h = refl

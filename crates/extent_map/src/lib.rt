@@ -4,7 +4,11 @@
 mod extents;
 mod origin;
 mod pieces;
+#[cfg(test)]
+mod plain;
 mod run;
+#[cfg(test)]
+mod table;
 
 pub use extents::Extents;
 pub use origin::Origin;
