@@ -1,7 +1,7 @@
-use Rattle.std.proofs.Common.{◌≡◌, ℕ, Option, ◌∙◌, sym, ap, subst}
+use Rattle.std.proofs.Common.{ℕ, Option, ◌∙◌, sym, ap, subst}
 use Rattle.std.proofs.lemmas.Map.Entries.{entries_from_clone}
 use Rattle.extent_map.specs.declared.run.Run.{Run}
-use Rattle.extent_map.specs.Layout.{runs_at, cells_of, AreRunsOfFile}
+use Rattle.extent_map.specs.Layout.{cells_of, AreRunsOfFile}
 use Rattle.extent_map.proofs.Clearing.{same_runs}
 use Rattle.extent_map.proofs.extents.Extents.copy.Goals as goal
 
