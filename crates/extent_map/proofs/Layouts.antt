@@ -10,7 +10,8 @@ use Rattle.std.specs.Ordering.{nat_cmp}
 use Rattle.extent_map.proofs.Cover.{cell-uncovered}
 use Rattle.extent_map.specs.declared.run.Run.{Run}
 use Rattle.extent_map.specs.Cells.{resize_cells, put_cells, cells_between}
-use Rattle.extent_map.specs.Layout.{run_cells, zero_cells, piece_cells, cell_at, cells_of, AreRuns, AreRunsOfFile, Writes, runs_at}
+use Rattle.extent_map.specs.Layout.{cell_at, cells_of, AreRuns, AreRunsOfFile, Writes, runs_at}
+use Rattle.extent_map.specs.Pieces.{run_cells, zero_cells, piece_cells}
 use Rattle.extent_map.proofs.CellLists.{put_none, length-resize, get_or-resize_below, length-put, get_or-put_outside, get_or-put_inside, length-between}
 
 module _ {O : Type 0} (advanced : O → ℕ → O) where

@@ -1,24 +1,11 @@
 -- How runs stand for cells. A run begins at a place and has a length; its cells are its origin, advanced by 0, 1, 2 and
 -- so on. A cell in no run is empty.
-use Rattle.std.specs.Prelude.{◌≡◌, ℕ, zero, suc, ◌+◌, ◌-◌, ◌^◌, ◌<◌, ◌≤◌, ◌≢◌, ◌⊎◌, slice_index_or, nat_lt, cond, Option, Some, None, MatchOption, IfSome, List, [], ◌++◌, map}
+use Rattle.std.specs.Prelude.{◌≡◌, ℕ, zero, suc, ◌+◌, ◌-◌, ◌^◌, ◌<◌, ◌≤◌, ◌≢◌, ◌⊎◌, slice_index_or, nat_lt, cond, Option, Some, None, List, map}
 use Rattle.std.specs.List.{range_with_len}
 use Rattle.std.specs.Ordering.{nat_cmp}
 use Rattle.std.specs.BTreeMap.{BTreeMap, get}
-use lib.ListN.{replicate}
+use Rattle.extent_map.specs.Pieces.{piece_cells}
 use Rattle.extent_map.specs.declared.run.Run.{Run}
-
--- The cells of a run of `len` cells from an origin.
-unfoldable pub run_cells : {O : Type 0} → (O → ℕ → O) → O → ℕ → List (Option O)
-run_cells advanced origin len = map (λ k. Some (advanced origin k)) (range_with_len 0 len)
-
--- So many empty cells.
-unfoldable pub zero_cells : {O : Type 0} → ℕ → List (Option O)
-zero_cells len = replicate len None
-
--- The cells of a piece: of a run, or empty.
-unfoldable pub piece_cells : {O : Type 0} → (O → ℕ → O) → Option O → ℕ → List (Option O)
-piece_cells advanced None len = zero_cells len
-piece_cells advanced (Some origin) len = run_cells advanced origin len
 
 -- The runs by the place where each begins.
 abbrev pub runs_at : {O : Type 0} → BTreeMap ℕ (Run O) → ℕ → Option (Run O)
@@ -94,8 +81,3 @@ LosesOnly advanced old new = (place : ℕ) → cell_at advanced old place ≡ No
 pub record Writes {O : Type 0} (advanced : O → ℕ → O) (old new : ℕ → Option (Run O)) (from : ℕ) (origin : Option O) (len : ℕ) : Type 0 where
   pub outside : (place : ℕ) → (place < from) ⊎ (from + len ≤ place) → cell_at advanced new place ≡ cell_at advanced old place
   pub inside : (k : ℕ) → k < len → cell_at advanced new (from + k) ≡ slice_index_or (piece_cells advanced origin len) k None
-
--- A call of `next` where the cells `left` are left: it gives the piece that they begin with, of a cell at least, and
--- leaves the others, or there are none.
-abbrev pub TakesPiece : {O : Type 0} → (O → ℕ → O) → (O → ℕ) → List (Option O) → Option (Option O × ℕ) → List (Option O) → Type 0
-TakesPiece advanced reach left given rest = MatchOption given ((left ≡ []) × (rest ≡ [])) (λ piece. (0 < piece.1) × IfSome piece.0 (λ origin. piece.1 ≤ reach origin) × (left ≡ piece_cells advanced piece.0 piece.1 ++ rest))

@@ -1,7 +1,7 @@
 // The contents of a file.
 ghost use Rattle.std.specs.Prelude.{◌≡◌, ℕ, ◌+◌, ◌^◌, ◌<◌, ◌≤◌, ◌⊎◌, IfOk, IfSome, OnOk, None, Some, [], length};
 ghost use Rattle.extent_map.specs.Cells.{resize_cells, put_cells, cells_between};
-ghost use Rattle.extent_map.specs.Layout.{run_cells, zero_cells, piece_cells};
+ghost use Rattle.extent_map.specs.Pieces.{run_cells, zero_cells, piece_cells};
 
 use crate::origin::Origin;
 use crate::pieces::Pieces;
@@ -62,7 +62,7 @@ impl<O: Origin> Extents<O> {
     }
 
     /// Puts a run of `len` cells from `origin` in place of the cells from `at` on. Fails for want of memory alone.
-    #[tactic(auto, unfolding(crate::specs::Layout::piece_cells))]
+    #[tactic(auto, unfolding(crate::specs::Pieces::piece_cells))]
     pub fn put_run(&mut self, at: u64, origin: O, len: u64) -> Result<(), AllocError>
         requires end { at + len < 2 ^ 63 }
         requires reaches { len ≤ O.reach origin }
@@ -72,7 +72,7 @@ impl<O: Origin> Extents<O> {
     }
 
     /// Puts `len` zero cells in place of the cells from `at` on. Fails for want of memory alone.
-    #[tactic(auto, unfolding(crate::specs::Layout::piece_cells))]
+    #[tactic(auto, unfolding(crate::specs::Pieces::piece_cells))]
     pub fn zero_run(&mut self, at: u64, len: u64) -> Result<(), AllocError>
         requires { at + len < 2 ^ 63 }
         ensures { OnOk result (self.new ≡ put_cells None at (zero_cells len) self.old) }

@@ -1,7 +1,8 @@
 // The cells of a range as pieces.
 ghost use Rattle.std.specs.Prelude.{◌≡◌, ℕ, ◌+◌, ◌-◌, ◌^◌, ◌<◌, ◌≤◌, IfSome, IsSome, None, length, slice_index_or};
 ghost use Rattle.std.specs.Iterator.{at_most};
-ghost use Rattle.extent_map.specs.Layout.{runs_at, cell_at, cells_of, piece_cells, AreRuns, TakesPiece};
+ghost use Rattle.extent_map.specs.Layout.{runs_at, cell_at, cells_of, AreRuns};
+ghost use Rattle.extent_map.specs.Pieces.{piece_cells, TakesPiece};
 
 use crate::origin::Origin;
 use crate::run::{Run, last_below};

@@ -3,7 +3,7 @@
 ghost use Rattle.std.specs.Prelude.{◌≡◌, ℕ, ◌+◌, ◌-◌, ◌^◌, ◌<◌, ◌≤◌, ◌++◌, ◌⊎◌, IfOk, OnOk, None, [], length};
 ghost use lib.ListN.{replicate};
 ghost use Rattle.extent_map.specs.Cells.{resize_cells, put_cells, cells_between};
-ghost use Rattle.extent_map.specs.Layout.{run_cells, zero_cells};
+ghost use Rattle.extent_map.specs.Pieces.{run_cells, zero_cells};
 
 use crate::origin::Origin;
 use std::alloc::{AllocError, Global};

@@ -1,6 +1,6 @@
 use Rattle.std.proofs.Common.{◌≡◌, ℕ, ◌+◌, List, Option, Some, [], ◌∷◌, ◌++◌, refl, sym, ◌∙◌, ap, zero-add}
 use Rattle.std.proofs.lemmas.List.FromFn.{map-range_with_len_more}
-use Rattle.extent_map.specs.Layout.{run_cells}
+use Rattle.extent_map.specs.Pieces.{run_cells}
 use Rattle.extent_map.proofs.plain.run_of.Goals as goal
 
 none : {O : Type 0} (advanced : O → ℕ → O) (origin : O) → run_cells advanced origin 0 ≡ []

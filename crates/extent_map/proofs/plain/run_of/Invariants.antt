@@ -1,5 +1,5 @@
 use Rattle.std.proofs.Common.{◌≡◌}
-use Rattle.extent_map.specs.Layout.{run_cells}
+use Rattle.extent_map.specs.Pieces.{run_cells}
 use Rattle.extent_map.proofs.plain.run_of.Given as goal
 
 abbrev pub invariant-loop-k : goal.invariant-loop-k

@@ -1,6 +1,6 @@
 use Rattle.std.proofs.Common.{◌≡◌, ℕ, ◌+◌, List, Option, None, length, length-append, sym, ◌∙◌, ap, arith}
 use Rattle.extent_map.specs.Cells.{put_cells, cells_between}
-use Rattle.extent_map.specs.Layout.{piece_cells}
+use Rattle.extent_map.specs.Pieces.{piece_cells}
 use Rattle.extent_map.proofs.CellLists.{length-between, put_none, put_put}
 use Rattle.extent_map.proofs.Layouts.{length-piece}
 use Rattle.extent_map.proofs.extents.Extents.copy_range.Goals as goal

@@ -1,5 +1,5 @@
 use Rattle.std.proofs.Common.{◌≡◌, length, ◌∙◌, ap, arith}
-use Rattle.extent_map.specs.Layout.{run_cells}
+use Rattle.extent_map.specs.Pieces.{run_cells}
 use Rattle.extent_map.proofs.Layouts.{length-run_cells}
 use Rattle.extent_map.proofs.plain.PlainCells.put_run.Goals as goal
 

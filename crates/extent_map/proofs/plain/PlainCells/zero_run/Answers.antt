@@ -1,6 +1,6 @@
 use Rattle.std.proofs.Common.{◌≡◌, ℕ, ◌-◌, ◌++◌, List, Option, None, length, ◌∙◌, ap, arith}
 use lib.ListN.{replicate}
-use Rattle.extent_map.specs.Layout.{zero_cells}
+use Rattle.extent_map.specs.Pieces.{zero_cells}
 use Rattle.extent_map.proofs.plain.PlainCells.zero_run.Goals as goal
 
 pub returns : goal.returns
