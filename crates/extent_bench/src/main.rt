@@ -5,18 +5,22 @@
 mod block;
 mod load;
 
+use block::Byte;
 use extent_map::Extents;
 use load::{Draw, clone_parts, fill, overwrite, read};
 use std::rt::Runtime;
 use std::time::Instant;
 use std::{env, io};
 
-/// A number of calls above 0 from the first word, and whether the second is `time`.
+/// The words that were given.
+#[derive(Drop)]
 struct Words {
+    /// How many calls of each kind, above 0.
     count: u32,
     timed: bool,
 }
 
+/// The first word as a number of calls, and whether the second is `time`.
 fn read_words(rt: &impl Runtime) -> io::Result<Words> {
     let mut given = env::args(rt)?.skip(1);
     let count = match given.next() {
@@ -33,67 +37,66 @@ fn read_words(rt: &impl Runtime) -> io::Result<Words> {
     })
 }
 
-fn tell(rt: &impl Runtime, timed: bool, what: &str, start: Instant, calls: u32) -> io::Result<()> {
+/// Tells the time for a call, where it was asked.
+fn tell(rt: &impl Runtime, words: &Words, what: &str, start: Instant) -> io::Result<()> {
     let nanos = start.elapsed(rt)?.as_nanos();
-    if timed && calls > 0 {
-        eprintln!(rt; "{what}: {} ns", nanos / calls as u128)?;
+    if words.timed && words.count > 0 {
+        eprintln!(rt; "{what}: {} ns", nanos / words.count as u128)?;
     }
     Ok(())
 }
 
-fn main(rt: HostRuntime) -> io::Result<()> {
-    let Words { count, timed } = read_words(&rt)?;
+/// Writes and clones, into holes and over runs.
+fn change(rt: &impl Runtime, words: &Words, file: &mut Extents<Byte>) -> io::Result<()> {
     let mut draw = Draw::new();
-    let mut file = Extents::new(rt.alloc());
-
-    let start = Instant::now(&rt)?;
-    fill(&mut file, count)?;
-    tell(&rt, timed, "a write into a hole", start, count)?;
-    let filled = read(&file);
+    let start = Instant::now(rt)?;
+    fill(file, words.count)?;
+    tell(rt, words, "a write into a hole", start)?;
+    let filled = read(file);
     println!(rt;
         "filled: {} runs, {} holes, sum {}",
         filled.runs, filled.holes, filled.sum
     )?;
+    let start = Instant::now(rt)?;
+    overwrite(file, &mut draw, words.count)?;
+    tell(rt, words, "a write over runs", start)?;
+    let start = Instant::now(rt)?;
+    clone_parts(file, &mut draw, words.count)?;
+    tell(rt, words, "a clone of 16 KiB", start)
+}
 
-    let start = Instant::now(&rt)?;
-    overwrite(&mut file, &mut draw, count)?;
-    tell(&rt, timed, "a write over runs", start, count)?;
-    let start = Instant::now(&rt)?;
-    clone_parts(&mut file, &mut draw, count)?;
-    tell(&rt, timed, "a clone of 16 KiB", start, count)?;
-
-    let start = Instant::now(&rt)?;
+/// Copies the file and reads the copy, for each write that was made.
+fn copy_and_read(rt: &impl Runtime, words: &Words, file: &Extents<Byte>) -> io::Result<()> {
+    let start = Instant::now(rt)?;
     let copy = file.copy()?;
-    tell(
-        &rt,
-        timed,
-        "a copy of the file, for each write",
-        start,
-        count,
-    )?;
-    let start = Instant::now(&rt)?;
+    tell(rt, words, "a copy of the file, for each write", start)?;
+    let start = Instant::now(rt)?;
     let last = read(&copy);
-    tell(
-        &rt,
-        timed,
-        "reading all pieces, for each write",
-        start,
-        count,
-    )?;
+    tell(rt, words, "reading all pieces, for each write", start)?;
     println!(rt;
         "in the end: {} runs, {} holes, sum {}",
         last.runs, last.holes, last.sum
-    )?;
+    )
+}
 
-    let start = Instant::now(&rt)?;
+/// Puts one hole over all runs but the first cell.
+fn hollow(rt: &impl Runtime, words: &Words, file: &mut Extents<Byte>) -> io::Result<()> {
+    let start = Instant::now(rt)?;
     file.cut_to(1 << 62)?;
     file.zero_run(1, (1 << 62) - 2)?;
     tell(
-        &rt,
-        timed,
+        rt,
+        words,
         "a hole of 2^62 cells over all runs, for each write",
         start,
-        count,
     )?;
-    println!(rt; "{} cells, {} runs", file.size(), read(&file).runs)
+    println!(rt; "{} cells, {} runs", file.size(), read(file).runs)
+}
+
+fn main(rt: HostRuntime) -> io::Result<()> {
+    let words = read_words(&rt)?;
+    let mut file = Extents::new(rt.alloc());
+    change(&rt, &words, &mut file)?;
+    copy_and_read(&rt, &words, &file)?;
+    hollow(&rt, &words, &mut file)
 }

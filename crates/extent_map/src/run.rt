@@ -72,7 +72,8 @@ fn keep_front<O: Origin>(
     )
 }
 
-/// Makes the cells from `first` up to `limit` empty, all that are not being cells of the last run that begins below.
+/// Makes the cells from `first` up to `limit` empty, where the last run that begins below `limit` begins at `first` or
+/// before, and so has all of these cells that are not empty yet.
 fn clear_last<O: Origin>(
     runs: &mut BTreeMap<u64, Run<O>>,
     start: u64,
