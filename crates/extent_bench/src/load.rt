@@ -1,5 +1,5 @@
 // The calls that are measured, each kind as many times as it is asked.
-ghost use Rattle.std.specs.Prelude.{ℕ, ◌+◌, ◌*◌, ◌^◌, ◌<◌, ◌≤◌};
+ghost use Rattle.std.specs.Prelude.{ℕ, ◌+◌, ◌*◌, ◌^◌, ◌<◌, ◌≤◌, ◌≡◌, length};
 
 use crate::block::Byte;
 use extent_map::Extents;
@@ -82,33 +82,41 @@ pub fn clone_parts(
 pub struct Reading {
     pub runs: u64,
     pub holes: u64,
+    pub cells: u64,
     pub sum: u64,
 }
 
-/// Reads the file by pieces.
-pub fn read(file: &Extents<Byte>) -> Reading {
-    let mut reading = Reading {
-        runs: 0,
-        holes: 0,
-        sum: 0,
-    };
-    for (origin, len) in file.pieces(0, file.size()) {
+/// Reads the file by pieces, which have all its cells.
+pub fn read(file: &Extents<Byte>) -> Reading
+    ensures { result.cells ≡ length file.now }
+{
+    let size = file.size();
+    let mut cells: u64 = 0;
+    let mut runs: u64 = 0;
+    let mut holes: u64 = 0;
+    let mut sum: u64 = 0;
+    for (origin, len) in file.pieces(0, size) {
+        cells += len;
         let number = match origin {
             Some(byte) => {
-                reading.runs = reading.runs.wrapping_add(1);
+                runs = runs.wrapping_add(1);
                 byte.number
             }
             None => {
-                reading.holes = reading.holes.wrapping_add(1);
+                holes = holes.wrapping_add(1);
                 u64::MAX
             }
         };
-        reading.sum = reading
-            .sum
+        sum = sum
             .wrapping_mul(31)
             .wrapping_add(number)
             .wrapping_mul(31)
             .wrapping_add(len);
     }
-    reading
+    Reading {
+        runs,
+        holes,
+        cells,
+        sum,
+    }
 }

@@ -90,7 +90,8 @@ fn hollow(rt: &impl Runtime, words: &Words, file: &mut Extents<Byte>) -> io::Res
         "a hole of 2^62 cells over all runs, for each write",
         start,
     )?;
-    println!(rt; "{} cells, {} runs", file.size(), read(file).runs)
+    let hollowed = read(file);
+    println!(rt; "{} cells, {} runs", hollowed.cells, hollowed.runs)
 }
 
 fn main(rt: HostRuntime) -> io::Result<()> {
