@@ -1,0 +1,7 @@
+pub mod CellLists
+pub mod Clearing
+pub mod Cover
+pub mod Edits
+pub mod Keys
+pub mod Layouts
+pub mod Writing

@@ -1,0 +1,22 @@
+// What a cell that is not empty is.
+ghost use Rattle.std.specs.Prelude.{◌≡◌, ℕ, ◌+◌, ◌≤◌};
+
+/// Where a byte of a file comes from. The next byte of a run comes from the origin advanced by one.
+pub trait Origin: Copy {
+    /// By how much the origin may at most be advanced.
+    ghost reach: { Self → ℕ };
+
+    /// The origin so many cells further on.
+    ghost advanced: { Self → ℕ → Self };
+
+    /// The origin `k` cells further on.
+    fn advance(&self, k: u64) -> Self
+        requires { k ≤ reach self.now }
+        ensures { result ≡ advanced self.now k };
+
+    ghost advanced_by_none: { (o : Self) → advanced o 0 ≡ o };
+
+    ghost reach_is_left: { (o : Self) (j k : ℕ) → j + k ≤ reach o → k ≤ reach (advanced o j) };
+
+    ghost advanced_twice: { (o : Self) (j k : ℕ) → j + k ≤ reach o → advanced (advanced o j) k ≡ advanced o (j + k) };
+}
