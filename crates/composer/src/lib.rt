@@ -1,0 +1,2 @@
+//! Composing consecutive parts into one stream.
+#![tactic(auto)]
