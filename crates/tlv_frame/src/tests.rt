@@ -6,6 +6,11 @@ use sx_base::{Blob, Refusal};
 // A frame that writes two bytes into the file x from place 5 on.
 const WRITE: &[u8; 33] =
     b"\x17\x00\x00\x00\x0f\x00\xec\x08\x18^\x0f\x00\x01\x00x\x12\x00\x08\x00\x05\x00\x00\x00\x00\x00\x00\x00\x13\x00\x02\x00hi";
+// The header and the body of a frame that writes two bytes into the file x from place 5 on.
+const WRITE_HEAD: &[u8; 10] = b"\x17\x00\x00\x00\x0f\x00\xec\x08\x18^";
+
+const WRITE_BODY: &[u8] =
+    b"\x0f\x00\x01\x00x\x12\x00\x08\x00\x05\x00\x00\x00\x00\x00\x00\x00\x13\x00\x02\x00hi";
 
 // The header of a frame for the end of a stream.
 const END: &[u8; 10] = b"\x00\x00\x00\x00\x15\x00Pl\xc9\x9d";
@@ -67,6 +72,9 @@ fn attributes_are_found(rt: HostRuntime) -> Result<(), Fail> {
     let head = FrameHead::read(&header).ok().ok_or("the header is lawful")?;
     assert_eq!(rt; head.check_crc(body), Ok(()));
     let table = attrs(body, 1).ok().ok_or("the attributes are lawful")?;
+    let table = attrs(WRITE_BODY, 1)
+        .ok()
+        .ok_or("the attributes are lawful")?;
     assert_eq!(rt; table.get(15), Some(b"x".as_slice()));
     assert_eq!(rt; table.get(18), Some([5, 0, 0, 0, 0, 0, 0, 0].as_slice()));
     assert_eq!(rt; table.get(19), Some(b"hi".as_slice()));
@@ -115,6 +123,7 @@ fn the_first_breach_is_refused(rt: HostRuntime) {
 }
 
 #[test]
+#[tactic(auto, unfolding(send_model::specs::Spelling::attribute_bytes))]
 fn frames_are_written(rt: HostRuntime) -> Result<(), Fail> {
     let mut to = Blob::new(rt.alloc());
     let mut writer = FrameWriter::begin(&mut to, 15, 1)?;
@@ -128,5 +137,9 @@ fn frames_are_written(rt: HostRuntime) -> Result<(), Fail> {
     let (first, second) = to.as_slice().split_at(WRITE.len());
     assert_eq!(rt; first, WRITE.as_slice());
     assert_eq!(rt; second, END.as_slice());
+    assert_eq!(rt;
+        to.as_slice().strip_prefix(WRITE_HEAD.as_slice()),
+        Some(WRITE_BODY)
+    );
     Ok(())
 }
