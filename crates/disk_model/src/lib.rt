@@ -1,0 +1,7 @@
+//! Disks in memory: one that a crash may tear, and one that stops after a number of calls.
+#![tactic(auto)]
+
+mod mem_disk;
+mod stretch;
+
+pub use mem_disk::MemDisk;
