@@ -3,5 +3,6 @@
 
 mod mem_disk;
 mod stretch;
+mod tearing;
 
 pub use mem_disk::MemDisk;

@@ -8,6 +8,7 @@ ghost use Rattle.disk_model.specs.History.{only_this, bytes_are_image};
 ghost use Rattle.disk_model.specs.MemDisk.{seen_of, pending_of, refused_of, moment_of, left_of, past_of};
 
 use crate::stretch::Stretch;
+use crate::tearing::torn;
 use std::alloc::{AllocError, Global};
 use std::mem;
 use sx_base::{Disk, Failed};
@@ -24,7 +25,8 @@ pub struct MemDisk {
 
 impl MemDisk {
     ghost use Rattle.std.specs.Prelude.{◌≡◌, IfOk};
-    ghost use Rattle.sx_base.specs.Disk.{settled};
+    ghost use Rattle.sx_base.specs.Disk.{settled, IsImage};
+    ghost use Rattle.disk_model.specs.Torn.{stable_of};
 
     /// A disk with these bytes as its one image.
     pub fn new(alloc: Global, bytes: &[u8]) -> Result<MemDisk, AllocError>
@@ -39,6 +41,23 @@ impl MemDisk {
             past: Vec::new(alloc),
             refused: 0,
         })
+    }
+
+    /// A disk with one of the images that a crash now may leave, all of it stable: what a read gives for choice 0,
+    /// what is stable, with the greatest size and zeros where nothing is known, for choice 1, and for another
+    /// choice a mixture drawn from the number.
+    pub fn crash(&self, alloc: Global, choice: u64) -> Result<MemDisk, AllocError>
+        ensures image { IfOk result (λ disk. IsImage (pending_of self.now) (seen_of disk)) }
+        ensures seen { choice ≡ 0 → IfOk result (λ disk. seen_of disk ≡ seen_of self.now) }
+        ensures stable { choice ≡ 1 → IfOk result (λ disk. seen_of disk ≡ stable_of (pending_of self.now)) }
+        ensures settled { IfOk result (λ disk. pending_of disk ≡ settled (seen_of disk)) }
+        ensures refused { IfOk result (λ disk. refused_of disk ≡ 0) }
+    {
+        if choice == 0 {
+            return MemDisk::new(alloc, &self.current.bytes);
+        }
+        let image = torn(alloc, &self.current, choice)?;
+        MemDisk::new(alloc, &image)
     }
 
     /// How many calls failed, all of them for want of memory.
