@@ -1,3 +1,4 @@
 mod Known
 mod LeftBytes
+mod Stopped
 mod Times
