@@ -1,0 +1,6 @@
+#![tactic(auto)]
+
+mod filling;
+mod stops;
+
+pub use stops::LogStop;
