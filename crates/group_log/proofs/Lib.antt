@@ -1,1 +1,4 @@
 mod FilledBuffers
+mod GatedGroups
+mod GroupReads
+mod GroupWrites

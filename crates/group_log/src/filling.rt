@@ -1,5 +1,5 @@
 // Reads that fill a whole buffer.
-ghost use Rattle.std.specs.Prelude.{◌≡◌, ◌+◌, ◌^◌, ◌<◌, ◌≤◌, length, take, drop, OnOk};
+ghost use Rattle.std.specs.Prelude.{◌≡◌, ℕ, slice_index, ◌+◌, ◌^◌, ◌<◌, ◌≤◌, length, take, drop, OnOk};
 ghost use Rattle.sx_base.specs.Causes.{HasCause};
 ghost use Rattle.sx_base.specs.Disk.{IsAsBefore, IsImage};
 ghost use Rattle.sx_base.specs.Crash.{LeavesOnly};
@@ -11,6 +11,7 @@ pub(crate) fn fill<D: Disk>(disk: &mut D, at: u64, buf: &mut [u8]) -> Result<(),
     requires within { at + length buf.old ≤ D.len disk.old }
     requires room { at + length buf.old < 2 ^ 64 }
     ensures bytes { D.tells → OnOk result (buf.new ≡ take (length buf.new) (drop at (D.seen disk.old))) }
+    ensures are_bytes { (i : ℕ) → slice_index buf.new i < 256 }
     ensures len { D.len disk.new ≡ D.len disk.old }
     ensures same { D.tells → IsAsBefore (D.seen disk.old) (D.seen disk.new) (D.pending disk.old) (D.pending disk.new) }
     ensures any_moment { D.tells → LeavesOnly (D.moment disk.old) (D.moment disk.new) (D.left_since disk.old) (D.left_since disk.new) (IsImage (D.pending disk.old)) }

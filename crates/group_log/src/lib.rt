@@ -1,6 +1,8 @@
 #![tactic(auto)]
 
 mod filling;
+mod journal;
 mod stops;
 
+pub use journal::{GroupPlace, Log};
 pub use stops::LogStop;

@@ -1,4 +1,4 @@
-use Rattle.std.proofs.Common.{rules, ◌+◌, ℕ, List, take, drop, ◌∙◌, ap, subst}
+use Rattle.std.proofs.Common.{arith, rules, ◌+◌, ℕ, List, take, drop, ◌∙◌, ap, subst}
 use Rattle.sx_base.specs.Disk.{Pending, IsImage}
 use Rattle.sx_base.proofs.DiskMoments.{begins, goes_on}
 use Rattle.group_log.proofs.FilledBuffers.{filled_more, length_filled}
@@ -6,6 +6,7 @@ use Rattle.group_log.proofs.filling.fill.Goals as goal
 
 pub loop-done-init : goal.loop-done-init
 loop-done-init g c = record {
+  are_bytes = λ i. omega (arith, c.type_inv.buf i);
   within = search rules;
   len = search rules;
   bytes = λ tells. search rules;
@@ -19,6 +20,7 @@ loop-done-preserved g c =
     let i = c.loop-done.invariant in
     let r = c.in_ok-done.ensures in
     record {
+      are_bytes = λ i. omega (arith, c.type_inv.buf i);
       within = length_filled c.loop-done.done c.in_ok-done.field-0 c.loop-done.buf c.read.new.buf _ i.within r.bound;
       len = search rules;
       bytes = λ tells. filled_more c.args.at c.loop-done.done c.in_ok-done.field-0 c.loop-done.buf c.read.new.buf _ (g.D.Disk.seen c.args.disk.now) i.within r.bound (i.bytes tells)

@@ -1,4 +1,4 @@
-use Rattle.std.proofs.Common.{◌≡◌, ◌-◌, ◌≤◌, length, take, drop}
+use Rattle.std.proofs.Common.{◌≡◌, ℕ, ◌<◌, get_or, ◌-◌, ◌≤◌, length, take, drop}
 use Rattle.sx_base.specs.Disk.{IsAsBefore, IsImage}
 use Rattle.sx_base.specs.Crash.{LeavesOnly}
 use Rattle.group_log.proofs.filling.fill.Given as goal
@@ -7,6 +7,7 @@ abbrev pub invariant-loop-done : goal.invariant-loop-done
 invariant-loop-done g l =
     let D = g.D.Disk in
     record {
+      are_bytes : (i : ℕ) → get_or l.buf i 0 < 256;
       within : l.done ≤ length l.buf;
       len : D.len l.disk ≡ D.len l.fn.disk;
       bytes : D.tells → take l.done l.buf ≡ take l.done (drop l.at (D.seen l.fn.disk));
