@@ -24,7 +24,7 @@ enum Stage {
 }
 
 /// The places and numbers of a log; the disk is handed to each call.
-#[derive(Debug, Clone, Copy, PartialEq, Eq)]
+#[derive(Debug, Drop)]
 pub struct Log {
     limit: u64,
     gate: u64,

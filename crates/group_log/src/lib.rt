@@ -6,3 +6,6 @@ mod stops;
 
 pub use journal::{GroupPlace, Log};
 pub use stops::LogStop;
+
+#[cfg(test)]
+mod tests;
