@@ -8,3 +8,6 @@ mod tearing;
 
 pub use fuse_disk::FuseDisk;
 pub use mem_disk::MemDisk;
+
+#[cfg(test)]
+mod tests;
