@@ -2,3 +2,4 @@ mod FilledBuffers
 mod GatedGroups
 mod GroupReads
 mod GroupWrites
+pub mod OneJournal
