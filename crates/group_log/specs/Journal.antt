@@ -13,6 +13,7 @@ use Rattle.group_log.specs.declared.journal.Stage.TheVariants.{Reading, AtRest, 
 pub record IsReading (len : ℕ) (log : Log) : Type 0 where
   pub size : len ≡ log.size
   pub stage : log.stage ≡ Reading
+  pub whole : log.gate ≤ log.size
 
 -- All groups were read, and none is in progress.
 pub record IsAtRest (len : ℕ) (log : Log) : Type 0 where
@@ -92,10 +93,10 @@ abbrev pub Finds : ℕ → List (List ℕ) → Log → List ℕ → Pending → 
 Finds number bodies log seen pending None = Rests number bodies log seen pending
 Finds number bodies log seen pending (Some place) = IsNext number bodies log seen pending place
 
--- At the closed gate the log rests, and else it reads on.
-abbrev pub GoesOn : ℕ → Log → Option GroupPlace → Type 0
-GoesOn len log None = IsAtRest len log
-GoesOn len log (Some place) = IsReading len log
+-- At the closed gate the log rests, and else it goes on behind the group that it found. The gate was at this place.
+abbrev pub GoesOn : ℕ → ℕ → Log → Option GroupPlace → Type 0
+GoesOn gate len log None = IsAtRest len log × (log.gate ≡ gate)
+GoesOn gate len log (Some place) = IsReading len log × (place.at ≡ gate + 9) × (place.at + place.len ≡ log.gate)
 
 -- A log that has just been opened on these bytes.
 pub record IsOpened (log : Log) (seen : List ℕ) (pending : Pending) : Type 0 where

@@ -115,7 +115,7 @@ impl Log {
     /// short; `DiskFault`.
     pub fn next<D: Disk>(&mut self, disk: &mut D) -> Result<Option<GroupPlace>, LogStop>
         requires { D.len disk.old ≡ self.old.size }
-        ensures ok { self.old.stage ≡ Reading → IfOk result (GoesOn (D.len disk.new) self.new) }
+        ensures ok { self.old.stage ≡ Reading → IfOk result (GoesOn self.old.gate (D.len disk.new) self.new) }
         ensures found { D.tells → (number : ℕ) (bodies : List (List ℕ)) → Reads number bodies self.old (D.seen disk.old) (D.pending disk.old)
             → IfOk result (Finds number bodies self.new (D.seen disk.new) (D.pending disk.new)) }
         ensures fault { D.tells → (number : ℕ) (bodies : List (List ℕ)) → Reads number bodies self.old (D.seen disk.old) (D.pending disk.old) → IfErr result (IsFaultOf (D.seen disk.old)) }
@@ -179,7 +179,7 @@ impl Log {
     /// place of the closed gate, 9 and 1 are above the limit; `DiskFault`.
     pub fn body<D: Disk>(&mut self, disk: &mut D) -> Result<(), LogStop>
         requires { IsAtRest (D.len disk.old) self.old }
-        ensures ok { OnOk result ((self.old.gate + 9 + 1 ≤ self.old.limit) × (self.new.size ≡ self.old.gate + 9) × IsInProgress (D.len disk.new) self.new) }
+        ensures ok { OnOk result ((self.old.gate + 9 + 1 ≤ self.old.limit) × (self.new.gate ≡ self.old.gate) × (self.new.size ≡ self.old.gate + 9) × IsInProgress (D.len disk.new) self.new) }
         ensures begun { D.tells → (number : ℕ) (bodies : List (List ℕ)) → Rests number bodies self.old (D.seen disk.old) (D.pending disk.old)
             → OnOk result (Grows number bodies [] self.new (D.seen disk.new) (D.pending disk.new)) }
         ensures any_moment { D.tells → (number : ℕ) (bodies : List (List ℕ)) → Rests number bodies self.old (D.seen disk.old) (D.pending disk.old)
@@ -214,7 +214,7 @@ impl Log {
     pub fn append<D: Disk>(&mut self, disk: &mut D, bytes: &[u8]) -> Result<u64, LogStop>
         requires { IsInProgress (D.len disk.old) self.old }
         ensures place { IfOk result (λ at. at ≡ self.old.size) }
-        ensures ok { OnOk result ((self.old.size + length bytes.now + 1 ≤ self.old.limit) × (self.new.size ≡ self.old.size + length bytes.now) × IsInProgress (D.len disk.new) self.new) }
+        ensures ok { OnOk result ((self.old.size + length bytes.now + 1 ≤ self.old.limit) × (self.new.gate ≡ self.old.gate) × (self.new.size ≡ self.old.size + length bytes.now) × IsInProgress (D.len disk.new) self.new) }
         ensures added { D.tells → (number : ℕ) (bodies : List (List ℕ)) (body : List ℕ) → Grows number bodies body self.old (D.seen disk.old) (D.pending disk.old)
             → OnOk result (Grows number bodies (body ++ bytes.now) self.new (D.seen disk.new) (D.pending disk.new)) }
         ensures any_moment { D.tells → (number : ℕ) (bodies : List (List ℕ)) (body : List ℕ) → Grows number bodies body self.old (D.seen disk.old) (D.pending disk.old)
@@ -239,7 +239,7 @@ impl Log {
     /// Writes the length of the group in progress and the next closed gate, and syncs. `DiskFault` only.
     pub fn prepare<D: Disk>(&mut self, disk: &mut D) -> Result<(), LogStop>
         requires { IsInProgress (D.len disk.old) self.old }
-        ensures ok { OnOk result (IsPrepared (D.len disk.new) self.new) }
+        ensures ok { OnOk result ((self.new.gate ≡ self.old.gate) × (self.new.size ≡ self.old.size + 1) × IsPrepared (D.len disk.new) self.new) }
         ensures prepared { D.tells → (number : ℕ) (bodies : List (List ℕ)) (body : List ℕ) → Grows number bodies body self.old (D.seen disk.old) (D.pending disk.old)
             → OnOk result (IsReady number bodies body self.new (D.seen disk.new) (D.pending disk.new)) }
         ensures any_moment { D.tells → (number : ℕ) (bodies : List (List ℕ)) (body : List ℕ) → Grows number bodies body self.old (D.seen disk.old) (D.pending disk.old)
@@ -260,7 +260,7 @@ impl Log {
     /// Opens the gate of the prepared group and syncs. `DiskFault` only.
     pub fn publish<D: Disk>(&mut self, disk: &mut D) -> Result<(), LogStop>
         requires { IsPrepared (D.len disk.old) self.old }
-        ensures ok { OnOk result (IsAtRest (D.len disk.new) self.new) }
+        ensures ok { OnOk result ((self.new.gate + 1 ≡ self.old.size) × (self.new.size ≡ self.old.size) × IsAtRest (D.len disk.new) self.new) }
         ensures published { D.tells → (number : ℕ) (bodies : List (List ℕ)) (body : List ℕ) → IsReady number bodies body self.old (D.seen disk.old) (D.pending disk.old)
             → OnOk result (Rests number (bodies ++ body ∷ []) self.new (D.seen disk.new) (D.pending disk.new)) }
         ensures durable { D.tells → OnOk result (D.pending disk.new ≡ settled (D.seen disk.new)) }
@@ -282,6 +282,7 @@ impl Log {
         ensures prepared { (len : ℕ) → IsPrepared len self.old → IsAtRest len self.new }
         ensures grows { (number : ℕ) (bodies : List (List ℕ)) (body seen : List ℕ) (pending : Pending) → Grows number bodies body self.old seen pending → Rests number bodies self.new seen pending }
         ensures ready { (number : ℕ) (bodies : List (List ℕ)) (body seen : List ℕ) (pending : Pending) → IsReady number bodies body self.old seen pending → Rests number bodies self.new seen pending }
+        ensures kept { (self.new.gate ≡ self.old.gate) × (self.new.size ≡ self.old.size) }
         ensures none { self.old.stage ≢ InProgress → self.old.stage ≢ Prepared → self.new ≡ self.old }
     {
         if self.stage == Stage::InProgress || self.stage == Stage::Prepared {
