@@ -1,7 +1,7 @@
 -- The image of a store: a header, and behind it a journal of groups, each behind a gate byte. A group counts if its
 -- gate stands open, which is the byte 1; at any other byte the journal ends, and what lies behind means nothing.
 -- Numbers stand least byte first. The format is this program's own.
-use Rattle.std.specs.Prelude.{◌≡◌, ◌≢◌, ℕ, zero, suc, ◌+◌, ◌-◌, ◌^◌, ◌<◌, min, List, [], ◌∷◌, ◌++◌, length, take, map, flat_map, codes, refl}
+use Rattle.std.specs.Prelude.{◌≡◌, ◌≢◌, ℕ, zero, suc, ◌+◌, ◌-◌, ◌^◌, ◌<◌, min, List, [], ◌∷◌, ◌++◌, length, take, flat_map, codes, refl}
 use Rattle.std.specs.List.{AllByRecursion}
 use Rattle.std.specs.Int.{w32, w64, to_le_bytes, from_le_bytes}
 use Rattle.std.proofs.Common.{lit<}
