@@ -1,4 +1,5 @@
 pub mod Checksum
+pub mod Image
 pub mod Refusal
 pub mod Chain
 pub mod Attribute

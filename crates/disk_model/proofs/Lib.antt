@@ -1,0 +1,4 @@
+mod Known
+mod LeftBytes
+mod Stopped
+mod Times

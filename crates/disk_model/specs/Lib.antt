@@ -1,0 +1,4 @@
+pub mod History
+pub mod MemDisk
+pub mod Stretch
+pub mod Torn

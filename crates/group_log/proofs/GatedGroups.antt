@@ -1,0 +1,136 @@
+-- What the bytes of a log are after each write, and which groups an image has that a crash leaves.
+use Rattle.std.proofs.Common.{◌≡◌, ◌≢◌, ◌⊎◌, inl, inr, ℕ, ◌+◌, List, [], ◌∷◌, ◌++◌, length, drop, flat_map, refl, sym, ◌∙◌, ap, subst, arith, length-append, append_assoc}
+use Rattle.std.specs.List.{AllByRecursion}
+use Rattle.std.specs.Int.{w64, to_le_bytes}
+use Rattle.std.proofs.lemmas.Bool.{cases_eq}
+use Rattle.std.proofs.lemmas.List.{append-nil, take_all, drop_all, take_at, drop_at}
+use Rattle.sx_base.specs.Disk.{Pending, IsImage, written, settled, overwritten}
+use Rattle.sx_base.specs.Crash.{IsStableFront}
+use Rattle.sx_base.proofs.DiskImages.{settled_front, image_front, image_byte, only_settled}
+use Rattle.send_model.specs.Image.{HasGroups, header_of, front_of, group_of, IsShort}
+use Rattle.group_log.specs.declared.journal.Log.{Log}
+use Rattle.group_log.specs.Journal.{IsBehind, Rests, IsReady}
+
+-- bytes in the place of as many others
+pub overwritten_at : (front old new rest : List ℕ) → length new ≡ length old → overwritten (length front) new (front ++ (old ++ rest)) ≡ front ++ (new ++ rest)
+overwritten_at front old new rest same =
+    let size : length (front ++ old) ≡ length front + length new = omega (arith, length-append front old, same) in
+    ap (λ (l : List ℕ). l ++ new ++ drop (length front + length new) (front ++ (old ++ rest))) (take_at front (old ++ rest) (length front) refl)
+    ∙ ap (λ (l : List ℕ). front ++ new ++ l) (ap (λ (l : List ℕ). drop (length front + length new) l) (sym (append_assoc front old rest)) ∙ drop_at (front ++ old) rest (length front + length new) size)
+    ∙ append_assoc front new rest
+
+-- bytes behind the end
+pub overwritten_end : (at : ℕ) (bytes piece : List ℕ) → at ≡ length bytes → overwritten at piece bytes ≡ bytes ++ piece
+overwritten_end at bytes piece end =
+    ap (λ (l : List ℕ). l ++ piece ++ drop (at + length piece) bytes) (take_all at bytes (omega (arith, end)))
+    ∙ ap (λ (l : List ℕ). bytes ++ piece ++ l) (drop_all (at + length piece) bytes (omega (arith, end)))
+    ∙ append-nil (bytes ++ piece)
+
+flat_map-push : (bodies : List (List ℕ)) (body : List ℕ) → flat_map group_of (bodies ++ body ∷ []) ≡ flat_map group_of bodies ++ group_of body
+flat_map-push [] body = append-nil (group_of body)
+flat_map-push (b ∷ bodies) body = ap (λ (l : List ℕ). group_of b ++ l) (flat_map-push bodies body) ∙ sym (append_assoc (group_of b) (flat_map group_of bodies) (group_of body))
+
+-- one group more
+pub front_push : (number : ℕ) (bodies : List (List ℕ)) (body : List ℕ) → front_of number (bodies ++ body ∷ []) ≡ front_of number bodies ++ group_of body
+front_push number bodies body =
+    ap (λ (l : List ℕ). header_of number ++ l) (flat_map-push bodies body) ∙ sym (append_assoc (header_of number) (flat_map group_of bodies) (group_of body))
+
+pub fits_push : (bodies : List (List ℕ)) (body : List ℕ) → AllByRecursion IsShort bodies → IsShort body → AllByRecursion IsShort (bodies ++ body ∷ [])
+fits_push [] body fits short = (short, tt)
+fits_push (b ∷ bodies) body fits short = (fits.0, fits_push bodies body fits.1 short)
+
+pub length-bodies : (bodies : List (List ℕ)) (body : List ℕ) → length (bodies ++ body ∷ []) ≡ length bodies + 1
+length-bodies bodies body = length-append bodies (body ∷ [])
+
+pub length-le : (n : ℕ) → length (to_le_bytes w64 n) ≡ 8
+length-le n = refl
+
+pub length-group : (body : List ℕ) → length (group_of body) ≡ 9 + length body
+length-group body = omega (arith, length-append (1 ∷ to_le_bytes w64 (length body)) body, length-le (length body))
+
+-- an image with a closed gate behind the groups has these groups
+pub has_closed : (number : ℕ) (bodies : List (List ℕ)) (log : Log) (gate : ℕ) (rest image : List ℕ) → IsBehind number bodies log → gate ≢ 1 → image ≡ front_of number bodies ++ gate ∷ rest → HasGroups image number bodies
+has_closed number bodies log gate rest image behind closed is =
+    record { gate = gate; rest = rest; closed = closed; bytes = is; number_fits = behind.number_fits; lengths_fit = behind.lengths_fit }
+
+-- while the closed gate is stable, each image has the groups before it
+pub stable_has : (number : ℕ) (bodies : List (List ℕ)) (log : Log) (gate : ℕ) (pending : Pending) (image : List ℕ) → IsBehind number bodies log → gate ≢ 1 → IsStableFront (front_of number bodies ++ gate ∷ []) pending → IsImage pending image → HasGroups image number bodies
+stable_has number bodies log gate pending image behind closed stable is =
+    let s = image_front (front_of number bodies ++ gate ∷ []) pending image stable is in
+    has_closed number bodies log gate s.rest image behind closed (s.split ∙ append_assoc (front_of number bodies) (gate ∷ []) s.rest)
+
+-- a group that stands whole behind its gate
+module _ (number : ℕ) (bodies : List (List ℕ)) (body : List ℕ) (log : Log) (seen : List ℕ) (pending : Pending) (ready : IsReady number bodies body log seen pending) where
+  abbrev tail : List ℕ
+  tail = to_le_bytes w64 (length body) ++ body ++ 0 ∷ []
+
+  abbrev BeforeOrAfter : List ℕ → Type 0
+  BeforeOrAfter image = HasGroups image number bodies ⊎ HasGroups image number (bodies ++ body ∷ [])
+
+  pub opened : front_of number bodies ++ 1 ∷ tail ≡ front_of number (bodies ++ body ∷ []) ++ 0 ∷ []
+  opened =
+      sym (append_assoc (front_of number bodies) (group_of body) (0 ∷ []))
+      ∙ ap (λ (l : List ℕ). l ++ 0 ∷ []) (sym (front_push number bodies body))
+
+  after : (image : List ℕ) → image ≡ front_of number bodies ++ 1 ∷ tail → HasGroups image number (bodies ++ body ∷ [])
+  after image is = record {
+    gate = 0;
+    rest = [];
+    closed = omega arith;
+    bytes = is ∙ opened;
+    number_fits = ready.behind.number_fits;
+    lengths_fit = fits_push bodies body ready.behind.lengths_fit ready.short;
+  }
+
+  any_gate : (byte : ℕ) (image : List ℕ) → image ≡ front_of number bodies ++ byte ∷ tail → BeforeOrAfter image
+  any_gate byte image is = elim (cases_eq byte 1) [
+    | inl open_gate ↦ inr (after image (is ∙ ap (λ (b : ℕ). front_of number bodies ++ b ∷ tail) open_gate))
+    | inr shut ↦ inl (has_closed number bodies log byte tail image ready.behind shut is)
+  ]
+
+  pub ready_has : (image : List ℕ) → IsImage pending image → BeforeOrAfter image
+  ready_has image is =
+      let whole : image ≡ seen = only_settled seen image (subst (λ (p : Pending). IsImage p image) ready.stable is) in
+      inl (has_closed number bodies log ready.gate tail image ready.behind ready.closed (whole ∙ ready.bytes))
+
+  pub opening_has : (now : Pending) → now ≡ written log.gate 1 pending → (image : List ℕ) → IsImage now image → BeforeOrAfter image
+  opening_has now is image i =
+      let known : now ≡ written (length (front_of number bodies)) 1 (settled (front_of number bodies ++ ready.gate ∷ tail)) =
+      is ∙ ap (λ (p : Pending). written log.gate 1 p) (ready.stable ∙ ap settled ready.bytes)
+      ∙ ap (λ (n : ℕ). written n 1 (settled (front_of number bodies ++ ready.gate ∷ tail))) ready.behind.place in
+      let any = image_byte (front_of number bodies) ready.gate tail image (subst (λ (p : Pending). IsImage p image) known i) in
+      any_gate any.byte image any.split
+
+  pub open_is : (now : List ℕ) → now ≡ overwritten log.gate (1 ∷ []) seen → now ≡ front_of number bodies ++ 1 ∷ tail
+  open_is now is =
+      is ∙ ap (λ (l : List ℕ). overwritten log.gate (1 ∷ []) l) ready.bytes
+      ∙ ap (λ (n : ℕ). overwritten n (1 ∷ []) (front_of number bodies ++ ready.gate ∷ tail)) ready.behind.place
+      ∙ overwritten_at (front_of number bodies) (ready.gate ∷ []) (1 ∷ []) tail refl
+
+  pub open_has : (now : List ℕ) → now ≡ overwritten log.gate (1 ∷ []) seen → (image : List ℕ) → IsImage (settled now) image → BeforeOrAfter image
+  open_has now is image i = inr (after image (only_settled now image i ∙ open_is now is))
+
+  pub published_rests : (new : Log) (now : List ℕ) (known : Pending) → new.gate ≡ log.gate + 9 + length body → new.groups ≡ log.groups + 1 → new.limit ≡ log.limit → now ≡ overwritten log.gate (1 ∷ []) seen → known ≡ settled now → Rests number (bodies ++ body ∷ []) new now known
+  published_rests new now known place count limit is stable =
+      let front = front_of number (bodies ++ body ∷ []) in
+      let size : length front ≡ length (front_of number bodies) + (9 + length body) = ap length (front_push number bodies body) ∙ length-append (front_of number bodies) (group_of body) ∙ ap (λ (n : ℕ). length (front_of number bodies) + n) (length-group body) in
+      let bytes : now ≡ front ++ 0 ∷ [] = open_is now is ∙ opened in
+      record {
+        behind = record {
+          place = omega (arith, place, ready.behind.place, size);
+          count = omega (arith, count, ready.behind.count, length-bodies bodies body);
+          limit = limit ∙ ready.behind.limit;
+          number_fits = ready.behind.number_fits;
+          lengths_fit = fits_push bodies body ready.behind.lengths_fit ready.short;
+        };
+        gate = 0;
+        closed = omega arith;
+        rest = [];
+        bytes = bytes;
+        stable = subst (λ (p : Pending). IsStableFront (front ++ 0 ∷ []) p) (sym stable) (settled_front (front ++ 0 ∷ []) [] now (bytes ∙ sym (append-nil (front ++ 0 ∷ []))));
+      }
+
+  -- how long the disk is
+  pub length-ready : length seen ≡ log.gate + 10 + length body
+  length-ready =
+      omega (arith, ap length ready.bytes, length-append (front_of number bodies) (ready.gate ∷ tail), length-append (to_le_bytes w64 (length body) ++ body) (0 ∷ []), length-append (to_le_bytes w64 (length body)) body, length-le (length body), ready.behind.place)

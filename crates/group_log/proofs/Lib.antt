@@ -1,0 +1,4 @@
+mod GatedGroups
+mod GroupReads
+mod GroupWrites
+pub mod OneJournal

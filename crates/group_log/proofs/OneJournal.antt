@@ -1,0 +1,56 @@
+-- An image has one number in its header and one list of groups.
+use Rattle.std.proofs.Common.{◌≡◌, ◌≢◌, ℕ, ◌^◌, ◌<◌, List, [], ◌∷◌, ◌++◌, length, take, drop, flat_map, refl, sym, ◌∙◌, ap, append_assoc}
+use Rattle.std.specs.List.{AllByRecursion}
+use Rattle.std.specs.Int.{w64, to_le_bytes, from_le_bytes}
+use Rattle.std.proofs.lemmas.Nat.{from_le_bytes-to_le_bytes_8}
+use Rattle.std.proofs.lemmas.List.{take_at, drop_at}
+use Rattle.send_model.specs.Image.{HasGroups, header_of, group_of, IsShort}
+
+le_one : (m n : ℕ) → m < 2 ^ 64 → n < 2 ^ 64 → to_le_bytes w64 m ≡ to_le_bytes w64 n → m ≡ n
+le_one m n small_m small_n same =
+    sym (from_le_bytes-to_le_bytes_8 m small_m) ∙ ap (λ (l : List ℕ). from_le_bytes w64 l) same ∙ from_le_bytes-to_le_bytes_8 n small_n
+
+-- two lists with fronts of one length
+front_one : (a b x y : List ℕ) → length a ≡ length b → a ++ x ≡ b ++ y → a ≡ b
+front_one a b x y same is = sym (take_at a x (length b) same) ∙ ap (λ (l : List ℕ). take (length b) l) is ∙ take_at b y (length b) refl
+
+back_one : (a b x y : List ℕ) → length a ≡ length b → a ++ x ≡ b ++ y → x ≡ y
+back_one a b x y same is = sym (drop_at a x (length b) same) ∙ ap (λ (l : List ℕ). drop (length b) l) is ∙ drop_at b y (length b) refl
+
+opened : (body rest : List ℕ) → group_of body ++ rest ≡ (1 ∷ to_le_bytes w64 (length body)) ++ (body ++ rest)
+opened body rest = append_assoc (1 ∷ to_le_bytes w64 (length body)) body rest
+
+group_one : (a b x y : List ℕ) → IsShort a → IsShort b → group_of a ++ x ≡ group_of b ++ y → (a ≡ b) × (x ≡ y)
+group_one a b x y short_a short_b is =
+    let whole : (1 ∷ to_le_bytes w64 (length a)) ++ (a ++ x) ≡ (1 ∷ to_le_bytes w64 (length b)) ++ (b ++ y) = sym (opened a x) ∙ is ∙ opened b y in
+    let heads : 1 ∷ to_le_bytes w64 (length a) ≡ 1 ∷ to_le_bytes w64 (length b) = front_one (1 ∷ to_le_bytes w64 (length a)) (1 ∷ to_le_bytes w64 (length b)) (a ++ x) (b ++ y) refl whole in
+    let sizes : length a ≡ length b = le_one (length a) (length b) short_a short_b (ap (λ (l : List ℕ). drop 1 l) heads) in
+    let bodies : a ++ x ≡ b ++ y = back_one (1 ∷ to_le_bytes w64 (length a)) (1 ∷ to_le_bytes w64 (length b)) (a ++ x) (b ++ y) refl whole in
+    (front_one a b x y sizes bodies, back_one a b x y sizes bodies)
+
+closed_is_open : (gate : ℕ) (rest body others : List ℕ) → gate ≢ 1 → gate ∷ rest ≡ group_of body ++ others → ⊥
+closed_is_open gate rest body others closed is = closed (cc (is ∙ opened body others))
+
+groups_one : (xs ys : List (List ℕ)) (g h : ℕ) (x y : List ℕ) → g ≢ 1 → h ≢ 1 → AllByRecursion IsShort xs → AllByRecursion IsShort ys → flat_map group_of xs ++ g ∷ x ≡ flat_map group_of ys ++ h ∷ y → xs ≡ ys
+groups_one [] [] g h x y closed_g closed_h fits_a fits_b is = refl
+groups_one [] (b ∷ ys) g h x y closed_g closed_h fits_a fits_b is =
+    absurd (closed_is_open g x b (flat_map group_of ys ++ h ∷ y) closed_g (is ∙ append_assoc (group_of b) (flat_map group_of ys) (h ∷ y)))
+groups_one (a ∷ xs) [] g h x y closed_g closed_h fits_a fits_b is =
+    absurd (closed_is_open h y a (flat_map group_of xs ++ g ∷ x) closed_h (sym is ∙ append_assoc (group_of a) (flat_map group_of xs) (g ∷ x)))
+groups_one (a ∷ xs) (b ∷ ys) g h x y closed_g closed_h fits_a fits_b is =
+    let split = group_one a b (flat_map group_of xs ++ g ∷ x) (flat_map group_of ys ++ h ∷ y) fits_a.0 fits_b.0
+    (sym (append_assoc (group_of a) (flat_map group_of xs) (g ∷ x)) ∙ is ∙ append_assoc (group_of b) (flat_map group_of ys) (h ∷ y)) in
+    let rest = groups_one xs ys g h x y closed_g closed_h fits_a.1 fits_b.1 split.1 in
+    λ i. split.0 i ∷ rest i
+
+pub one_number : (image : List ℕ) (m n : ℕ) (xs ys : List (List ℕ)) → HasGroups image m xs → HasGroups image n ys → m ≡ n
+one_number image m n xs ys left right =
+    let whole : header_of m ++ (flat_map group_of xs ++ left.gate ∷ left.rest) ≡ header_of n ++ (flat_map group_of ys ++ right.gate ∷ right.rest) =
+    sym (append_assoc (header_of m) (flat_map group_of xs) (left.gate ∷ left.rest)) ∙ sym left.bytes ∙ right.bytes ∙ append_assoc (header_of n) (flat_map group_of ys) (right.gate ∷ right.rest) in
+    le_one m n left.number_fits right.number_fits (ap (λ (l : List ℕ). drop 12 l) (front_one (header_of m) (header_of n) _ _ refl whole))
+
+pub one_journal : (image : List ℕ) (m n : ℕ) (xs ys : List (List ℕ)) → HasGroups image m xs → HasGroups image n ys → xs ≡ ys
+one_journal image m n xs ys left right =
+    let whole : header_of m ++ (flat_map group_of xs ++ left.gate ∷ left.rest) ≡ header_of n ++ (flat_map group_of ys ++ right.gate ∷ right.rest) =
+    sym (append_assoc (header_of m) (flat_map group_of xs) (left.gate ∷ left.rest)) ∙ sym left.bytes ∙ right.bytes ∙ append_assoc (header_of n) (flat_map group_of ys) (right.gate ∷ right.rest) in
+    groups_one xs ys left.gate right.gate left.rest right.rest left.closed right.closed left.lengths_fit right.lengths_fit (back_one (header_of m) (header_of n) _ _ refl whole)

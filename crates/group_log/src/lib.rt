@@ -1,0 +1,11 @@
+#![tactic(auto)]
+
+mod filling;
+mod journal;
+mod stops;
+
+pub use journal::{GroupPlace, Log};
+pub use stops::LogStop;
+
+#[cfg(test)]
+mod tests;
