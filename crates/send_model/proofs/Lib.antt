@@ -22,3 +22,4 @@ pub mod Fuel
 pub mod Judging
 pub mod Writing
 pub mod Composed
+pub mod Sound

@@ -1,0 +1,31 @@
+// What a reader gives: commands with their places, or the reason why there is none.
+use send_commands::Command;
+use sx_base::Verdict;
+
+/// A command with where it stands.
+#[derive(Drop)]
+pub struct Item {
+    /// The command.
+    pub command: Command,
+    /// Its number in its file, counted from 1.
+    pub number: u64,
+    /// The place in the file of its frame's first byte.
+    pub offset: u64,
+    /// The place in the file of the first byte of its data, 0 where it has no data.
+    pub data_at: u64,
+    /// The version of its stream.
+    pub version: u32,
+}
+
+/// Why a reader stops.
+#[derive(Debug, Clone, Copy, PartialEq, Eq)]
+pub enum ReadStop {
+    /// The bytes are refused.
+    Refused(Verdict),
+    /// There is no memory.
+    NoMemory,
+    /// The inputs failed.
+    InputFault,
+    /// The file gave 2^62 bytes and no end.
+    InputTooLong,
+}
