@@ -1,3 +1,4 @@
 mod Fillings
 mod Headers
 mod Lefts
+mod CommandFacts

@@ -1,6 +1,7 @@
 -- A reader that stands somewhere in a file, and what is left to read from there.
-use Rattle.std.specs.Prelude.{ℕ, suc, ◌+◌, Bool, true, false, ◌&&◌, List, [], ◌∷◌, length, drop, nat_lt, if◌then◌else◌}
-use Rattle.send_model.specs.Reading.{Reading, Due, HeaderDue, CommandDue, ended, reads_from}
+use Rattle.std.specs.Prelude.{◌≡◌, ◌≤◌, ⊤, Option, None, Some, ℕ, suc, ◌+◌, Bool, true, false, ◌&&◌, List, [], ◌∷◌, length, drop, nat_lt, if◌then◌else◌}
+use Rattle.send_model.specs.Reading.{Reading, Due, HeaderDue, CommandDue, ended, is_version, reads_from}
+use Rattle.cmd_reader.specs.Places.{limit}
 
 -- The file's number and name, what is due, the number of the next command, and the place in the file.
 pub record Reader : Type 0 where
@@ -26,3 +27,19 @@ may_end_here r = is_header_due r.due && nat_lt 1 r.number
 unfoldable pub left : Reader → List ℕ → Reading
 left r file = if may_end_here r && is_empty (drop r.offset file) then ended
     else reads_from (suc (length (drop r.offset file))) r.file r.due r.number r.offset (drop r.offset file)
+
+-- What is due, as the code keeps it.
+abbrev pub due_of : Option ℕ → Due
+due_of None = HeaderDue
+due_of (Some version) = CommandDue version
+
+abbrev pub VersionIs : Option ℕ → Type 0
+VersionIs None = ⊤
+VersionIs (Some version) = is_version version ≡ true
+
+-- A reader's numbers: commands are counted from 1 and none is empty, and it has not passed the limit.
+pub record IsReader (due : Option ℕ) (number offset : ℕ) : Type 0 where
+  pub first : 1 ≤ number
+  pub count : number ≤ offset + 1
+  pub within : offset ≤ limit
+  pub version : VersionIs due

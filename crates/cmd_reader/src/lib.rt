@@ -2,5 +2,9 @@
 #![tactic(auto)]
 
 mod fault;
+mod front;
 mod frames;
+mod item;
 mod places;
+
+pub use item::{Item, ReadStop};

@@ -1,11 +1,4 @@
 -- A frame that is read in its parts: its header, its body, and the checksum over both.
-use Rattle.std.specs.Prelude.{◌≡◌, ℕ, Bool, true, false, List, [], ◌∷◌, length, take, drop, Result, Ok, Err, nat_le, nat_lt, ◌==◌}
-use Rattle.std.proofs.Common.{refl}
-use Rattle.send_model.specs.Refusal.{Refusal, Truncated, LongCommand, BadChecksum}
-use Rattle.send_model.specs.Chain.{◌>>=◌, ◌>>◌, require, refuse_if}
-use Rattle.send_model.specs.Spelling.{greatest_body, frame_checksum}
-use Rattle.send_model.specs.Reading.{Frame, frame_at, frame_with, frame_header_len, number16, number32}
-use Rattle.tlv_frame.specs.Frame.{Head, head_at, checksum_holds}
 use Rattle.std.specs.Prelude.{◌≡◌, ℕ, Bool, true, false, List, [], ◌∷◌, length, take, drop, Ok, nat_le, nat_lt}
 use Rattle.std.proofs.Common.{refl}
 use Rattle.send_model.specs.Refusal.{Truncated}
@@ -17,8 +10,6 @@ use Rattle.tlv_frame.specs.Frame.{head_at, checksum_holds}
 -- The frame in front of bytes: its header, then its body, then their checksum.
 pub frame_in_parts : (bytes : List ℕ) → frame_at bytes ≡
     (require (nat_le frame_header_len (length bytes)) Truncated >> (head_at bytes >>= λ head.
-      require (nat_le head.len (length (drop frame_header_len bytes))) Truncated >> (checksum_holds head (take head.len (drop frame_header_len bytes)) >>
-      Ok (record { number = head.number; body = take head.len (drop frame_header_len bytes); rest = drop head.len (drop frame_header_len bytes) }))))
     require (nat_le head.len (length (drop frame_header_len bytes))) Truncated >> (checksum_holds head (take head.len (drop frame_header_len bytes)) >>
     Ok (record { number = head.number; body = take head.len (drop frame_header_len bytes); rest = drop head.len (drop frame_header_len bytes) }))))
 unfolding frame_at frame_with head_at checksum_holds
@@ -26,8 +17,6 @@ frame_in_parts bytes = go (nat_le frame_header_len (length bytes)) (nat_lt great
   where
     go : (p q : Bool) → nat_le frame_header_len (length bytes) ≡ p → nat_lt greatest_body (number32 bytes) ≡ q → frame_at bytes ≡
         (require (nat_le frame_header_len (length bytes)) Truncated >> (head_at bytes >>= λ head.
-          require (nat_le head.len (length (drop frame_header_len bytes))) Truncated >> (checksum_holds head (take head.len (drop frame_header_len bytes)) >>
-          Ok (record { number = head.number; body = take head.len (drop frame_header_len bytes); rest = drop head.len (drop frame_header_len bytes) }))))
         require (nat_le head.len (length (drop frame_header_len bytes))) Truncated >> (checksum_holds head (take head.len (drop frame_header_len bytes)) >>
         Ok (record { number = head.number; body = take head.len (drop frame_header_len bytes); rest = drop head.len (drop frame_header_len bytes) }))))
     go false q e f = rw e refl

@@ -1,0 +1,77 @@
+-- What a reader gives at a call: the next command, the end, or the reason why there is none.
+use Rattle.std.specs.Prelude.{◌≡◌, ℕ, ◌+◌, ◌^◌, ◌≤◌, true, List, [], length, drop, Option, None, Some, Result, Ok, Err, ⊤}
+use Rattle.send_model.specs.Refusal as meant
+use Rattle.send_model.specs.Command.{row, kind_of}
+use Rattle.send_model.specs.Receive.{bytes_of}
+use Rattle.send_model.specs.Reading as reading
+use Rattle.send_model.specs.Reading.{Reading, ended, with_item, faulty, is_version, front_of, frame_header_len}
+use Rattle.send_model.specs.Laws.{CanWrite}
+use Rattle.sx_base.specs.declared.outcome.Verdict.{Verdict}
+use Rattle.sx_base.specs.Refusals.{refusal_of}
+use Rattle.send_commands.specs.Meaning.{meaning_of}
+use Rattle.send_commands.specs.Writing.{IsWritable}
+use Rattle.cmd_reader.specs.declared.item.Item.{Item}
+use Rattle.cmd_reader.specs.declared.item.ReadStop.{ReadStop}
+use Rattle.cmd_reader.specs.declared.item.ReadStop.TheVariants as stop
+use Rattle.cmd_reader.specs.declared.front.Front.{Front}
+use Rattle.cmd_reader.specs.declared.fault.Fault.{Fault}
+use Rattle.cmd_reader.specs.Places.{limit, IsTooLong}
+use Rattle.cmd_reader.specs.Faults.{ExplainsFault}
+use Rattle.cmd_reader.specs.Fronts.{IfTold, Says}
+use Rattle.cmd_reader.specs.Left.{Reader, may_end_here, left}
+use Rattle.sx_base.specs.Causes.{Rose}
+
+-- An item of a file as the definitions see it.
+abbrev pub item_of : ℕ → Item → reading.Item
+item_of file item = record { file = file; number = item.number; offset = item.offset; version = item.version; data_at = item.data_at; command = meaning_of item.command }
+
+abbrev pub verdict_meant : Verdict → reading.Verdict
+verdict_meant v = record { file = v.file; command = v.command; offset = v.offset; refusal = refusal_of v.refusal }
+
+-- ---- the command at a place
+
+-- The command in front of the bytes at a place, and the place after it.
+pub record FrontIs (at version : ℕ) (front : Front) (file : List ℕ) : Type 0 where
+  pub within : front.next ≤ length file
+  pub reads : (k number : ℕ) → front_of k version number at (drop at file) ≡ Ok (record {
+    item = record { file = k; number = number; offset = at; version = version; data_at = front.data_at; command = meaning_of front.command };
+    rest = drop front.next file;
+  })
+
+abbrev pub NoFront : ℕ → ℕ → meant.Refusal → List ℕ → Type 0
+NoFront at version refusal file = (k number : ℕ) → front_of k version number at (drop at file) ≡ Err refusal
+
+abbrev pub ReadsFront : Option (List (List ℕ × List ℕ)) → List ℕ → ℕ → ℕ → ℕ → ℕ → Result Front Fault → Type 0
+ReadsFront told name at version before now result = Says (FrontIs at version) (NoFront at version) told name at before now result
+
+-- What holds of a command that was read, whether or not the inputs tell.
+pub record FrontFits (at : ℕ) (front : Front) : Type 0 where
+  pub further : at + frame_header_len ≤ front.next
+  pub within : front.next ≤ limit
+  pub writable : IsWritable (meaning_of front.command)
+  pub can_write : CanWrite (meaning_of front.command)
+  pub data : front.data_at + length (bytes_of (meaning_of front.command)) ≤ limit
+
+-- ---- a call
+
+-- A command was read: what was left is this command and what is left now.
+pub record IsNext (old new : Reader) (item : Item) (file : List ℕ) : Type 0 where
+  pub left_is : left old file ≡ with_item (item_of old.file item) (left new file)
+  pub reached : old.offset ≤ length file → new.offset ≤ length file
+
+abbrev pub NextSays : Option (List (List ℕ × List ℕ)) → Reader → Reader → ℕ → ℕ → Result (Option Item) ReadStop → Type 0
+NextSays told old new before now (Ok (Some item)) = IfTold told old.name (IsNext old new item)
+NextSays told old new before now (Ok None) = IfTold told old.name (λ file. left old file ≡ ended)
+NextSays told old new before now (Err (stop.Refused verdict)) = IfTold told old.name (λ file. left old file ≡ record { items = []; end = reading.Faulty (verdict_meant verdict) })
+NextSays told old new before now (Err stop.NoMemory) = ⊤
+NextSays told old new before now (Err stop.InputFault) = Rose before now
+NextSays told old new before now (Err stop.InputTooLong) = IsTooLong told old.name old.offset
+
+-- What holds of an item, whether or not the inputs tell.
+pub record ItemFits (old new : Reader) (item : Item) : Type 0 where
+  pub number : item.number ≡ old.number
+  pub next_number : new.number ≡ old.number + 1
+  pub version : is_version item.version ≡ true
+  pub writable : IsWritable (meaning_of item.command)
+  pub can_write : CanWrite (meaning_of item.command)
+  pub data : item.data_at + length (bytes_of (meaning_of item.command)) ≤ limit
