@@ -11,6 +11,7 @@ use Rattle.send_model.specs.Spelling.{Attribute, value_of}
 use Rattle.send_model.specs.Receive.{bytes_of}
 use Rattle.send_model.specs.Reading.{number16, attribute_len, attribute_lawful, attribute_number, attributes_from, attributes_at, bytes_at, command_of, taken, place_of, data_place, frame_header_len, wanted_there, moment_lawful}
 use Rattle.send_model.specs.Laws.{CanWrite}
+use Rattle.send_model.proofs.Sound.{found_is}
 use Rattle.send_model.proofs.Fuel.{bound, tested, required, ok_same}
 
 -- How many bytes attributes take.
@@ -127,10 +128,27 @@ kind_with UTIMES values = refl
 kind_with END values = refl
 kind_with UPDATE_EXTENT values = refl
 
+kind_inside : {x y : Kind} → Some x ≡ Some y → x ≡ y
+kind_inside {x = x} q = ap (λ o. unwrap_or o x) q
+
+numbered_on : (number : ℕ) (kind k : Kind) (b : Bool) (rest : Option Kind) → (row k).number == number ≡ b → (rest ≡ Some kind → (row kind).number ≡ number) → (if b then Some k else rest) ≡ Some kind → (row kind).number ≡ number
+numbered_on number kind k true rest same more q = ap (λ (x : Kind). (row x).number) (sym (kind_inside q)) ∙ eqb-true ((row k).number) number same
+numbered_on number kind k false rest same more q = more q
+
+found_number : (number : ℕ) (kind : Kind) (kinds : List Kind) → find (λ k. (row k).number == number) kinds ≡ Some kind → (row kind).number ≡ number
+found_number number kind [] q = cc
+found_number number kind (k ∷ kinds) q = numbered_on number kind k ((row k).number == number) (find (λ x. (row x).number == number) kinds) refl (λ r. found_number number kind kinds r) q
+
 numbered : (version number : ℕ) (kind : Kind) → kind_of_number version number ≡ Some kind → (row kind).number ≡ number
 unfolding kind_of_number
-numbered version number kind e = found_number all_kinds e
-  where
-    found_number : (kinds : List Kind) → find (λ k. (row k).number == number) kinds ≡ Some kind → (row kind).number ≡ number
-    found_number [] q = cc
-    found_number (k ∷ kinds) q = ?
+numbered version number kind e = found_number number kind all_kinds e
+
+pub kind_is : (version number : ℕ) (attributes : List Attribute) (c : Command) → command_of version number attributes ≡ Ok c → (row (kind_of c)).number ≡ number
+unfolding command_of
+kind_is version number attributes c e =
+    let last : Kind → Result Command Refusal = λ kind. require (list_all (moment_lawful attributes) (row kind).wanted) BadTime >> Ok (command_with kind (bytes_at attributes)) in
+    let a = bound (found (kind_of_number version number) (UnknownCommand number)) (λ kind. wanted_there (row kind).wanted attributes >> last kind) c e in
+    let b = tested (wanted_there (row a.0).wanted attributes) (last a.0) c a.2 in
+    let d = required (list_all (moment_lawful attributes) (row a.0).wanted) BadTime (Ok (command_with a.0 (bytes_at attributes))) c b.1 in
+    let kind : kind_of c ≡ a.0 = ap kind_of (sym (ok_same d.1)) ∙ kind_with a.0 (bytes_at attributes) in
+    ap (λ (k : Kind). (row k).number) kind ∙ numbered version number a.0 (found_is (kind_of_number version number) (UnknownCommand number) a.0 a.1)

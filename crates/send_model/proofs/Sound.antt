@@ -103,7 +103,7 @@ good_one attributes kind bytes are v f =
     let at : bytes_at attributes kind ≡ bytes = ap (λ o. unwrap_or o []) v in
     record { short = subst IsShort (sym at) (found_short attributes kind bytes are v); fits = ap (form_fits (form_of kind)) at ∙ f }
 
-found_is : {A : Type 0} (o : Option A) (refusal : Refusal) (x : A) → found o refusal ≡ Ok x → o ≡ Some x
+pub found_is : {A : Type 0} (o : Option A) (refusal : Refusal) (x : A) → found o refusal ≡ Ok x → o ≡ Some x
 found_is None refusal x e = cc
 found_is (Some y) refusal x e = ap Some (ok_same e)
 
