@@ -50,7 +50,7 @@ impl FrameWriter {
         })
     }
 
-    /// Appends an attribute that is a number of eight bytes. Without memory the blob is as it was.
+    /// Appends an attribute that is a number of eight bytes. Without memory the blob begins with the bytes that it had.
     #[tactic(auto, unfolding(send_model::specs::Spelling::attribute_bytes))]
     pub fn attr_u64(&mut self, to: &mut Blob, kind: u16, n: u64) -> Result<(), AllocError>
         ensures appended { OnOk result (to.new ≡ to.old ++ attribute_bytes (record { kind = kind; bytes = to_le_bytes w64 n })) }
