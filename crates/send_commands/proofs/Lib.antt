@@ -1,0 +1,3 @@
+mod Rows
+mod Spelled
+pub mod Writable

@@ -1,0 +1,4 @@
+pub mod Answers
+pub mod Meaning
+pub mod Values
+pub mod Writing

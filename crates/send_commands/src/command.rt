@@ -1,0 +1,134 @@
+// The commands of a stream.
+use sx_base::Blob;
+use uuid::Uuid;
+
+/// A moment: seconds, and nanoseconds below a second.
+#[derive(Debug, Clone, Copy, PartialEq, Eq)]
+pub struct Time {
+    /// Seconds since the beginning of 1970.
+    pub secs: u64,
+    /// Nanoseconds, fewer than 1,000,000,000.
+    pub nanos: u32,
+}
+
+/// A command with its values. Paths, names and data are bytes; sizes, offsets and lengths count bytes. Source: enum
+/// btrfs_send_cmd in send.h of btrfs-progs.
+#[derive(Drop)]
+pub enum Command {
+    /// Begins a subvolume of its own.
+    Subvol {
+        uuid: Uuid,
+        ctransid: u64,
+        path: Blob,
+    },
+    /// Begins a subvolume as a snapshot of another.
+    Snapshot {
+        uuid: Uuid,
+        ctransid: u64,
+        path: Blob,
+        clone_uuid: Uuid,
+        clone_ctransid: u64,
+    },
+    /// Makes a regular file.
+    MkFile {
+        path: Blob,
+    },
+    /// Makes a directory.
+    MkDir {
+        path: Blob,
+    },
+    /// Makes a character or block device.
+    MkNod {
+        mode: u64,
+        rdev: u64,
+        path: Blob,
+    },
+    /// Makes a named pipe.
+    MkFifo {
+        path: Blob,
+    },
+    /// Makes a socket.
+    MkSock {
+        path: Blob,
+    },
+    /// Makes a symbolic link to `path_link`.
+    Symlink {
+        path: Blob,
+        path_link: Blob,
+    },
+    /// Moves a name.
+    Rename {
+        path: Blob,
+        path_to: Blob,
+    },
+    /// Gives what `path_link` names one more name.
+    Link {
+        path: Blob,
+        path_link: Blob,
+    },
+    /// Takes a name away.
+    Unlink {
+        path: Blob,
+    },
+    /// Takes an empty directory away.
+    Rmdir {
+        path: Blob,
+    },
+    /// Sets an extended attribute.
+    SetXattr {
+        name: Blob,
+        value: Blob,
+        path: Blob,
+    },
+    /// Takes an extended attribute away.
+    RemoveXattr {
+        name: Blob,
+        path: Blob,
+    },
+    /// Puts bytes into a file, from the place `offset` on.
+    Write {
+        path: Blob,
+        offset: u64,
+        bytes: Blob,
+    },
+    /// Shares a range of another file.
+    Clone {
+        path: Blob,
+        offset: u64,
+        clone_uuid: Uuid,
+        clone_ctransid: u64,
+        clone_path: Blob,
+        clone_offset: u64,
+        clone_len: u64,
+    },
+    /// Sets a file's size in bytes.
+    Truncate {
+        size: u64,
+        path: Blob,
+    },
+    /// Sets the mode.
+    Chmod {
+        mode: u64,
+        path: Blob,
+    },
+    /// Sets the owner and the group.
+    Chown {
+        uid: u64,
+        gid: u64,
+        path: Blob,
+    },
+    /// Sets the times.
+    Utimes {
+        mtime: Time,
+        atime: Time,
+        path: Blob,
+    },
+    /// Ends a part.
+    End,
+    /// Says that a range of a file has bytes that are not sent.
+    UpdateExtent {
+        size: u64,
+        path: Blob,
+        offset: u64,
+    },
+}

@@ -1,0 +1,315 @@
+// Commands that are written as frames.
+ghost use Rattle.std.specs.Prelude.{◌≡◌, true, ◌+◌, ◌<◌, ◌^◌, ◌++◌, map, length, OnOk, OnErr};
+ghost use Rattle.std.specs.List.{AllByRecursion};
+ghost use Rattle.std.specs.Int.{w32, w64, to_le_bytes};
+ghost use Rattle.send_model.specs.Attribute.{field_bytes};
+ghost use Rattle.send_model.specs.Command.{row};
+ghost use Rattle.send_model.specs.Spelling.{attribute_bytes, body_of, with_fields, frame_of, canonical};
+ghost use Rattle.send_model.specs.Reading.{is_version};
+ghost use Rattle.sx_base.specs.Bytes.{IsFront};
+ghost use Rattle.send_commands.specs.Meaning.{meaning_of, kind_meant, time_of};
+ghost use Rattle.send_commands.specs.Writing.{FieldShort, IsWritable, field_of, data_at};
+
+use crate::attribute_numbers::DATA;
+use crate::command::{Command, Time};
+use crate::kind::Kind;
+use std::alloc::AllocError;
+use sx_base::Blob;
+use tlv_frame::FrameWriter;
+use uuid::Uuid;
+
+// A value of a command.
+#[derive(Clone, Copy)]
+enum Field<'a> {
+    Identifier(Uuid),
+    Number(u64),
+    Moment(Time),
+    Bytes(&'a [u8]),
+}
+
+/// Appends the canonical spelling of the command, a frame with the wanted attributes alone in rising order of their
+/// numbers, or changes nothing where there is no memory.
+pub fn encode(c: &Command, version: u32, to: &mut Blob) -> Result<(), AllocError>
+    requires version { is_version version ≡ true }
+    requires writable { IsWritable (meaning_of c.now) }
+    ensures appended { OnOk result (to.new ≡ to.old ++ canonical version (meaning_of c.now)) }
+    ensures same { OnErr result (to.new ≡ to.old) }
+{
+    let start = to.as_slice().len();
+    let answer = put_command(c, version, to);
+    if answer.is_err() {
+        to.cut(start);
+    }
+    answer
+}
+
+/// The place in the canonical spelling of the command where the bytes of a write begin, None for other commands.
+#[tactic(auto, unfolding(crate::specs::Writing::data_at, send_model::specs::Spelling::attributes_of, send_model::specs::Command::row))]
+pub fn data_place(c: &Command, version: u32) -> Option<u64>
+    requires version { is_version version ≡ true }
+    requires writable { IsWritable (meaning_of c.now) }
+    ensures place { result ≡ data_at version (meaning_of c.now) }
+{
+    match c {
+        Command::Write { path, .. } => Some(30 + path.as_slice().len() as u64),
+        _ => None,
+    }
+}
+
+#[tactic(auto, unfolding(send_model::specs::Spelling::canonical, send_model::specs::Spelling::attributes_of, send_model::specs::Command::row))]
+fn put_command(c: &Command, version: u32, to: &mut Blob) -> Result<(), AllocError>
+    requires version { is_version version ≡ true }
+    requires writable { IsWritable (meaning_of c.now) }
+    ensures appended { OnOk result (to.new ≡ to.old ++ canonical version (meaning_of c.now)) }
+    ensures front { IsFront to.old to.new }
+{
+    match c {
+        Command::Subvol {
+            uuid,
+            ctransid,
+            path,
+        } => put(
+            Kind::Subvol,
+            version,
+            &[
+                Field::Identifier(*uuid),
+                Field::Number(*ctransid),
+                Field::Bytes(path.as_slice()),
+            ],
+            to,
+        ),
+        Command::Snapshot {
+            uuid,
+            ctransid,
+            path,
+            clone_uuid,
+            clone_ctransid,
+        } => put(
+            Kind::Snapshot,
+            version,
+            &[
+                Field::Identifier(*uuid),
+                Field::Number(*ctransid),
+                Field::Bytes(path.as_slice()),
+                Field::Identifier(*clone_uuid),
+                Field::Number(*clone_ctransid),
+            ],
+            to,
+        ),
+        Command::MkFile { path } => put(
+            Kind::MkFile,
+            version,
+            &[Field::Bytes(path.as_slice())],
+            to,
+        ),
+        Command::MkDir { path } => put(Kind::MkDir, version, &[Field::Bytes(path.as_slice())], to),
+        Command::MkNod { mode, rdev, path } => put(
+            Kind::MkNod,
+            version,
+            &[
+                Field::Number(*mode),
+                Field::Number(*rdev),
+                Field::Bytes(path.as_slice()),
+            ],
+            to,
+        ),
+        Command::MkFifo { path } => put(
+            Kind::MkFifo,
+            version,
+            &[Field::Bytes(path.as_slice())],
+            to,
+        ),
+        Command::MkSock { path } => put(
+            Kind::MkSock,
+            version,
+            &[Field::Bytes(path.as_slice())],
+            to,
+        ),
+        Command::Symlink { path, path_link } => put(
+            Kind::Symlink,
+            version,
+            &[
+                Field::Bytes(path.as_slice()),
+                Field::Bytes(path_link.as_slice()),
+            ],
+            to,
+        ),
+        Command::Rename { path, path_to } => put(
+            Kind::Rename,
+            version,
+            &[
+                Field::Bytes(path.as_slice()),
+                Field::Bytes(path_to.as_slice()),
+            ],
+            to,
+        ),
+        Command::Link { path, path_link } => put(
+            Kind::Link,
+            version,
+            &[
+                Field::Bytes(path.as_slice()),
+                Field::Bytes(path_link.as_slice()),
+            ],
+            to,
+        ),
+        Command::Unlink { path } => put(
+            Kind::Unlink,
+            version,
+            &[Field::Bytes(path.as_slice())],
+            to,
+        ),
+        Command::Rmdir { path } => put(Kind::Rmdir, version, &[Field::Bytes(path.as_slice())], to),
+        Command::SetXattr { name, value, path } => put(
+            Kind::SetXattr,
+            version,
+            &[
+                Field::Bytes(name.as_slice()),
+                Field::Bytes(value.as_slice()),
+                Field::Bytes(path.as_slice()),
+            ],
+            to,
+        ),
+        Command::RemoveXattr { name, path } => put(
+            Kind::RemoveXattr,
+            version,
+            &[Field::Bytes(name.as_slice()), Field::Bytes(path.as_slice())],
+            to,
+        ),
+        Command::Write {
+            path,
+            offset,
+            bytes,
+        } => put(
+            Kind::Write,
+            version,
+            &[
+                Field::Bytes(path.as_slice()),
+                Field::Number(*offset),
+                Field::Bytes(bytes.as_slice()),
+            ],
+            to,
+        ),
+        Command::Clone {
+            path,
+            offset,
+            clone_uuid,
+            clone_ctransid,
+            clone_path,
+            clone_offset,
+            clone_len,
+        } => put(
+            Kind::Clone,
+            version,
+            &[
+                Field::Bytes(path.as_slice()),
+                Field::Number(*offset),
+                Field::Identifier(*clone_uuid),
+                Field::Number(*clone_ctransid),
+                Field::Bytes(clone_path.as_slice()),
+                Field::Number(*clone_offset),
+                Field::Number(*clone_len),
+            ],
+            to,
+        ),
+        Command::Truncate { size, path } => put(
+            Kind::Truncate,
+            version,
+            &[Field::Number(*size), Field::Bytes(path.as_slice())],
+            to,
+        ),
+        Command::Chmod { mode, path } => put(
+            Kind::Chmod,
+            version,
+            &[Field::Number(*mode), Field::Bytes(path.as_slice())],
+            to,
+        ),
+        Command::Chown { uid, gid, path } => put(
+            Kind::Chown,
+            version,
+            &[
+                Field::Number(*uid),
+                Field::Number(*gid),
+                Field::Bytes(path.as_slice()),
+            ],
+            to,
+        ),
+        Command::Utimes { mtime, atime, path } => put(
+            Kind::Utimes,
+            version,
+            &[
+                Field::Moment(*mtime),
+                Field::Moment(*atime),
+                Field::Bytes(path.as_slice()),
+            ],
+            to,
+        ),
+        Command::End => put(Kind::End, version, &[], to),
+        Command::UpdateExtent { size, path, offset } => put(
+            Kind::UpdateExtent,
+            version,
+            &[
+                Field::Number(*size),
+                Field::Bytes(path.as_slice()),
+                Field::Number(*offset),
+            ],
+            to,
+        ),
+    }
+}
+
+// Appends a frame of the command with these values of its wanted attributes. Without memory the blob begins with the
+// bytes that it had.
+fn put(kind: Kind, version: u32, fields: &[Field<'_>], to: &mut Blob) -> Result<(), AllocError>
+    requires version { is_version version ≡ true }
+    requires short { AllByRecursion FieldShort (map field_of fields.now) }
+    requires count { length fields.now ≡ length (row (kind_meant kind)).wanted }
+    ensures appended { OnOk result (to.new ≡ to.old ++ frame_of (row (kind_meant kind)).number (body_of (with_fields (row (kind_meant kind)).wanted (map field_of fields.now)))) }
+    ensures front { IsFront to.old to.new }
+{
+    let wanted = kind.wanted();
+    let mut writer = FrameWriter::begin(to, kind.number(), version)?;
+    for i in 0..fields.len() {
+        put_field(&mut writer, to, wanted[i], &fields[i])?;
+    }
+    writer.finish(to);
+    Ok(())
+}
+
+// Appends an attribute with this value. Without memory the blob begins with the bytes that it had.
+fn put_field(
+    writer: &mut FrameWriter,
+    to: &mut Blob,
+    kind: u16,
+    field: &Field<'_>,
+) -> Result<(), AllocError>
+    requires short { FieldShort (field_of field.now) }
+    ensures appended { OnOk result (to.new ≡ to.old ++ attribute_bytes (record { kind = kind; bytes = field_bytes (field_of field.now) })) }
+    ensures front { IsFront to.old to.new }
+    ensures short { OnOk result (length to.new < length to.old + 65_540) }
+    ensures writer { writer.new ≡ writer.old }
+{
+    match field {
+        Field::Identifier(uuid) => writer.attr_bytes(to, kind, uuid.as_bytes()),
+        Field::Number(n) => writer.attr_u64(to, kind, *n),
+        Field::Moment(time) => writer.attr_bytes(to, kind, &moment_bytes(*time)),
+        Field::Bytes(bytes) => {
+            if kind == DATA {
+                writer.attr_data(to, bytes)
+            } else {
+                writer.attr_bytes(to, kind, bytes)
+            }
+        }
+    }
+}
+
+// Eight bytes of seconds and four of nanoseconds.
+fn moment_bytes(time: Time) -> [u8; 12]
+    ensures { result ≡ to_le_bytes w64 time.secs ++ to_le_bytes w32 time.nanos }
+{
+    let secs = time.secs.to_le_bytes();
+    let nanos = time.nanos.to_le_bytes();
+    [
+        secs[0], secs[1], secs[2], secs[3], secs[4], secs[5], secs[6], secs[7], nanos[0], nanos[1],
+        nanos[2], nanos[3],
+    ]
+}

@@ -1,0 +1,214 @@
+// The commands by name, with their numbers and the attributes that they want.
+ghost use Rattle.std.specs.Prelude.{◌≡◌, true, ◌≤◌, length, option_map};
+ghost use Rattle.send_model.specs.Command.{row, kind_of_number};
+ghost use Rattle.send_model.specs.Reading.{is_version, is_taken, taken};
+ghost use Rattle.tlv_frame.specs.Answers.{Reads};
+ghost use Rattle.send_commands.specs.Meaning.{kind_meant};
+
+use crate::attribute_numbers::*;
+use sx_base::Refusal;
+
+/// The commands by name. Source: enum btrfs_send_cmd in send.h of btrfs-progs.
+#[derive(Debug, Clone, Copy, PartialEq, Eq)]
+pub enum Kind {
+    /// SUBVOL.
+    Subvol,
+    /// SNAPSHOT.
+    Snapshot,
+    /// MKFILE.
+    MkFile,
+    /// MKDIR.
+    MkDir,
+    /// MKNOD.
+    MkNod,
+    /// MKFIFO.
+    MkFifo,
+    /// MKSOCK.
+    MkSock,
+    /// SYMLINK.
+    Symlink,
+    /// RENAME.
+    Rename,
+    /// LINK.
+    Link,
+    /// UNLINK.
+    Unlink,
+    /// RMDIR.
+    Rmdir,
+    /// SET_XATTR.
+    SetXattr,
+    /// REMOVE_XATTR.
+    RemoveXattr,
+    /// WRITE.
+    Write,
+    /// CLONE.
+    Clone,
+    /// TRUNCATE.
+    Truncate,
+    /// CHMOD.
+    Chmod,
+    /// CHOWN.
+    Chown,
+    /// UTIMES.
+    Utimes,
+    /// END.
+    End,
+    /// UPDATE_EXTENT.
+    UpdateExtent,
+}
+
+impl Kind {
+    /// The command of this number in a stream of this version, None where there is none.
+    #[tactic(auto, unfolding(send_model::specs::Command::kind_of_number, send_model::specs::Command::row))]
+    pub fn from_number(version: u32, number: u16) -> Option<Kind>
+        requires version { is_version version ≡ true }
+        ensures kind { option_map kind_meant result ≡ kind_of_number version number }
+    {
+        match number {
+            1 => Some(Kind::Subvol),
+            2 => Some(Kind::Snapshot),
+            3 => Some(Kind::MkFile),
+            4 => Some(Kind::MkDir),
+            5 => Some(Kind::MkNod),
+            6 => Some(Kind::MkFifo),
+            7 => Some(Kind::MkSock),
+            8 => Some(Kind::Symlink),
+            9 => Some(Kind::Rename),
+            10 => Some(Kind::Link),
+            11 => Some(Kind::Unlink),
+            12 => Some(Kind::Rmdir),
+            13 => Some(Kind::SetXattr),
+            14 => Some(Kind::RemoveXattr),
+            15 => Some(Kind::Write),
+            16 => Some(Kind::Clone),
+            17 => Some(Kind::Truncate),
+            18 => Some(Kind::Chmod),
+            19 => Some(Kind::Chown),
+            20 => Some(Kind::Utimes),
+            21 => Some(Kind::End),
+            22 => Some(Kind::UpdateExtent),
+            _ => None,
+        }
+    }
+
+    /// The command's number.
+    #[tactic(auto, unfolding(send_model::specs::Command::row))]
+    pub fn number(self) -> u16
+        ensures number { result ≡ (row (kind_meant self)).number }
+    {
+        match self {
+            Kind::Subvol => 1,
+            Kind::Snapshot => 2,
+            Kind::MkFile => 3,
+            Kind::MkDir => 4,
+            Kind::MkNod => 5,
+            Kind::MkFifo => 6,
+            Kind::MkSock => 7,
+            Kind::Symlink => 8,
+            Kind::Rename => 9,
+            Kind::Link => 10,
+            Kind::Unlink => 11,
+            Kind::Rmdir => 12,
+            Kind::SetXattr => 13,
+            Kind::RemoveXattr => 14,
+            Kind::Write => 15,
+            Kind::Clone => 16,
+            Kind::Truncate => 17,
+            Kind::Chmod => 18,
+            Kind::Chown => 19,
+            Kind::Utimes => 20,
+            Kind::End => 21,
+            Kind::UpdateExtent => 22,
+        }
+    }
+
+    /// The numbers of the attributes that the command wants, in rising order.
+    #[tactic(auto, unfolding(send_model::specs::Command::row))]
+    pub fn wanted(self) -> &'static [u16]
+        ensures wanted { result.now ≡ (row (kind_meant self)).wanted }
+        ensures few { length result.now ≤ 7 }
+    {
+        match self {
+            Kind::Subvol => &[UUID, CTRANSID, PATH],
+            Kind::Snapshot => &[UUID, CTRANSID, PATH, CLONE_UUID, CLONE_CTRANSID],
+            Kind::MkFile => &[PATH],
+            Kind::MkDir => &[PATH],
+            Kind::MkNod => &[MODE, RDEV, PATH],
+            Kind::MkFifo => &[PATH],
+            Kind::MkSock => &[PATH],
+            Kind::Symlink => &[PATH, PATH_LINK],
+            Kind::Rename => &[PATH, PATH_TO],
+            Kind::Link => &[PATH, PATH_LINK],
+            Kind::Unlink => &[PATH],
+            Kind::Rmdir => &[PATH],
+            Kind::SetXattr => &[XATTR_NAME, XATTR_DATA, PATH],
+            Kind::RemoveXattr => &[XATTR_NAME, PATH],
+            Kind::Write => &[PATH, FILE_OFFSET, DATA],
+            Kind::Clone => &[
+                PATH,
+                FILE_OFFSET,
+                CLONE_UUID,
+                CLONE_CTRANSID,
+                CLONE_PATH,
+                CLONE_OFFSET,
+                CLONE_LEN,
+            ],
+            Kind::Truncate => &[SIZE, PATH],
+            Kind::Chmod => &[MODE, PATH],
+            Kind::Chown => &[UID, GID, PATH],
+            Kind::Utimes => &[MTIME, ATIME, PATH],
+            Kind::End => &[],
+            Kind::UpdateExtent => &[SIZE, PATH, FILE_OFFSET],
+        }
+    }
+
+    /// Whether the program takes this command today.
+    #[tactic(auto, unfolding(send_model::specs::Reading::is_taken))]
+    pub fn is_taken(self) -> bool
+        ensures taken { result ≡ is_taken (kind_meant self) }
+    {
+        match self {
+            Kind::Subvol => true,
+            Kind::Snapshot => true,
+            Kind::MkFile => true,
+            Kind::MkDir => false,
+            Kind::MkNod => false,
+            Kind::MkFifo => false,
+            Kind::MkSock => false,
+            Kind::Symlink => false,
+            Kind::Rename => false,
+            Kind::Link => false,
+            Kind::Unlink => false,
+            Kind::Rmdir => false,
+            Kind::SetXattr => false,
+            Kind::RemoveXattr => false,
+            Kind::Write => true,
+            Kind::Clone => false,
+            Kind::Truncate => true,
+            Kind::Chmod => false,
+            Kind::Chown => false,
+            Kind::Utimes => false,
+            Kind::End => true,
+            Kind::UpdateExtent => true,
+        }
+    }
+}
+
+/// Whether the program takes the command of this number today. NotBuilt, with the number, exactly where a command has
+/// it that is not taken; a number of no command is left to `decode`. Takes no memory.
+#[tactic(auto, unfolding(send_model::specs::Reading::taken))]
+pub fn check_taken(version: u32, number: u16) -> Result<(), Refusal>
+    requires version { is_version version ≡ true }
+    ensures exact { Reads (λ _. tt) result (taken version number) }
+{
+    match Kind::from_number(version, number) {
+        None => Ok(()),
+        Some(kind) => {
+            if kind.is_taken() {
+                Ok(())
+            } else {
+                Err(Refusal::NotBuilt(number))
+            }
+        }
+    }
+}

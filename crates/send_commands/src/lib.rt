@@ -1,0 +1,16 @@
+//! The commands of a stream as values, read from the attributes of a frame and written as frames.
+#![tactic(auto)]
+
+mod attribute_numbers;
+mod command;
+mod decoding;
+mod encoding;
+mod kind;
+#[cfg(test)]
+mod tests;
+mod values;
+
+pub use command::{Command, Time};
+pub use decoding::decode;
+pub use encoding::{data_place, encode};
+pub use kind::{Kind, check_taken};

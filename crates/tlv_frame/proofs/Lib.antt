@@ -1,0 +1,4 @@
+mod Headers
+mod Slots
+mod Progress
+pub mod Parts

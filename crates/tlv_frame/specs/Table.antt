@@ -1,0 +1,58 @@
+-- A table of the attributes of a frame's body, by their numbers.
+use Rattle.std.specs.Prelude.{◌≡◌, ℕ, ◌^◌, ◌<◌, List, length, Option, None, Some, Result, Ok, Err, slice_index_or, option_map}
+use Rattle.send_model.specs.Refusal as meant
+use Rattle.send_model.specs.Spelling.{Attribute, value_of}
+use Rattle.send_model.specs.Reading.{place_of}
+use Rattle.sx_base.specs.declared.refusal.Refusal.{Refusal}
+use Rattle.sx_base.specs.Refusals.{refusal_of}
+use Rattle.tlv_frame.specs.declared.attribute_table.Slot as made
+
+-- An attribute's bytes, and the place of the first of them in the body.
+pub record Slot : Type 0 where
+  pub place : ℕ
+  pub bytes : List ℕ
+
+-- The version of the stream, and for each attribute number from 0 on what the body has of it.
+pub record Table : Type 0 where
+  pub version : ℕ
+  pub slots : List (Option Slot)
+
+abbrev pub slot_at : List (Option Slot) → ℕ → Option Slot
+slot_at slots kind = slice_index_or slots kind None
+
+abbrev pub value_in : Option Slot → Option (List ℕ)
+value_in slot = option_map (λ s. s.bytes) slot
+
+abbrev pub place_in : Option Slot → Option ℕ
+place_in slot = option_map (λ s. s.place) slot
+
+-- The bytes of the attribute of a number, and their place.
+abbrev pub value_at : Table → ℕ → Option (List ℕ)
+value_at table kind = value_in (slot_at table.slots kind)
+
+abbrev pub place_at : Table → ℕ → Option ℕ
+place_at table kind = place_in (slot_at table.slots kind)
+
+-- The table has what the attributes have.
+pub record StandsFor (table : Table) (attributes : List Attribute) : Type 0 where
+  pub values : (kind : ℕ) → value_at table kind ≡ value_of kind attributes
+  pub places : (kind : ℕ) → place_at table kind ≡ place_of kind attributes
+
+-- The answer is a table that stands for the attributes that are read, or the refusal of these.
+abbrev pub ReadsTable : Result Table Refusal → Result (List Attribute) meant.Refusal → Type 0
+ReadsTable (Ok table) read = (attributes : List Attribute) × (read ≡ Ok attributes) × StandsFor table attributes
+ReadsTable (Err refusal) read = read ≡ Err (refusal_of refusal)
+
+-- A slot as the definitions see it.
+abbrev pub slot_of : Option made.Slot → Option Slot
+slot_of slot = option_map (λ (s : made.Slot). record { place = s.place; bytes = s.bytes.now }) slot
+
+-- A length that an attribute's header can say.
+abbrev pub IsShort : Option Slot → Type 0
+IsShort None = Unit {0}
+IsShort (Some slot) = length slot.bytes < 2 ^ 16
+
+-- One slot for each attribute number up to the last, and lengths that an attribute's header can say.
+pub record IsWhole (slots : List (Option Slot)) : Type 0 where
+  pub count : length slots ≡ 25
+  pub short : (kind : ℕ) → IsShort (slot_at slots kind)

@@ -1,0 +1,14 @@
+//! The bytes of a stream: its header, frames with their checksums, and the attributes of a frame, read and written.
+#![tactic(auto)]
+
+mod attribute_table;
+mod frame_head;
+mod frame_writer;
+mod stream_head;
+#[cfg(test)]
+mod tests;
+
+pub use attribute_table::{AttrTable, attrs};
+pub use frame_head::FrameHead;
+pub use frame_writer::FrameWriter;
+pub use stream_head::StreamHead;

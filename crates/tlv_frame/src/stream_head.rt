@@ -1,0 +1,30 @@
+// The header of a stream.
+ghost use Rattle.send_model.specs.Reading.{stream_version};
+ghost use Rattle.tlv_frame.specs.Answers.{Reads};
+
+use sx_base::Refusal;
+
+/// The header of a stream.
+#[derive(Debug, Clone, Copy, PartialEq, Eq)]
+pub struct StreamHead {
+    /// The version of the protocol that the stream is written in.
+    pub version: u32,
+}
+
+impl StreamHead {
+    /// The header that these bytes are. BadMagic where they do not begin with the text of a stream, BadVersion where
+    /// the version is not 1. Source: struct btrfs_stream_header in send.h of btrfs-progs.
+    #[tactic(auto, unfolding(send_model::specs::Reading::stream_version, send_model::specs::Reading::number32))]
+    pub fn read(bytes: &[u8; 17]) -> Result<StreamHead, Refusal>
+        ensures exact { Reads (λ head. head.version) result (stream_version bytes.now) }
+    {
+        if !bytes.starts_with(b"btrfs-stream\0") {
+            return Err(Refusal::BadMagic);
+        }
+        let version = u32::from_le_bytes([bytes[13], bytes[14], bytes[15], bytes[16]]);
+        if version != 1 {
+            return Err(Refusal::BadVersion(version));
+        }
+        Ok(StreamHead { version })
+    }
+}
