@@ -1,17 +1,18 @@
 -- Files by number, and the sizes of blank contents.
-use Rattle.std.proofs.Common.{◌≡◌, ℕ, zero, suc, ◌+◌, ◌-◌, ◌<◌, ◌≤◌, ◌==◌, Bool, true, false, cond, List, [], ◌∷◌, ◌++◌, length, replicate, take, drop, get_or, Some, None, Option, refl, sym, ap, ◌∙◌, arith, max, min, if◌then◌else◌}
+use Rattle.std.proofs.Common.{◌≡◌, ℕ, zero, suc, ◌+◌, ◌-◌, ◌<◌, Bool, cond, List, [], ◌∷◌, ◌++◌, length, map, replicate, take, drop, get_or, Some, Option, refl, sym, ap, ◌∙◌, arith, max}
 use Rattle.std.proofs.Math.ListN.{set}
 use Rattle.std.specs.declared.cmp.Ordering.{Ordering}
-use Rattle.std.specs.declared.cmp.Ordering.TheVariants.{Less, Equal, Greater}
+use Rattle.std.specs.declared.cmp.Ordering.TheVariants.{Equal, Greater}
 use Rattle.std.specs.Ordering.{nat_cmp, is_eq}
 use Rattle.std.specs.Cmp.{nat_cmp_is}
 use Rattle.std.specs.FinMap.Entries.{by_order}
-use Rattle.std.proofs.lemmas.List.{length-append, length-take, length-drop, length-replicate}
+use Rattle.std.proofs.lemmas.List.{length-append, length-take, length-drop, length-replicate, length-map}
+use Rattle.send_model.specs.Command.{Write}
 use Rattle.std.proofs.lemmas.Bool.{ne_eqb}
 use Rattle.send_model.specs.Map.{value_at, with_value}
 use Rattle.send_model.specs.Subvolume.{Inode}
-use Rattle.send_model.specs.Edit.{filled, resized, overwritten, written_at}
-use Rattle.clone_resolve.specs.Flat.{Blank, blank, file_of, files_from, grown}
+use Rattle.send_model.specs.Edit.{filled, resized, overwritten, written_at, edit, change_contents}
+use Rattle.clone_resolve.specs.Flat.{Blank, blank, Flat, file_of, files_from, grown}
 
 equal : (m n : ℕ) → m ≡ n → nat_cmp m n ≡ Equal
 equal m n e = sym (nat_cmp_is m n Equal e)
@@ -91,3 +92,12 @@ written_blank offset (suc len) old =
     let cells : List Blank = replicate old blank in
     blank_of (overwritten blank offset new cells) (grown offset (suc len) old)
     (overwritten_len offset new cells ∙ omega (arith, length-replicate (suc len) blank, length-replicate old blank) ∙ some_more offset len old)
+
+-- A WRITE of blank cells, as many as it has bytes.
+pub write_cells : (path : List ℕ) (offset : ℕ) (bytes : List ℕ) (s : Flat)
+    → edit blank (map (λ _. blank) bytes) (Write path offset bytes) s ≡ change_contents path (offset + length bytes) (written_at blank offset (replicate (length bytes) blank)) s
+unfolding edit
+write_cells path offset bytes s =
+    let cells : List Blank = map (λ _. blank) bytes in
+    let as_many : length cells ≡ length bytes = length-map bytes (λ _. blank) in
+    λ i. change_contents path (offset + as_many i) (written_at blank offset (blank_of cells (length bytes) as_many i)) s

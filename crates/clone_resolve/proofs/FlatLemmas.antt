@@ -1,10 +1,9 @@
 -- Places and edits in subvolumes whose names all stand in the root.
-use Rattle.std.proofs.Common.{◌≡◌, ℕ, zero, suc, ◌+◌, ◌<◌, ◌≤◌, ◌==◌, Bool, true, false, cond, List, [], ◌∷◌, ◌++◌, map, length, replicate, get_or, Some, None, Option, Result, Ok, Err, refl, sym, ap, ap₂, ◌∙◌, arith, Vec, is_some, is_none, not, nat_le, ◌-◌}
+use Rattle.std.proofs.Common.{◌≡◌, ℕ, ◌+◌, ◌<◌, ◌≤◌, ◌==◌, true, false, cond, List, [], ◌∷◌, ◌++◌, map, length, replicate, get_or, Some, None, Option, Result, Ok, Err, refl, sym, ap, ◌∙◌, arith, Vec, is_some, is_none, ◌-◌}
 use Rattle.std.proofs.Math.ListN.{set}
 use Rattle.std.proofs.lemmas.List.{length-append, length-set}
 use Rattle.std.proofs.lemmas.Bool.{lt-leb, le-leb, ne_eqb}
 use Rattle.std.specs.declared.cmp.Ordering.{Ordering}
-use Rattle.std.specs.declared.cmp.Ordering.TheVariants.{Less, Equal, Greater}
 use Rattle.std.specs.Ordering.{nat_cmp, is_eq}
 use Rattle.std.specs.FinMap.Entries.{by_order}
 use Rattle.send_model.specs.Refusal.{Refusal, BadPath, NoEntry, NotDirectory, IsRoot, NotFile, FileTooBig, EntryThere, NoNumber}
@@ -12,7 +11,7 @@ use Rattle.send_model.specs.Chain.{◌>>=◌, ◌>>◌, require, refuse_if, foun
 use Rattle.send_model.specs.Path.{path_names}
 use Rattle.send_model.specs.Map.{Map, named_cmp, value_at, with_value}
 use Rattle.send_model.specs.Subvolume.{Inode, Subvolume, Spot, root, new_directory, passes_inode, is_directory_kind, is_file_kind, is_directory, is_file, inode_at, named, walk_names, walk, spot, last_name, all_but_last}
-use Rattle.send_model.specs.Edit.{greatest_end, greatest_number, set_inode, change_inode, set_cells, change_contents, make, add_inode, at_spot}
+use Rattle.send_model.specs.Edit.{greatest_end, greatest_number, set_inode, change_inode, set_cells, change_contents, make, add_inode}
 use Rattle.clone_resolve.specs.Flat.{Blank, blank, Flat, file_of, files_from, in_root, flat, AreFiles}
 use Rattle.clone_resolve.specs.Places.{Nowhere}
 use Rattle.clone_resolve.proofs.NameLemmas.{name_cmp, name_put, is_name_of, named_flat, number_of_file}

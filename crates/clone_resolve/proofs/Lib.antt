@@ -1,3 +1,5 @@
+mod EntryLemmas
 mod FileLemmas
-mod NameLemmas
 mod FlatLemmas
+mod NameLemmas
+mod StepLemmas

@@ -1,6 +1,5 @@
-use Rattle.std.proofs.Common.{rules, ◌≡◌, ◌∙◌, ℕ, List, [], ◌∷◌, Vec, Global, length, refl, ◌+◌}
+use Rattle.std.proofs.Common.{◌≡◌}
 use Rattle.std.specs.List.{each_same}
-use Rattle.clone_resolve.specs.Flat.{in_root, flat}
 use Rattle.clone_resolve.proofs.NameLemmas.{names_cloned, files_cloned}
 use Rattle.clone_resolve.proofs.tree.FlatTree.copy.Goals as goal
 

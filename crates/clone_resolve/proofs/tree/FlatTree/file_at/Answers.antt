@@ -1,9 +1,7 @@
-use Rattle.std.proofs.Common.{rules, arith, ◌≡◌, ℕ, ◌+◌, ◌-◌, ◌<◌, ◌≤◌, List, [], ◌∷◌, ◌++◌, length, get_or, Ok, Err, Some, None, Option, true, false, is_some, Vec, Global, refl, sym, ap, ◌∙◌, length-append}
+use Rattle.std.proofs.Common.{arith, ◌≡◌, ℕ, ◌+◌, ◌-◌, Option, sym, ap, ◌∙◌}
 use Rattle.std.proofs.lemmas.Result.{err_from_is_err_and}
 use Rattle.send_model.specs.Refusal.{NoEntry}
 use Rattle.send_model.specs.Chain.{found}
-use Rattle.send_model.specs.Path.{path_names}
-use Rattle.clone_resolve.specs.Places.{Leads}
 use Rattle.clone_resolve.specs.Flat.{flat}
 use Rattle.clone_resolve.proofs.NameLemmas.{is_name_of, number_of_file}
 use Rattle.clone_resolve.proofs.FlatLemmas.{change_nowhere, change_no_file, walk_root, root_is_no_file, flat_walk}

@@ -1,9 +1,9 @@
-use Rattle.std.proofs.Common.{rules, arith, ◌≡◌, ℕ, ◌+◌, ◌-◌, ◌<◌, ◌≤◌, List, [], ◌∷◌, ◌++◌, length, get_or, Ok, Err, Some, None, Option, true, false, is_some, Vec, Global, refl, sym, ap, ◌∙◌, length-append}
+use Rattle.std.proofs.Common.{arith, ◌≡◌, ℕ, ◌+◌, ◌<◌, List, [], ◌∷◌, ◌++◌, length, Some, false, is_some, refl, sym, ◌∙◌, length-append}
 use Rattle.std.proofs.lemmas.Result.{err_from_is_err_and}
 use Rattle.std.specs.Map.{lookup}
 use Rattle.send_model.specs.Path.{path_names}
 use Rattle.send_model.specs.Edit.{greatest_number}
-use Rattle.clone_resolve.specs.Flat.{flat, file_of}
+use Rattle.clone_resolve.specs.Flat.{file_of}
 use Rattle.clone_resolve.proofs.NameLemmas.{is_name_of, more_files, name_of_file}
 use Rattle.clone_resolve.proofs.FlatLemmas.{make_nowhere, make_at_root, flat_make_there, flat_make_new}
 use Rattle.clone_resolve.proofs.tree.FlatTree.make_file.Goals as goal

@@ -1,4 +1,4 @@
-use Rattle.std.proofs.Common.{rules, arith, ◌≡◌, ℕ, ◌+◌, ◌-◌, ◌<◌, ◌≤◌, List, [], ◌∷◌, ◌++◌, length, get_or, Ok, Err, Some, None, Option, true, false, is_some, Vec, Global, refl, sym, ap, ◌∙◌, length-append}
+use Rattle.std.proofs.Common.{◌≡◌, ℕ, List, ◌∷◌, Some, sym, ap, ◌∙◌}
 use Rattle.send_model.specs.Path.{path_names}
 use Rattle.clone_resolve.proofs.FlatLemmas.{bad_path, flat_absent, flat_through}
 use Rattle.clone_resolve.proofs.tree.FlatTree.place.Goals as goal

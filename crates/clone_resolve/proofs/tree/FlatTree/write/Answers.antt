@@ -1,8 +1,8 @@
-use Rattle.std.proofs.Common.{◌==◌, if◌then◌else◌, max, rules, arith, ◌≡◌, ℕ, ◌+◌, ◌-◌, ◌<◌, ◌≤◌, List, [], ◌∷◌, ◌++◌, length, get_or, Ok, Err, Some, None, Option, true, false, is_some, Vec, Global, refl, sym, ap, ◌∙◌, length-append}
+use Rattle.std.proofs.Common.{◌==◌, if◌then◌else◌, max, arith, ◌≡◌, ℕ, ◌+◌, ◌<◌, ◌≤◌, List, length, get_or, refl, ◌∙◌}
 use Rattle.std.proofs.lemmas.Result.{err_from_is_err_and}
 use Rattle.std.proofs.lemmas.List.{length-set, get_or_default}
 use Rattle.send_model.specs.Edit.{greatest_end}
-use Rattle.clone_resolve.specs.Flat.{flat, grown}
+use Rattle.clone_resolve.specs.Flat.{grown}
 use Rattle.clone_resolve.proofs.FileLemmas.{written_blank}
 use Rattle.clone_resolve.proofs.NameLemmas.{more_files}
 use Rattle.clone_resolve.proofs.FlatLemmas.{flat_too_big, flat_changed}
