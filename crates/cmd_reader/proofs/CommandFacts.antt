@@ -88,9 +88,9 @@ data_with WRITE values = le_refl _
 data_with SUBVOL values = zero-le
 data_with _ values = zero-le
 
-data_within : (at : ℕ) (attributes : List Attribute) (size data : ℕ) (o : Option ℕ) → place_of DATA attributes ≡ o → total attributes ≤ size → data ≤ length (bytes_at attributes DATA) → (elim o as (λ x. ℕ) [ None ↦ 0 | Some place ↦ at + frame_header_len + place ]) + data ≤ at + frame_header_len + size
-data_within at attributes size data None e t d = let none = ap (λ (b : List ℕ). length b) (unplaced DATA attributes e) in omega (arith, none, d)
-data_within at attributes size data (Some place) e t d = let p = placed DATA attributes place e in omega (arith, p, t, d)
+data_within : (at : ℕ) (attributes : List Attribute) (size payload : ℕ) (o : Option ℕ) → place_of DATA attributes ≡ o → total attributes ≤ size → payload ≤ length (bytes_at attributes DATA) → (elim o as (λ x. ℕ) [ None ↦ 0 | Some place ↦ at + frame_header_len + place ]) + payload ≤ at + frame_header_len + size
+data_within at attributes size payload None e t d = let none = ap (λ (b : List ℕ). length b) (unplaced DATA attributes e) in omega (arith, none, d)
+data_within at attributes size payload (Some place) e t d = let p = placed DATA attributes place e in omega (arith, p, t, d)
 
 -- The data of a command that was read lies in its frame.
 pub data_place_within : (at version number : ℕ) (body : List ℕ) (attributes : List Attribute) (c : Command) → attributes_at version body ≡ Ok attributes → command_of version number attributes ≡ Ok c → data_place at attributes + length (bytes_of c) ≤ at + frame_header_len + length body

@@ -37,4 +37,4 @@ ReadsCommand at version number body (Err InputTooLong) = ⊥
 pub record CommandFits (at : ℕ) (body : List ℕ) (x : Command × ℕ) : Type 0 where
   pub writable : IsWritable (meaning_of x.0)
   pub can_write : CanWrite (meaning_of x.0)
-  pub data : x.1 + length (bytes_of (meaning_of x.0)) ≤ at + frame_header_len + length body
+  pub payload : x.1 + length (bytes_of (meaning_of x.0)) ≤ at + frame_header_len + length body

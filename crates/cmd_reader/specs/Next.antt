@@ -50,7 +50,7 @@ pub record FrontFits (at : ℕ) (front : Front) : Type 0 where
   pub within : front.next ≤ limit
   pub writable : IsWritable (meaning_of front.command)
   pub can_write : CanWrite (meaning_of front.command)
-  pub data : front.data_at + length (bytes_of (meaning_of front.command)) ≤ limit
+  pub payload : front.data_at + length (bytes_of (meaning_of front.command)) ≤ limit
 
 -- ---- a call
 
@@ -74,4 +74,4 @@ pub record ItemFits (old new : Reader) (item : Item) : Type 0 where
   pub version : is_version item.version ≡ true
   pub writable : IsWritable (meaning_of item.command)
   pub can_write : CanWrite (meaning_of item.command)
-  pub data : item.data_at + length (bytes_of (meaning_of item.command)) ≤ limit
+  pub payload : item.data_at + length (bytes_of (meaning_of item.command)) ≤ limit

@@ -1,0 +1,5 @@
+mod EntryLemmas
+mod FileLemmas
+mod FlatLemmas
+mod NameLemmas
+mod StepLemmas

@@ -1,0 +1,5 @@
+pub mod Answers
+pub mod Entries
+pub mod Flat
+pub mod Places
+pub mod Steps
