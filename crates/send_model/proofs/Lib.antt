@@ -22,3 +22,6 @@ pub mod Fuel
 pub mod Judging
 pub mod Writing
 pub mod Composed
+pub mod MapLaws
+pub mod WalkLaws
+pub mod Soundness
