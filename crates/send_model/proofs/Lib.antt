@@ -25,3 +25,4 @@ pub mod Composed
 pub mod MapLaws
 pub mod WalkLaws
 pub mod Soundness
+pub mod SoundRemovals
