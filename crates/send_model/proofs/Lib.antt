@@ -26,3 +26,4 @@ pub mod MapLaws
 pub mod WalkLaws
 pub mod Soundness
 pub mod SoundRemovals
+pub mod SoundChanges
