@@ -27,3 +27,4 @@ pub mod WalkLaws
 pub mod Soundness
 pub mod SoundRemovals
 pub mod SoundChanges
+pub mod SoundEdits

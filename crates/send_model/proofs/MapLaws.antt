@@ -33,7 +33,7 @@ is_less Less p = refl
 is_less Equal p = absurd p
 is_less Greater p = absurd p
 
-is_equal : (r : Ordering) → is_eq r ≡ true → r ≡ Equal
+pub is_equal : (r : Ordering) → is_eq r ≡ true → r ≡ Equal
 is_equal Less e = absurd (true≢false (sym e))
 is_equal Equal e = refl
 is_equal Greater e = absurd (true≢false (sym e))
