@@ -28,3 +28,4 @@ pub mod Soundness
 pub mod SoundRemovals
 pub mod SoundChanges
 pub mod SoundEdits
+pub mod SoundRenames

@@ -24,7 +24,7 @@ use Rattle.send_model.proofs.SoundChanges.{changed_is_sound}
 
 -- ---- what a chain that ended well has found
 
-found_is : {A : Type 0} (o : Option A) (refusal : Refusal) (x : A) → found o refusal ≡ Ok x → o ≡ Some x
+pub found_is : {A : Type 0} (o : Option A) (refusal : Refusal) (x : A) → found o refusal ≡ Ok x → o ≡ Some x
 found_is None refusal x e = cc
 found_is (Some y) refusal x e = let some : _ → Option _ = λ z. Some z in ap some (ok_same e)
 
@@ -36,7 +36,7 @@ or_left : (a b : Bool) → a || b ≡ true → (a ≡ true) ⊎ (b ≡ true)
 or_left true b e = inl refl
 or_left false b e = inr e
 
-not_both : (a b : Bool) → a && b ≡ false → a ≡ true → b ≡ false
+pub not_both : (a b : Bool) → a && b ≡ false → a ≡ true → b ≡ false
 not_both true b e h = e
 not_both false b e h = absurd (true≢false (sym h))
 
@@ -56,13 +56,13 @@ no_names_in x name (e ∷ m) empty = one (e.0.0 == x) refl empty (no_names_in x 
 
 module _ {C : Type 0} where
   -- The directory of a place that a path names, and the walk to it.
-  record PlaceOf (s : Subvolume C) (path : List ℕ) (place : Spot) : Type 0 where
-    names : List (List ℕ)
-    of_path : path_names path ≡ Some names
-    walked : walk_names s root (all_but_last names) ≡ Ok place.directory
-    directory : IsTrue (is_directory s place.directory)
+  pub record PlaceOf (s : Subvolume C) (path : List ℕ) (place : Spot) : Type 0 where
+    pub names : List (List ℕ)
+    pub of_path : path_names path ≡ Some names
+    pub walked : walk_names s root (all_but_last names) ≡ Ok place.directory
+    pub directory : IsTrue (is_directory s place.directory)
 
-  place_of : (s : Subvolume C) (path : List ℕ) (place : Spot) → spot s path ≡ Ok place → PlaceOf s path place
+  pub place_of : (s : Subvolume C) (path : List ℕ) (place : Spot) → spot s path ≡ Ok place → PlaceOf s path place
   unfolding spot
   place_of s path place e =
       let a = bound (found (path_names path) BadPath) _ place e in
@@ -79,7 +79,7 @@ module _ {C : Type 0} where
 
   -- ---- new inodes
 
-  make_is_sound : (inode : Inode C) (path : List ℕ) (s t : Subvolume C) → IsSound s → make inode path s ≡ Ok t → IsSound t
+  pub make_is_sound : (inode : Inode C) (path : List ℕ) (s t : Subvolume C) → IsSound s → make inode path s ≡ Ok t → IsSound t
   unfolding make add_inode name_count
   make_is_sound inode path s t h e =
       let a = bound (spot s path) _ t e in
@@ -107,7 +107,7 @@ module _ {C : Type 0} where
             absurd (absent (h.leads_somewhere one.0.0 one.0.1 s.next one.1))
       ]
 
-  make_device_is_sound : (mode rdev : ℕ) (path : List ℕ) (s t : Subvolume C) → IsSound s → make_device mode rdev path s ≡ Ok t → IsSound t
+  pub make_device_is_sound : (mode rdev : ℕ) (path : List ℕ) (s t : Subvolume C) → IsSound s → make_device mode rdev path s ≡ Ok t → IsSound t
   unfolding make_device
   make_device_is_sound mode rdev path s t h e = let a = bound (found (device_kind mode) BadDevice) _ t e in make_is_sound _ path s t h a.2
 
@@ -125,14 +125,14 @@ module _ {C : Type 0} where
       leads_there s h a.0 root to (leads_from_walk s a.0 root to a.2) (directory_is_there s root h.root_there)
 
   -- What is no directory has no names in it; nor has an empty directory.
-  file_is_leaf : (s : Subvolume C) (x : ℕ) → IsSound s → is_directory s x ≡ false → (name : List ℕ) (ino : ℕ) → named s x name ≡ Some ino → ⊥
+  pub file_is_leaf : (s : Subvolume C) (x : ℕ) → IsSound s → is_directory s x ≡ false → (name : List ℕ) (ino : ℕ) → named s x name ≡ Some ino → ⊥
   file_is_leaf s x h none name ino found = true≢false (sym (h.in_directory x name ino found) ∙ none)
 
-  empty_is_leaf : (s : Subvolume C) (x : ℕ) → is_empty_directory s x ≡ true → (name : List ℕ) (ino : ℕ) → named s x name ≡ Some ino → ⊥
+  pub empty_is_leaf : (s : Subvolume C) (x : ℕ) → is_empty_directory s x ≡ true → (name : List ℕ) (ino : ℕ) → named s x name ≡ Some ino → ⊥
   unfolding is_empty_directory
   empty_is_leaf s x empty name ino found = found_none (named s x name) ino found (no_names_in x name s.names empty)
 
-  link_is_sound : (path existing : List ℕ) (s t : Subvolume C) → IsSound s → link path existing s ≡ Ok t → IsSound t
+  pub link_is_sound : (path existing : List ℕ) (s t : Subvolume C) → IsSound s → link path existing s ≡ Ok t → IsSound t
   unfolding link
   link_is_sound path existing s t h e =
       let a = required (is_some (path_names path)) BadPath _ t e in
@@ -153,7 +153,7 @@ module _ {C : Type 0} where
       no_directory : (x : ℕ) → is_directory s x ≡ false → IsTrue (is_directory s x) → ⊥
       no_directory x none is = true≢false (sym is ∙ none)
 
-  unlink_is_sound : (path : List ℕ) (s t : Subvolume C) → IsSound s → unlink path s ≡ Ok t → IsSound t
+  pub unlink_is_sound : (path : List ℕ) (s t : Subvolume C) → IsSound s → unlink path s ≡ Ok t → IsSound t
   unfolding unlink
   unlink_is_sound path s t h e =
       let a = bound (spot s path) _ t e in
@@ -161,7 +161,7 @@ module _ {C : Type 0} where
       let c = not_refused (is_directory s b.0) IsDirectory _ t b.2 in
       subst (λ (u : Subvolume C). IsSound u) (ok_same c.1) (taken_is_sound s a.0 b.0 h (found_is (at_spot s a.0) NoEntry b.0 b.1) (file_is_leaf s b.0 h c.0))
 
-  rmdir_is_sound : (path : List ℕ) (s t : Subvolume C) → IsSound s → rmdir path s ≡ Ok t → IsSound t
+  pub rmdir_is_sound : (path : List ℕ) (s t : Subvolume C) → IsSound s → rmdir path s ≡ Ok t → IsSound t
   unfolding rmdir
   rmdir_is_sound path s t h e =
       let a = bound (spot s path) _ t e in
@@ -172,20 +172,20 @@ module _ {C : Type 0} where
 
   -- ---- changes of an inode
 
-  change_at_is_sound : (path : List ℕ) (change : Inode C → Inode C) (s t : Subvolume C) → ((inode : Inode C) → (change inode).kind ≡ inode.kind) → IsSound s → change_at path change s ≡ Ok t → IsSound t
+  pub change_at_is_sound : (path : List ℕ) (change : Inode C → Inode C) (s t : Subvolume C) → ((inode : Inode C) → (change inode).kind ≡ inode.kind) → IsSound s → change_at path change s ≡ Ok t → IsSound t
   unfolding change_at
   change_at_is_sound path change s t kind h e =
       let a = bound (walk s path) _ t e in
       subst (λ (u : Subvolume C). IsSound u) (ok_same a.2) (changed_is_sound a.0 change s kind h)
 
-  set_xattr_is_sound : (path name value : List ℕ) (s t : Subvolume C) → IsSound s → set_xattr path name value s ≡ Ok t → IsSound t
+  pub set_xattr_is_sound : (path name value : List ℕ) (s t : Subvolume C) → IsSound s → set_xattr path name value s ≡ Ok t → IsSound t
   unfolding set_xattr
   set_xattr_is_sound path name value s t h e =
       let a = bound (walk s path) _ t e in
       let b = required (is_xattr_name name) BadXattr _ t a.2 in
       subst (λ (u : Subvolume C). IsSound u) (ok_same b.1) (changed_is_sound a.0 _ s (λ inode. refl) h)
 
-  remove_xattr_is_sound : (path name : List ℕ) (s t : Subvolume C) → IsSound s → remove_xattr path name s ≡ Ok t → IsSound t
+  pub remove_xattr_is_sound : (path name : List ℕ) (s t : Subvolume C) → IsSound s → remove_xattr path name s ≡ Ok t → IsSound t
   unfolding remove_xattr
   remove_xattr_is_sound path name s t h e =
       let a = bound (walk s path) _ t e in
@@ -193,7 +193,7 @@ module _ {C : Type 0} where
       let c = required (has_xattr s a.0 name) NoXattr _ t b.1 in
       subst (λ (u : Subvolume C). IsSound u) (ok_same c.1) (changed_is_sound a.0 _ s (λ inode. refl) h)
 
-  change_contents_is_sound : (path : List ℕ) (end : ℕ) (change : List C → List C) (s t : Subvolume C) → IsSound s → change_contents path end change s ≡ Ok t → IsSound t
+  pub change_contents_is_sound : (path : List ℕ) (end : ℕ) (change : List C → List C) (s t : Subvolume C) → IsSound s → change_contents path end change s ≡ Ok t → IsSound t
   unfolding change_contents
   change_contents_is_sound path end change s t h e =
       let a = bound (walk s path) _ t e in
