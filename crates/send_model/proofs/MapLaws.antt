@@ -7,7 +7,7 @@ use Rattle.std.specs.List.{filter}
 use Rattle.std.specs.Cmp.{IsTotalOrder, tied_itself, alike_right, nat_cmp_total, on_total, then_total}
 use Rattle.std.specs.Cmp.Lexicographic.{nat_list_cmp_total}
 use Rattle.std.specs.FinMap.Entries.{by_order, below_all, is_sorted-put, is_sorted-where_key, find-put, find-where_key}
-use Rattle.std.proofs.Common.{refl, sym, ap, subst, ◌∙◌, arith, inl, inr}
+use Rattle.std.proofs.Common.{refl, sym, ap, ◌∙◌, arith, inl, inr}
 use Rattle.std.proofs.lemmas.Bool.{eq-eqb, eqb-true, true≢false}
 use Rattle.std.proofs.lemmas.Map.Lookups.{CmpEqualImpliesEq, exact_unsigned, exact_bytes, exact_pairs}
 use Rattle.send_model.specs.Map.{Map, IsMap, bytes_cmp, named_cmp, value_at, with_value, without}

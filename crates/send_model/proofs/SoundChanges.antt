@@ -1,14 +1,13 @@
 -- A root alone is sound, and a change of an inode that keeps its kind keeps a subvolume sound.
-use Rattle.std.specs.Prelude.{◌≡◌, ◌≢◌, ℕ, ◌+◌, ◌<◌, ◌≤◌, Bool, true, false, List, [], ◌∷◌, length, Option, None, Some, Result, Ok, IsTrue, is_some, ◌==◌, ◌⊎◌}
+use Rattle.std.specs.Prelude.{◌≡◌, ℕ, [], ◌∷◌, Option, None, Some, Result, Ok, IsTrue, is_some}
 use Rattle.std.specs.Ordering.{nat_cmp}
 use Rattle.std.specs.Cmp.{nat_cmp_total}
-use Rattle.std.specs.List.{filter}
-use Rattle.std.proofs.Common.{refl, sym, ap, subst, ◌∙◌, arith, inl, inr, le_refl}
+use Rattle.std.proofs.Common.{refl, sym, ap, subst, ◌∙◌, arith, inl, inr}
 use Rattle.std.proofs.lemmas.Bool.{cases_eq, true≢false}
 use Rattle.std.proofs.lemmas.Map.Lookups.{exact_unsigned}
 use Rattle.send_model.specs.Refusal.{Refusal}
-use Rattle.send_model.specs.Map.{Map, IsMap, named_cmp, value_at, with_value}
-use Rattle.send_model.specs.Subvolume.{NodeKind, Inode, Subvolume, root, root_alone, new_directory, passes_inode, is_directory_kind, inode_at, named, is_directory, walk_names, name_count, IsSound}
+use Rattle.send_model.specs.Map.{value_at}
+use Rattle.send_model.specs.Subvolume.{Inode, Subvolume, root, root_alone, new_directory, passes_inode, is_directory_kind, inode_at, is_directory, walk_names, name_count, IsSound}
 use Rattle.send_model.specs.Edit.{set_inode, change_inode}
 use Rattle.send_model.proofs.MapLaws.{with_value-order, with_value-here, with_value-other}
 use Rattle.send_model.proofs.WalkLaws.{Step, leads-map, leads_from_walk, walk_from_leads}
@@ -38,14 +37,17 @@ module _ {C : Type 0} where
     where
       here : inode_at (set_inode x new s) x ≡ Some new
       here = with_value-here nat_cmp nat_cmp_total exact_unsigned x new s.inodes
+
       other : (ino : ℕ) → (ino ≡ x → ⊥) → inode_at (set_inode x new s) ino ≡ inode_at s ino
       other ino n = with_value-other nat_cmp nat_cmp_total exact_unsigned ino x new s.inodes n
+
       same_directory : (ino : ℕ) → is_directory (set_inode x new s) ino ≡ is_directory s ino
       same_directory ino = elim (cases_eq ino x) [
         | inl e ↦ subst (λ (i : ℕ). is_directory (set_inode x new s) i ≡ is_directory s i) (sym e)
             (directory_at (set_inode x new s) x new here ∙ ap is_directory_kind kind ∙ sym (directory_at s x old at))
         | inr n ↦ directory_by s (set_inode x new s) ino (other ino n)
       ]
+
       same_there : (ino : ℕ) → is_some (inode_at (set_inode x new s) ino) ≡ is_some (inode_at s ino)
       same_there ino = elim (cases_eq ino x) [
         | inl e ↦ subst (λ (i : ℕ). is_some (inode_at (set_inode x new s) i) ≡ is_some (inode_at s i)) (sym e) (ap is_some here ∙ sym (ap is_some at))
@@ -77,6 +79,7 @@ module _ {C : Type 0} where
     where
       at : ℕ → Result ℕ Refusal
       at n = Ok n
+
       only_root : (ino : ℕ) → IsTrue (is_some (value_at nat_cmp ino ((root, new_directory {C = C}) ∷ []))) → ino ≡ root
       only_root ino is = elim (cases_eq ino root) [
         | inl e ↦ e

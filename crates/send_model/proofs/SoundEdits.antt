@@ -1,25 +1,23 @@
 -- Each edit keeps a subvolume sound.
-use Rattle.std.specs.Prelude.{◌≡◌, ◌≢◌, ℕ, ◌+◌, ◌<◌, ◌≤◌, Bool, true, false, cond, not, ◌&&◌, ◌||◌, List, [], ◌∷◌, length, Option, None, Some, Result, Ok, Err, IsTrue, is_some, is_none, nat_le, ◌==◌, ◌⊎◌, if◌then◌else◌}
+use Rattle.std.specs.Prelude.{◌≡◌, ℕ, ◌<◌, Bool, true, false, cond, ◌&&◌, ◌||◌, List, [], ◌∷◌, Option, None, Some, Result, Ok, IsTrue, is_some, is_none, nat_le, ◌==◌, ◌⊎◌}
 use Rattle.std.specs.Ordering.{nat_cmp, eq_by_cmp}
 use Rattle.std.specs.Cmp.{nat_cmp_total}
-use Rattle.std.specs.List.{filter, list_any}
-use Rattle.std.proofs.Common.{refl, sym, ap, subst, ◌∙◌, arith, inl, inr, le_refl}
-use Rattle.std.proofs.lemmas.Bool.{cases_lt, cases_Bool, true≢false, eqb-true, eqb-false, eq-eqb}
+use Rattle.std.specs.List.{filter}
+use Rattle.std.proofs.Common.{refl, sym, ap, subst, ◌∙◌, arith, inl, inr}
+use Rattle.std.proofs.lemmas.Bool.{cases_lt, true≢false, eqb-false}
 use Rattle.std.proofs.lemmas.Map.Lookups.{exact_unsigned}
-use Rattle.send_model.specs.Refusal.{Refusal, BadPath, NoEntry, NotDirectory, EntryThere, IsRoot, NoNumber, BadDevice, IsDirectory, NotEmpty, IntoItself, NotFile, FileTooBig, BadXattr, NoXattr}
-use Rattle.send_model.specs.Chain.{◌>>=◌, ◌>>◌, require, refuse_if, found}
-use Rattle.send_model.specs.Command.{Command, Subvol, Snapshot, MkFile, MkDir, MkNod, MkFifo, MkSock, Symlink, Rename, Link, Unlink, Rmdir, SetXattr, RemoveXattr, Write, Clone, Truncate, Chmod, Chown, Utimes, End, UpdateExtent}
+use Rattle.send_model.specs.Refusal.{Refusal, BadPath, NoEntry, NotDirectory, EntryThere, IsRoot, NoNumber, BadDevice, IsDirectory, NotEmpty, NotFile, FileTooBig, BadXattr, NoXattr}
+use Rattle.send_model.specs.Chain.{found}
 use Rattle.send_model.specs.Path.{path_names}
-use Rattle.send_model.specs.Map.{Map, IsMap, named_cmp, value_at, with_value, without}
-use Rattle.send_model.specs.Subvolume.{Inode, Subvolume, Spot, root, inode_at, named, is_directory, is_file, walk_names, walk, spot, all_but_last, last_name, inodes_on_way, name_count, is_empty_directory, IsSound}
-use Rattle.send_model.specs.Edit.{make, make_device, device_kind, add_inode, add_name, remove_name, remove_inode, take_name, move_name, at_spot, link, unlink, rmdir, rename, rename_onto, can_replace, lies_below, change_at, change_inode, set_cells, set_xattr, remove_xattr, has_xattr, is_xattr_name, change_contents, greatest_number, greatest_end, edit}
+use Rattle.send_model.specs.Map.{Map, named_cmp, value_at}
+use Rattle.send_model.specs.Subvolume.{Inode, Subvolume, Spot, root, inode_at, named, is_directory, is_file, walk_names, walk, spot, all_but_last, last_name, name_count, is_empty_directory, IsSound}
+use Rattle.send_model.specs.Edit.{make, make_device, device_kind, add_inode, add_name, at_spot, link, unlink, rmdir, change_at, set_cells, set_xattr, remove_xattr, has_xattr, is_xattr_name, change_contents, greatest_number, greatest_end}
 use Rattle.send_model.specs.Clone.{clone, cloned}
-use Rattle.send_model.proofs.Sorts.{same_inside}
-use Rattle.send_model.proofs.Fuel.{required, not_refused, tested, bound, ok_same}
-use Rattle.send_model.proofs.MapLaws.{is_equal, named_cmp_total, named_cmp_exact, with_value-order, with_value-here, with_value-other, without-other, count-key}
-use Rattle.send_model.proofs.WalkLaws.{Leads, Step, Around, leads-leaf, leads_from_walk, leads-around}
-use Rattle.send_model.proofs.Soundness.{found_none, none_if, key, other_place, name_gone, name_left, directory_by, directory_is_there, added_is_sound}
-use Rattle.send_model.proofs.SoundRemovals.{taken_is_sound, moved_is_sound}
+use Rattle.send_model.proofs.Fuel.{required, not_refused, bound, ok_same}
+use Rattle.send_model.proofs.MapLaws.{is_equal, named_cmp_total, named_cmp_exact, with_value-order, with_value-here, with_value-other, count-key}
+use Rattle.send_model.proofs.WalkLaws.{Leads, Step, leads_from_walk}
+use Rattle.send_model.proofs.Soundness.{found_none, directory_by, directory_is_there, added_is_sound}
+use Rattle.send_model.proofs.SoundRemovals.{taken_is_sound}
 use Rattle.send_model.proofs.SoundChanges.{changed_is_sound}
 
 -- ---- what a chain that ended well has found
@@ -87,19 +85,20 @@ module _ {C : Type 0} where
       let c = not_refused (s.next == greatest_number) NoNumber _ t b.1 in
       let place = place_of s path a.0 a.1 in
       subst (λ (u : Subvolume C). IsSound u) (ok_same c.1)
-        (added_is_sound s (add_inode a.0 inode s) a.0 s.next h refl
-          (with_value-order nat_cmp nat_cmp_total exact_unsigned s.next inode s.inodes h.inodes_in_order)
-          (λ ino n. with_value-other nat_cmp nat_cmp_total exact_unsigned ino s.next inode s.inodes n)
-          (ap is_some (with_value-here nat_cmp nat_cmp_total exact_unsigned s.next inode s.inodes))
-          (omega arith) (omega arith)
-          (λ same. absent (subst (λ (i : ℕ). IsTrue (is_some (inode_at s i))) (sym same) (directory_is_there s root h.root_there)))
-          (λ name ino found. absent (directory_is_there s s.next (h.in_directory s.next name ino found)))
-          (λ is. unnamed)
-          (λ same. absent (subst (λ (i : ℕ). IsTrue (is_some (inode_at s i))) same (directory_is_there s a.0.directory place.directory)))
-          place.directory (none_is (at_spot s a.0) b.0))
+      (added_is_sound s (add_inode a.0 inode s) a.0 s.next h refl
+      (with_value-order nat_cmp nat_cmp_total exact_unsigned s.next inode s.inodes h.inodes_in_order)
+      (λ ino n. with_value-other nat_cmp nat_cmp_total exact_unsigned ino s.next inode s.inodes n)
+      (ap is_some (with_value-here nat_cmp nat_cmp_total exact_unsigned s.next inode s.inodes))
+      (omega arith) (omega arith)
+      (λ same. absent (subst (λ (i : ℕ). IsTrue (is_some (inode_at s i))) (sym same) (directory_is_there s root h.root_there)))
+      (λ name ino found. absent (directory_is_there s s.next (h.in_directory s.next name ino found)))
+      (λ is. unnamed)
+      (λ same. absent (subst (λ (i : ℕ). IsTrue (is_some (inode_at s i))) same (directory_is_there s a.0.directory place.directory)))
+      place.directory (none_is (at_spot s a.0) b.0))
     where
       absent : IsTrue (is_some (inode_at s s.next)) → ⊥
       absent is = let below : s.next < s.next = h.below_next s.next is in omega arith
+
       unnamed : name_count s s.next ≡ 0
       unnamed = elim (cases_lt 0 (name_count s s.next)) [
         | inr none ↦ omega arith
@@ -143,12 +142,12 @@ module _ {C : Type 0} where
       let place = place_of s path d.0 d.1 in
       let there = walk_there s existing b.0 h b.1 in
       subst (λ (u : Subvolume C). IsSound u) (ok_same f.1)
-        (added_is_sound s (add_name d.0 b.0 s) d.0 b.0 h refl h.inodes_in_order (λ ino n. refl) there (h.below_next b.0 there) (omega arith)
-          (λ same. no_directory b.0 c.0 (subst (λ (i : ℕ). IsTrue (is_directory s i)) (sym same) h.root_there))
-          (file_is_leaf s b.0 h c.0)
-          (λ is. absurd (no_directory b.0 c.0 (sym (directory_by s (add_name d.0 b.0 s) b.0 refl) ∙ is)))
-          (λ same. no_directory b.0 c.0 (subst (λ (i : ℕ). IsTrue (is_directory s i)) same place.directory))
-          place.directory (none_is (at_spot s d.0) f.0))
+      (added_is_sound s (add_name d.0 b.0 s) d.0 b.0 h refl h.inodes_in_order (λ ino n. refl) there (h.below_next b.0 there) (omega arith)
+      (λ same. no_directory b.0 c.0 (subst (λ (i : ℕ). IsTrue (is_directory s i)) (sym same) h.root_there))
+      (file_is_leaf s b.0 h c.0)
+      (λ is. absurd (no_directory b.0 c.0 (sym (directory_by s (add_name d.0 b.0 s) b.0 refl) ∙ is)))
+      (λ same. no_directory b.0 c.0 (subst (λ (i : ℕ). IsTrue (is_directory s i)) same place.directory))
+      place.directory (none_is (at_spot s d.0) f.0))
     where
       no_directory : (x : ℕ) → is_directory s x ≡ false → IsTrue (is_directory s x) → ⊥
       no_directory x none is = true≢false (sym is ∙ none)

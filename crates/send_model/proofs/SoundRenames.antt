@@ -1,23 +1,22 @@
 -- Renaming keeps a subvolume sound, and so does each edit.
-use Rattle.std.specs.Prelude.{◌≡◌, ℕ, ◌+◌, Bool, true, false, cond, not, ◌&&◌, ◌||◌, List, [], ◌∷◌, length, Option, None, Some, Result, Ok, Err, IsTrue, nat_le, ◌==◌, if◌then◌else◌}
+use Rattle.std.specs.Prelude.{◌≡◌, ℕ, Bool, true, false, cond, not, ◌&&◌, ◌||◌, List, Option, None, Some, Ok, IsTrue, nat_le, ◌==◌, if◌then◌else◌}
 use Rattle.std.specs.Ordering.{nat_cmp}
 use Rattle.std.specs.Cmp.{nat_cmp_total}
 use Rattle.std.specs.List.{list_any}
 use Rattle.std.proofs.Common.{refl, sym, ap, subst, ◌∙◌}
-use Rattle.std.proofs.lemmas.Bool.{true≢false, eqb-false}
+use Rattle.std.proofs.lemmas.Bool.{eqb-false}
 use Rattle.std.proofs.lemmas.Map.Lookups.{exact_unsigned}
-use Rattle.send_model.specs.Refusal.{Refusal, NoEntry, NotDirectory, IsDirectory, NotEmpty, IntoItself}
-use Rattle.send_model.specs.Chain.{◌>>=◌, ◌>>◌, require, refuse_if, found}
-use Rattle.send_model.specs.Command.{Command, Subvol, Snapshot, MkFile, MkDir, MkNod, MkFifo, MkSock, Symlink, Rename, Link, Unlink, Rmdir, SetXattr, RemoveXattr, Write, Clone, Truncate, Chmod, Chown, Utimes, End, UpdateExtent}
-use Rattle.send_model.specs.Path.{path_names}
+use Rattle.send_model.specs.Refusal.{NoEntry, NotDirectory, IsDirectory, NotEmpty, IntoItself}
+use Rattle.send_model.specs.Chain.{◌>>◌, require, refuse_if, found}
+use Rattle.send_model.specs.Command.{Command, MkFile, MkDir, MkNod, MkFifo, MkSock, Symlink, Rename, Link, Unlink, Rmdir, SetXattr, RemoveXattr, Write, Truncate, Chmod, Chown, Utimes}
 use Rattle.send_model.specs.Map.{named_cmp, without}
 use Rattle.send_model.specs.Subvolume.{Subvolume, Spot, root, inode_at, named, is_directory, spot, all_but_last, inodes_on_way, name_count, is_empty_directory, IsSound}
 use Rattle.send_model.specs.Edit.{take_name, remove_inode, remove_name, move_name, at_spot, rename, rename_onto, can_replace, lies_below, edit}
 use Rattle.send_model.proofs.Sorts.{same_inside}
-use Rattle.send_model.proofs.Fuel.{required, not_refused, tested, bound, ok_same}
+use Rattle.send_model.proofs.Fuel.{not_refused, tested, bound, ok_same}
 use Rattle.send_model.proofs.MapLaws.{without-other}
 use Rattle.send_model.proofs.WalkLaws.{Leads, Step, Around, leads-leaf, leads_from_walk, leads-around}
-use Rattle.send_model.proofs.Soundness.{key, other_place, found_none, name_gone, name_left, directory_by}
+use Rattle.send_model.proofs.Soundness.{key, other_place, name_gone, name_left, directory_by}
 use Rattle.send_model.proofs.SoundRemovals.{taken_is_sound, moved_is_sound}
 use Rattle.send_model.proofs.SoundEdits.{PlaceOf, place_of, found_is, not_both, file_is_leaf, empty_is_leaf, make_is_sound, make_device_is_sound, link_is_sound, unlink_is_sound, rmdir_is_sound, change_at_is_sound, set_xattr_is_sound, remove_xattr_is_sound, change_contents_is_sound}
 
@@ -47,7 +46,7 @@ module _ {C : Type 0} where
   unfolding lies_below
   way_around s x path place p below =
       let passed : list_any (λ i. i == x) (inodes_on_way s root (all_but_last p.names)) ≡ false =
-          ap (λ (o : Option (List (List ℕ))). elim o as (λ y. Bool) [ None ↦ false | Some names ↦ list_any (λ i. i == x) (inodes_on_way s root (all_but_last names)) ]) (sym p.of_path) ∙ below in
+      ap (λ (o : Option (List (List ℕ))). elim o as (λ y. Bool) [ None ↦ false | Some names ↦ list_any (λ i. i == x) (inodes_on_way s root (all_but_last names)) ]) (sym p.of_path) ∙ below in
       (all_but_last p.names, leads-around s x (all_but_last p.names) root place.directory (leads_from_walk s (all_but_last p.names) root place.directory p.walked) passed)
 
   -- What gives way to another inode has no names in it.
@@ -60,6 +59,7 @@ module _ {C : Type 0} where
       kept : (t : Bool) → require t NotEmpty ≡ Ok tt → t ≡ true
       kept true e = refl
       kept false e = cc
+
       leaf : (d : Bool) → is_directory s there ≡ d → not d || is_empty_directory s there ≡ true → (name : List ℕ) (ino : ℕ) → named s there name ≡ Some ino → ⊥
       leaf true is empty = empty_is_leaf s there empty
       leaf false is empty = file_is_leaf s there h is
@@ -72,17 +72,21 @@ module _ {C : Type 0} where
       → IsSound (move_name from to moved (take_name to there s))
   replaced_is_sound s from to moved there h at stands differ directory leaf around =
       moved_is_sound (take_name to there s) from to moved (taken_is_sound s to there h stands leaf)
-        (left from.directory from.name moved (λ e. differ (sym e)) at ∙ at)
-        (name_gone s (take_name to there s) to (taken_names to there s))
-        (kept to.directory to_differs ∙ directory)
-        (λ is. let way = around (sym (kept moved (λ e. differ (sym e))) ∙ is) in
-          (way.0, leads-leaf (Around (Step s) moved) (Around (Step (take_name to there s)) moved) there (λ name below step. leaf name below step.0.1)
-            (λ i name below n m step. ((kept i n ∙ step.0.0, left i name below m step.0.1 ∙ step.0.1), step.1)) way.0 root to.directory way.1 to_differs))
+      (left from.directory from.name moved (λ e. differ (sym e)) at ∙ at)
+      (name_gone s (take_name to there s) to (taken_names to there s))
+      (kept to.directory to_differs ∙ directory)
+      (λ is. let way = around (sym (kept moved (λ e. differ (sym e))) ∙ is) in (
+        way.0,
+        leads-leaf (Around (Step s) moved) (Around (Step (take_name to there s)) moved) there (λ name below step. leaf name below step.0.1)
+            (λ i name below n m step. ((kept i n ∙ step.0.0, left i name below m step.0.1 ∙ step.0.1), step.1)) way.0 root to.directory way.1 to_differs,
+      ))
     where
       to_differs : to.directory ≡ there → ⊥
       to_differs e = leaf to.name there (subst (λ (i : ℕ). named s i to.name ≡ Some there) e stands)
+
       kept : (ino : ℕ) → (ino ≡ there → ⊥) → is_directory (take_name to there s) ino ≡ is_directory s ino
       kept ino n = directory_by s (take_name to there s) ino (taken_inodes to there s ino n)
+
       left : (d : ℕ) (name : List ℕ) (ino : ℕ) → (ino ≡ there → ⊥) → named s d name ≡ Some ino → named (take_name to there s) d name ≡ named s d name
       left d name ino n found = name_left s (take_name to there s) to (taken_names to there s) d name (other_place s d name to (Some there) stands (λ e. n (same_inside (sym found ∙ e))))
 
@@ -92,7 +96,7 @@ module _ {C : Type 0} where
   renamed_onto_is_sound from to path_to moved None s t h at place none e =
       let a = not_refused (is_directory s moved && lies_below s moved path_to) IntoItself _ t e in
       subst (λ (u : Subvolume C). IsSound u) (ok_same a.1)
-        (moved_is_sound s from to moved h at none place.directory (λ is. way_around s moved path_to to place (not_both (is_directory s moved) (lies_below s moved path_to) a.0 is)))
+      (moved_is_sound s from to moved h at none place.directory (λ is. way_around s moved path_to to place (not_both (is_directory s moved) (lies_below s moved path_to) a.0 is)))
   renamed_onto_is_sound from to path_to moved (Some there) s t h at place some e = one (there == moved) refl e
     where
       one : (b : Bool) → (there == moved) ≡ b
@@ -102,8 +106,8 @@ module _ {C : Type 0} where
           let a = not_refused (is_directory s moved && lies_below s moved path_to) IntoItself _ t e in
           let b = tested (can_replace s moved there) _ t a.1 in
           subst (λ (u : Subvolume C). IsSound u) (ok_same b.1)
-            (replaced_is_sound s from to moved there h at some (eqb-false there moved differ) place.directory (replaced_is_leaf s moved there h b.0)
-              (λ is. way_around s moved path_to to place (not_both (is_directory s moved) (lies_below s moved path_to) a.0 is)))
+          (replaced_is_sound s from to moved there h at some (eqb-false there moved differ) place.directory (replaced_is_leaf s moved there h b.0)
+          (λ is. way_around s moved path_to to place (not_both (is_directory s moved) (lies_below s moved path_to) a.0 is)))
 
   rename_is_sound : (path path_to : List ℕ) (s t : Subvolume C) → IsSound s → rename path path_to s ≡ Ok t → IsSound t
   unfolding rename

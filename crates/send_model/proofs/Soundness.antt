@@ -1,18 +1,15 @@
 -- Edits of one inode and its names keep a subvolume sound.
-use Rattle.std.specs.Prelude.{◌≡◌, ◌≢◌, ℕ, zero, suc, ◌+◌, ◌<◌, ◌≤◌, Bool, true, false, cond, not, List, [], ◌∷◌, ◌++◌, length, Option, None, Some, Result, Ok, Err, IsTrue, is_some, nat_le, ◌==◌, ◌⊎◌, if◌then◌else◌}
+use Rattle.std.specs.Prelude.{◌≡◌, ℕ, ◌+◌, ◌<◌, ◌≤◌, Bool, true, cond, List, [], ◌∷◌, ◌++◌, length, Option, None, Some, Ok, IsTrue, is_some, ◌==◌, ◌⊎◌}
 use Rattle.std.specs.Ordering.{nat_cmp}
 use Rattle.std.specs.List.{filter}
 use Rattle.std.proofs.Common.{refl, sym, ap, subst, ◌∙◌, arith, inl, inr, zero-add}
-use Rattle.std.proofs.lemmas.Bool.{cases_eq, leb-true, leb-false, true≢false, eq-eqb, ne_eqb}
-use Rattle.std.proofs.lemmas.Map.Lookups.{exact_unsigned}
-use Rattle.std.specs.Cmp.{nat_cmp_total}
-use Rattle.send_model.specs.Refusal.{Refusal}
+use Rattle.std.proofs.lemmas.Bool.{cases_eq, eq-eqb, ne_eqb}
 use Rattle.send_model.specs.Map.{Map, IsMap, named_cmp, value_at, with_value, without}
-use Rattle.send_model.specs.Subvolume.{Inode, Subvolume, Spot, root, root_alone, new_directory, passes_inode, is_directory_kind, inode_at, named, is_directory, walk_names, name_count, is_empty_directory, IsSound}
-use Rattle.send_model.specs.Edit.{set_inode, change_inode, add_name, remove_name, remove_inode, add_inode, take_name, move_name, at_spot}
+use Rattle.send_model.specs.Subvolume.{Inode, Subvolume, Spot, root, passes_inode, is_directory_kind, inode_at, named, is_directory, walk_names, name_count, IsSound}
+use Rattle.send_model.specs.Edit.{at_spot}
 use Rattle.send_model.proofs.Sorts.{same_inside}
-use Rattle.send_model.proofs.MapLaws.{counts_one, named_cmp_total, named_cmp_exact, cases_key, with_value-order, without-order, with_value-here, with_value-other, without-here, without-other, count-with_value, count-without, count-found, count-two, count-key}
-use Rattle.send_model.proofs.WalkLaws.{Leads, Step, Around, leads-map, leads-append, leads-leaf, leads-after, leads_from_walk, walk_from_leads, leads-around}
+use Rattle.send_model.proofs.MapLaws.{counts_one, named_cmp_total, named_cmp_exact, cases_key, with_value-order, with_value-here, with_value-other, without-here, without-other, count-with_value}
+use Rattle.send_model.proofs.WalkLaws.{Leads, Step, leads-append, leads-leaf, leads_from_walk, walk_from_leads}
 
 pub found_none : {X : Type 0} (o : Option X) (x : X) → o ≡ Some x → o ≡ None → ⊥
 found_none o x e n = cc

@@ -33,8 +33,7 @@ pub fn edits_keep_soundness()
     ensures start { IsSound {C = ℕ} root_alone }
     ensures edits { (zero_cell : ℕ) (put : List ℕ) (c : Command) → KeepsSoundness (edit zero_cell put c) }
     ensures clones { (zero_cell : ℕ) (source : Option (Subvolume ℕ)) (is_own : Bool) (path : List ℕ) (offset : ℕ) (clone_path : List ℕ) (from len : ℕ) → KeepsSoundness (λ part. clone zero_cell part source is_own path offset clone_path from len) }
-{
-}
+{}
 
 /// The headline, for files without clones: the composed stream names only outside subvolumes, and every store that
 /// holds these, and neither the last name nor uuid, accepts it and gets exactly the last part's subvolume.
