@@ -23,3 +23,10 @@ pub mod Judging
 pub mod Writing
 pub mod Composed
 pub mod Sound
+pub mod MapLaws
+pub mod WalkLaws
+pub mod Soundness
+pub mod SoundRemovals
+pub mod SoundChanges
+pub mod SoundEdits
+pub mod SoundRenames

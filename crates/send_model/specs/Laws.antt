@@ -4,6 +4,8 @@ use Rattle.std.specs.List.{AllByRecursion}
 use Rattle.send_model.specs.Command.{Command, End, row, kind_of}
 use Rattle.send_model.specs.Spelling.{Spells, IsSpellable, stream_header, canonical, canonical_all}
 use Rattle.send_model.specs.Reading.{Item, Whole, reads, input, taken, Front, front_of, data_place}
+use Rattle.send_model.specs.Refusal.{Refusal}
+use Rattle.send_model.specs.Subvolume.{Subvolume, IsSound}
 use Rattle.send_model.specs.Edit.{edit}
 use Rattle.send_model.specs.Store.{Store, Part, State, step, edit_part, head_of, Head}
 use Rattle.send_model.specs.Receive.{IsAccepted, receive}
@@ -58,3 +60,7 @@ abbrev pub ComposedHolds : Type 0
 ComposedHolds = (store : Store ℕ) (files : List (List ℕ)) (cs : List Command) → (input files).end ≡ Whole → AllByRecursion (λ c. is_clone c ≡ false) (commands_of (input files).items)
     → IsConsecutive (input files).items → IsAccepted (receive (base store files) files) → composed (base store files) files ≡ cs ++ End ∷ [] → AreInner cs
     → IsComposed (base store files) files (stream_of cs)
+
+-- A change that may be refused makes a sound subvolume of each sound one that it takes.
+abbrev pub KeepsSoundness : (Subvolume ℕ → Result (Subvolume ℕ) Refusal) → Type 0
+KeepsSoundness change = (s after : Subvolume ℕ) → IsSound s → change s ≡ Ok after → IsSound after
