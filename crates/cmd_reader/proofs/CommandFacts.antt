@@ -57,6 +57,7 @@ withins (suc n) version seen (x ∷ xs) attributes e =
   where
     at_most : (m k n : ℕ) → n ≡ min m k → n ≤ m
     at_most m k n e = omega (arith, e)
+
     sums : (b l t d n : ℕ) → b ≤ l → 4 ≤ n → l ≤ n - 4 → t ≤ d → d ≡ n - (4 + l) → (4 + b) + t ≤ n
     sums b l t d n p q r s u = omega (arith, p, q, r, s, u)
 
@@ -70,6 +71,7 @@ placed kind (a ∷ rest) place e = placed_on (a.kind == kind) a.bytes (value_of 
     placed_on true own value there t place more q = let is = inside q in omega (arith, is)
     placed_on false own value None t place more q = cc
     placed_on false own value (Some p) t place more q = let is = inside q in let m = more p refl in omega (arith, is, m)
+
     inside : {x y : ℕ} → Some x ≡ Some y → x ≡ y
     inside {x = x} q = ap (λ o. unwrap_or o x) q
 

@@ -70,11 +70,13 @@ pub header_cut : (told : Option (List (List ℕ × List ℕ))) (name : List ℕ)
 header_cut None name at count may_end bytes size less goes filled = tt
 header_cut (Some files) name at count may_end bytes size less goes filled =
     let file : List ℕ = file_at files name in
-    let ends = filled.0.at_end (omega (arith, less, size)) in
-    (short_version (drop at file) (omega (arith, told_length file at, ends, less)), λ may none.
-      let zero_length : length (drop at file) ≡ 0 = ap (λ (r : List ℕ). length r) none in
-      let is_zero : count ≡ 0 = omega (arith, filled.0.within, told_length file at, zero_length) in
-      goes is_zero may)
+    let ends = filled.0.at_end (omega (arith, less, size)) in (
+      short_version (drop at file) (omega (arith, told_length file at, ends, less)),
+      λ may none.
+          let zero_length : length (drop at file) ≡ 0 = ap (λ (r : List ℕ). length r) none in
+          let is_zero : count ≡ 0 = omega (arith, filled.0.within, told_length file at, zero_length) in
+          goes is_zero may,
+    )
 
 pub header_end : (told : Option (List (List ℕ × List ℕ))) (name : List ℕ) (at count : ℕ) (may_end : Bool) (bytes : List ℕ) → length bytes ≡ 17 → count ≡ 0 → may_end ≡ true → FillsWithin told name at bytes count → IfTold told name (HeaderIs at may_end None)
 header_end None name at count may_end bytes size none may filled = tt

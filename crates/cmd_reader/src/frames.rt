@@ -10,10 +10,16 @@ use sx_base::{Inputs, Refusal};
 use tlv_frame::{FrameHead, StreamHead};
 
 const HEADER_LEN: usize = 17;
+
 const FRAME_HEAD_LEN: usize = 10;
 
 // The version of the stream whose header stands at the place. None where the file ends there and may end.
-pub(crate) fn stream_version<I: Inputs>(inputs: &mut I, name: &str, at: u64, may_end: bool) -> Result<Option<u32>, Fault>
+pub(crate) fn stream_version<I: Inputs>(
+    inputs: &mut I,
+    name: &str,
+    at: u64,
+    may_end: bool,
+) -> Result<Option<u32>, Fault>
     requires place { at ≤ limit }
     ensures same { I.told inputs.new ≡ I.told inputs.old }
     ensures later { I.faults inputs.old ≤ I.faults inputs.new }
@@ -55,7 +61,13 @@ pub(crate) fn frame_head<I: Inputs>(inputs: &mut I, name: &str, at: u64) -> Resu
 }
 
 // Fills the buffer, which has the length of the frame's body, with this body, and tries its checksum.
-pub(crate) fn frame_body<I: Inputs>(inputs: &mut I, name: &str, at: u64, head: &FrameHead, body: &mut [u8]) -> Result<(), Fault>
+pub(crate) fn frame_body<I: Inputs>(
+    inputs: &mut I,
+    name: &str,
+    at: u64,
+    head: &FrameHead,
+    body: &mut [u8],
+) -> Result<(), Fault>
     requires place { at ≤ limit }
     requires whole { length body.old ≡ head.now.len }
     requires short { head.now.len ≤ greatest_body }

@@ -26,7 +26,14 @@ pub(crate) struct Front {
 }
 
 // The command at the place of the named file. The buffer has room for its body, or gets it.
-pub(crate) fn read_front<I: Inputs>(alloc: Global, inputs: &mut I, name: &str, at: u64, version: u32, room: &mut Vec<u8>) -> Result<Front, Fault>
+pub(crate) fn read_front<I: Inputs>(
+    alloc: Global,
+    inputs: &mut I,
+    name: &str,
+    at: u64,
+    version: u32,
+    room: &mut Vec<u8>,
+) -> Result<Front, Fault>
     requires place { at ≤ limit }
     requires version { is_version version ≡ true }
     ensures same { I.told inputs.new ≡ I.told inputs.old }
@@ -51,7 +58,13 @@ pub(crate) fn read_front<I: Inputs>(alloc: Global, inputs: &mut I, name: &str, a
 }
 
 // The command of a number whose attributes are these, in a frame at the place, and the place of its data.
-fn command_in(alloc: Global, at: u64, version: u32, cmd: u16, body: &[u8]) -> Result<(Command, u64), Fault>
+fn command_in(
+    alloc: Global,
+    at: u64,
+    version: u32,
+    cmd: u16,
+    body: &[u8],
+) -> Result<(Command, u64), Fault>
     requires place { at ≤ limit }
     requires short { length body.now ≤ limit }
     requires version { is_version version ≡ true }

@@ -2,8 +2,8 @@
 #![tactic(auto)]
 
 mod fault;
-mod front;
 mod frames;
+mod front;
 mod item;
 mod places;
 

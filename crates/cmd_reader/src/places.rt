@@ -12,7 +12,12 @@ pub(crate) const LIMIT: u64 = 1 << 62;
 
 // Fills the buffer with the bytes of the named file from the place on, as far as the file goes, and never past the limit:
 // a file that gives so many bytes and does not end is too long.
-pub(crate) fn fill_within<I: Inputs>(inputs: &mut I, name: &str, at: u64, buf: &mut [u8]) -> Result<usize, Fault>
+pub(crate) fn fill_within<I: Inputs>(
+    inputs: &mut I,
+    name: &str,
+    at: u64,
+    buf: &mut [u8],
+) -> Result<usize, Fault>
     requires place { at ≤ limit }
     requires room { length buf.old < 2 ^ 62 }
     ensures same { I.told inputs.new ≡ I.told inputs.old }

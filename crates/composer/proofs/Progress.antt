@@ -184,14 +184,17 @@ ok_is {x = x} e = ap (λ r. ok_or r x) e
 head_fields : (now new : Composing) (state : State (Unit {0})) (head : Head) (o : Option Head) → now.last ≡ o → with_head now state head o ≡ Ok new → (last : Head) × (now.last ≡ Some last) × Fields now new state (Some head.key) true (added_by now.begun last End (Some head))
 head_fields now new state head None l e = cc
 head_fields now new state head (Some last) l e =
-    let is = ok_is e in
-    (last, l, record {
-      state_is = ap (λ (x : Composing). x.state) (sym is);
-      previous_is = ap (λ (x : Composing). x.previous) (sym is);
-      last_is = ap (λ (x : Composing). x.last) (sym is);
-      begun_is = ap (λ (x : Composing). x.begun) (sym is);
-      pending_is = ap (λ (x : Composing). x.pending) (sym is) ∙ by_begun now.begun;
-    })
+    let is = ok_is e in (
+      last,
+      l,
+      record {
+        state_is = ap (λ (x : Composing). x.state) (sym is);
+        previous_is = ap (λ (x : Composing). x.previous) (sym is);
+        last_is = ap (λ (x : Composing). x.last) (sym is);
+        begun_is = ap (λ (x : Composing). x.begun) (sym is);
+        pending_is = ap (λ (x : Composing). x.pending) (sym is) ∙ by_begun now.begun;
+      },
+    )
   where
     by_begun : (b : Bool) → (if b then now.pending else now.pending ++ (stream_header 1 ++ canonical 1 (head_command last.name last.key head.parent))) ≡ now.pending ++ added_by b last End (Some head)
     by_begun true = sym (append-nil now.pending)
@@ -265,9 +268,10 @@ still_quiet items item state now new sent c is t n h no_clone a quiet_now none e
     let no_head = headless now new (blanked (step_of state c).state) c (head_of c) none e in
     let q = quiet (commands_of items) empty_store state n quiet_now.1 t in
     let R : State ℕ → Type 0 = λ s. (step_of s c).refusal ≡ None in
-    let is_end = only_end c no_head no_clone (subst R q.1 h) in
-    (ap (λ (x : List ℕ). sent ++ x) (end_adds now new (blanked (step_of state c).state) c is_end e) ∙ quiet_now.0,
-      heads_more items item ∙ ap₂ (λ (a b : List Head). a ++ b) quiet_now.1 (ap (λ (d : Command). onto_heads (head_of d) []) is ∙ ap (λ (o : Option Head). onto_heads o []) no_head))
+    let is_end = only_end c no_head no_clone (subst R q.1 h) in (
+      ap (λ (x : List ℕ). sent ++ x) (end_adds now new (blanked (step_of state c).state) c is_end e) ∙ quiet_now.0,
+      heads_more items item ∙ ap₂ (λ (a b : List Head). a ++ b) quiet_now.1 (ap (λ (d : Command). onto_heads (head_of d) []) is ∙ ap (λ (o : Option Head). onto_heads o []) no_head),
+    )
 
 -- A command that was taken makes progress.
 pub advance_ok : (items : List Item) (item : Item) (now new : Composing) (sent : List ℕ) → Progress items now sent → is_clone item.command ≡ false → CanWrite item.command → advance now item.command ≡ Ok new → Progress (items ++ item ∷ []) new sent
@@ -288,10 +292,10 @@ advance_ok items item now new sent p no_clone can e =
       last_fits = λ last l. p.last_fits last (sym a.last_is ∙ l);
       quiet_yet = λ none. still_quiet items item p.state now new sent c refl p.taken p.no_clones ok.0 no_clone a (p.quiet_yet (sym a.last_is ∙ none)) (sym a.last_is ∙ none) ok.1;
       bytes = λ last l.
-        let l' : now.last ≡ Some last = sym a.last_is ∙ l in
-        ap (λ (x : List ℕ). sent ++ x) (a.pending_is last l' ∙ ap (λ (b : Bool). now.pending ++ added_by b last c (head_of c)) p.begun)
-        ∙ added_bytes items item p.state sent now.pending last (head_of c) (first_head (heads items)) refl p.no_clones p.taken ok.0 no_clone refl (p.bytes last l')
-        ∙ ap₂ (written_so_far last) (sym (first_after items item)) (sym (commands_more items item));
+          let l' : now.last ≡ Some last = sym a.last_is ∙ l in
+          ap (λ (x : List ℕ). sent ++ x) (a.pending_is last l' ∙ ap (λ (b : Bool). now.pending ++ added_by b last c (head_of c)) p.begun)
+          ∙ added_bytes items item p.state sent now.pending last (head_of c) (first_head (heads items)) refl p.no_clones p.taken ok.0 no_clone refl (p.bytes last l')
+          ∙ ap₂ (written_so_far last) (sym (first_after items item)) (sym (commands_more items item));
     }
 
 refused_by : (b : Bool) (refusal : Refusal) (rest : Result Composing Refusal) → (refuse_if b NotConsecutive >> rest) ≡ Err refusal → ((b ≡ true) × (NotConsecutive ≡ refusal)) ⊎ (rest ≡ Err refusal)
@@ -320,6 +324,6 @@ advance_err items item more now sent refusal p no_clone known e =
     let c : Command = item.command in
     let st = step_of p.state c in
     ⊎_elim (λ refused. judge_refused item more (previous_after None items) p.state refusal refused)
-      (λ (taken, rest). let b = head_breaks now (blanked st.state) c (head_of c) refusal known rest in
-        judge_unordered item more (previous_after None items) p.state taken (ap (λ (k : Option Key). breaks_order k (head_of c)) (sym p.previous) ∙ b.0) ∙ ap (λ (r : Refusal). Some (verdict_of item r)) b.1)
-      (accepted_err st.state st.refusal (λ s. with_taken now s c (head_of c)) refusal (sym (advance_step now p.state c no_clone p.same) ∙ e))
+    (λ (taken, rest). let b = head_breaks now (blanked st.state) c (head_of c) refusal known rest in
+    judge_unordered item more (previous_after None items) p.state taken (ap (λ (k : Option Key). breaks_order k (head_of c)) (sym p.previous) ∙ b.0) ∙ ap (λ (r : Refusal). Some (verdict_of item r)) b.1)
+    (accepted_err st.state st.refusal (λ s. with_taken now s c (head_of c)) refusal (sym (advance_step now p.state c no_clone p.same) ∙ e))

@@ -29,12 +29,12 @@ accepted stepped = elim stepped.refusal [ None ↦ Ok stepped.state | Some refus
 -- After a head: the first begins the stream, in the last one's name.
 abbrev pub headed : Composing → State (Unit {0}) → Head → Head → Composing
 headed now state head last = record {
-    state = state;
-    previous = Some head.key;
-    last = now.last;
-    begun = true;
-    pending = if now.begun then now.pending else now.pending ++ (stream_header 1 ++ canonical 1 (head_command last.name last.key head.parent));
-  }
+  state = state;
+  previous = Some head.key;
+  last = now.last;
+  begun = true;
+  pending = if now.begun then now.pending else now.pending ++ (stream_header 1 ++ canonical 1 (head_command last.name last.key head.parent));
+}
 
 abbrev pub with_head : Composing → State (Unit {0}) → Head → Option Head → Result Composing Refusal
 with_head now state head None = Err NotConsecutive

@@ -14,7 +14,7 @@ use Rattle.send_model.specs.Reading.{number16, attribute_len, attribute_lawful, 
 -- The attribute in front of bytes says its number, its length and its bytes.
 front_says : (kind len : ℕ) (tail : List ℕ) → kind < 2 ^ 16 → len < 2 ^ 16
     → let bytes = to_le_bytes w16 kind ++ to_le_bytes w16 len ++ tail in
-      (number16 bytes ≡ kind) × (number16 (drop 2 bytes) ≡ len) × (drop 4 bytes ≡ tail) × (length bytes ≡ 4 + length tail)
+    (number16 bytes ≡ kind) × (number16 (drop 2 bytes) ≡ len) × (drop 4 bytes ≡ tail) × (length bytes ≡ 4 + length tail)
 unfolding number16
 front_says kind len tail k l = (from_le_bytes-to_le_bytes_2 kind k, from_le_bytes-to_le_bytes_2 len l, refl, omega arith)
 

@@ -171,8 +171,8 @@ unfolding body_of attribute_bytes
 body_is_bytes version [] are = tt
 body_is_bytes version (a ∷ rest) are =
     bytes_append (to_le_bytes w16 a.kind ++ to_le_bytes w16 (length a.bytes) ++ a.bytes) (body_of rest)
-      (bytes_append (to_le_bytes w16 a.kind) (to_le_bytes w16 (length a.bytes) ++ a.bytes) (le2_bytes a.kind) (bytes_append (to_le_bytes w16 (length a.bytes)) a.bytes (le2_bytes _) are.0.bytes))
-      (body_is_bytes version rest are.2)
+    (bytes_append (to_le_bytes w16 a.kind) (to_le_bytes w16 (length a.bytes) ++ a.bytes) (le2_bytes a.kind) (bytes_append (to_le_bytes w16 (length a.bytes)) a.bytes (le2_bytes _) are.0.bytes))
+    (body_is_bytes version rest are.2)
 
 pub checksum_small : (number : ℕ) (body : List ℕ) → IsBytes body → frame_checksum (length body) number body < 2 ^ 32
 unfolding frame_checksum
@@ -192,13 +192,13 @@ attributes_lawful version c fits = are_attributes version c fits
 pub canonical_spells : (version : ℕ) (c : Command) → IsSpellable c → Spells version (canonical version c) c
 unfolding canonical
 canonical_spells version c fits = record {
-    attributes = attributes_of c;
-    lawful = attributes_lawful version c fits;
-    frame = refl;
-    short = body_short c fits;
-    wanted = wanted_there c;
-    values = fits;
-  }
+  attributes = attributes_of c;
+  lawful = attributes_lawful version c fits;
+  frame = refl;
+  short = body_short c fits;
+  wanted = wanted_there c;
+  values = fits;
+}
 
 -- Whatever spells a command is read as that command, whatever follows it, where commands of its kind are taken.
 pub spelled_front : (file version number offset : ℕ) (bytes rest : List ℕ) (c : Command) (s : Spells version bytes c) → taken version (row (kind_of c)).number ≡ Ok tt
@@ -208,5 +208,5 @@ spelled_front file version number offset bytes rest c s is_taken =
     let body : List ℕ = body_of s.attributes in
     let n : ℕ = (row (kind_of c)).number in
     let read : frame_at (bytes ++ rest) ≡ Ok (record { number = n; body = body; rest = rest }) =
-      ap (λ (b : List ℕ). frame_at (b ++ rest)) s.frame ∙ frame_read_back body rest n (number_small (kind_of c)) s.short (checksum_small n body (body_is_bytes version s.attributes s.lawful)) in
+    ap (λ (b : List ℕ). frame_at (b ++ rest)) s.frame ∙ frame_read_back body rest n (number_small (kind_of c)) s.short (checksum_small n body (body_is_bytes version s.attributes s.lawful)) in
     rw (read, attributes_read_back version s.attributes s.lawful, is_taken, command_read_back version c s.attributes s.values s.wanted) refl

@@ -67,8 +67,8 @@ module _ {C D : Type 0} (f : C → D) where
   unfolding link
   link-cells path existing s =
       then_cells _ _ _ _ refl (bind_cells (walk s existing) _ _ _ (walk-cells f s existing) (λ ino.
-        then_cells _ _ _ _ (ap (λ (b : Bool). refuse_if b IsDirectory) (is_directory-cells f s ino)) (bind_cells (spot s path) _ _ _ (spot-cells f s path) (λ place.
-          then_cells _ _ _ _ refl (ok_cells _ _ refl)))))
+      then_cells _ _ _ _ (ap (λ (b : Bool). refuse_if b IsDirectory) (is_directory-cells f s ino)) (bind_cells (spot s path) _ _ _ (spot-cells f s path) (λ place.
+      then_cells _ _ _ _ refl (ok_cells _ _ refl)))))
 
   unlink-cells : (path : List ℕ) (s : Subvolume C) → unlink path (recelled f s) ≡ recelled_result f (unlink path s)
   unfolding unlink

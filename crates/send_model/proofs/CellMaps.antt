@@ -37,7 +37,7 @@ module _ {K X Y : Type 0} (order : K → K → Ordering) (g : X → Y) where
     where
       one : (o : Ordering) → with_value order k (g x) (map (λ y. (y.0, g y.1)) m) ≡ map (λ y. (y.0, g y.1)) (with_value order k x m)
           → by_order o ((k, g x) ∷ (e.0, g e.1) ∷ map (λ y. (y.0, g y.1)) m) ((e.0, g x) ∷ map (λ y. (y.0, g y.1)) m) ((e.0, g e.1) ∷ with_value order k (g x) (map (λ y. (y.0, g y.1)) m))
-            ≡ map (λ y. (y.0, g y.1)) (by_order o ((k, x) ∷ e ∷ m) ((e.0, x) ∷ m) (e ∷ with_value order k x m))
+          ≡ map (λ y. (y.0, g y.1)) (by_order o ((k, x) ∷ e ∷ m) ((e.0, x) ∷ m) (e ∷ with_value order k x m))
       one Less more = refl
       one Equal more = refl
       one Greater more = ap (λ (r : Map K Y). (e.0, g e.1) ∷ r) more
@@ -90,7 +90,7 @@ module _ {C D : Type 0} (f : C → D) where
   unfolding spot
   spot-cells s path =
       ap₂ (λ (walked : List (List ℕ) → Result ℕ Refusal) (is_dir : ℕ → Bool). found (path_names path) BadPath >>= λ names. found (last_name names) IsRoot >>= λ name. walked names >>= λ directory. require (is_dir directory) NotDirectory >> Ok (record { directory = directory; name = name }))
-        (λ i names. walk_names-cells s root (all_but_last names) i) (λ i directory. is_directory-cells s directory i)
+      (λ i names. walk_names-cells s root (all_but_last names) i) (λ i directory. is_directory-cells s directory i)
 
   pub inodes_on_way-cells : (s : Subvolume C) (ino : ℕ) (names : List (List ℕ)) → inodes_on_way (recelled f s) ino names ≡ inodes_on_way s ino names
   unfolding inodes_on_way
@@ -128,8 +128,8 @@ module _ {C D : Type 0} (f : C → D) where
   overwritten-cells x offset new cells =
       map-append f (take offset (filled x offset cells) ++ new) (drop (offset + length new) cells)
       ∙ ap₂ (λ (a b : List D). a ++ b)
-        (map-append f (take offset (filled x offset cells)) new ∙ ap (λ (r : List D). r ++ map f new) (sym (take-map f offset (filled x offset cells)) ∙ ap (take offset) (filled-cells x offset cells)))
-        (sym (drop-map f (offset + length new) cells) ∙ ap (λ (n : ℕ). drop (offset + n) (map f cells)) (sym (length-map new f)))
+      (map-append f (take offset (filled x offset cells)) new ∙ ap (λ (r : List D). r ++ map f new) (sym (take-map f offset (filled x offset cells)) ∙ ap (take offset) (filled-cells x offset cells)))
+      (sym (drop-map f (offset + length new) cells) ∙ ap (λ (n : ℕ). drop (offset + n) (map f cells)) (sym (length-map new f)))
 
   pub written_at-cells : (x : C) (offset : ℕ) (new cells : List C) → map f (written_at x offset new cells) ≡ written_at (f x) offset (map f new) (map f cells)
   unfolding written_at

@@ -68,4 +68,4 @@ composed_holds store files cs whole n consecutive accepted is inner =
     let list : List Command = head_command last.0.name last.0.key first.0.parent ∷ edits_of (commands_of items) in
     let same : cs ≡ list = end_same cs list (sym is ∙ with_heads b files first.0 last.0 first.1 last.1 ∙ composed_plain b files first.0 last.0 n) in
     headline store files ran.state (stream_of cs) first.0 last.0 (record { whole = whole; no_clones = n; consecutive = consecutive; taken = taken }) first.1 last.1
-      (subst AreInner same inner) (ap stream_of same)
+    (subst AreInner same inner) (ap stream_of same)

@@ -43,8 +43,8 @@ ends_from zero file due number offset bytes = faulty_ends file number offset _
 ends_from (suc n) file HeaderDue number offset bytes = by_result _ _ (stream_version bytes) (λ version. ends_from n file (CommandDue version) number (offset + header_len) (drop header_len bytes)) (faulty_ends file number offset)
 ends_from (suc n) file (CommandDue version) number offset bytes =
     by_result _ _ (front_of file version number offset bytes)
-      (λ front. item_then version front.item front.rest _ _ refl (ends_from n file (due_after version front.item.command) (number + 1) (offset + (length bytes - length front.rest)) front.rest))
-      (faulty_ends file number offset)
+    (λ front. item_then version front.item front.rest _ _ refl (ends_from n file (due_after version front.item.command) (number + 1) (offset + (length bytes - length front.rest)) front.rest))
+    (faulty_ends file number offset)
 
 -- The commands of files read to a whole end are none, or end with END.
 abbrev pub EndsWell : List Command → Type 0

@@ -26,7 +26,7 @@ frame_at_by bytes after len number sum long a b c d = let there : nat_le frame_h
 -- The header of a frame says its numbers.
 pub header_says : (len number sum : ℕ) (tail : List ℕ) → len < 2 ^ 32 → number < 2 ^ 16 → sum < 2 ^ 32
     → let bytes = to_le_bytes w32 len ++ to_le_bytes w16 number ++ to_le_bytes w32 sum ++ tail in
-      (number32 bytes ≡ len) × (number16 (drop 4 bytes) ≡ number) × (number32 (drop 6 bytes) ≡ sum) × (drop 10 bytes ≡ tail) × (10 ≤ length bytes)
+    (number32 bytes ≡ len) × (number16 (drop 4 bytes) ≡ number) × (number32 (drop 6 bytes) ≡ sum) × (drop 10 bytes ≡ tail) × (10 ≤ length bytes)
 unfolding number16 number32
 header_says len number sum tail l n s = (from_le_bytes-to_le_bytes_4 len l, from_le_bytes-to_le_bytes_2 number n, from_le_bytes-to_le_bytes_4 sum s, refl, omega arith)
 

@@ -87,11 +87,11 @@ same_fuel zero m file due number offset bytes a b = absurd (omega (arith, a))
 same_fuel (suc n) zero file due number offset bytes a b = absurd (omega (arith, b))
 same_fuel (suc n) (suc m) file HeaderDue number offset bytes a b =
     go_on_same _ _ (faulty file number offset) (stream_version bytes) (λ version e.
-      let long = header_there bytes version e in
-      let rest = length-drop header_len bytes in
-      same_fuel n m file (CommandDue version) number (offset + header_len) (drop header_len bytes) (omega (arith, a, long, rest)) (omega (arith, b, long, rest)))
+    let long = header_there bytes version e in
+    let rest = length-drop header_len bytes in
+    same_fuel n m file (CommandDue version) number (offset + header_len) (drop header_len bytes) (omega (arith, a, long, rest)) (omega (arith, b, long, rest)))
 same_fuel (suc n) (suc m) file (CommandDue version) number offset bytes a b =
     go_on_same _ _ (faulty file number offset) (front_of file version number offset bytes) (λ front e.
-      let shorter = front_shorter file version number offset bytes front e in
-      ap (λ (r : Reading). with_item front.item (if may_end (due_after version front.item.command) front.rest then ended else r))
-        (same_fuel n m file (due_after version front.item.command) (number + 1) (offset + (length bytes - length front.rest)) front.rest (omega (arith, a, shorter)) (omega (arith, b, shorter))))
+    let shorter = front_shorter file version number offset bytes front e in
+    ap (λ (r : Reading). with_item front.item (if may_end (due_after version front.item.command) front.rest then ended else r))
+    (same_fuel n m file (due_after version front.item.command) (number + 1) (offset + (length bytes - length front.rest)) front.rest (omega (arith, a, shorter)) (omega (arith, b, shorter))))

@@ -39,7 +39,7 @@ unfolding composed_from
 plain_composed store parts last [] state current n = refl
 plain_composed store parts last (item ∷ items) state current n =
     ap₂ (λ (a b : List Command). a ++ b) (plain_commands_for store parts last state current item.command n.0)
-      (plain_composed store parts last items (traced_step state item).state (uuid_after current item.command) n.1)
+    (plain_composed store parts last items (traced_step state item).state (uuid_after current item.command) n.1)
 
 -- No clone is redirected.
 plain_not_redirected : (parts : List (List ℕ)) (current : Option (List ℕ)) (c : Command) → is_clone c ≡ false → is_redirected parts current c ≡ false
@@ -242,6 +242,7 @@ outside_parent store files name name' key key' (Some k) start from named = by_te
   where
     parts : List (List ℕ)
     parts = part_uuids (input files).items
+
     by_test : (b : Bool) → is_among (part_uuids (input files).items) k.uuid ≡ b → AllByRecursion (λ q. IsAmong q (keys_outside (input files).items)) (k ∷ [])
     by_test true e = absurd (let none : find (store_without parts store) k ≡ None = without_finds parts store k e in let at : found None NoParent ≡ Ok start = subst (λ (o : Option (Subvolume ℕ)). found o NoParent ≡ Ok start) none from in cc)
     by_test false e = (among_kept (λ q. not (is_among parts q.uuid)) k (all_keys_named (commands_of (input files).items)) (ap not e) named.0, tt)
@@ -312,7 +313,7 @@ module _ (store : Store ℕ) (files : List (List ℕ)) (end : State ℕ) (a : Ac
       let found_last : find end.store last.key ≡ Some c.merged.last = ap (find end.store) last'.2 ∙ stands_none end.store end.part (last_key first.key c.rest) c.merged.last none c.merged.stands in
       let parent_out = outside_parent store files first.name last.name first.key last.key first.parent c.start c.from c.first_named in
       let one : (t : Store ℕ) → CanReceive b files last t → receive t (written ∷ []) ≡ record { state = record { store = t ++ last_entry first last c.merged.last ∷ []; part = None }; refused = None } =
-        λ t can. received_one t written list _ ra (received_anywhere new c.start c.merged.last (edits_of ds) t named can.no_name can.no_uuid (same_start b t (outside files) last.name last.key first.parent c.start can.same parent_out c.from) c.merged.merged) in
+      λ t can. received_one t written list _ ra (received_anywhere new c.start c.merged.last (edits_of ds) t named can.no_name can.no_uuid (same_start b t (outside files) last.name last.key first.parent c.start can.same parent_out c.from) c.merged.merged) in
       let keys : List Key → Type 0 = λ ks. AllByRecursion (λ key. IsAmong key (outside files) ⊎ (key ≡ last.key)) ks in
       let no_extra = no_uncarried b files a.no_clones in
       let kept_is : kept files ≡ 0 = no_kept files a.no_clones in

@@ -102,10 +102,10 @@ Merges cs = (store : Store ℕ) (part : Option (Part ℕ)) (key : Key) (s : Subv
 merges_nothing : Merges []
 unfolding heads_of
 merges_nothing store part key s end n f st e = record {
-    last = s;
-    stands = let P : State ℕ → Type 0 = λ x. Stands x.store x.part key s in subst P e st;
-    merged = λ u new. refl;
-  }
+  last = s;
+  stands = let P : State ℕ → Type 0 = λ x. Stands x.store x.part key s in subst P e st;
+  merged = λ u new. refl;
+}
 
 -- The state that a taken head leaves.
 abbrev entered_state : Store ℕ → Head → Subvolume ℕ → State ℕ

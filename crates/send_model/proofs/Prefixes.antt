@@ -56,8 +56,8 @@ cut_frame : (number : ℕ) (body : List ℕ) (k : ℕ) → number < 2 ^ 16 → l
 unfolding frame_of frame_header
 cut_frame number body k small short sum_small h =
     ⊎_elim (λ (j, e). let there : take k (frame_of number body) ≡ frame_header number body ++ take j body = ap (λ (n : ℕ). take n (frame_of number body)) e ∙ take-append-add (frame_header number body) body j in
-        ap frame_at there ∙ cut_body number body j small short sum_small (omega (arith, h, e)))
-      (λ below. short_header _ (rw length-take (omega (arith, below)))) (at_least 10 k)
+    ap frame_at there ∙ cut_body number body j small short sum_small (omega (arith, h, e)))
+    (λ below. short_header _ (rw length-take (omega (arith, below)))) (at_least 10 k)
 
 cut_command : (file number offset : ℕ) (c : Command) (k : ℕ) → CanWrite c → k < length (canonical 1 c) → front_of file 1 number offset (take k (canonical 1 c)) ≡ Err Truncated
 unfolding front_of canonical
@@ -99,14 +99,14 @@ cut_inner c inner cs ih zero file number offset k h = no_fuel file number offset
 cut_inner c inner cs ih (suc n) file number offset k h =
     let rest : List ℕ = canonical_all 1 cs in
     ⊎_elim (λ (j, e).
-        let there : take k (canonical 1 c ++ rest) ≡ canonical 1 c ++ take j rest = ap (λ (m : ℕ). take m (canonical 1 c ++ rest)) e ∙ take-append-add (canonical 1 c) rest j in
-        let front = front_item file number offset c inner.0 (take j rest) in
-        let due : due_after 1 front.0.command ≡ CommandDue 1 = ap (due_after 1) front.1 ∙ inner_due 1 c inner.1 in
-        let o : ℕ = offset + (length (canonical 1 c ++ take j rest) - length (take j rest)) in
-        let step = ap (reads_from (suc n) file (CommandDue 1) number offset) there ∙ step_inner n file number offset _ (take j rest) front.0 front.2 due in
-        let F : Reading → Type 0 = λ x. IsFaulty x in
-        subst F (sym step) (ih n file (number + 1) o j (omega (arith, h, e, length-append (canonical 1 c) rest))))
-      (λ below. cut_first c inner.0 rest n file number offset k below) (at_least (length (canonical 1 c)) k)
+    let there : take k (canonical 1 c ++ rest) ≡ canonical 1 c ++ take j rest = ap (λ (m : ℕ). take m (canonical 1 c ++ rest)) e ∙ take-append-add (canonical 1 c) rest j in
+    let front = front_item file number offset c inner.0 (take j rest) in
+    let due : due_after 1 front.0.command ≡ CommandDue 1 = ap (due_after 1) front.1 ∙ inner_due 1 c inner.1 in
+    let o : ℕ = offset + (length (canonical 1 c ++ take j rest) - length (take j rest)) in
+    let step = ap (reads_from (suc n) file (CommandDue 1) number offset) there ∙ step_inner n file number offset _ (take j rest) front.0 front.2 due in
+    let F : Reading → Type 0 = λ x. IsFaulty x in
+    subst F (sym step) (ih n file (number + 1) o j (omega (arith, h, e, length-append (canonical 1 c) rest))))
+    (λ below. cut_first c inner.0 rest n file number offset k below) (at_least (length (canonical 1 c)) k)
 
 cut_commands : (cs : List Command) → AllByRecursion IsInner cs → Cut (cs ++ End ∷ [])
 cut_commands [] inner = cut_end
@@ -128,8 +128,8 @@ unfolding reads Cut
 stream_cut file cs k inner h =
     let rest : List ℕ = canonical_all 1 (cs ++ End ∷ []) in
     ⊎_elim (λ (j, e).
-        let there : take k (stream_header 1 ++ rest) ≡ stream_header 1 ++ take j rest = ap (λ (m : ℕ). take m (stream_header 1 ++ rest)) e ∙ header_split rest j in
-        let F : List ℕ → Type 0 = λ b. IsFaulty (reads_from (suc (length b)) file HeaderDue 1 0 b) in
-        let G : Reading → Type 0 = λ x. IsFaulty x in
-        subst F (sym there) (subst G (sym (header_step _ file (take j rest))) (cut_commands cs inner _ file 1 header_len j (omega (arith, h, e, header_length rest)))))
-      (λ below. cut_header _ file k rest below) (at_least 17 k)
+    let there : take k (stream_header 1 ++ rest) ≡ stream_header 1 ++ take j rest = ap (λ (m : ℕ). take m (stream_header 1 ++ rest)) e ∙ header_split rest j in
+    let F : List ℕ → Type 0 = λ b. IsFaulty (reads_from (suc (length b)) file HeaderDue 1 0 b) in
+    let G : Reading → Type 0 = λ x. IsFaulty x in
+    subst F (sym there) (subst G (sym (header_step _ file (take j rest))) (cut_commands cs inner _ file 1 header_len j (omega (arith, h, e, header_length rest)))))
+    (λ below. cut_header _ file k rest below) (at_least 17 k)

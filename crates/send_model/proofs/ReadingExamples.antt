@@ -29,13 +29,13 @@ abbrev first_commands : List Command
 first_commands = Subvol (uuid 0x11) 1 (codes "a") ∷ MkFile (codes "x") ∷ Write (codes "x") 0 (codes "hi") ∷ End ∷ []
 
 first_read : reads 1 first_stream ≡ record {
-    items =
+  items =
       record { file = 1; number = 1; offset = 17; version = 1; data_at = 0; command = Subvol (uuid 0x11) 1 (codes "a") }
       ∷ record { file = 1; number = 2; offset = 64; version = 1; data_at = 0; command = MkFile (codes "x") }
       ∷ record { file = 1; number = 3; offset = 79; version = 1; data_at = 110; command = Write (codes "x") 0 (codes "hi") }
       ∷ record { file = 1; number = 4; offset = 112; version = 1; data_at = 0; command = End }
       ∷ [];
-    end = Whole;
-  }
+  end = Whole;
+}
 unfolding first_stream reads reads_from front_of number16 number32 frame_with frame_at stream_version attributes_at attributes_from taken is_taken command_of wanted_there kind_of_number row form_of frame_checksum crc_of crc_byte shifts shift
 first_read = refl

@@ -97,4 +97,4 @@ stream_read file cs inner =
     let bytes : List ℕ = stream_header 1 ++ rest in
     let R : Reading → Type 0 = λ r. ReadsAs r (cs ++ End ∷ []) in
     subst R (sym (header_step (length bytes) file rest))
-      (reads_commands cs (length bytes) file 1 header_len inner (omega (arith, header_length rest, commands_long (cs ++ End ∷ []), length-append cs (End ∷ []))))
+    (reads_commands cs (length bytes) file 1 header_len inner (omega (arith, header_length rest, commands_long (cs ++ End ∷ []), length-append cs (End ∷ []))))

@@ -6,44 +6,64 @@ use Rattle.std.specs.Int.{w32, w64, to_le_bytes}
 
 abbrev pub UUID : ℕ
 UUID = 1
+
 abbrev pub CTRANSID : ℕ
 CTRANSID = 2
+
 abbrev pub SIZE : ℕ
 SIZE = 4
+
 abbrev pub MODE : ℕ
 MODE = 5
+
 abbrev pub UID : ℕ
 UID = 6
+
 abbrev pub GID : ℕ
 GID = 7
+
 abbrev pub RDEV : ℕ
 RDEV = 8
+
 abbrev pub MTIME : ℕ
 MTIME = 10
+
 abbrev pub ATIME : ℕ
 ATIME = 11
+
 abbrev pub XATTR_NAME : ℕ
 XATTR_NAME = 13
+
 abbrev pub XATTR_DATA : ℕ
 XATTR_DATA = 14
+
 abbrev pub PATH : ℕ
 PATH = 15
+
 abbrev pub PATH_TO : ℕ
 PATH_TO = 16
+
 abbrev pub PATH_LINK : ℕ
 PATH_LINK = 17
+
 abbrev pub FILE_OFFSET : ℕ
 FILE_OFFSET = 18
+
 abbrev pub DATA : ℕ
 DATA = 19
+
 abbrev pub CLONE_UUID : ℕ
 CLONE_UUID = 20
+
 abbrev pub CLONE_CTRANSID : ℕ
 CLONE_CTRANSID = 21
+
 abbrev pub CLONE_PATH : ℕ
 CLONE_PATH = 22
+
 abbrev pub CLONE_OFFSET : ℕ
 CLONE_OFFSET = 23
+
 abbrev pub CLONE_LEN : ℕ
 CLONE_LEN = 24
 

@@ -55,8 +55,8 @@ abbrev pub clone_commands : Store ℕ → List (List ℕ) → Key → State Trac
 clone_commands store parts last state current (Clone path offset clone_uuid clone_ctransid clone_path clone_offset clone_len) =
     if is_own current clone_uuid then Clone path offset last.uuid last.ctransid clone_path clone_offset clone_len ∷ []
     else (if is_redirected parts current (Clone path offset clone_uuid clone_ctransid clone_path clone_offset clone_len)
-      then flat_map (piece_commands store path offset) (pieces_of store (clone_range state (Clone path offset clone_uuid clone_ctransid clone_path clone_offset clone_len)))
-      else Clone path offset clone_uuid clone_ctransid clone_path clone_offset clone_len ∷ [])
+    then flat_map (piece_commands store path offset) (pieces_of store (clone_range state (Clone path offset clone_uuid clone_ctransid clone_path clone_offset clone_len)))
+    else Clone path offset clone_uuid clone_ctransid clone_path clone_offset clone_len ∷ [])
 clone_commands store parts last state current command = command ∷ []
 
 -- What stands for a command: nothing for a head or END.

@@ -56,10 +56,10 @@ remove_inode ino s = record { inodes = without nat_cmp ino s.inodes; names = s.n
 -- A new inode of the next number under a name.
 unfoldable pub add_inode : {C : Type 0} → Spot → Inode C → Subvolume C → Subvolume C
 add_inode place inode s = record {
-    inodes = with_value nat_cmp s.next inode s.inodes;
-    names = with_value named_cmp (place.directory, place.name) s.next s.names;
-    next = s.next + 1;
-  }
+  inodes = with_value nat_cmp s.next inode s.inodes;
+  names = with_value named_cmp (place.directory, place.name) s.next s.names;
+  next = s.next + 1;
+}
 
 -- A name goes, and with its last name the inode.
 unfoldable pub take_name : {C : Type 0} → Spot → ℕ → Subvolume C → Subvolume C
@@ -142,7 +142,7 @@ rename_onto from to path_to moved None s = do
 rename_onto from to path_to moved (Some there) s =
     if there == moved then Ok s
     else (refuse_if (is_directory s moved && lies_below s moved path_to) IntoItself >> (
-      can_replace s moved there >> Ok (move_name from to moved (take_name to there s))))
+    can_replace s moved there >> Ok (move_name from to moved (take_name to there s))))
 
 unfoldable pub rename : {C : Type 0} → List ℕ → List ℕ → Subvolume C → Result (Subvolume C) Refusal
 rename path path_to s = do

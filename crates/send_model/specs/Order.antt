@@ -52,16 +52,16 @@ part_after previous (Some head) = Some head.key
 -- The verdict on an item and those after it: its step is refused, or its head breaks the order, or the verdict on the rest.
 abbrev pub then_judge : {C : Type 0} → Item → Stepped C → Bool → Option Verdict → Option Verdict
 then_judge item stepped breaks rest = elim stepped.refusal [
-    | Some refusal ↦ Some (verdict_of item refusal)
-    | None ↦ if breaks then Some (verdict_of item NotConsecutive) else rest
-  ]
+  | Some refusal ↦ Some (verdict_of item refusal)
+  | None ↦ if breaks then Some (verdict_of item NotConsecutive) else rest
+]
 
 -- The first item that its step refuses or, else, whose head breaks the order.
 unfoldable pub judge_items : {C : Type 0} → C → (Item → List C) → State C → Option Key → List Item → Option Verdict
 judge_items zero_cell cells state previous [] = None
 judge_items zero_cell cells state previous (item ∷ items) = let stepped = step zero_cell (cells item) state item.command in
     then_judge item stepped (breaks_order previous (head_of item.command))
-      (judge_items zero_cell cells stepped.state (part_after previous (head_of item.command)) items)
+    (judge_items zero_cell cells stepped.state (part_after previous (head_of item.command)) items)
 
 abbrev pub last_item : List Item → Option Item
 last_item [] = None

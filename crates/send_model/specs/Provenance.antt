@@ -75,12 +75,12 @@ is_redirected parts current _ = false
 -- The cells that a CLONE puts at its place in the current part; none where it is refused.
 unfoldable pub clone_range : State Traced → Command → List Traced
 clone_range state (Clone path offset clone_uuid clone_ctransid clone_path clone_offset clone_len) = elim state.part [
-    | None ↦ []
-    | Some part ↦ elim (cloned part.subvolume (clone_source state.store part (record { uuid = clone_uuid; ctransid = clone_ctransid })) (bytes_eq clone_uuid part.key.uuid) path offset clone_path clone_offset clone_len) [
-        | Err refusal ↦ []
-        | Ok range ↦ range.cells
-      ]
+  | None ↦ []
+  | Some part ↦ elim (cloned part.subvolume (clone_source state.store part (record { uuid = clone_uuid; ctransid = clone_ctransid })) (bytes_eq clone_uuid part.key.uuid) path offset clone_path clone_offset clone_len) [
+    | Err refusal ↦ []
+    | Ok range ↦ range.cells
   ]
+]
 clone_range state _ = []
 
 abbrev pub traced_step : State Traced → Item → Stepped Traced
@@ -135,9 +135,9 @@ can_serve (Some s) place len =
 unfoldable pub carried_from : Store ℕ → List Traced → Option Place
 carried_from store [] = None
 carried_from store (c ∷ cells) = elim c.place [
-    | None ↦ None
-    | Some place ↦ if come_from place (c ∷ cells) && can_serve (find store place.key) place (length (c ∷ cells)) then Some place else None
-  ]
+  | None ↦ None
+  | Some place ↦ if come_from place (c ∷ cells) && can_serve (find store place.key) place (length (c ∷ cells)) then Some place else None
+]
 
 -- ---- pieces
 

@@ -88,7 +88,7 @@ attributes_from (suc n) version seen [] = Ok []
 attributes_from (suc n) version seen (b ∷ bs) = let body : List ℕ = b ∷ bs in
     if attribute_lawful version seen body
     then (attributes_from n version (number16 body ∷ seen) (drop (4 + attribute_len body) body) >>= λ rest.
-      Ok (record { kind = number16 body; bytes = take (attribute_len body) (drop 4 body) } ∷ rest))
+    Ok (record { kind = number16 body; bytes = take (attribute_len body) (drop 4 body) } ∷ rest))
     else Err (BadAttribute (attribute_number body))
 
 unfoldable pub attributes_at : ℕ → List ℕ → Result (List Attribute) Refusal
@@ -235,9 +235,9 @@ reads_from (suc n) file HeaderDue number offset bytes =
     go_on (λ version. reads_from n file (CommandDue version) number (offset + header_len) (drop header_len bytes)) (faulty file number offset) (stream_version bytes)
 reads_from (suc n) file (CommandDue version) number offset bytes =
     go_on (λ front. with_item front.item (
-        if may_end (due_after version front.item.command) front.rest then ended
-        else reads_from n file (due_after version front.item.command) (number + 1) (offset + (length bytes - length front.rest)) front.rest))
-      (faulty file number offset) (front_of file version number offset bytes)
+    if may_end (due_after version front.item.command) front.rest then ended
+    else reads_from n file (due_after version front.item.command) (number + 1) (offset + (length bytes - length front.rest)) front.rest))
+    (faulty file number offset) (front_of file version number offset bytes)
 
 -- A whole file, which is the given one of several.
 unfoldable pub reads : ℕ → List ℕ → Reading
@@ -246,9 +246,9 @@ reads file bytes = reads_from (suc (length bytes)) file HeaderDue 1 0 bytes
 -- The items of one file and those of the files after it, unless the first ends in a fault.
 abbrev pub joined : Reading → Reading → Reading
 joined first others = elim first.end [
-    | Faulty verdict ↦ first
-    | Whole ↦ record { items = first.items ++ others.items; end = others.end }
-  ]
+  | Faulty verdict ↦ first
+  | Whole ↦ record { items = first.items ++ others.items; end = others.end }
+]
 
 -- Files one after the other, counted from the given number, up to the first fault.
 unfoldable pub input_from : ℕ → List (List ℕ) → Reading

@@ -24,9 +24,9 @@ pub record Run (C : Type 0) : Type 0 where
 -- What follows an item's step: the run of the rest, or the verdict on a step that was refused.
 abbrev pub then_run : {C : Type 0} → Item → Stepped C → Run C → Run C
 then_run item stepped rest = elim stepped.refusal [
-    | Some refusal ↦ record { state = stepped.state; refused = Some (verdict_of item refusal) }
-    | None ↦ rest
-  ]
+  | Some refusal ↦ record { state = stepped.state; refused = Some (verdict_of item refusal) }
+  | None ↦ rest
+]
 
 -- The commands of items in order, where each WRITE puts the cells of its item.
 unfoldable pub run_items : {C : Type 0} → C → (Item → List C) → State C → List Item → Run C

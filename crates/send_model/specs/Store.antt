@@ -117,7 +117,7 @@ clone_source store part key = if bytes_eq key.uuid part.key.uuid then Some part.
 unfoldable pub edit_part : {C : Type 0} → C → List C → Store C → Part C → Command → Result (Subvolume C) Refusal
 edit_part zero_cell put store part (Clone path offset clone_uuid clone_ctransid clone_path clone_offset clone_len) =
     clone zero_cell part.subvolume (clone_source store part (record { uuid = clone_uuid; ctransid = clone_ctransid }))
-      (bytes_eq clone_uuid part.key.uuid) path offset clone_path clone_offset clone_len
+    (bytes_eq clone_uuid part.key.uuid) path offset clone_path clone_offset clone_len
 edit_part zero_cell put store part command = edit zero_cell put command part.subvolume
 
 -- What stands after an edit: the part with another subvolume, or as it was, and the refusal.
@@ -127,14 +127,14 @@ edited store part (Ok s) = record { state = record { store = store; part = Some 
 
 unfoldable pub step_edit : {C : Type 0} → C → List C → State C → Command → Stepped C
 step_edit zero_cell put state command = elim state.part [
-    | None ↦ record { state = state; refusal = Some NoSubvolume }
-    | Some part ↦ edited state.store part (edit_part zero_cell put state.store part command)
-  ]
+  | None ↦ record { state = state; refusal = Some NoSubvolume }
+  | Some part ↦ edited state.store part (edit_part zero_cell put state.store part command)
+]
 
 -- One command, where a WRITE puts the given cells: a head, END, or an edit of the part.
 unfoldable pub step : {C : Type 0} → C → List C → State C → Command → Stepped C
 step zero_cell put state End = record { state = record { store = completed state; part = None }; refusal = None }
 step zero_cell put state command = elim (head_of command) [
-    | Some head ↦ step_head state head
-    | None ↦ step_edit zero_cell put state command
-  ]
+  | Some head ↦ step_head state head
+  | None ↦ step_edit zero_cell put state command
+]

@@ -152,7 +152,7 @@ abbrev pub one_further : Map (ℕ × List ℕ) ℕ → Reached → List Reached
 one_further [] from = []
 one_further (e ∷ names) from =
     if (e.0.0 == from.ino) then (if nat_le (length (path_below from.path e.0.1)) longest_path
-      then record { path = path_below from.path e.0.1; ino = e.1 } ∷ one_further names from else one_further names from)
+    then record { path = path_below from.path e.0.1; ino = e.1 } ∷ one_further names from else one_further names from)
     else one_further names from
 
 abbrev pub all_further : Map (ℕ × List ℕ) ℕ → List Reached → List Reached

@@ -10,22 +10,19 @@ ghost use Rattle.send_model.specs.Laws.{SpelledIsRead, CanonicalSpells, AreInner
 pub fn spelling_is_read_back()
     ensures spelled { SpelledIsRead }
     ensures canonical { CanonicalSpells }
-{
-}
+{}
 
 /// A stream that was spelled is read whole, with its commands; and one that is cut short is never read as whole.
 pub fn stream_is_read_back()
     ensures whole { (file : ℕ) (cs : List Command) → AreInner cs → StreamIsRead file cs }
     ensures cut { CutIsUnfinished }
-{
-}
+{}
 
 /// An edit that is no CLONE looks at nothing but its part's own subvolume, and no step but that of a CLONE at cells.
 pub fn edits_look_at_their_part()
     ensures part { EditLooksAtItsPart }
     ensures cells { StepKeepsCells }
-{
-}
+{}
 
 /// A root alone is sound, and what an edit or a clone makes of a sound subvolume is sound, whatever its cells are. Heads,
 /// CLONE and END stand among the edits as those that change nothing.
@@ -39,5 +36,4 @@ pub fn edits_keep_soundness()
 /// holds these, and neither the last name nor uuid, accepts it and gets exactly the last part's subvolume.
 pub fn composed_streams_are_accepted()
     ensures composed { ComposedHolds }
-{
-}
+{}

@@ -3,8 +3,8 @@
 #![tactic(auto)]
 
 mod blob;
-mod escaping;
 mod disk;
+mod escaping;
 mod failed;
 mod inputs;
 mod mem_inputs;
@@ -21,8 +21,8 @@ mod tests;
 mod whole;
 
 pub use blob::Blob;
-pub use escaping::escape_into;
 pub use disk::Disk;
+pub use escaping::escape_into;
 pub use failed::Failed;
 pub use inputs::Inputs;
 pub use mem_inputs::MemInputs;

@@ -7,8 +7,8 @@ use Rattle.cmd_reader.proofs.frames.stream_version.Goals.{else-count-eq0-via-the
 pub returns-then-count-lt-HEADER_LEN-clause-read : goal.returns-then-count-lt-HEADER_LEN-clause-read
 returns-then-count-lt-HEADER_LEN-clause-read g c =
     header_cut _ _ c.args.at c.in_ok-count.count c.args.may_end c.fill_within.new.buf (omega (arith, c.fill_within.auto.buf)) (omega (arith, c.if-count-lt-HEADER_LEN.true))
-      (λ none may. elim c.else-count-eq0.branch [ else-count-eq0-via-then-count-eq0+else-may_end w ↦ true≢false (sym may ∙ w.if-may_end.false) | else-count-eq0-via-else-count-eq0 w ↦ omega (arith, none, w.if-count-eq0.false) ])
-      c.in_ok-count.ensures.bytes
+    (λ none may. elim c.else-count-eq0.branch [ else-count-eq0-via-then-count-eq0+else-may_end w ↦ true≢false (sym may ∙ w.if-may_end.false) | else-count-eq0-via-else-count-eq0 w ↦ omega (arith, none, w.if-count-eq0.false) ])
+    c.in_ok-count.ensures.bytes
 
 pub returns-in-Ok-clause-read : goal.returns-in-Ok-clause-read
 returns-in-Ok-clause-read g c = header_read _ _ c.args.at c.in_ok-count.count c.args.may_end c.fill_within.new.buf _ (omega (arith, c.fill_within.auto.buf)) (omega (arith, c.if-count-lt-HEADER_LEN.false)) c.in_ok-count.ensures.bound c.in_ok-count.ensures.bytes c.in-Ok.ensures.exact
