@@ -8,7 +8,7 @@ use Rattle.std.specs.Cmp.{Equal-is, IsTotalOrder, tied_itself, alike_right, nat_
 use Rattle.std.specs.Cmp.Lexicographic.{nat_list_cmp_total}
 use Rattle.std.specs.FinMap.Entries.{by_order, below_all, is_sorted-put, is_sorted-where_key, find-put, find-where_key}
 use Rattle.std.proofs.Common.{refl, sym, ap, ◌∙◌, arith, inl, inr}
-use Rattle.std.proofs.lemmas.Bool.{eq-eqb, eqb-true, true≢false}
+use Rattle.std.proofs.lemmas.Bool.{eq-eqb, eqb-true}
 use Rattle.std.proofs.lemmas.Map.Lookups.{CmpEqualImpliesEq, exact_unsigned, exact_bytes, exact_pairs}
 use Rattle.send_model.specs.Map.{Map, IsMap, bytes_cmp, named_cmp, value_at, with_value, without}
 use Rattle.send_model.proofs.Sorts.{same_inside}
