@@ -4,11 +4,11 @@ use Rattle.std.specs.declared.cmp.Ordering.{Ordering}
 use Rattle.std.specs.declared.cmp.Ordering.TheVariants.{Less, Equal, Greater}
 use Rattle.std.specs.Ordering.{nat_cmp, eq_by_cmp, is_eq, is_lt}
 use Rattle.std.specs.List.{filter}
-use Rattle.std.specs.Cmp.{IsTotalOrder, tied_itself, alike_right, nat_cmp_total, on_total, then_total}
+use Rattle.std.specs.Cmp.{Equal-is, IsTotalOrder, tied_itself, alike_right, nat_cmp_total, on_total, then_total}
 use Rattle.std.specs.Cmp.Lexicographic.{nat_list_cmp_total}
 use Rattle.std.specs.FinMap.Entries.{by_order, below_all, is_sorted-put, is_sorted-where_key, find-put, find-where_key}
 use Rattle.std.proofs.Common.{refl, sym, ap, ◌∙◌, arith, inl, inr}
-use Rattle.std.proofs.lemmas.Bool.{eq-eqb, eqb-true, true≢false}
+use Rattle.std.proofs.lemmas.Bool.{eq-eqb, eqb-true}
 use Rattle.std.proofs.lemmas.Map.Lookups.{CmpEqualImpliesEq, exact_unsigned, exact_bytes, exact_pairs}
 use Rattle.send_model.specs.Map.{Map, IsMap, bytes_cmp, named_cmp, value_at, with_value, without}
 use Rattle.send_model.proofs.Sorts.{same_inside}
@@ -32,11 +32,6 @@ is_less : (r : Ordering) → T (is_lt r) → r ≡ Less
 is_less Less p = refl
 is_less Equal p = absurd p
 is_less Greater p = absurd p
-
-pub is_equal : (r : Ordering) → is_eq r ≡ true → r ≡ Equal
-is_equal Less e = absurd (true≢false (sym e))
-is_equal Equal e = refl
-is_equal Greater e = absurd (true≢false (sym e))
 
 pub counts_one : (b : Bool) → b ≡ true → ◌≡◌ {A = ℕ} (cond b 1 0) 1
 counts_one true e = refl
@@ -133,7 +128,7 @@ module _ {K : Type 0} (R : K → K → Ordering) (o : IsTotalOrder R) (exact : C
       one : (b : Bool) → eq_by_cmp R k e.0 ≡ b → cond b (Some e.1) (value_at R k m) ≡ Some x → (value_at R k m ≡ Some x → cond (x == v) 1 0 + count v (without R k m) ≡ count v m) → cond (x == v) 1 0 + count v (cond (not b) (e ∷ without R k m) (without R k m)) ≡ count v (e ∷ m)
       one true t s later =
           let same : e.1 ≡ x = same_inside s in
-          let rest : without R k m ≡ m = without_none k m (below_none k e.0 m (is_equal _ t) (T_left _ _ h)) in
+          let rest : without R k m ≡ m = without_none k m (below_none k e.0 m ((Equal-is _).0 t) (T_left _ _ h)) in
           (λ i. cond (sym same i == v) 1 0 + count v (rest i)) ∙ sym there
       one false t s later =
           let more : cond (x == v) 1 0 + count v (without R k m) ≡ count v m = later s in
@@ -151,13 +146,6 @@ module _ {K : Type 0} (R : K → K → Ordering) (o : IsTotalOrder R) (exact : C
       one true s later = let here : ◌≡◌ {A = ℕ} (cond (e.1 == v) 1 0) 1 = counts_one (e.1 == v) (eq-eqb e.1 v (same_inside s)) in omega (arith, there)
       one false s later = let more : 1 ≤ count v m = later s in omega (arith, there)
 
-  pub count-two : (v : ℕ) (k q : K) (m : Map K ℕ) → IsMap R m → value_at R k m ≡ Some v → value_at R q m ≡ Some v → (q ≡ k → ⊥) → 2 ≤ count v m
-  count-two v k q m h some other n =
-      let rest : 1 ≤ count v (without R k m) = count-found v q (without R k m) (without-other q k m n ∙ other) in
-      let all : cond (v == v) 1 0 + count v (without R k m) ≡ count v m = count-without v k v m h some in
-      let one : ◌≡◌ {A = ℕ} (cond (v == v) 1 0) 1 = counts_one (v == v) (eq-eqb v v refl) in
-      omega arith
-
   pub count-key : (v : ℕ) (m : Map K ℕ) → IsMap R m → 1 ≤ count v m → (k : K) × (value_at R k m ≡ Some v)
   count-key v [] h some = absurd (omega arith)
   count-key v (e ∷ m) h some = one (e.1 == v) refl some (count-key v m (T_right _ _ h))
@@ -166,7 +154,7 @@ module _ {K : Type 0} (R : K → K → Ordering) (o : IsTotalOrder R) (exact : C
       later found = (found.0, two (eq_by_cmp R found.0 e.0) refl)
         where
           two : (b : Bool) → eq_by_cmp R found.0 e.0 ≡ b → cond b (Some e.1) (value_at R found.0 m) ≡ Some v
-          two true t = let none : value_at R found.0 m ≡ None = below_none found.0 e.0 m (is_equal _ t) (T_left _ _ h) in cc (none, found.1)
+          two true t = let none : value_at R found.0 m ≡ None = below_none found.0 e.0 m ((Equal-is _).0 t) (T_left _ _ h) in cc (none, found.1)
           two false t = found.1
 
       one : (b : Bool) → (e.1 == v) ≡ b → 1 ≤ length (cond b (e ∷ filter (λ f. f.1 == v) m) (filter (λ f. f.1 == v) m)) → (1 ≤ count v m → (k : K) × (value_at R k m ≡ Some v)) → (k : K) × (value_at R k (e ∷ m) ≡ Some v)

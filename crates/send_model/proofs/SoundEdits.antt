@@ -1,7 +1,7 @@
 -- Each edit keeps a subvolume sound.
-use Rattle.std.specs.Prelude.{◌≡◌, ℕ, ◌<◌, Bool, true, false, cond, ◌&&◌, ◌||◌, List, [], ◌∷◌, Option, None, Some, Result, Ok, IsTrue, is_some, is_none, nat_le, ◌==◌, ◌⊎◌}
+use Rattle.std.specs.Prelude.{◌≡◌, ℕ, ◌<◌, Bool, true, false, cond, ◌&&◌, List, [], ◌∷◌, Option, None, Some, Result, Ok, IsTrue, is_some, is_none, nat_le, ◌==◌}
 use Rattle.std.specs.Ordering.{nat_cmp, eq_by_cmp}
-use Rattle.std.specs.Cmp.{nat_cmp_total}
+use Rattle.std.specs.Cmp.{Equal-is, nat_cmp_total}
 use Rattle.std.specs.List.{filter}
 use Rattle.std.proofs.Common.{refl, sym, ap, subst, ◌∙◌, arith, inl, inr}
 use Rattle.std.proofs.lemmas.Bool.{cases_lt, true≢false, eqb-false}
@@ -14,7 +14,7 @@ use Rattle.send_model.specs.Subvolume.{Inode, Subvolume, Spot, root, inode_at, n
 use Rattle.send_model.specs.Edit.{make, make_device, device_kind, add_inode, add_name, at_spot, link, unlink, rmdir, change_at, set_cells, set_xattr, remove_xattr, has_xattr, is_xattr_name, change_contents, greatest_number, greatest_end}
 use Rattle.send_model.specs.Clone.{clone, cloned}
 use Rattle.send_model.proofs.Fuel.{required, not_refused, bound, ok_same}
-use Rattle.send_model.proofs.MapLaws.{is_equal, named_cmp_total, named_cmp_exact, with_value-order, with_value-here, with_value-other, count-key}
+use Rattle.send_model.proofs.MapLaws.{named_cmp_total, named_cmp_exact, with_value-order, with_value-here, with_value-other, count-key}
 use Rattle.send_model.proofs.WalkLaws.{Leads, Step, leads_from_walk}
 use Rattle.send_model.proofs.Soundness.{found_none, directory_by, directory_is_there, added_is_sound}
 use Rattle.send_model.proofs.SoundRemovals.{taken_is_sound}
@@ -30,15 +30,11 @@ none_is : {A : Type 0} (o : Option A) → is_none o ≡ true → o ≡ None
 none_is None e = refl
 none_is (Some x) e = absurd (true≢false (sym e))
 
-or_left : (a b : Bool) → a || b ≡ true → (a ≡ true) ⊎ (b ≡ true)
-or_left true b e = inl refl
-or_left false b e = inr e
-
 pub not_both : (a b : Bool) → a && b ≡ false → a ≡ true → b ≡ false
 not_both true b e h = e
 not_both false b e h = absurd (true≢false (sym h))
 
--- The entries of an inode's names, of which there are none, have none of its names.
+-- Where no entry stands in a directory, no name is found there.
 no_names_in : (x : ℕ) (name : List ℕ) (m : Map (ℕ × List ℕ) ℕ) → (elim (filter (λ e. e.0.0 == x) m) as (λ y. Bool) [ [] ↦ true | e ∷ es ↦ false ]) ≡ true → value_at named_cmp (x, name) m ≡ None
 no_names_in x name [] empty = refl
 no_names_in x name (e ∷ m) empty = one (e.0.0 == x) refl empty (no_names_in x name m)
@@ -49,7 +45,7 @@ no_names_in x name (e ∷ m) empty = one (e.0.0 == x) refl empty (no_names_in x 
     one false t empty more = ap (λ (b : Bool). cond b (Some e.1) (value_at named_cmp (x, name) m)) (differs (eq_by_cmp named_cmp (x, name) e.0) refl) ∙ more empty
       where
         differs : (b : Bool) → eq_by_cmp named_cmp (x, name) e.0 ≡ b → b ≡ false
-        differs true same = absurd (eqb-false e.0.0 x t (ap (λ (k : ℕ × List ℕ). k.0) (sym (named_cmp_exact (x, name) e.0 (is_equal _ same)))))
+        differs true same = absurd (eqb-false e.0.0 x t (ap (λ (k : ℕ × List ℕ). k.0) (sym (named_cmp_exact (x, name) e.0 ((Equal-is _).0 same)))))
         differs false same = refl
 
 module _ {C : Type 0} where

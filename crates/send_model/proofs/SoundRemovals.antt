@@ -32,7 +32,7 @@ module _ {C : Type 0} where
     names_in_order = subst (IsMap named_cmp) (sym names) (without-order named_cmp named_cmp_total named_cmp_exact (key place) s.names h.names_in_order);
     same_directory = kept_directory;
     same_there = λ ino n. ap is_some (same ino n);
-    came_from = before;
+    came_from = λ d name ino n found. was d name ino found;
     same_count = λ ino n. sym (zero-add (name_count t ino)) ∙ ap (λ (b : Bool). cond b 1 0 + name_count t ino) (sym (ne_eqb x ino (λ e. n (sym e)))) ∙ counts ino;
     next_grows = omega arith;
     no_root = λ e. h.root_unnamed place.directory place.name (subst (λ (i : ℕ). at_spot s place ≡ Some i) e at);
@@ -57,9 +57,6 @@ module _ {C : Type 0} where
         | inl e ↦ absurd (found_none (named t d name) ino found (ap (λ (k : ℕ × List ℕ). value_at named_cmp k t.names) e ∙ name_gone s t place names))
         | inr m ↦ sym (name_left s t place names d name m) ∙ found
       ]
-
-      before : (d : ℕ) (name : List ℕ) (ino : ℕ) → (ino ≡ x → ⊥) → named t d name ≡ Some ino → named s d name ≡ Some ino
-      before d name ino n found = was d name ino found
 
       counts : (ino : ℕ) → cond (x == ino) 1 0 + name_count t ino ≡ name_count s ino
       counts ino = ap (λ (m : Map (ℕ × List ℕ) ℕ). cond (x == ino) 1 0 + length (filter (λ e. e.1 == ino) m)) names ∙ count-without named_cmp named_cmp_total named_cmp_exact ino (key place) x s.names h.names_in_order at

@@ -1,4 +1,5 @@
--- Edits of one inode and its names keep a subvolume sound.
+-- What changes at one inode and its names keeps a subvolume sound, where that inode has what soundness asks of it; and so
+-- does a name more.
 use Rattle.std.specs.Prelude.{◌≡◌, ℕ, ◌+◌, ◌<◌, ◌≤◌, Bool, true, cond, List, [], ◌∷◌, ◌++◌, length, Option, None, Some, Ok, IsTrue, is_some, ◌==◌, ◌⊎◌}
 use Rattle.std.specs.Ordering.{nat_cmp}
 use Rattle.std.specs.List.{filter}
@@ -13,10 +14,6 @@ use Rattle.send_model.proofs.WalkLaws.{Leads, Step, leads-append, leads-leaf, le
 
 pub found_none : {X : Type 0} (o : Option X) (x : X) → o ≡ Some x → o ≡ None → ⊥
 found_none o x e n = cc
-
-pub none_if : {X : Type 0} (o : Option X) → (IsTrue (is_some o) → ⊥) → o ≡ None
-none_if None n = refl
-none_if (Some x) n = absurd (n refl)
 
 abbrev pub key : Spot → ℕ × List ℕ
 key place = (place.directory, place.name)
