@@ -61,6 +61,9 @@ withins (suc n) version seen (x ∷ xs) attributes e =
     sums : (b l t d n : ℕ) → b ≤ l → 4 ≤ n → l ≤ n - 4 → t ≤ d → d ≡ n - (4 + l) → (4 + b) + t ≤ n
     sums b l t d n p q r s u = omega (arith, p, q, r, s, u)
 
+inside : {x y : ℕ} → Some x ≡ Some y → x ≡ y
+inside {x = x} q = ap (λ o. unwrap_or o x) q
+
 -- The place and the bytes of an attribute lie in the body.
 placed : (kind : ℕ) (attributes : List Attribute) (place : ℕ) → place_of kind attributes ≡ Some place → place + length (bytes_at attributes kind) ≤ total attributes
 placed kind [] place e = cc
@@ -72,8 +75,6 @@ placed kind (a ∷ rest) place e = placed_on (a.kind == kind) a.bytes (value_of 
     placed_on false own value None t place more q = cc
     placed_on false own value (Some p) t place more q = let is = inside q in let m = more p refl in omega (arith, is, m)
 
-    inside : {x y : ℕ} → Some x ≡ Some y → x ≡ y
-    inside {x = x} q = ap (λ o. unwrap_or o x) q
 
 -- Where there is no such attribute there are no bytes.
 unplaced : (kind : ℕ) (attributes : List Attribute) → place_of kind attributes ≡ None → bytes_at attributes kind ≡ []
