@@ -1,17 +1,19 @@
 -- Facts of a command that was read from a body.
-use Rattle.std.specs.Prelude.{◌≡◌, ℕ, zero, suc, ◌+◌, ◌-◌, ◌≤◌, ◌^◌, ◌<◌, Bool, true, false, ◌&&◌, min, ◌==◌, List, [], ◌∷◌, ◌++◌, length, take, drop, Option, None, Some, Result, Ok, Err, if◌then◌else◌}
+use Rattle.std.specs.Prelude.{◌≡◌, slice_index_or, ℕ, zero, suc, ◌+◌, ◌-◌, ◌≤◌, ◌^◌, ◌<◌, Bool, true, false, ◌&&◌, min, ◌==◌, List, [], ◌∷◌, ◌++◌, length, take, drop, Option, None, Some, Result, Ok, Err, if◌then◌else◌}
+use Rattle.std.proofs.Common.{w8, Fits}
+use Rattle.std.proofs.Math.Facts.{Fits-lt-pow}
 use Rattle.std.specs.Option.{unwrap_or}
-use Rattle.std.specs.List.{list_all, find}
+use Rattle.std.specs.List.{AllByRecursion, list_all, find}
 use Rattle.std.proofs.Common.{refl, sym, ap, subst, ◌∙◌, arith, length-take, length-drop, leb-true, zero-le, le_refl, eqb-true}
 use Rattle.send_model.specs.Refusal.{Refusal, BadAttribute, UnknownCommand, BadTime}
 use Rattle.send_model.specs.Chain.{◌>>=◌, ◌>>◌, found, require}
-use Rattle.send_model.specs.Attribute.{DATA}
+use Rattle.send_model.specs.Attribute.{DATA, IsBytes}
 use Rattle.send_model.specs.Command.{Kind, SUBVOL, SNAPSHOT, MKFILE, MKDIR, MKNOD, MKFIFO, MKSOCK, SYMLINK, RENAME, LINK, UNLINK, RMDIR, SET_XATTR, REMOVE_XATTR, WRITE, CLONE, TRUNCATE, CHMOD, CHOWN, UTIMES, END, UPDATE_EXTENT, all_kinds, Command, row, kind_of, kind_of_number, command_with}
 use Rattle.send_model.specs.Spelling.{Attribute, value_of}
 use Rattle.send_model.specs.Receive.{bytes_of}
 use Rattle.send_model.specs.Reading.{number16, attribute_len, attribute_lawful, attribute_number, attributes_from, attributes_at, bytes_at, command_of, taken, place_of, data_place, frame_header_len, wanted_there, moment_lawful}
 use Rattle.send_model.specs.Laws.{CanWrite}
-use Rattle.send_model.proofs.Sound.{found_is}
+use Rattle.send_model.proofs.Sound.{found_is, attributes_short, read_spellable}
 use Rattle.send_model.proofs.Fuel.{bound, tested, required, ok_same}
 
 -- How many bytes attributes take.
@@ -75,6 +77,11 @@ placed kind (a ∷ rest) place e = placed_on (a.kind == kind) a.bytes (value_of 
     placed_on false own value None t place more q = cc
     placed_on false own value (Some p) t place more q = let is = inside q in let m = more p refl in omega (arith, is, m)
 
+
+-- The place of an attribute lies in the body.
+pub place_in_body : (version : ℕ) (body : List ℕ) (attributes : List Attribute) (place : ℕ) → attributes_at version body ≡ Ok attributes → place_of DATA attributes ≡ Some place → place ≤ length body
+unfolding attributes_at Within
+place_in_body version body attributes place read there = let whole = withins (length body) version [] body attributes read in let p = placed DATA attributes place there in omega (arith, whole, p)
 
 -- Where there is no such attribute there are no bytes.
 unplaced : (kind : ℕ) (attributes : List Attribute) → place_of kind attributes ≡ None → bytes_at attributes kind ≡ []
@@ -155,3 +162,29 @@ kind_is version number attributes c e =
     let d = required (list_all (moment_lawful attributes) (row a.0).wanted) BadTime (Ok (command_with a.0 (bytes_at attributes))) c b.1 in
     let kind : kind_of c ≡ a.0 = ap kind_of (sym (ok_same d.1)) ∙ kind_with a.0 (bytes_at attributes) in
     ap (λ (k : Kind). (row k).number) kind ∙ numbered version number a.0 (found_is (kind_of_number version number) (UnknownCommand number) a.0 a.1)
+
+-- A slice of bytes is bytes.
+pub slice_bytes : (bytes : List ℕ) → ((i : ℕ) → Fits w8 (slice_index_or bytes i 0)) → IsBytes bytes
+slice_bytes [] f = tt
+slice_bytes (b ∷ bytes) f = (fits_byte b (f 0), slice_bytes bytes (λ i. f (suc i)))
+  where
+    fits_byte : (b : ℕ) → Fits w8 b → b < 256
+    fits_byte b q = Fits-lt-pow q
+
+-- A command that was read can be written.
+pub read_can_write : (version number : ℕ) (body : List ℕ) (attributes : List Attribute) (c : Command) → IsBytes body → attributes_at version body ≡ Ok attributes → taken version number ≡ Ok tt → command_of version number attributes ≡ Ok c → CanWrite c
+unfolding taken kind_of_number
+read_can_write version number body attributes c bytes read is_taken e = record {
+  spellable = read_spellable version number attributes c (attributes_short version body attributes bytes read) e;
+  taken_kind = ap (λ (n : ℕ). taken 1 n) (kind_is version number attributes c e) ∙ is_taken;
+}
+
+abbrev place_after : ℕ → Option ℕ → ℕ
+place_after at there = elim there as (λ x. ℕ) [ None ↦ 0 | Some place ↦ at + frame_header_len + place ]
+
+-- The place of a command's data, by the place of the attribute.
+pub data_at_some : (at : ℕ) (attributes : List Attribute) (place : ℕ) → place_of DATA attributes ≡ Some place → data_place at attributes ≡ at + frame_header_len + place
+data_at_some at attributes place e = ap (place_after at) e
+
+pub data_at_none : (at : ℕ) (attributes : List Attribute) → place_of DATA attributes ≡ None → data_place at attributes ≡ 0
+data_at_none at attributes e = ap (place_after at) e

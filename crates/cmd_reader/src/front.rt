@@ -41,14 +41,22 @@ pub(crate) fn read_front<I: Inputs>(
     ensures fits { IfOk result (FrontFits at) }
     ensures read { ReadsFront (I.told inputs.old) name.now at version (I.faults inputs.old) (I.faults inputs.new) result }
 {
-    let head = frame_head(inputs, name, at)?;
+    let head = match frame_head(inputs, name, at) {
+        Ok(head) => head,
+        Err(fault) => return Err(fault),
+    };
     let len = head.len as usize;
-    if room.len() < len {
-        room.resize(len, 0)?;
+    if room.len() < len && room.resize(len, 0).is_err() {
+        return Err(Fault::NoMemory);
     }
     let body = &mut room.as_mut_slice()[..len];
-    frame_body(inputs, name, at + FRAME_HEAD_LEN, &head, body)?;
-    let (command, data_at) = command_in(alloc, at, version, head.cmd, body)?;
+    if let Err(fault) = frame_body(inputs, name, at + FRAME_HEAD_LEN, &head, body) {
+        return Err(fault);
+    }
+    let (command, data_at) = match command_in(alloc, at, version, head.cmd, body) {
+        Ok(found) => found,
+        Err(fault) => return Err(fault),
+    };
     let next = at + FRAME_HEAD_LEN + head.len as u64;
     Ok(Front {
         command,
