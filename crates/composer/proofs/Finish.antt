@@ -1,19 +1,19 @@
 -- What composing has written is unfinished before its END and the composed stream with it; and where it stops early, the
 -- refusal that it stops with is the verdict on the files.
-use Rattle.std.specs.Prelude.{◌≡◌, ◌≢◌, ℕ, ◌<◌, ◌≤◌, Bool, true, false, List, [], ◌∷◌, ◌++◌, length, take, Option, None, Some, Result, Ok, Err}
+use Rattle.std.specs.Prelude.{◌≡◌, ◌≢◌, ℕ, ◌<◌, ◌≤◌, false, List, [], ◌∷◌, ◌++◌, length, take, Option, None, Some, Err}
 use Rattle.std.specs.List.{AllByRecursion}
-use Rattle.std.proofs.Common.{refl, sym, ap, ap₂, subst, ◌∙◌}
-use Rattle.send_model.specs.Refusal.{Refusal}
-use Rattle.send_model.specs.Attribute.{Identifier, Number, Bytes, FieldFits}
+use Rattle.std.proofs.Common.{refl, sym, ap, subst, ◌∙◌}
+use Rattle.send_model.specs.Refusal.{Refusal, NotConsecutive}
+use Rattle.send_model.specs.Attribute.{Identifier, Number, FieldFits}
 use Rattle.send_model.specs.Command.{Command, Subvol, Snapshot, End, row, kind_of_number}
 use Rattle.send_model.specs.Spelling.{stream_header, IsSpellable, canonical, canonical_all}
 use Rattle.send_model.specs.Reading.{Item, Verdict, Ending, Whole, Faulty, Reading, input, is_taken, taken}
 use Rattle.send_model.specs.Store.{Key, Head, head_of}
 use Rattle.send_model.specs.Receive.{fault_of, first_of, start_of, verdict_of}
-use Rattle.send_model.specs.Order.{heads, heads_of, onto_heads, commands_of, IsConsecutive, without_parts, judge}
+use Rattle.send_model.specs.Order.{heads, heads_of, onto_heads, commands_of, IsConsecutive, last_item, without_parts, judge}
 use Rattle.send_model.specs.Outside.{base}
 use Rattle.send_model.specs.Composed.{first_head, last_head, head_command}
-use Rattle.send_model.specs.Counts.{is_end}
+use Rattle.send_model.specs.Counts.{is_clone}
 use Rattle.send_model.specs.Laws.{CanWrite}
 use Rattle.send_model.specs.Headline.{IsComposed, IsUnfinished}
 use Rattle.send_model.proofs.Sorts.{same_inside}
@@ -22,9 +22,10 @@ use Rattle.send_model.proofs.Merging.{NoClones, edit_in, edits_of}
 use Rattle.send_model.proofs.Streams.{IsInner}
 use Rattle.send_model.proofs.Writing.{written_so_far, whole_parts, nothing_unfinished, unfinished_part, unfinished_so_far}
 use Rattle.send_model.proofs.Headlines.{written_for, headline}
-use Rattle.send_model.proofs.Judging.{AreOrdered, empty_store, each_follows, judge_at_item, judge_at_end}
-use Rattle.composer.specs.Advance.{Composing}
-use Rattle.composer.proofs.Progress.{HeadFits, Progress}
+use Rattle.send_model.proofs.Composed.{first_there, last_there}
+use Rattle.send_model.proofs.Judging.{empty_store, each_follows, judge_at_item, judge_at_end}
+use Rattle.composer.specs.Advance.{Composing, advance}
+use Rattle.composer.proofs.Progress.{HeadFits, Progress, advance_err}
 
 -- ---- the commands that are written can be
 
@@ -99,10 +100,6 @@ unfinished_end items now sent first last k p f l h =
 
 -- ---- the composed stream
 
-first_there : (hs : List Head) (last : Head) → last_head hs ≡ Some last → (first : Head) × (first_head hs ≡ Some first)
-first_there [] last e = cc
-first_there (first ∷ hs) last e = (first, refl)
-
 some_heads : (hs : List Head) (last : Head) → last_head hs ≡ Some last → hs ≢ []
 some_heads hs last e none = let l : None ≡ Some last = ap last_head (sym none) ∙ e in cc
 
@@ -111,7 +108,8 @@ pub composed : (files : List (List ℕ)) (items : List Item) (now : Composing) (
     → last_head (heads items) ≡ Some last → now.last ≡ Some last → IsComposed empty_store files ((sent ++ now.pending) ++ canonical 1 End)
 unfolding base
 composed files items now sent last is p last_is l =
-    let first = first_there (heads items) last last_is in
+    let some : heads items ≢ [] = some_heads (heads items) last last_is in
+    let first = first_there (heads items) some in
     let cs : List Command = head_command last.name last.key first.0.parent ∷ edits_of (commands_of items) in
     let InnerOf : List Item → Type 0 = λ xs. AllByRecursion IsInner (head_command last.name last.key first.0.parent ∷ edits_of (commands_of xs)) in
     let TakesAll : List Item → Type 0 = λ xs. Takes (start_of empty_store) (commands_of xs) p.state in
@@ -124,8 +122,68 @@ composed files items now sent last is p last_is l =
     (record {
       whole = ap (λ (r : Reading). r.end) is;
       no_clones = subst PlainAll same p.no_clones;
-      consecutive = subst InOrder same (some_heads (heads items) last last_is, each_follows items p.ordered);
+      consecutive = subst InOrder same (some, each_follows items p.ordered);
       taken = subst TakesAll same p.taken;
     })
     (ap (λ (xs : List Item). first_head (heads xs)) (sym same) ∙ first.1) (ap (λ (xs : List Item). last_head (heads xs)) (sym same) ∙ last_is)
     (subst InnerOf same (inner items now sent first.0 last p first.1 l)) (bytes ∙ ap (λ (xs : List Item). written_for first.0 last (commands_of xs)) same)
+
+-- ---- the verdict
+
+later_last : (o : Option Head) (hs : List Head) (last : Head) → last_head hs ≡ Some last → last_head (onto_heads o hs) ≡ Some last
+later_last None hs last e = e
+later_last (Some head) [] last e = cc
+later_last (Some head) (next ∷ hs) last e = e
+
+-- Where an item is a head, there is a last head of all.
+last_known : (items : List Item) (item : Item) (more : List Item) (head : Head) → head_of item.command ≡ Some head → (last : Head) × (last_head (heads (items ++ item ∷ more)) ≡ Some last)
+unfolding heads_of
+last_known [] item more head h =
+    let l = last_there head (heads more) in
+    (l.0, ap (λ (o : Option Head). last_head (onto_heads o (heads more))) h ∙ l.1)
+last_known (x ∷ items) item more head h =
+    let l = last_known items item more head h in
+    (l.0, later_last (head_of x.command) (heads (items ++ item ∷ more)) l.0 l.1)
+
+-- A command that was refused gives the verdict on the files, where a last head is known if the command is a head.
+pub judged_known : (files : List (List ℕ)) (items : List Item) (item : Item) (more : List Item) (ending : Ending) (now : Composing) (sent : List ℕ) (refusal : Refusal)
+    → input files ≡ record { items = items ++ item ∷ more; end = ending } → Progress items now sent → ((head : Head) → head_of item.command ≡ Some head → (last : Head) × (now.last ≡ Some last))
+    → is_clone item.command ≡ false → advance now item.command ≡ Err refusal → judge empty_store files ≡ Some (verdict_of item refusal)
+judged_known files items item more ending now sent refusal is p known no_clone e =
+    judge_at_item files items item more ending p.state (verdict_of item refusal) is p.taken p.ordered (advance_err items item more now sent refusal p no_clone known e)
+
+-- The same, where the last head is that of all that is read.
+pub judged : (files : List (List ℕ)) (items : List Item) (item : Item) (more : List Item) (ending : Ending) (now : Composing) (sent : List ℕ) (refusal : Refusal)
+    → input files ≡ record { items = items ++ item ∷ more; end = ending } → Progress items now sent → now.last ≡ last_head (heads (input files).items)
+    → is_clone item.command ≡ false → advance now item.command ≡ Err refusal → judge empty_store files ≡ Some (verdict_of item refusal)
+judged files items item more ending now sent refusal is p last_is =
+    let all : last_head (heads (input files).items) ≡ last_head (heads (items ++ item ∷ more)) = ap (λ (r : Reading). last_head (heads r.items)) is in
+    judged_known files items item more ending now sent refusal is p (λ head h. (let l = last_known items item more head h in (l.0, last_is ∙ all ∙ l.1)))
+
+-- The verdict where all commands were taken.
+judged_done : (files : List (List ℕ)) (items : List Item) (ending : Ending) (now : Composing) (sent : List ℕ) → input files ≡ record { items = items; end = ending } → Progress items now sent
+    → judge empty_store files ≡ first_of (fault_of ending) (without_parts items (heads items))
+judged_done files items ending now sent is p = judge_at_end files items ending p.state is p.taken p.ordered
+
+-- The fault with which the reading ended.
+pub judged_end : (files : List (List ℕ)) (items : List Item) (verdict : Verdict) (now : Composing) (sent : List ℕ) → input files ≡ record { items = items; end = Faulty verdict } → Progress items now sent
+    → judge empty_store files ≡ Some verdict
+judged_end files items verdict now sent is p = judged_done files items (Faulty verdict) now sent is p
+
+-- None, where the files are read as whole and hold a part.
+pub judged_whole : (files : List (List ℕ)) (items : List Item) (now : Composing) (sent : List ℕ) → input files ≡ record { items = items; end = Whole } → Progress items now sent → heads items ≢ []
+    → judge empty_store files ≡ None
+judged_whole files items now sent is p some = judged_done files items Whole now sent is p ∙ with_parts (heads items) some
+  where
+    with_parts : (hs : List Head) → hs ≢ [] → without_parts items hs ≡ None
+    with_parts [] some = absurd (some refl)
+    with_parts (head ∷ hs) some = refl
+
+-- The last END, where the files are read as whole and hold no part.
+pub judged_empty : (files : List (List ℕ)) (items : List Item) (item : Item) (now : Composing) (sent : List ℕ) → input files ≡ record { items = items; end = Whole } → Progress items now sent → heads items ≡ [] → last_item items ≡ Some item
+    → judge empty_store files ≡ Some (verdict_of item NotConsecutive)
+judged_empty files items item now sent is p none last = judged_done files items Whole now sent is p ∙ ap (without_parts items) none ∙ at_last (last_item items) last
+  where
+    at_last : (o : Option Item) → o ≡ Some item → elim o [ None ↦ None | Some x ↦ Some (verdict_of x NotConsecutive) ] ≡ Some (verdict_of item NotConsecutive)
+    at_last None e = cc
+    at_last (Some x) e = ap (λ (y : Item). Some (verdict_of y NotConsecutive)) (same_inside e)
