@@ -43,11 +43,11 @@ without_last-end (c ∷ d ∷ cs) = ap (λ (r : List Command). c ∷ r) (without
 end_same : (cs ds : List Command) → cs ++ End ∷ [] ≡ ds ++ End ∷ [] → cs ≡ ds
 end_same cs ds e = sym (without_last-end cs) ∙ ap without_last e ∙ without_last-end ds
 
-first_there : (hs : List Head) → hs ≢ [] → (h : Head) × (first_head hs ≡ Some h)
+pub first_there : (hs : List Head) → hs ≢ [] → (h : Head) × (first_head hs ≡ Some h)
 first_there [] some = absurd (some refl)
 first_there (h ∷ hs) some = (h, refl)
 
-last_there : (h : Head) (hs : List Head) → (l : Head) × (last_head (h ∷ hs) ≡ Some l)
+pub last_there : (h : Head) (hs : List Head) → (l : Head) × (last_head (h ∷ hs) ≡ Some l)
 last_there h [] = (h, refl)
 last_there h (next ∷ hs) = last_there next hs
 

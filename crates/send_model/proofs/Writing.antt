@@ -89,12 +89,15 @@ header_long : 1 ≤ length (stream_header 1)
 unfolding stream_header
 header_long = lit≤ tt
 
-nothing_unfinished : IsUnfinished []
-nothing_unfinished = stream_cut 1 [] 0 tt (omega (arith, length-append (stream_header 1) (canonical_all 1 (End ∷ [])), header_long))
-
 take_nothing : (k : ℕ) → take {A = ℕ} k [] ≡ []
 take_nothing zero = refl
 take_nothing (suc k) = refl
+
+-- Where nothing is written, no part of it is read as whole.
+pub nothing_unfinished : (k : ℕ) → IsUnfinished (take k [])
+nothing_unfinished k =
+    let U : List ℕ → Type 0 = λ b. IsUnfinished b in
+    subst U (sym (take_nothing k)) (stream_cut 1 [] 0 tt (omega (arith, length-append (stream_header 1) (canonical_all 1 (End ∷ [])), header_long)))
 
 -- The whole stream, as what stands before its END and END.
 pub whole_parts : (front : List ℕ) (cs : List Command) → front ++ canonical_all 1 (cs ++ End ∷ []) ≡ (front ++ canonical_all 1 cs) ++ canonical 1 End
@@ -110,7 +113,7 @@ unfinished_part cs k inner h =
 
 pub unfinished_so_far : (last : Head) (first : Option Head) (cs : List Command) (k : ℕ) → ((f : Head) → first ≡ Some f → AllByRecursion IsInner (head_command last.name last.key f.parent ∷ edits_of cs)) → k ≤ length (written_so_far last first cs) → IsUnfinished (take k (written_so_far last first cs))
 unfolding written_so_far
-unfinished_so_far last None cs k inner h = let U : List ℕ → Type 0 = λ b. IsUnfinished b in subst U (sym (take_nothing k)) nothing_unfinished
+unfinished_so_far last None cs k inner h = nothing_unfinished k
 unfinished_so_far last (Some first) cs k inner h =
     let es : List Command = head_command last.name last.key first.parent ∷ edits_of cs in
     let bytes : List ℕ = stream_header 1 ++ canonical_all 1 es in
