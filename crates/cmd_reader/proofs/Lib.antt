@@ -2,3 +2,4 @@ mod Fillings
 mod Headers
 mod Lefts
 mod CommandFacts
+mod FrontFacts
