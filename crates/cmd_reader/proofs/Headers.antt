@@ -1,6 +1,7 @@
 -- What the buffered front of a file says of the file itself.
 use Rattle.std.specs.Prelude.{◌≡◌, ◌≢◌, ℕ, zero, suc, ◌+◌, ◌-◌, ◌<◌, ◌≤◌, Bool, true, false, ◌&&◌, ◌==◌, List, [], ◌∷◌, ◌++◌, length, take, drop, Option, None, Some, Result, Ok, Err, nat_le, nat_lt}
 use Rattle.std.proofs.Common.{refl, sym, ap, ap₂, subst, ◌∙◌, arith, length-drop, length-take, drop_of_length-le, le-leb, leb-true, ltb-false, le-ltb, take_all, eq-eqb, drop-drop, lit≤}
+use Rattle.std.specs.Str.{bytes_eq}
 use Rattle.std.specs.Int.{w16, w32, from_le_bytes}
 use Rattle.std.proofs.lemmas.List.{take-take, drop-take}
 use Rattle.std.proofs.lemmas.Bool.{lt-leb, true≢false}
@@ -8,7 +9,7 @@ use Rattle.send_model.specs.Refusal as meant
 use Rattle.send_model.specs.Chain.{◌>>◌, require, refuse_if}
 use Rattle.send_model.specs.Spelling.{magic, greatest_body, frame_checksum}
 use Rattle.send_model.specs.Reading.{stream_version, header_len, frame_header_len, number16, number32, is_version, Frame, frame_at, frame_with}
-use Rattle.send_model.proofs.Fuel.{not_refused, ok_same}
+use Rattle.send_model.proofs.Fuel.{not_refused, required, ok_same}
 use Rattle.sx_base.specs.Outside.{file_at}
 use Rattle.tlv_frame.specs.Frame.{Head, head_at, checksum_holds}
 use Rattle.tlv_frame.specs.declared.frame_head.FrameHead.{FrameHead}
@@ -202,3 +203,13 @@ body_refused None name at count head body refusal small size full bound filled h
 body_refused (Some files) name at count head body refusal small size full bound filled holds =
     let same = body_same (file_at files name) at head.len body count size (omega (arith, full, size)) bound filled.0.bytes filled.0.within in
     body_with head.len head.cmd head.crc (drop at (file_at files name)) small same.1 ∙ rw (same.0, holds) refl
+
+-- A version that was read is known.
+pub version_known : (bytes : List ℕ) (version : ℕ) → stream_version bytes ≡ Ok version → is_version version ≡ true
+unfolding stream_version
+version_known bytes version e =
+    let n = number32 (drop 13 bytes) in
+    let one = required (nat_le header_len (length bytes)) meant.Truncated _ version e in
+    let two = required (bytes_eq (take 13 bytes) magic) meant.BadMagic _ version one.1 in
+    let three = required (is_version n) (meant.BadVersion n) (Ok n) version two.1 in
+    subst (λ (v : ℕ). is_version v ≡ true) (ok_same three.1) three.0

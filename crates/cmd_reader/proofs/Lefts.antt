@@ -6,7 +6,7 @@ use Rattle.send_model.specs.Refusal.{Refusal}
 use Rattle.send_model.specs.Command.{Command}
 use Rattle.send_model.specs.Reading.{Item, Reading, Due, HeaderDue, CommandDue, due_after, may_end, with_item, go_on, ended, faulty, Front, front_of, stream_version, header_len, frame_header_len, reads_from}
 use Rattle.send_model.proofs.Fuel.{same_fuel, header_there, front_shorter}
-use Rattle.cmd_reader.specs.Left.{Reader, is_header_due, is_empty, may_end_here, left}
+use Rattle.cmd_reader.specs.Left.{Reader, after_header, after_command, is_header_due, is_empty, may_end_here, left}
 
 pub left_ended : (r : Reader) (file : List ℕ) → may_end_here r ≡ true → drop r.offset file ≡ [] → left r file ≡ ended
 unfolding left
@@ -24,10 +24,6 @@ and_false false = refl
 left_on : (r : Reader) (file : List ℕ) → may_end_here r && is_empty (drop r.offset file) ≡ false → left r file ≡ reads_from (suc (length (drop r.offset file))) r.file r.due r.number r.offset (drop r.offset file)
 unfolding left
 left_on r file goes = rw goes refl
-
--- A reader after a header.
-abbrev pub after_header : Reader → ℕ → Reader
-after_header r version = record { file = r.file; name = r.name; due = CommandDue version; number = r.number; offset = r.offset + header_len }
 
 pub left_header : (r : Reader) (file : List ℕ) (version : ℕ) → r.due ≡ HeaderDue → stream_version (drop r.offset file) ≡ Ok version → left r file ≡ left (after_header r version) file
 unfolding reads_from
@@ -56,10 +52,6 @@ left_no_header r file refusal due e some =
     by_end false bytes s = refl
     by_end true [] s = absurd (s refl refl)
     by_end true (x ∷ bytes) s = refl
-
--- A reader after a command.
-abbrev pub after_command : Reader → ℕ → Command → ℕ → Reader
-after_command r version command offset = record { file = r.file; name = r.name; due = due_after version command; number = r.number + 1; offset = offset }
 
 same_end : (due : Due) (number : ℕ) (bytes : List ℕ) → 1 ≤ number → may_end due bytes ≡ (is_header_due due && nat_lt 1 (number + 1)) && is_empty bytes
 same_end HeaderDue number [] h = let more : nat_lt 1 (number + 1) ≡ true = lt-ltb _ _ (omega (arith, h)) in rw more refl

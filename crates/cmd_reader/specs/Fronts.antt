@@ -2,7 +2,7 @@
 use Rattle.std.specs.Prelude.{◌≡◌, ◌≢◌, ℕ, ◌+◌, ◌≤◌, Bool, true, List, [], length, take, drop, Option, None, Some, Result, Ok, Err, ⊤}
 use Rattle.send_model.specs.Refusal as meant
 use Rattle.send_model.specs.Spelling.{greatest_body}
-use Rattle.send_model.specs.Reading.{stream_version, number16, number32, Frame, frame_at, frame_with, header_len, frame_header_len}
+use Rattle.send_model.specs.Reading.{is_version, stream_version, number16, number32, Frame, frame_at, frame_with, header_len, frame_header_len}
 use Rattle.sx_base.specs.Outside.{file_at}
 use Rattle.sx_base.specs.Refusals.{refusal_of}
 use Rattle.tlv_frame.specs.declared.frame_head.FrameHead.{FrameHead}
@@ -36,10 +36,10 @@ NoHeader at may_end refusal file = (stream_version (drop at file) ≡ Err refusa
 abbrev pub ReadsHeader : Option (List (List ℕ × List ℕ)) → List ℕ → ℕ → Bool → ℕ → ℕ → Result (Option ℕ) Fault → Type 0
 ReadsHeader told name at may_end before now result = Says (HeaderIs at may_end) (NoHeader at may_end) told name at before now result
 
--- A header that was read lies before the limit.
+-- A header that was read lies before the limit, and its version is known.
 abbrev pub HeaderFits : ℕ → Option ℕ → Type 0
 HeaderFits at None = ⊤
-HeaderFits at (Some version) = at + header_len ≤ limit
+HeaderFits at (Some version) = (at + header_len ≤ limit) × (is_version version ≡ true)
 
 -- ---- the frame
 

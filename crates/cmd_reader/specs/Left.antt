@@ -1,6 +1,7 @@
 -- A reader that stands somewhere in a file, and what is left to read from there.
 use Rattle.std.specs.Prelude.{◌≡◌, ◌≤◌, ⊤, Option, None, Some, ℕ, suc, ◌+◌, Bool, true, false, ◌&&◌, List, [], ◌∷◌, length, drop, nat_lt, if◌then◌else◌}
-use Rattle.send_model.specs.Reading.{Reading, Due, HeaderDue, CommandDue, ended, is_version, reads_from}
+use Rattle.send_model.specs.Command.{Command}
+use Rattle.send_model.specs.Reading.{Reading, Due, HeaderDue, CommandDue, due_after, header_len, ended, is_version, reads_from}
 use Rattle.cmd_reader.specs.Places.{limit}
 
 -- The file's number and name, what is due, the number of the next command, and the place in the file.
@@ -43,3 +44,11 @@ pub record IsReader (due : Option ℕ) (number offset : ℕ) : Type 0 where
   pub count : number ≤ offset + 1
   pub within : offset ≤ limit
   pub version : VersionIs due
+
+-- A reader after a header.
+abbrev pub after_header : Reader → ℕ → Reader
+after_header r version = record { file = r.file; name = r.name; due = CommandDue version; number = r.number; offset = r.offset + header_len }
+
+-- A reader after a command.
+abbrev pub after_command : Reader → ℕ → Command → ℕ → Reader
+after_command r version command offset = record { file = r.file; name = r.name; due = due_after version command; number = r.number + 1; offset = offset }

@@ -4,7 +4,7 @@ use Rattle.send_model.specs.Refusal as meant
 use Rattle.send_model.specs.Command.{row, kind_of}
 use Rattle.send_model.specs.Receive.{bytes_of}
 use Rattle.send_model.specs.Reading as reading
-use Rattle.send_model.specs.Reading.{Reading, ended, with_item, faulty, is_version, front_of, frame_header_len}
+use Rattle.send_model.specs.Reading.{Reading, CommandDue, ended, with_item, faulty, is_version, front_of, frame_header_len}
 use Rattle.send_model.specs.Laws.{CanWrite}
 use Rattle.sx_base.specs.declared.outcome.Verdict.{Verdict}
 use Rattle.sx_base.specs.Refusals.{refusal_of}
@@ -15,6 +15,7 @@ use Rattle.cmd_reader.specs.declared.item.ReadStop.{ReadStop}
 use Rattle.cmd_reader.specs.declared.item.ReadStop.TheVariants as stop
 use Rattle.cmd_reader.specs.declared.front.Front.{Front}
 use Rattle.cmd_reader.specs.declared.fault.Fault.{Fault}
+use Rattle.cmd_reader.specs.declared.fault.Fault.TheVariants as fault
 use Rattle.cmd_reader.specs.Places.{limit, IsTooLong}
 use Rattle.cmd_reader.specs.Faults.{ExplainsFault}
 use Rattle.cmd_reader.specs.Fronts.{IfTold, Says}
@@ -52,6 +53,30 @@ pub record FrontFits (at : ℕ) (front : Front) : Type 0 where
   pub can_write : CanWrite (meaning_of front.command)
   pub payload : front.data_at + length (bytes_of (meaning_of front.command)) ≤ limit
 
+-- ---- the header, where one is due
+
+-- What begins: the version is known, and nothing but the place and what is due has changed.
+pub record HasBegun (old new : Reader) (version : ℕ) : Type 0 where
+  pub due : new.due ≡ CommandDue version
+  pub known : is_version version ≡ true
+  pub file : new.file ≡ old.file
+  pub name : new.name ≡ old.name
+  pub number : new.number ≡ old.number
+
+-- Nothing was read between, and the file is as long as the place.
+pub record BeginsAt (old new : Reader) (file : List ℕ) : Type 0 where
+  pub left_is : left old file ≡ left new file
+  pub reached : old.offset ≤ length file → new.offset ≤ length file
+
+-- A command is due, or the file has ended, or neither: then nothing has changed.
+abbrev pub Begins : Option (List (List ℕ × List ℕ)) → Reader → Reader → ℕ → ℕ → Result (Option ℕ) Fault → Type 0
+Begins told old new before now (Ok (Some version)) = HasBegun old new version × IfTold told old.name (BeginsAt old new)
+Begins told old new before now (Ok None) = (new ≡ old) × IfTold told old.name (λ file. left old file ≡ ended)
+Begins told old new before now (Err (fault.Refused refusal)) = (new ≡ old) × IfTold told old.name (λ file. left old file ≡ faulty old.file old.number old.offset (refusal_of refusal))
+Begins told old new before now (Err fault.NoMemory) = new ≡ old
+Begins told old new before now (Err fault.InputFault) = (new ≡ old) × Rose before now
+Begins told old new before now (Err fault.InputTooLong) = (new ≡ old) × IsTooLong told old.name old.offset
+
 -- ---- a call
 
 -- A command was read: what was left is this command and what is left now.
@@ -75,3 +100,20 @@ pub record ItemFits (old new : Reader) (item : Item) : Type 0 where
   pub writable : IsWritable (meaning_of item.command)
   pub can_write : CanWrite (meaning_of item.command)
   pub payload : item.data_at + length (bytes_of (meaning_of item.command)) ≤ limit
+
+-- The same where an item was read.
+abbrev pub IfItem : Result (Option Item) ReadStop → (Item → Type 0) → Type 0
+IfItem (Ok (Some item)) P = P item
+IfItem (Ok None) P = ⊤
+IfItem (Err why) P = ⊤
+
+-- An answer that no command was read, for a fault at the reader's place.
+abbrev pub StopAt : Reader → Fault → ReadStop → Type 0
+StopAt r (fault.Refused refusal) (stop.Refused verdict) = verdict_meant verdict ≡ record { file = r.file; command = r.number; offset = r.offset; refusal = refusal_of refusal }
+StopAt r (fault.Refused refusal) _ = ⊥
+StopAt r fault.NoMemory stop.NoMemory = ⊤
+StopAt r fault.NoMemory _ = ⊥
+StopAt r fault.InputFault stop.InputFault = ⊤
+StopAt r fault.InputFault _ = ⊥
+StopAt r fault.InputTooLong stop.InputTooLong = ⊤
+StopAt r fault.InputTooLong _ = ⊥

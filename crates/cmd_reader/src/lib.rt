@@ -1,10 +1,12 @@
 //! Reading the commands of a file of streams, one at a time.
 #![tactic(auto)]
 
+mod command_reader;
 mod fault;
 mod frames;
 mod front;
 mod item;
 mod places;
 
+pub use command_reader::CmdReader;
 pub use item::{Item, ReadStop};
