@@ -1,11 +1,11 @@
 -- What the loops of composing keep: the progress at their start and where bytes are sent, the items that are ahead, and the
 -- last head of those that were read.
-use Rattle.std.specs.Prelude.{◌≡◌, ◌≢◌, ℕ, zero, suc, ◌+◌, true, false, ◌||◌, List, [], ◌∷◌, ◌++◌, length, drop, Option, None, Some, Result, Ok, Err, is_some}
+use Rattle.std.specs.Prelude.{◌≡◌, ◌≢◌, ℕ, zero, suc, ◌+◌, ◌<◌, true, false, ◌||◌, List, [], ◌∷◌, ◌++◌, length, take, drop, Option, None, Some, Result, Ok, Err, is_some}
 use Rattle.std.proofs.Common.{refl, sym, ap, subst, ◌∙◌, append_assoc, append-nil}
 use Rattle.std.proofs.lemmas.Bool.{false≢true}
 use Rattle.send_model.specs.Refusal.{Refusal, NotConsecutive}
 use Rattle.send_model.specs.Command.{Command, Subvol, Snapshot, End}
-use Rattle.send_model.specs.Spelling.{IsSpellable}
+use Rattle.send_model.specs.Spelling.{IsSpellable, canonical}
 use Rattle.send_model.specs.Reading.{Item, Verdict, Ending, Whole, Faulty, Reading, CommandDue, Front, header_len, with_item, ended, faulty, go_on, stream_version, front_of, reads_from, reads, joined, input_from, input}
 use Rattle.send_model.specs.Store.{Head, head_of, State}
 use Rattle.send_model.specs.Receive.{verdict_of, start_of, first_of}
@@ -13,14 +13,16 @@ use Rattle.send_model.specs.Order.{heads, heads_of, onto_heads, breaks_order, la
 use Rattle.send_model.specs.Composed.{first_head, last_head}
 use Rattle.send_model.specs.Counts.{is_clone}
 use Rattle.send_model.specs.Laws.{CanWrite}
+use Rattle.send_model.specs.Headline.{IsComposed, IsUnfinished}
 use Rattle.send_model.proofs.Sorts.{same_inside}
 use Rattle.send_model.proofs.Fuel.{not_refused, bound}
 use Rattle.send_model.proofs.Writing.{written_so_far}
+use Rattle.send_model.proofs.Composed.{last_there}
 use Rattle.send_model.proofs.Judging.{empty_store}
 use Rattle.composer.specs.Advance.{Composing, blank_step, accepted, with_head, with_command, with_taken, advance}
 use Rattle.composer.specs.Ahead.{IsAhead, then_reading}
 use Rattle.composer.proofs.Progress.{HeadFits, Progress, heads_more, ok_is}
-use Rattle.composer.proofs.Finish.{judged}
+use Rattle.composer.proofs.Finish.{unfinished_end, composed, judged, judged_end, judged_whole, judged_empty}
 
 -- ---- the start, and sending
 
@@ -111,7 +113,8 @@ head_fits (Subvol uuid ctransid path) head e w = subst HeadFits (same_inside e) 
 head_fits (Snapshot uuid ctransid path clone_uuid clone_ctransid) head e w = subst HeadFits (same_inside e) (record { uuid = w.spellable.0; ctransid = w.spellable.1.0; name = w.spellable.1.1.0 })
 head_fits c head e w = cc
 
-no_last_fits : LastFits None
+-- No head at all.
+pub no_last_fits : LastFits None
 no_last_fits l e = cc
 
 -- The last head so far fits after one more command.
@@ -216,6 +219,57 @@ pub judged_ahead : (files : List (List ℕ)) (items : List Item) (item : Item) (
 judged_ahead files items item left next number after now sent refusal is e p last_is no_clone refused =
     let all = ahead_input files items item left next number after is e in
     judged files items item all.0 all.1 now sent refusal all.2 p last_is no_clone refused
+
+-- A fault of reading gives the verdict on the files.
+pub faulty_ahead : (files : List (List ℕ)) (items : List Item) (left : Reading) (verdict : Verdict) (number : ℕ) (after : List (List ℕ)) (now : Composing) (sent : List ℕ)
+    → IsAhead files items left number after → left ≡ record { items = []; end = Faulty verdict } → Progress items now sent → judge empty_store files ≡ Some verdict
+faulty_ahead files items left verdict number after now sent is e p = judged_end files items verdict now sent (ahead_fault files items left verdict number after is e) p
+
+-- Where no part has begun at the end of the last file, the last command gives the verdict.
+pub empty_ahead : (files : List (List ℕ)) (items : List Item) (item : Item) (left : Reading) (number : ℕ) (now : Composing) (sent : List ℕ)
+    → IsAhead files items left number [] → left ≡ ended → Progress items now sent → now.begun ≡ false → last_item items ≡ Some item → judge empty_store files ≡ Some (verdict_of item NotConsecutive)
+empty_ahead files items item left number now sent is e p b last = judged_empty files items item now sent (ahead_whole files items left number is e) p (not_begun items now sent p b) last
+
+-- ---- the end of the last file
+
+-- What is known of the heads where a part has begun and the last head is that of all.
+record HeadsThere (items : List Item) (now : Composing) : Type 0 where
+  first : Head
+  last : Head
+  first_is : first_head (heads items) ≡ Some first
+  last_is : last_head (heads items) ≡ Some last
+  told : now.last ≡ Some last
+
+heads_there : (items : List Item) (now : Composing) (sent : List ℕ) → Progress items now sent → now.begun ≡ true → now.last ≡ last_head (heads items) → HeadsThere items now
+heads_there items now sent p b is = by_heads (heads items) refl (has_begun items now sent p b)
+  where
+    by_heads : (hs : List Head) → heads items ≡ hs → heads items ≢ [] → HeadsThere items now
+    by_heads [] e some = absurd (some e)
+    by_heads (h ∷ hs) e some = let l = last_there h hs in record {
+      first = h;
+      last = l.0;
+      first_is = ap first_head e;
+      last_is = ap last_head e ∙ l.1;
+      told = is ∙ ap last_head e ∙ l.1;
+    }
+
+-- All that is written, with END, is what the files are composed to, and none of their commands is refused.
+pub composed_ahead : (files : List (List ℕ)) (items : List Item) (left : Reading) (number : ℕ) (now : Composing) (sent : List ℕ)
+    → IsAhead files items left number [] → left ≡ ended → Progress items now sent → now.last ≡ last_head (heads (input files).items) → now.begun ≡ true
+    → IsComposed empty_store files ((sent ++ now.pending) ++ canonical 1 End) × (judge empty_store files ≡ None)
+composed_ahead files items left number now sent is e p last_is b =
+    let whole = ahead_whole files items left number is e in
+    let h = heads_there items now sent p b (last_is ∙ last_of_all files items Whole whole) in
+    (composed files items now sent h.last whole p h.last_is h.told, judged_whole files items now sent whole p (has_begun items now sent p b))
+
+-- And none of its proper front parts is read as whole.
+pub unfinished_ahead : (files : List (List ℕ)) (items : List Item) (left : Reading) (number : ℕ) (now : Composing) (sent : List ℕ) (k : ℕ)
+    → IsAhead files items left number [] → left ≡ ended → Progress items now sent → now.last ≡ last_head (heads (input files).items) → now.begun ≡ true
+    → k < length ((sent ++ now.pending) ++ canonical 1 End) → IsUnfinished (take k ((sent ++ now.pending) ++ canonical 1 End))
+unfinished_ahead files items left number now sent k is e p last_is b short =
+    let whole = ahead_whole files items left number is e in
+    let h = heads_there items now sent p b (last_is ∙ last_of_all files items Whole whole) in
+    unfinished_end items now sent h.first h.last k p h.first_is h.told short
 
 -- ---- files that are read as whole hold a command
 
