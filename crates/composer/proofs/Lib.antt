@@ -1,2 +1,3 @@
-mod Progress
+pub mod Progress
 pub mod Finish
+pub mod Loops

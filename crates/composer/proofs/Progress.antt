@@ -1,18 +1,18 @@
 -- Composing keeps what the definitions say of the commands so far.
-use Rattle.std.specs.Prelude.{◌≡◌, ◌≢◌, ◌⊎◌, ℕ, Bool, true, false, not, ◌||◌, List, [], ◌∷◌, ◌++◌, map, Option, None, Some, Result, Ok, Err, is_some, if◌then◌else◌}
+use Rattle.std.specs.Prelude.{◌≡◌, ◌⊎◌, ℕ, Bool, true, false, ◌||◌, List, [], ◌∷◌, ◌++◌, Option, None, Some, Result, Ok, Err, is_some, if◌then◌else◌}
 use Rattle.std.specs.List.{AllByRecursion}
 use Rattle.std.proofs.Common.{refl, sym, ap, ap₂, subst, ◌∙◌, append_assoc, append-nil, inl, inr, ⊎_elim}
-use Rattle.std.proofs.lemmas.Bool.{true≢false, false≢true}
+use Rattle.std.proofs.lemmas.Bool.{true≢false}
 use Rattle.send_model.specs.Refusal.{Refusal, NotConsecutive, NoSubvolume}
-use Rattle.send_model.specs.Chain.{◌>>=◌, ◌>>◌, refuse_if, found}
+use Rattle.send_model.specs.Chain.{◌>>=◌, ◌>>◌, refuse_if}
 use Rattle.send_model.specs.Attribute.{Identifier, Number, Bytes, FieldFits}
 use Rattle.send_model.specs.Command.{Command, End}
 use Rattle.send_model.specs.Spelling.{stream_header, canonical, canonical_all}
-use Rattle.send_model.specs.Reading.{Item, Verdict}
-use Rattle.send_model.specs.Store.{Key, Head, head_of, Store, State, Stepped, step}
+use Rattle.send_model.specs.Reading.{Item}
+use Rattle.send_model.specs.Store.{Key, Head, head_of, State, Stepped}
 use Rattle.send_model.specs.Receive.{bytes_of, byte_cells, verdict_of, start_of, first_of}
 use Rattle.send_model.specs.Order.{heads, heads_of, onto_heads, commands_of, breaks_order, part_after, judge_items}
-use Rattle.send_model.specs.Composed.{first_head, last_head, head_command}
+use Rattle.send_model.specs.Composed.{first_head, head_command}
 use Rattle.send_model.specs.Counts.{is_clone}
 use Rattle.send_model.specs.Laws.{CanWrite}
 use Rattle.send_model.specs.Cells.{recelled_state, recelled_step}
@@ -89,7 +89,7 @@ first_more [] None = refl
 first_more [] (Some h) = refl
 first_more (x ∷ hs) o = refl
 
-heads_more : (items : List Item) (item : Item) → heads (items ++ item ∷ []) ≡ heads items ++ onto_heads (head_of item.command) []
+pub heads_more : (items : List Item) (item : Item) → heads (items ++ item ∷ []) ≡ heads items ++ onto_heads (head_of item.command) []
 unfolding heads_of
 heads_more items item = ap heads_of (commands_more items item) ∙ heads_of-append (commands_of items) (item.command ∷ [])
 
@@ -174,7 +174,7 @@ unfolding canonical_all
 command_fields now state End = record { state_is = refl; previous_is = refl; last_is = refl; begun_is = refl; pending_is = sym (append-nil now.pending) }
 command_fields now state c = record { state_is = refl; previous_is = refl; last_is = refl; begun_is = refl; pending_is = ap (λ (x : List ℕ). now.pending ++ x) (sym (append-nil (canonical 1 c))) }
 
-ok_is : {x y : Composing} → ◌≡◌ {A = Result Composing Refusal} (Ok x) (Ok y) → x ≡ y
+pub ok_is : {x y : Composing} → ◌≡◌ {A = Result Composing Refusal} (Ok x) (Ok y) → x ≡ y
 ok_is {x = x} e = ap (λ r. ok_or r x) e
   where
     ok_or : Result Composing Refusal → Composing → Composing

@@ -1,13 +1,13 @@
 -- What composing keeps between two commands, and what one command does to it. A file's contents are its size, so its cells
 -- carry nothing.
-use Rattle.std.specs.Prelude.{ℕ, Bool, true, false, List, [], ◌∷◌, ◌++◌, map, Option, None, Some, Result, Ok, Err, if◌then◌else◌}
+use Rattle.std.specs.Prelude.{ℕ, Bool, true, List, ◌++◌, map, Option, None, Some, Result, Ok, Err, if◌then◌else◌}
 use Rattle.send_model.specs.Refusal.{Refusal, NotConsecutive}
 use Rattle.send_model.specs.Chain.{◌>>=◌, ◌>>◌, refuse_if}
 use Rattle.send_model.specs.Command.{Command, End}
 use Rattle.send_model.specs.Spelling.{stream_header, canonical}
-use Rattle.send_model.specs.Store.{Key, Head, head_of, Store, State, Stepped, step}
+use Rattle.send_model.specs.Store.{Key, Head, head_of, State, Stepped, step}
 use Rattle.send_model.specs.Receive.{bytes_of}
-use Rattle.send_model.specs.Order.{breaks_order, part_after}
+use Rattle.send_model.specs.Order.{breaks_order}
 use Rattle.send_model.specs.Composed.{head_command}
 
 -- The store and the part so far, the part that the next head has to follow, the last head of all, whether the stream has
