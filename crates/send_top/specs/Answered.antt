@@ -32,9 +32,8 @@ answer_of (made.Ended outcome) = outcome_of outcome
 abbrev pub is_status : ℕ → Bool
 is_status status = list_any (λ n. n == status) (0 ∷ 1 ∷ 2 ∷ 3 ∷ 4 ∷ 7 ∷ 11 ∷ [])
 
--- A status that stands for an answer, and what the notes got of it: its whole note, or a proper prefix where their count of
--- faults rose.
-pub record IsNoted (old new : Option (List ℕ)) (before now : ℕ) (status : ℕ) : Type 0 where
-  pub answer : meant.Answer
+-- What a run gave of an answer: its exit status, and in the notes its whole note, or a proper prefix of it where their count
+-- of faults rose.
+pub record IsGiven (answer : meant.Answer) (old new : Option (List ℕ)) (before now : ℕ) (status : ℕ) : Type 0 where
   pub status_is : status ≡ meant.status_of answer
   pub note : Appends old new (meant.note_of answer) ⊎ AppendsPart old new (meant.note_of answer) × Rose before now

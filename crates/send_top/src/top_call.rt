@@ -1,8 +1,9 @@
 // What a run does with its words.
 ghost use Rattle.std.specs.Prelude.{◌≡◌, ◌↔◌, IsTrue, map, None};
 ghost use Rattle.std.specs.String.{string_bytes};
+ghost use Rattle.send_model.specs.Answer as meant;
 ghost use Rattle.send_model.specs.Answer.{Usage, request};
-ghost use Rattle.send_top.specs.Answered.{IsNoted, answer_of, is_status};
+ghost use Rattle.send_top.specs.Answered.{IsGiven, answer_of, is_status};
 
 use crate::composing_stub::compose;
 use crate::noting::{Answer, status, write_note};
@@ -24,7 +25,7 @@ pub fn run<I: Inputs, O: Sink, N: Sink>(
     ensures untouched { result ≡ 2 → (inputs.new ≡ inputs.old) × (out.new ≡ out.old) }
     ensures statuses { IsTrue (is_status result) }
     ensures quiet { result ≡ 0 → notes.new ≡ notes.old }
-    ensures noted { IsNoted (N.taken notes.old) (N.taken notes.new) (N.faults notes.old) (N.faults notes.new) result }
+    ensures noted { (answer : meant.Answer) × IsGiven answer (N.taken notes.old) (N.taken notes.new) (N.faults notes.old) (N.faults notes.new) result }
 {
     let answer = answer_to(alloc, words, inputs, out);
     let _ = write_note(&answer, notes);
