@@ -1,7 +1,6 @@
 -- The lengths of the parts of a note.
-use Rattle.std.proofs.Common.{◌≡◌, refl, ℕ, ◌≤◌, length, arith}
+use Rattle.std.proofs.Common.{◌≤◌, length, arith}
 use Rattle.send_model.specs.Refusal as meant
-use Rattle.sx_base.specs.declared.refusal.Refusal.{Refusal}
 use Rattle.send_model.specs.Refusal.{refusal_name}
 
 -- A refusal's name has at most sixteen letters.

@@ -1,6 +1,6 @@
-use Rattle.std.proofs.Common.{sym, ◌∙◌, ap, subst, IsTrue}
+use Rattle.std.proofs.Common.{sym, ◌∙◌, ap}
 use Rattle.send_model.specs.Answer.{status_of}
-use Rattle.send_top.specs.Answered.{answer_of, is_status}
+use Rattle.send_top.specs.Answered.{answer_of}
 use Rattle.send_top.proofs.Statuses.{status_is_listed, usage-of_two, two-of_usage, done-of_zero}
 use Rattle.send_top.proofs.top_call.run.Goals as goal
 
