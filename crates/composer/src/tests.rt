@@ -1,0 +1,1 @@
+// A chain that is composed, and what is refused.
