@@ -3,13 +3,12 @@ use Rattle.std.specs.Prelude.{◌≡◌, ℕ, List, ◌++◌, Option, None, Some
 use Rattle.std.proofs.Common.{refl, sym, ap, ◌∙◌}
 use Rattle.send_model.specs.Refusal as meant
 use Rattle.send_model.specs.Chain.{◌>>=◌, ◌>>◌, refuse_if}
-use Rattle.send_model.specs.Command.{Command, End}
+use Rattle.send_model.specs.Command.{Command}
 use Rattle.send_model.specs.Spelling.{canonical}
 use Rattle.send_model.specs.Store.{Head, head_of, State, Stepped}
 use Rattle.send_model.specs.Order.{breaks_order}
 use Rattle.sx_base.specs.declared.stop.Stop.{Stop}
 use Rattle.sx_base.specs.declared.stop.Stop.TheVariants as stop
-use Rattle.sx_base.specs.Refusals.{refusal_of}
 use Rattle.send_commands.specs.declared.command.Command as code
 use Rattle.send_commands.specs.declared.command.Command.TheVariants as made
 use Rattle.send_commands.specs.Meaning.{meaning_of}

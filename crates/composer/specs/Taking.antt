@@ -1,10 +1,8 @@
 -- What composing answers to a command, by what composing keeps. And the code's values as those of the definitions.
-use Rattle.std.specs.Prelude.{◌≡◌, ℕ, ◌<◌, ◌^◌, Bool, List, ◌++◌, length, if◌then◌else◌, Option, None, Some, Result, Ok, Err}
+use Rattle.std.specs.Prelude.{◌≡◌, ℕ, ◌<◌, ◌^◌, List, length, Some, Result, Ok, Err}
 use Rattle.send_model.specs.Refusal as meant
 use Rattle.send_model.specs.Refusal.{NotConsecutive}
 use Rattle.send_model.specs.Chain.{◌>>◌, refuse_if}
-use Rattle.send_model.specs.Spelling.{stream_header, canonical}
-use Rattle.send_model.specs.Composed.{head_command}
 use Rattle.send_model.specs.Store as store
 use Rattle.send_model.specs.Order.{breaks_order}
 use Rattle.sx_base.specs.declared.stop.Stop.{Stop}
@@ -22,13 +20,6 @@ Takes (Err stop.NoMemory) old new said = Unit {0}
 -- A head whose part has begun: its order, and what it adds.
 abbrev pub after_head : Composing → store.Head → Result Composing meant.Refusal
 after_head now head = refuse_if (breaks_order now.previous (Some head)) NotConsecutive >> with_head now now.state head now.last
-
--- The first head begins the stream in the last one's name, where that is known.
-abbrev pub Begins : {A : Type 0} → Result A Stop → Bool → Option store.Head → Option store.Key → List ℕ → List ℕ → Type 0
-Begins (Ok _) begun None parent old new = ⊥
-Begins (Ok _) begun (Some last) parent old new = new ≡ (if begun then old else old ++ (stream_header 1 ++ canonical 1 (head_command last.name last.key parent)))
-Begins (Err (stop.Refused refusal)) begun last parent old new = (last ≡ None) × (refusal_of refusal ≡ NotConsecutive) × (new ≡ old)
-Begins (Err stop.NoMemory) begun last parent old new = Unit {0}
 
 -- A name fits the length field of an attribute.
 abbrev pub IsShort : List ℕ → Type 0

@@ -9,7 +9,7 @@ ghost use Rattle.send_commands.specs.Meaning.{meaning_of};
 ghost use Rattle.send_commands.specs.Writing.{IsWritable};
 ghost use Rattle.clone_resolve.specs.Entries.{key_of, head_with};
 ghost use Rattle.composer.specs.Advance.{advance};
-ghost use Rattle.composer.specs.Taking.{Begins, Takes, after_head};
+ghost use Rattle.composer.specs.Taking.{Takes, after_head};
 
 use crate::part_head::PartHead;
 use clone_resolve::{EditCore, Key, Part};
@@ -112,7 +112,12 @@ impl Composer {
         if !follows(&self.previous, &parent) {
             return Err(Stop::Refused(Refusal::NotConsecutive));
         }
-        begin_once(self.begun, &self.last, parent, &mut self.pending)?;
+        let Some(last) = &self.last else {
+            return Err(Stop::Refused(Refusal::NotConsecutive));
+        };
+        if !self.begun {
+            last.begin_stream(parent, &mut self.pending)?;
+        }
         self.begun = true;
         self.previous = Some(key);
         Ok(())
@@ -142,24 +147,6 @@ impl Composer {
     {
         encode(&Command::End, 1, &mut self.pending)
     }
-}
-
-// Begins the stream, if it has not begun, in the last part's name, which has to be known.
-fn begin_once(
-    begun: bool,
-    last: &Option<PartHead>,
-    parent: Option<Key>,
-    pending: &mut Blob,
-) -> Result<(), Stop>
-    ensures begun { Begins result begun last.now (option_map key_of parent) pending.old pending.new }
-{
-    let Some(last) = last else {
-        return Err(Stop::Refused(Refusal::NotConsecutive));
-    };
-    if !begun {
-        last.begin_stream(parent, pending)?;
-    }
-    Ok(())
 }
 
 // Whether a head with this parent follows the part before it.

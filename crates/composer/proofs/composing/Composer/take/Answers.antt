@@ -1,16 +1,12 @@
-use Rattle.std.proofs.Common.{◌≡◌, ℕ, List, ◌++◌, Ok, None, Some, refl, sym, ap, ◌∙◌}
+use Rattle.std.proofs.Common.{Ok, sym, ap, ◌∙◌}
 use Rattle.std.proofs.lemmas.Result.{err_from_is_err_and}
-use Rattle.std.specs.Option.{option_map}
-use Rattle.send_model.specs.Command as meant
-use Rattle.send_model.specs.Spelling.{canonical}
 use Rattle.send_model.specs.Store.{State, head_of}
 use Rattle.send_commands.specs.declared.command.Command as code
 use Rattle.send_commands.specs.Meaning.{meaning_of}
-use Rattle.clone_resolve.specs.Entries.{key_of}
 use Rattle.clone_resolve.specs.Flat.{Blank}
 use Rattle.clone_resolve.specs.declared.done.Done.{Done}
 use Rattle.composer.specs.Advance.{Composing, with_taken}
-use Rattle.composer.proofs.Advancing.{moved, goes_on, stops, at_head, adds_itself}
+use Rattle.composer.proofs.Advancing.{goes_on, stops, at_head, adds_itself}
 use Rattle.composer.proofs.composing.Composer.take.Goals as goal
 use Rattle.composer.specs.contracts.composing.Composer.{the_view}
 
@@ -39,6 +35,8 @@ pub returns-in_ok-encode-in_default : goal.returns-in_ok-encode-in_default
 returns-in_ok-encode-in_default c =
     let now : Composing = the_view c.self.inside in
     let after : State Blank = record { store = c.step.new.self; part = c.step.new.part } in
-    rw (← c.self.view_is) (record { taken = goes_on now after (meaning_of c.args.c.now) c.in_ok-step.ensures.stepped
-    ∙ adds_itself now after c.args.c.now c.in_default.not-Subvol c.in_default.not-Snapshot c.in_default.not-End
-    ∙ (λ i. Ok (record now { state = after; pending = sym c.in_ok-encode-in_default.ensures.appended i })) })
+    rw (← c.self.view_is) (record {
+      taken = goes_on now after (meaning_of c.args.c.now) c.in_ok-step.ensures.stepped
+          ∙ adds_itself now after c.args.c.now c.in_default.not-Subvol c.in_default.not-Snapshot c.in_default.not-End
+          ∙ (λ i. Ok (record now { state = after; pending = sym c.in_ok-encode-in_default.ensures.appended i }));
+    })

@@ -1,10 +1,7 @@
-use Rattle.std.proofs.Common.{◌≡◌, ℕ, ◌++◌, List, sym, ap, append_assoc, ◌∙◌}
+use Rattle.std.proofs.Common.{◌≡◌, ℕ, ◌++◌, List, ap, append_assoc, ◌∙◌}
 use Rattle.std.proofs.lemmas.Result.{on_ok_weaker}
-use Rattle.std.specs.Option.{option_map}
 use Rattle.send_model.specs.Command.{Command}
 use Rattle.send_model.specs.Spelling.{stream_header, canonical}
-use Rattle.send_model.specs.Composed.{head_command}
-use Rattle.clone_resolve.specs.Entries.{key_of}
 use Rattle.composer.proofs.part_head.PartHead.begin_stream.Goals as goal
 
 begins : (old mid new : List ℕ) (made said : Command) → new ≡ mid ++ canonical 1 made → mid ≡ old ++ stream_header 1 → made ≡ said → new ≡ old ++ (stream_header 1 ++ canonical 1 said)
