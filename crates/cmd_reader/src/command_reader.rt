@@ -30,7 +30,7 @@ pub struct CmdReader {
 }
 
 impl Model for CmdReader {
-    ghost use Rattle.std.specs.Str.{string_bytes};
+    ghost use Rattle.std.specs.String.{string_bytes};
     ghost use Rattle.cmd_reader.specs.Left.{Reader, due_of, IsReader};
 
     ghost Value = { Reader };

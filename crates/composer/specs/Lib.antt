@@ -1,2 +1,3 @@
 pub mod Advance
 pub mod Ahead
+pub mod Taking

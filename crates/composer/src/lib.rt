@@ -1,2 +1,10 @@
 //! Composing consecutive parts into one stream.
 #![tactic(auto)]
+
+mod composing;
+mod part_head;
+#[cfg(test)]
+mod tests;
+
+pub use composing::Composer;
+pub use part_head::PartHead;
