@@ -3,3 +3,4 @@ mod Headers
 mod Lefts
 mod CommandFacts
 mod FrontFacts
+mod Goings
