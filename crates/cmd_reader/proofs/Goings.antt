@@ -63,7 +63,7 @@ pub begin_some : (told : Option (List (List ℕ × List ℕ))) (r new : Reader) 
 begin_some told r new name at may_end before now version o some due n a m known new_is p =
     let Q : Reader → Type 0 = λ x. HasBegun r x version × IfTold told r.name (BeginsAt r x) in
     let there = subst (λ (x : Option ℕ). IfTold told r.name (HeaderIs r.offset (nat_lt 1 r.number) x)) some (reads_at told r name at may_end before now (Ok o) n a m p) in
-    subst Q (sym new_is) (record { due = refl; known = known; file = refl; name = refl; number = refl }, begin_some_at told r version due there)
+    subst Q (sym new_is) (record { due = refl; later = omega (arith); known = known; file = refl; name = refl; number = refl }, begin_some_at told r version due there)
 
 -- ---- the command
 

@@ -1,5 +1,5 @@
 -- What a reader gives at a call: the next command, the end, or the reason why there is none.
-use Rattle.std.specs.Prelude.{◌≡◌, ℕ, ◌+◌, ◌^◌, ◌≤◌, true, List, [], length, drop, Option, None, Some, Result, Ok, Err, ⊤}
+use Rattle.std.specs.Prelude.{◌≡◌, ℕ, ◌+◌, ◌^◌, ◌<◌, ◌≤◌, true, List, [], length, drop, Option, None, Some, Result, Ok, Err, ⊤}
 use Rattle.send_model.specs.Refusal as meant
 use Rattle.send_model.specs.Command.{row, kind_of}
 use Rattle.send_model.specs.Receive.{bytes_of}
@@ -58,6 +58,7 @@ pub record FrontFits (at : ℕ) (front : Front) : Type 0 where
 -- What begins: the version is known, and nothing but the place and what is due has changed.
 pub record HasBegun (old new : Reader) (version : ℕ) : Type 0 where
   pub due : new.due ≡ CommandDue version
+  pub later : old.offset ≤ new.offset
   pub known : is_version version ≡ true
   pub file : new.file ≡ old.file
   pub name : new.name ≡ old.name
@@ -96,6 +97,8 @@ NextSays told old new before now (Err stop.InputTooLong) = IsTooLong told old.na
 pub record ItemFits (old new : Reader) (item : Item) : Type 0 where
   pub number : item.number ≡ old.number
   pub next_number : new.number ≡ old.number + 1
+  pub further : old.offset < new.offset
+  pub within : new.offset ≤ limit
   pub version : is_version item.version ≡ true
   pub writable : IsWritable (meaning_of item.command)
   pub can_write : CanWrite (meaning_of item.command)
