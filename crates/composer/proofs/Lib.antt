@@ -1,5 +1,5 @@
 pub mod Progress
 pub mod Finish
 pub mod Loops
-mod Progress
 pub mod Advancing
+pub mod Takes

@@ -123,6 +123,13 @@ impl Composer {
         Ok(())
     }
 
+    /// Whether the stream has begun.
+    pub fn has_begun(&self) -> bool
+        ensures begun { result ≡ self.now.begun }
+    {
+        self.begun
+    }
+
     /// The bytes that were added and not yet sent.
     pub fn pending(&self) -> &[u8]
         ensures bytes { result.now ≡ self.now.pending }
