@@ -77,7 +77,6 @@ placed kind (a ∷ rest) place e = placed_on (a.kind == kind) a.bytes (value_of 
     placed_on false own value None t place more q = cc
     placed_on false own value (Some p) t place more q = let is = inside q in let m = more p refl in omega (arith, is, m)
 
-
 -- The place of an attribute lies in the body.
 pub place_in_body : (version : ℕ) (body : List ℕ) (attributes : List Attribute) (place : ℕ) → attributes_at version body ≡ Ok attributes → place_of DATA attributes ≡ Some place → place ≤ length body
 unfolding attributes_at Within

@@ -42,9 +42,11 @@ no_command_in k version number at bytes frame refusal e refused = rw e (by_attri
     by_command : (attributes : List Attribute) (c : Result model.Command meant.Refusal) → c ≡ Err refusal → (c >>= λ command. Ok (item_with k version number at frame attributes command)) ≡ Err refusal
     by_command attributes (Ok command) q = cc
     by_command attributes (Err r) q = cc
+
     by_taken : (attributes : List Attribute) (t : Result (Unit {0}) meant.Refusal) (c : Result model.Command meant.Refusal) → (t >> c) ≡ Err refusal → (t >> (c >>= λ command. Ok (item_with k version number at frame attributes command))) ≡ Err refusal
     by_taken attributes (Ok u) c q = by_command attributes c q
     by_taken attributes (Err r) c q = cc
+
     by_attributes : (a : Result (List Attribute) meant.Refusal) → (a >>= λ attributes. taken version frame.number >> command_of version frame.number attributes) ≡ Err refusal
         → (a >>= λ attributes. taken version frame.number >> (command_of version frame.number attributes >>= λ command. Ok (item_with k version number at frame attributes command))) ≡ Err refusal
     by_attributes (Ok attributes) q = by_taken attributes (taken version frame.number) (command_of version frame.number attributes) q
@@ -112,7 +114,7 @@ front_there (Some files) name at version head body command data_at h b p =
     record {
       within = whole at head.len (length file) (length (drop at file)) (length (drop (at + 10) file)) long len (length-drop at file) (length-drop (at + 10) file);
       reads = λ k number. subst (λ (d : ℕ). front_of k version number at (drop at file) ≡ Ok (record { item = record { file = k; number = number; offset = at; version = version; data_at = d; command = meaning_of command }; rest = drop (at + 10 + head.len) file })) (sym p.place)
-        (command_there k version number at (drop at file) frame p.attributes (meaning_of command) (frame_behind at head file h ∙ b) p.read p.taken_kind p.command_is);
+          (command_there k version number at (drop at file) frame p.attributes (meaning_of command) (frame_behind at head file h ∙ b) p.read p.taken_kind p.command_is);
     }
   where
     whole : (at len n d e : ℕ) → 10 ≤ d → len ≤ e → d ≡ n - at → e ≡ n - (at + 10) → at + 10 + len ≤ n

@@ -21,7 +21,6 @@ use Rattle.cmd_reader.specs.Left.{Reader, due_of, is_header_due, may_end_here, l
 use Rattle.cmd_reader.specs.Next.{item_of, verdict_meant, FrontIs, ReadsFront, FrontFits, HasBegun, BeginsAt, Begins, IsNext, NextSays, StopAt}
 use Rattle.cmd_reader.proofs.Lefts.{left_ended, left_header, left_no_header, left_command, left_no_command}
 
-
 -- ---- the header
 
 may_end_is : (r : Reader) → r.due ≡ HeaderDue → may_end_here r ≡ nat_lt 1 r.number

@@ -73,7 +73,14 @@ impl CmdReader {
             Ok(None) => return Ok(None),
             Err(fault) => return Err(self.stop_of(fault)),
         };
-        let front = match read_front(self.alloc, inputs, self.name.as_str(), self.offset, version, &mut self.body) {
+        let front = match read_front(
+            self.alloc,
+            inputs,
+            self.name.as_str(),
+            self.offset,
+            version,
+            &mut self.body,
+        ) {
             Ok(front) => front,
             Err(fault) => return Err(self.stop_of(fault)),
         };

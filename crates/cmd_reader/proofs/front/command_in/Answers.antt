@@ -21,8 +21,9 @@ returns-in-Ok-decode-clause-fits c =
     let attributes = there.0 in
     let command : command_of c.args.version c.args.cmd attributes ≡ Ok (meaning_of c.in-Ok-decode.command) = ap (λ (v : ℕ). command_of v c.args.cmd attributes) (sym c.in-Ok.ensures.kept) ∙ c.in-Ok-decode.ensures.exact attributes there.2 in
     let place : c.match-place.data_at ≡ data_place c.args.at attributes = (elim c.match-place.branch [
-        in-Some w ↦ w.data_at-is ∙ sym (data_at_some c.args.at attributes w.in-Some.place (sym (there.2.places DATA) ∙ sym c.place.ensures.place ∙ w.in-Some.is))
-        | in-None w ↦ w.data_at-is ∙ sym (data_at_none c.args.at attributes (sym (there.2.places DATA) ∙ sym c.place.ensures.place ∙ w.in-None.is)) ]) in
+      | in-Some w ↦ w.data_at-is ∙ sym (data_at_some c.args.at attributes w.in-Some.place (sym (there.2.places DATA) ∙ sym c.place.ensures.place ∙ w.in-Some.is))
+      | in-None w ↦ w.data_at-is ∙ sym (data_at_none c.args.at attributes (sym (there.2.places DATA) ∙ sym c.place.ensures.place ∙ w.in-None.is))
+    ]) in
     let within = data_place_within c.args.at c.args.version c.args.cmd c.args.body.now attributes (meaning_of c.in-Ok-decode.command) there.1 command in
     record {
       writable = c.in-Ok-decode.ensures.writable;

@@ -1,3 +1,0 @@
-pub mod Hexadecimal
-pub mod Notes
-pub mod Statuses
