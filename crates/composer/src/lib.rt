@@ -5,6 +5,8 @@ mod composing;
 mod part_head;
 #[cfg(test)]
 mod tests;
+mod whole;
 
 pub use composing::Composer;
 pub use part_head::PartHead;
+pub use whole::compose;

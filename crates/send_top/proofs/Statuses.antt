@@ -1,0 +1,47 @@
+-- What a status says of its answer.
+use Rattle.std.proofs.Common.{◌≡◌, refl, ap, [], IsTrue, arith}
+use Rattle.send_model.specs.Answer.{Answer, Done, Refused, Usage, InputFault, OutputFault, NoMemory, InputTooLong, status_of, note_of}
+use Rattle.send_top.specs.Answered.{is_status}
+
+pub status_is_listed : (answer : Answer) → IsTrue (is_status (status_of answer))
+unfolding status_of
+status_is_listed Done = refl
+status_is_listed (Refused verdict) = refl
+status_is_listed Usage = refl
+status_is_listed InputFault = refl
+status_is_listed OutputFault = refl
+status_is_listed NoMemory = refl
+status_is_listed (InputTooLong file) = refl
+
+pub usage-of_two : (answer : Answer) → status_of answer ≡ 2 → answer ≡ Usage
+unfolding status_of
+usage-of_two Done e = absurd (omega arith)
+usage-of_two (Refused verdict) e = absurd (omega arith)
+usage-of_two Usage e = refl
+usage-of_two InputFault e = absurd (omega arith)
+usage-of_two OutputFault e = absurd (omega arith)
+usage-of_two NoMemory e = absurd (omega arith)
+usage-of_two (InputTooLong file) e = absurd (omega arith)
+
+pub two-of_usage : status_of Usage ≡ 2
+unfolding status_of
+two-of_usage = refl
+
+pub done-of_zero : (answer : Answer) → status_of answer ≡ 0 → answer ≡ Done
+unfolding status_of
+done-of_zero Done e = refl
+done-of_zero (Refused verdict) e = absurd (omega arith)
+done-of_zero Usage e = absurd (omega arith)
+done-of_zero InputFault e = absurd (omega arith)
+done-of_zero OutputFault e = absurd (omega arith)
+done-of_zero NoMemory e = absurd (omega arith)
+done-of_zero (InputTooLong file) e = absurd (omega arith)
+
+pub zero-of_done : (answer : Answer) → answer ≡ Done → status_of answer ≡ 0
+unfolding status_of
+zero-of_done answer e = ap status_of e
+
+-- Nothing is written where all was done.
+pub no_note : (answer : Answer) → status_of answer ≡ 0 → note_of answer ≡ []
+unfolding note_of
+no_note answer e = ap note_of (done-of_zero answer e)

@@ -1,0 +1,39 @@
+-- The code's answers as those of the definitions, and what is written of them.
+use Rattle.std.specs.Prelude.{◌≡◌, ◌⊎◌, ℕ, ◌==◌, Bool, List, [], ◌∷◌, Option}
+use Rattle.std.specs.List.{list_any}
+use Rattle.std.specs.Io.KnownBytes.{Appends}
+use Rattle.send_model.specs.Answer as meant
+use Rattle.send_model.specs.Reading as reading
+use Rattle.sx_base.specs.Causes.{Rose}
+use Rattle.sx_base.specs.Outside.{AppendsPart}
+use Rattle.sx_base.specs.Refusals.{refusal_of}
+use Rattle.sx_base.specs.declared.outcome.Verdict.{Verdict}
+use Rattle.sx_base.specs.declared.outcome.Outcome.{Outcome}
+use Rattle.sx_base.specs.declared.outcome.Outcome.TheVariants as ended
+use Rattle.send_top.specs.declared.noting.Answer.{Answer}
+use Rattle.send_top.specs.declared.noting.Answer.TheVariants as made
+
+abbrev pub verdict_of : Verdict → reading.Verdict
+verdict_of v = record { file = v.file; command = v.command; offset = v.offset; refusal = refusal_of v.refusal }
+
+abbrev pub outcome_of : Outcome → meant.Answer
+outcome_of ended.Done = meant.Done
+outcome_of (ended.Refused verdict) = meant.Refused (verdict_of verdict)
+outcome_of ended.InputFault = meant.InputFault
+outcome_of ended.OutputFault = meant.OutputFault
+outcome_of ended.NoMemory = meant.NoMemory
+outcome_of (ended.InputTooLong file) = meant.InputTooLong file
+
+abbrev pub answer_of : Answer → meant.Answer
+answer_of made.Usage = meant.Usage
+answer_of (made.Ended outcome) = outcome_of outcome
+
+-- The exit statuses.
+abbrev pub is_status : ℕ → Bool
+is_status status = list_any (λ n. n == status) (0 ∷ 1 ∷ 2 ∷ 3 ∷ 4 ∷ 7 ∷ 11 ∷ [])
+
+-- What a run gave of an answer: its exit status, and in the notes its whole note, or a proper prefix of it where their count
+-- of faults rose.
+pub record IsGiven (answer : meant.Answer) (old new : Option (List ℕ)) (before now : ℕ) (status : ℕ) : Type 0 where
+  pub status_is : status ≡ meant.status_of answer
+  pub note : Appends old new (meant.note_of answer) ⊎ AppendsPart old new (meant.note_of answer) × Rose before now

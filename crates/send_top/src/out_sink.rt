@@ -1,0 +1,36 @@
+// Standard output and standard error as places that take bytes.
+ghost use Rattle.std.specs.Prelude.{None};
+
+use std::io::Write;
+use sx_base::{Failed, Sink};
+
+/// A stream of the system that takes bytes, as standard output. It tells nothing of them. Each `Failed` raises its count
+/// of faults, which ends at the greatest u64.
+#[derive(Drop)]
+pub struct OutSink<W> {
+    stream: W,
+    faults: u64,
+}
+
+impl<W: Write> OutSink<W> {
+    /// The stream, with no fault counted yet. Takes no memory.
+    pub fn new(stream: W) -> OutSink<W> {
+        OutSink { stream, faults: 0 }
+    }
+}
+
+impl<W: Write> Sink for OutSink<W> {
+    ghost taken = { λ _. None };
+
+    ghost faults = { λ s. s.faults };
+
+    fn write(&mut self, piece: &[u8]) -> Result<usize, Failed> {
+        match self.stream.write(piece) {
+            Ok(count) if 0 < count || piece.is_empty() => Ok(count),
+            _ => {
+                self.faults = self.faults.saturating_add(1);
+                Err(Failed)
+            }
+        }
+    }
+}
