@@ -6,8 +6,6 @@ mod part_head;
 #[cfg(test)]
 mod tests;
 mod whole;
-#[cfg(test)]
-mod whole_tests;
 
 pub use composing::Composer;
 pub use part_head::PartHead;
