@@ -1,13 +1,12 @@
 -- Attributes that were spelled are read back, in their order.
-use Rattle.std.specs.Prelude.{◌≡◌, ℕ, zero, suc, ◌+◌, ◌-◌, ◌^◌, ◌<◌, ◌≤◌, Bool, true, false, not, ◌&&◌, ◌||◌, List, [], ◌∷◌, ◌++◌, length, take, drop, Option, None, Some, Result, Ok, Err, nat_le, nat_lt, ◌==◌, if◌then◌else◌}
-use Rattle.std.specs.List.{AllByRecursion, list_any}
-use Rattle.std.specs.Int.{w16, to_le_bytes, from_le_bytes}
-use Rattle.std.proofs.Common.{refl, sym, ap, subst, ◌∙◌, arith, length-append, le-leb, lt-ltb, eq-eqb, eqb-true, drop-drop, le_refl}
+use Rattle.std.specs.Prelude.{◌≡◌, ℕ, zero, suc, ◌+◌, ◌-◌, ◌^◌, ◌<◌, ◌≤◌, Bool, true, false, List, [], ◌∷◌, ◌++◌, length, take, drop, None, Some, Ok, nat_le, nat_lt, ◌==◌, if◌then◌else◌}
+use Rattle.std.specs.List.{AllByRecursion}
+use Rattle.std.specs.Int.{w16, to_le_bytes}
+use Rattle.std.proofs.Common.{refl, sym, ◌∙◌, arith, length-append, le-leb, lt-ltb, eq-eqb, eqb-true, drop-drop, le_refl}
 use Rattle.std.proofs.Math.Seq.{take-append_seam, drop-append_seam}
 use Rattle.std.proofs.lemmas.Bool.{false_from_ne_true, true≢false}
 use Rattle.std.proofs.lemmas.Nat.{from_le_bytes-to_le_bytes_2}
 use Rattle.send_model.specs.Attribute.{is_one_of, last_attribute}
-use Rattle.send_model.specs.Chain.{◌>>=◌}
 use Rattle.send_model.specs.Spelling.{Attribute, attribute_bytes, body_of, value_of, IsAttribute, AreAttributes}
 use Rattle.send_model.specs.Reading.{number16, attribute_len, attribute_lawful, attributes_from, attributes_at}
 

@@ -1,15 +1,13 @@
 -- The canonical spelling of a command is one lawful frame, and is read back as that command, whatever follows it.
-use Rattle.std.specs.Prelude.{◌≡◌, ℕ, zero, suc, ◌+◌, ◌-◌, ◌*◌, ◌/◌, ◌%◌, ◌^◌, ◌<◌, ◌≤◌, Bool, true, false, List, [], ◌∷◌, ◌++◌, length, take, drop, Option, None, Some, Result, Ok, Err}
-use Rattle.std.specs.List.{AllByRecursion, flat_map}
+use Rattle.std.specs.Prelude.{◌≡◌, ℕ, zero, suc, ◌+◌, ◌%◌, ◌^◌, ◌<◌, ◌≤◌, List, [], ◌∷◌, ◌++◌, length, Some, Ok}
+use Rattle.std.specs.List.{AllByRecursion}
 use Rattle.std.specs.Int.{w16, w32, w64, to_le_bytes}
-use Rattle.std.proofs.Common.{refl, sym, ap, subst, ◌∙◌, arith, length-append, le_trans, lit<, lit≤, get_or, zero-le}
+use Rattle.std.proofs.Common.{refl, ap, ◌∙◌, arith, length-append, le_trans, lit<, lit≤, get_or, zero-le}
 use Rattle.std.proofs.Math.Nat.{mod-lt}
-use Rattle.send_model.specs.Checksum.{crc_of}
-use Rattle.send_model.specs.Chain.{◌>>=◌, ◌>>◌}
-use Rattle.send_model.specs.Attribute.{Time, Field, Identifier, Number, Moment, Bytes, field_bytes, FieldFits, IsBytes, last_attribute, second}
-use Rattle.send_model.specs.Command.{Kind, Command, Subvol, Snapshot, MkFile, MkDir, MkNod, MkFifo, MkSock, Symlink, Rename, Link, Unlink, Rmdir, SetXattr, RemoveXattr, Write, Clone, Truncate, Chmod, Chown, Utimes, End, UpdateExtent, row, kind_of, fields_of}
-use Rattle.send_model.specs.Spelling.{Attribute, attribute_bytes, body_of, value_of, IsAttribute, AreAttributes, frame_of, frame_checksum, greatest_body, with_fields, attributes_of, IsSpellable, Spells, canonical}
-use Rattle.send_model.specs.Reading.{Item, Frame, frame_at, attributes_at, command_of, taken, Front, front_of, data_place}
+use Rattle.send_model.specs.Attribute.{Field, Identifier, Number, Moment, Bytes, field_bytes, FieldFits, IsBytes}
+use Rattle.send_model.specs.Command.{Command, Subvol, Snapshot, MkFile, MkDir, MkNod, MkFifo, MkSock, Symlink, Rename, Link, Unlink, Rmdir, SetXattr, RemoveXattr, Write, Clone, Truncate, Chmod, Chown, Utimes, End, UpdateExtent, row, kind_of, fields_of}
+use Rattle.send_model.specs.Spelling.{Attribute, attribute_bytes, body_of, value_of, IsAttribute, AreAttributes, frame_checksum, greatest_body, with_fields, attributes_of, IsSpellable, Spells, canonical}
+use Rattle.send_model.specs.Reading.{frame_at, taken, front_of, data_place}
 use Rattle.send_model.proofs.ChecksumLaws.{crc_of-below}
 use Rattle.send_model.proofs.Frames.{frame_read_back}
 use Rattle.send_model.proofs.Attributes.{attributes_read_back}

@@ -1,22 +1,21 @@
 -- Edits, clones and steps move cells and never look at them: over other cells they are refused alike, and lead to the same
 -- subvolumes with those cells in them.
-use Rattle.std.specs.Prelude.{◌≡◌, ℕ, zero, suc, ◌+◌, ◌-◌, ◌%◌, Bool, true, false, cond, not, ◌&&◌, ◌||◌, List, [], ◌∷◌, ◌++◌, map, length, take, drop, Option, None, Some, Result, Ok, Err, ◌==◌, nat_le, nat_lt, is_some, is_none, if◌then◌else◌}
+use Rattle.std.specs.Prelude.{◌≡◌, ℕ, ◌+◌, Bool, true, false, not, ◌&&◌, ◌||◌, List, [], map, length, Option, None, Some, Result, Ok, Err, ◌==◌, nat_le, is_some, if◌then◌else◌}
 use Rattle.std.specs.Ordering.{nat_cmp}
 use Rattle.std.specs.Option.{option_map}
 use Rattle.std.specs.List.{list_any}
-use Rattle.std.proofs.Common.{refl, sym, ap, ap₂, subst, ◌∙◌}
-use Rattle.std.proofs.lemmas.List.{take-map, drop-map, map-append, length-map}
-use Rattle.send_model.specs.Refusal.{Refusal, NotDirectory, NoEntry, BadPath, EntryThere, NoNumber, BadDevice, IsDirectory, NotEmpty, IntoItself, BadXattr, NoXattr, NotFile, FileTooBig}
+use Rattle.std.proofs.Common.{refl, sym, ap, ap₂, ◌∙◌}
+use Rattle.std.proofs.lemmas.List.{length-map}
+use Rattle.send_model.specs.Refusal.{Refusal, NotDirectory, NoEntry, BadDevice, IsDirectory, NotEmpty, IntoItself, NoXattr, NotFile}
 use Rattle.send_model.specs.Chain.{◌>>=◌, ◌>>◌, require, refuse_if, found}
-use Rattle.send_model.specs.Attribute.{Time}
-use Rattle.send_model.specs.Command.{Command, Subvol, Snapshot, MkFile, MkDir, MkNod, MkFifo, MkSock, Symlink, Rename, Link, Unlink, Rmdir, SetXattr, RemoveXattr, Write, Clone, Truncate, Chmod, Chown, Utimes, End, UpdateExtent}
+use Rattle.send_model.specs.Command.{Command, MkFile, MkDir, MkNod, MkFifo, MkSock, Symlink, Rename, Link, Unlink, Rmdir, SetXattr, RemoveXattr, Write, Truncate, Chmod, Chown, Utimes}
 use Rattle.send_model.specs.Path.{path_names}
 use Rattle.send_model.specs.Map.{Map, named_cmp, bytes_cmp, with_value, without, value_at}
-use Rattle.send_model.specs.Subvolume.{NodeKind, File, Directory, SymbolicLink, Fifo, Socket, Inode, Subvolume, Spot, new_inode, new_directory, root, inode_at, named, is_directory, is_file, walk, spot, inodes_on_way, all_but_last, name_count, is_empty_directory}
-use Rattle.send_model.specs.Edit.{make, make_device, device_kind, add_inode, take_name, remove_inode, remove_name, link, unlink, rmdir, rename, rename_onto, can_replace, move_name, add_name, lies_below, change_at, set_xattr, remove_xattr, has_xattr, is_xattr_name, change_contents, set_cells, written_at, resized, change_inode, greatest_number, greatest_end, at_spot, edit}
+use Rattle.send_model.specs.Subvolume.{File, SymbolicLink, Fifo, Socket, Inode, Subvolume, Spot, new_inode, new_directory, root, inode_at, is_directory, walk, spot, inodes_on_way, all_but_last, name_count, is_empty_directory}
+use Rattle.send_model.specs.Edit.{make, make_device, device_kind, add_inode, take_name, remove_inode, remove_name, link, unlink, rmdir, rename, rename_onto, can_replace, move_name, lies_below, change_at, set_xattr, remove_xattr, has_xattr, change_contents, set_cells, written_at, resized, at_spot, edit}
 use Rattle.send_model.specs.Provenance.{inode_with}
 use Rattle.send_model.specs.Cells.{recelled, recelled_result}
-use Rattle.send_model.proofs.CellMaps.{reinode, value_at-map, with_value-map, without-map, inode_at-cells, is_directory-cells, is_file-cells, walk-cells, spot-cells, inodes_on_way-cells, name_count-cells, resized-cells, written_at-cells, change_inode-cells}
+use Rattle.send_model.proofs.CellMaps.{reinode, with_value-map, without-map, inode_at-cells, is_directory-cells, is_file-cells, walk-cells, spot-cells, inodes_on_way-cells, resized-cells, written_at-cells, change_inode-cells}
 
 module _ {C D : Type 0} (f : C → D) where
   -- ---- chains

@@ -1,20 +1,19 @@
 -- Names, walks and changes of inodes do not look at cells.
-use Rattle.std.specs.Prelude.{◌≡◌, ℕ, zero, suc, ◌+◌, ◌-◌, Bool, true, false, cond, not, List, [], ◌∷◌, ◌++◌, map, length, take, drop, replicate, Option, None, Some, Result, Ok, Err, ◌==◌}
+use Rattle.std.specs.Prelude.{◌≡◌, ℕ, zero, suc, ◌+◌, ◌-◌, Bool, true, false, cond, not, List, [], ◌∷◌, ◌++◌, map, length, take, drop, replicate, Option, None, Some, Result, Ok}
 use Rattle.std.specs.declared.cmp.Ordering.{Ordering}
 use Rattle.std.specs.declared.cmp.Ordering.TheVariants.{Less, Equal, Greater}
 use Rattle.std.specs.Ordering.{nat_cmp, eq_by_cmp}
 use Rattle.std.specs.Option.{option_map}
-use Rattle.std.specs.List.{filter}
 use Rattle.std.specs.FinMap.Entries.{by_order}
-use Rattle.std.proofs.Common.{refl, sym, ap, ap₂, subst, ◌∙◌}
+use Rattle.std.proofs.Common.{refl, sym, ap, ap₂, ◌∙◌}
 use Rattle.std.proofs.lemmas.List.{take-map, drop-map, map-append, length-map}
 use Rattle.send_model.specs.Refusal.{Refusal, NotDirectory, NoEntry, BadPath, IsRoot}
 use Rattle.send_model.specs.Chain.{◌>>=◌, ◌>>◌, require, found}
 use Rattle.send_model.specs.Path.{path_names}
-use Rattle.send_model.specs.Map.{Map, named_cmp, value_at, with_value, without}
-use Rattle.send_model.specs.Subvolume.{Inode, Subvolume, Spot, root, inode_at, named, passes_inode, is_directory_kind, is_file_kind, is_directory, is_file, walk_names, walk, spot, last_name, all_but_last, inodes_on_way, name_count, is_empty_directory}
-use Rattle.send_model.specs.Edit.{filled, resized, overwritten, written_at, set_inode, change_inode, set_cells}
-use Rattle.send_model.specs.Provenance.{inode_with, with_cells}
+use Rattle.send_model.specs.Map.{Map, value_at, with_value, without}
+use Rattle.send_model.specs.Subvolume.{Inode, Subvolume, root, inode_at, named, passes_inode, is_directory_kind, is_file_kind, is_directory, is_file, walk_names, walk, spot, last_name, all_but_last, inodes_on_way, name_count, is_empty_directory}
+use Rattle.send_model.specs.Edit.{filled, resized, overwritten, written_at, set_inode, change_inode}
+use Rattle.send_model.specs.Provenance.{inode_with}
 use Rattle.send_model.specs.Cells.{recelled}
 
 -- ---- maps whose values are changed

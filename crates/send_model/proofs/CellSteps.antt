@@ -1,25 +1,19 @@
 -- Steps and runs over other cells are the same steps and runs: what is accepted, and where a refusal stands, does not depend
 -- on what stands in the cells.
-use Rattle.std.specs.Prelude.{◌≡◌, ℕ, zero, suc, ◌+◌, Bool, true, false, cond, not, ◌&&◌, ◌||◌, List, [], ◌∷◌, ◌++◌, map, length, take, drop, Option, None, Some, Result, Ok, Err, ◌==◌, nat_le, nat_lt, is_some, if◌then◌else◌}
+use Rattle.std.specs.Prelude.{◌≡◌, ℕ, Bool, true, false, ◌||◌, List, [], ◌∷◌, map, Option, None, Some, Result, Ok, Err, if◌then◌else◌}
 use Rattle.std.specs.Option.{option_map}
-use Rattle.std.specs.List.{list_any}
 use Rattle.std.specs.Str.{bytes_eq}
-use Rattle.std.proofs.Common.{refl, sym, ap, ap₂, subst, ◌∙◌}
-use Rattle.std.proofs.lemmas.List.{take-map, drop-map, map-append, length-map}
-use Rattle.std.proofs.lemmas.Bool.{true≢false, false≢true}
-use Rattle.send_model.specs.Refusal.{Refusal, NoSubvolume, BadName, NameThere, UuidThere, NoParent, BadPath, NoSource, NotFile, BadRange, Unaligned, FileTooBig, Overlap}
-use Rattle.send_model.specs.Chain.{◌>>=◌, ◌>>◌, require, refuse_if, found}
-use Rattle.send_model.specs.Command.{Command, Subvol, Snapshot, Clone, End}
-use Rattle.send_model.specs.Path.{is_name, path_names}
-use Rattle.send_model.specs.Subvolume.{Inode, Subvolume, root_alone, inode_at, is_file, walk}
-use Rattle.send_model.specs.Edit.{edit, overwritten, change_inode, set_cells, greatest_end}
-use Rattle.send_model.specs.Clone.{cells_of, is_aligned, overlap, Cloned, cloned, clone}
-use Rattle.send_model.specs.Store.{Key, same_key, Head, head_of, Entry, Store, Part, State, Stepped, has_name, has_uuid, find, with_contents, completed, begun, start_from, unfinished, entered, step_head, clone_source, edit_part, edited, step_edit, step}
-use Rattle.send_model.specs.Provenance.{inode_with}
+use Rattle.std.proofs.Common.{refl, sym, ap, ◌∙◌}
+use Rattle.std.proofs.lemmas.List.{map-append}
+use Rattle.std.proofs.lemmas.Bool.{true≢false}
+use Rattle.send_model.specs.Refusal.{Refusal, NoSubvolume, NameThere, UuidThere, NoParent}
+use Rattle.send_model.specs.Chain.{refuse_if, found}
+use Rattle.send_model.specs.Command.{Command, End}
+use Rattle.send_model.specs.Subvolume.{Subvolume, root_alone}
+use Rattle.send_model.specs.Store.{Key, same_key, Head, Entry, Store, Part, State, Stepped, has_name, has_uuid, find, with_contents, completed, begun, start_from, unfinished, entered, step_head, edit_part, edited, step_edit, step}
 use Rattle.send_model.specs.Counts.{is_clone}
 use Rattle.send_model.specs.Cells.{recelled, recelled_result, recelled_entry, recelled_store, recelled_part, recelled_state, recelled_step}
-use Rattle.send_model.proofs.CellMaps.{reinode, inode_at-cells, is_file-cells, walk-cells, overwritten-cells, change_inode-cells}
-use Rattle.send_model.proofs.CellEdits.{bind_cells, then_cells, edit-cells}
+use Rattle.send_model.proofs.CellEdits.{then_cells, edit-cells}
 use Rattle.send_model.proofs.Sorts.{by_sort, is_plain, head_step, plain_edit_part, plain_step_edit}
 
 module _ {C D : Type 0} (f : C → D) where

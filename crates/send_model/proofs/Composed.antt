@@ -1,17 +1,14 @@
 -- The headline in terms of the composed list of commands.
-use Rattle.std.specs.Prelude.{◌≡◌, ◌≢◌, ℕ, List, [], ◌∷◌, ◌++◌, length, Option, None, Some}
-use Rattle.std.specs.List.{AllByRecursion}
+use Rattle.std.specs.Prelude.{◌≡◌, ◌≢◌, ℕ, List, [], ◌∷◌, ◌++◌, Option, None, Some}
 use Rattle.std.proofs.Common.{refl, sym, ap, ap₂, subst, ◌∙◌}
 use Rattle.send_model.specs.Command.{Command, End}
-use Rattle.send_model.specs.Spelling.{stream_header, canonical_all}
-use Rattle.send_model.specs.Reading.{Whole, input}
-use Rattle.send_model.specs.Store.{Head, Store, State}
-use Rattle.send_model.specs.Receive.{IsAccepted, run_items, receive, receive_items, byte_cells, start_of, fault_of}
-use Rattle.send_model.specs.Order.{heads, commands_of, IsConsecutive}
+use Rattle.send_model.specs.Reading.{input}
+use Rattle.send_model.specs.Store.{Head, Store}
+use Rattle.send_model.specs.Receive.{run_items, receive, receive_items, byte_cells, start_of, fault_of}
+use Rattle.send_model.specs.Order.{heads, commands_of}
 use Rattle.send_model.specs.Outside.{base, part_uuids}
 use Rattle.send_model.specs.Provenance.{traced_store}
 use Rattle.send_model.specs.Composed.{first_head, last_head, head_command, composed_edits, composed_with, composed_for, composed}
-use Rattle.send_model.specs.Headline.{IsComposed}
 use Rattle.send_model.specs.Laws.{AreInner, stream_of, ComposedHolds}
 use Rattle.send_model.proofs.Runs.{takes_run}
 use Rattle.send_model.proofs.Merging.{NoClones, edits_of}
@@ -27,6 +24,11 @@ composed_plain : (store : Store ℕ) (files : List (List ℕ)) (first last : Hea
 unfolding composed_with composed_edits
 composed_plain store files first last n =
     ap (λ (es : List Command). head_command last.name last.key first.parent ∷ (es ++ End ∷ [])) (plain_composed store (part_uuids (input files).items) last.key (input files).items (start_of (traced_store store)) None n)
+
+-- What files without clones are composed to: a head, all edits, END.
+pub composed_list : (store : Store ℕ) (files : List (List ℕ)) (first last : Head) → first_head (heads (input files).items) ≡ Some first → last_head (heads (input files).items) ≡ Some last → NoClones (commands_of (input files).items)
+    → composed store files ≡ head_command last.name last.key first.parent ∷ (edits_of (commands_of (input files).items) ++ End ∷ [])
+composed_list store files first last f l n = with_heads store files first last f l ∙ composed_plain store files first last n
 
 -- The list without its END.
 without_last : List Command → List Command

@@ -1,23 +1,22 @@
 -- The composed commands of consecutive parts without clones, received anywhere: every store that finds the first part's parent
 -- accepts them, and gets the last part's subvolume.
-use Rattle.std.specs.Prelude.{◌≡◌, ◌≢◌, ◌⊎◌, ℕ, Bool, true, false, not, List, [], ◌∷◌, ◌++◌, map, Option, None, Some, Result, Ok, Err}
-use Rattle.std.specs.List.{AllByRecursion, filter, flat_map}
-use Rattle.std.proofs.Common.{refl, sym, ap, subst, ◌∙◌, inl, inr}
-use Rattle.std.proofs.lemmas.Bool.{false≢true, true≢false}
+use Rattle.std.specs.Prelude.{◌≡◌, ◌≢◌, ℕ, true, false, List, [], ◌∷◌, ◌++◌, Option, None, Some, Result, Ok}
+use Rattle.std.specs.List.{AllByRecursion}
+use Rattle.std.proofs.Common.{refl, sym, ap, subst, ◌∙◌, inl}
+use Rattle.std.proofs.lemmas.Bool.{false≢true}
 use Rattle.send_model.specs.Refusal.{Refusal, NoSubvolume}
-use Rattle.send_model.specs.Command.{Command, Subvol, Snapshot, Clone, End}
+use Rattle.send_model.specs.Command.{Command, Subvol, Snapshot, End}
 use Rattle.send_model.specs.Path.{is_name}
 use Rattle.send_model.specs.Subvolume.{Subvolume}
-use Rattle.send_model.specs.Store.{Key, Head, head_of, Entry, Store, Part, State, Stepped, step, step_head, same_key, has_name, has_uuid, find, completed, with_contents, begun, start_from, entered, unfinished}
+use Rattle.send_model.specs.Store.{Key, Head, head_of, Store, State, Stepped, step, step_head, has_name, has_uuid, completed, begun, start_from, entered, unfinished}
 use Rattle.send_model.specs.Receive.{bytes_of}
 use Rattle.send_model.specs.Order.{onto_heads, heads_of, EachFollows}
-use Rattle.send_model.specs.Outside.{IsAmong, is_among, store_without, keys_named, all_keys_named}
-use Rattle.send_model.specs.Counts.{is_clone}
-use Rattle.send_model.specs.Composed.{first_head, last_head, head_command}
+use Rattle.send_model.specs.Outside.{IsAmong, keys_named, all_keys_named}
+use Rattle.send_model.specs.Composed.{last_head, head_command}
 use Rattle.send_model.proofs.Sorts.{by_sort, is_plain, plain_step_without, head_step, same_inside}
-use Rattle.send_model.proofs.Runs.{step_of, Takes, Takes-append, Takes-parts}
+use Rattle.send_model.proofs.Runs.{Takes, Takes-append}
 use Rattle.send_model.proofs.Stores.{key_of_new, completes_new}
-use Rattle.send_model.proofs.Merging.{NoClones, edit_in, edits_of, FollowsFrom, last_key, Stands, Begins, begun_begins, begins_begun, entered_taken, Merged, merges}
+use Rattle.send_model.proofs.Merging.{NoClones, edit_in, edits_of, FollowsFrom, last_key, begun_begins, begins_begun, entered_taken, Merged, merges}
 
 -- ---- heads
 

@@ -1,13 +1,13 @@
 -- Files that are read to a whole end end with END, so no part is left open.
-use Rattle.std.specs.Prelude.{◌≡◌, ◌≢◌, ℕ, zero, suc, ◌+◌, ◌-◌, Bool, true, false, List, [], ◌∷◌, ◌++◌, map, length, drop, Option, None, Some, Result, Ok, Err, if◌then◌else◌, ◌⊎◌}
+use Rattle.std.specs.Prelude.{◌≡◌, ℕ, zero, suc, ◌+◌, ◌-◌, Bool, true, false, List, [], ◌∷◌, ◌++◌, length, drop, None, Result, Ok, Err, if◌then◌else◌, ◌⊎◌}
 use Rattle.std.proofs.Common.{refl, sym, ap, subst, ◌∙◌, inl, inr, append_assoc, append-nil}
 use Rattle.std.proofs.lemmas.Bool.{false≢true}
 use Rattle.send_model.specs.Refusal.{Refusal}
 use Rattle.send_model.specs.Command.{Command, End}
-use Rattle.send_model.specs.Reading.{Item, Verdict, Reading, Ending, Whole, Faulty, Due, HeaderDue, CommandDue, due_after, may_end, with_item, go_on, ended, faulty, joined, Front, front_of, stream_version, header_len, reads_from, reads, input_from, input}
+use Rattle.send_model.specs.Reading.{Item, Reading, Ending, Whole, Faulty, Due, HeaderDue, CommandDue, due_after, may_end, with_item, go_on, ended, faulty, joined, front_of, stream_version, header_len, reads_from, reads, input_from, input}
 use Rattle.send_model.specs.Store.{State, step}
 use Rattle.send_model.specs.Order.{commands_of}
-use Rattle.send_model.proofs.Runs.{step_of, Takes, Takes-parts}
+use Rattle.send_model.proofs.Runs.{Takes, Takes-parts}
 
 -- The last of the commands is END.
 abbrev pub EndsWithEnd : List Command → Type 0

@@ -1,12 +1,11 @@
 -- A frame that was spelled is read back, whatever follows it.
-use Rattle.std.specs.Prelude.{◌≡◌, ℕ, ◌+◌, ◌-◌, ◌^◌, ◌<◌, ◌≤◌, Bool, true, false, List, [], ◌∷◌, ◌++◌, length, take, drop, Option, None, Some, Result, Ok, Err, nat_le, nat_lt, ◌==◌}
-use Rattle.std.specs.Int.{w16, w32, to_le_bytes, from_le_bytes}
-use Rattle.std.proofs.Common.{refl, sym, ap, subst, ◌∙◌, arith, length-append, lit<, le-leb, eq-eqb, le-ltb}
+use Rattle.std.specs.Prelude.{◌≡◌, ℕ, ◌^◌, ◌<◌, ◌≤◌, true, false, List, ◌++◌, length, drop, Ok, nat_le, nat_lt, ◌==◌}
+use Rattle.std.specs.Int.{w16, w32, to_le_bytes}
+use Rattle.std.proofs.Common.{refl, ◌∙◌, arith, length-append, le-leb, eq-eqb, le-ltb}
 use Rattle.std.proofs.Math.Seq.{take-append_seam, drop-append_seam}
 use Rattle.std.proofs.lemmas.Nat.{from_le_bytes-to_le_bytes_2, from_le_bytes-to_le_bytes_4}
-use Rattle.send_model.specs.Chain.{◌>>=◌, ◌>>◌, require, refuse_if, found}
 use Rattle.send_model.specs.Spelling.{frame_of, frame_checksum, greatest_body}
-use Rattle.send_model.specs.Reading.{Frame, frame_at, frame_with, number16, number32, frame_header_len}
+use Rattle.send_model.specs.Reading.{frame_at, frame_with, number16, number32, frame_header_len}
 
 -- What the header says of a frame that is there decides what is read.
 pub frame_with_body : (body rest : List ℕ) (number : ℕ) → length body ≤ greatest_body

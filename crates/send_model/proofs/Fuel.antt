@@ -1,13 +1,12 @@
 -- Reading depends on its bound for the number of commands no more than that it is large enough.
-use Rattle.std.specs.Prelude.{◌≡◌, ℕ, zero, suc, ◌+◌, ◌-◌, ◌<◌, ◌≤◌, Bool, true, false, List, [], ◌∷◌, length, take, drop, Option, None, Some, Result, Ok, Err, nat_le, nat_lt, ◌==◌, if◌then◌else◌}
-use Rattle.std.specs.Str.{bytes_eq}
-use Rattle.std.proofs.Common.{refl, sym, ap, ap₂, subst, ◌∙◌, arith, length-drop, le_refl}
+use Rattle.std.specs.Prelude.{◌≡◌, ℕ, zero, suc, ◌+◌, ◌-◌, ◌<◌, ◌≤◌, Bool, true, false, List, length, take, drop, Result, Ok, Err, nat_le, nat_lt, ◌==◌, if◌then◌else◌}
+use Rattle.std.proofs.Common.{refl, sym, ap, ◌∙◌, arith, length-drop}
 use Rattle.std.proofs.lemmas.Bool.{leb-true}
-use Rattle.send_model.specs.Refusal.{Refusal, Truncated, BadMagic, BadVersion, LongCommand, BadChecksum}
+use Rattle.send_model.specs.Refusal.{Refusal, Truncated, LongCommand, BadChecksum}
 use Rattle.send_model.specs.Chain.{◌>>=◌, ◌>>◌, require, refuse_if}
 use Rattle.send_model.specs.Command.{Command}
-use Rattle.send_model.specs.Spelling.{magic, frame_checksum, greatest_body, Attribute}
-use Rattle.send_model.specs.Reading.{Item, Reading, Due, HeaderDue, CommandDue, due_after, may_end, with_item, go_on, ended, faulty, taken, Frame, Front, frame_at, frame_with, front_of, attributes_at, command_of, data_place, stream_version, header_len, frame_header_len, is_version, reads_from, number16, number32}
+use Rattle.send_model.specs.Spelling.{frame_checksum, greatest_body, Attribute}
+use Rattle.send_model.specs.Reading.{Reading, Due, HeaderDue, CommandDue, due_after, may_end, with_item, go_on, ended, faulty, taken, Frame, Front, frame_at, frame_with, front_of, attributes_at, command_of, data_place, stream_version, header_len, frame_header_len, reads_from, number16, number32}
 
 -- A test that passed lets the chain go on.
 pub required : {B : Type 0} (b : Bool) (refusal : Refusal) (rest : Result B Refusal) (x : B) → (require b refusal >> rest) ≡ Ok x → (b ≡ true) × (rest ≡ Ok x)

@@ -1,28 +1,28 @@
 -- The headline for files without clones: what compose writes for consecutive parts is accepted by every store that finds the
 -- same outside subvolumes, and gives it the last part's subvolume.
-use Rattle.std.specs.Prelude.{◌≡◌, ◌≢◌, ◌⊎◌, ℕ, ◌+◌, Bool, true, false, cond, not, ◌&&◌, ◌||◌, List, [], ◌∷◌, ◌++◌, map, length, Option, None, Some, Result, Ok, Err, sum, if◌then◌else◌}
-use Rattle.std.specs.List.{AllByRecursion, filter, flat_map, list_any, sum_by, count_by}
-use Rattle.std.proofs.Common.{refl, sym, ap, ap₂, subst, subst₂, ◌∙◌, inl, inr, ⊎_elim, arith, append-nil, append_assoc}
-use Rattle.std.proofs.lemmas.Bool.{false≢true, true≢false}
+use Rattle.std.specs.Prelude.{◌≡◌, ◌≢◌, ◌⊎◌, ℕ, ◌+◌, Bool, true, false, cond, not, List, [], ◌∷◌, ◌++◌, length, Option, None, Some, Ok}
+use Rattle.std.specs.List.{AllByRecursion, filter, sum_by, count_by}
+use Rattle.std.proofs.Common.{refl, sym, ap, ap₂, subst, subst₂, ◌∙◌, inl, inr, arith, append-nil, append_assoc}
+use Rattle.std.proofs.lemmas.Bool.{true≢false}
 use Rattle.std.proofs.lemmas.List.Sums.{sum_by-cons, sum_by-append}
-use Rattle.send_model.specs.Refusal.{Refusal, NoParent}
+use Rattle.send_model.specs.Refusal.{NoParent}
 use Rattle.send_model.specs.Chain.{found}
 use Rattle.send_model.specs.Command.{Command, Subvol, Snapshot, Clone, End}
 use Rattle.send_model.specs.Spelling.{stream_header, canonical_all}
 use Rattle.send_model.specs.Reading.{Item, Reading, Ending, Whole, Faulty, reads, input, input_from, joined}
 use Rattle.send_model.specs.Subvolume.{Subvolume}
-use Rattle.send_model.specs.Store.{Key, Head, head_of, Entry, Store, Part, State, same_key, find, start_from, has_name, has_uuid}
-use Rattle.send_model.specs.Receive.{Run, run_items, receive_items, receive, byte_cells, bytes_of, start_of, fault_of, first_of, with_fault, IsAccepted}
-use Rattle.send_model.specs.Order.{heads, heads_of, commands_of, onto_heads, IsConsecutive}
+use Rattle.send_model.specs.Store.{Key, Head, head_of, Store, Part, State, same_key, find, start_from}
+use Rattle.send_model.specs.Receive.{Run, receive_items, receive, byte_cells, bytes_of, start_of, first_of, with_fault}
+use Rattle.send_model.specs.Order.{heads, heads_of, commands_of, IsConsecutive}
 use Rattle.send_model.specs.Outside.{IsAmong, is_among, part_uuids, store_without, base, keys_named, all_keys_named, keys_outside, outside, SameOn}
-use Rattle.send_model.specs.Provenance.{Traced, uuid_after, is_redirected, is_own, clone_range, traced_step, traced_store, ranges_from, redirected_ranges, uncarried, runs}
+use Rattle.send_model.specs.Provenance.{Traced, uuid_after, is_redirected, traced_step, traced_store, ranges_from, redirected_ranges, uncarried, runs}
 use Rattle.send_model.specs.Counts.{literal, clones, streams, is_clone, is_end, kept, kept_from}
-use Rattle.send_model.specs.Composed.{first_head, last_head, head_command, commands_for, composed_from, composed_edits, composed_with, composed}
-use Rattle.send_model.specs.Headline.{CanReceive, IsComposed, commands_in, last_entry}
-use Rattle.send_model.proofs.Sorts.{by_sort, is_plain, plain_is_no_head, plain_names_nothing, plain_is_no_clone, same_inside}
+use Rattle.send_model.specs.Composed.{first_head, last_head, head_command, commands_for, composed_from, composed}
+use Rattle.send_model.specs.Headline.{CanReceive, IsComposed, last_entry}
+use Rattle.send_model.proofs.Sorts.{same_inside}
 use Rattle.send_model.proofs.Stores.{same_key_true}
-use Rattle.send_model.proofs.Runs.{step_of, Takes, takes_run, runs_taken}
-use Rattle.send_model.proofs.Merging.{NoClones, edit_in, edits_of, last_key, Merged, Stands}
+use Rattle.send_model.proofs.Runs.{Takes, runs_taken}
+use Rattle.send_model.proofs.Merging.{NoClones, edit_in, edits_of, last_key, Stands}
 use Rattle.send_model.proofs.Composing.{AreNamed, last_of, last_named, names, Comes, comes, received_anywhere}
 use Rattle.send_model.proofs.Streams.{IsInner, ReadsAs, stream_read}
 use Rattle.send_model.proofs.Endings.{EndsWell, input_ends, no_part_left}

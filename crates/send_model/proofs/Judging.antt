@@ -1,13 +1,12 @@
 -- The verdict on files, command by command: those that were taken in order lead to the verdict on the rest.
-use Rattle.std.specs.Prelude.{◌≡◌, ◌≢◌, ℕ, Bool, true, false, not, List, [], ◌∷◌, ◌++◌, map, Option, None, Some, if◌then◌else◌}
-use Rattle.std.proofs.Common.{refl, sym, ap, subst, ◌∙◌, append-nil}
+use Rattle.std.specs.Prelude.{◌≡◌, ℕ, Bool, true, false, List, [], ◌∷◌, ◌++◌, Option, None, Some}
+use Rattle.std.proofs.Common.{refl, sym, ap, ◌∙◌, append-nil}
 use Rattle.std.proofs.lemmas.Bool.{not-false}
 use Rattle.send_model.specs.Refusal.{Refusal, NotConsecutive}
-use Rattle.send_model.specs.Command.{Command}
-use Rattle.send_model.specs.Reading.{Item, Verdict, Ending, Whole, Faulty, Reading, input}
-use Rattle.send_model.specs.Store.{Key, Head, head_of, same_key, Store, State, Stepped, step}
+use Rattle.send_model.specs.Reading.{Item, Verdict, Ending, Reading, input}
+use Rattle.send_model.specs.Store.{Key, Head, head_of, Store, State}
 use Rattle.send_model.specs.Receive.{byte_cells, verdict_of, fault_of, first_of, start_of}
-use Rattle.send_model.specs.Order.{heads, heads_of, onto_heads, commands_of, EachFollows, is_parent, breaks_order, part_after, then_judge, judge_items, without_parts, last_item, judge_reading, judge}
+use Rattle.send_model.specs.Order.{heads, heads_of, onto_heads, commands_of, EachFollows, is_parent, breaks_order, part_after, then_judge, judge_items, without_parts, judge_reading, judge}
 use Rattle.send_model.proofs.Runs.{step_of, Takes}
 use Rattle.send_model.proofs.Stores.{same_key_true}
 use Rattle.send_model.proofs.Sorts.{same_inside}

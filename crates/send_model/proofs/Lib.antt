@@ -1,6 +1,9 @@
 pub mod ChecksumLaws
 pub mod ChecksumExamples
+mod ExampleWords
 mod ReadingExamples
+mod EditExamples
+mod ComposingExamples
 pub mod Sorts
 pub mod Runs
 pub mod Stores

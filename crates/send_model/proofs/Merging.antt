@@ -2,10 +2,10 @@
 -- with goes on where that one stopped. For all commands but CLONE at once.
 use Rattle.std.specs.Prelude.{◌≡◌, ℕ, Bool, true, false, List, [], ◌∷◌, ◌++◌, Option, None, Some, Result, Ok, Err}
 use Rattle.std.specs.List.{AllByRecursion}
-use Rattle.std.proofs.Common.{refl, sym, ap, subst, ◌∙◌}
-use Rattle.std.proofs.lemmas.Bool.{false≢true, true≢false}
+use Rattle.std.proofs.Common.{refl, sym, subst, ◌∙◌}
+use Rattle.std.proofs.lemmas.Bool.{false≢true}
 use Rattle.send_model.specs.Refusal.{Refusal, NoSubvolume, NoParent, BadName, NameThere, UuidThere}
-use Rattle.send_model.specs.Chain.{found, require, refuse_if, ◌>>=◌, ◌>>◌}
+use Rattle.send_model.specs.Chain.{found, require, refuse_if, ◌>>◌}
 use Rattle.send_model.specs.Command.{Command, Subvol, Snapshot, End}
 use Rattle.send_model.specs.Path.{is_name}
 use Rattle.send_model.specs.Subvolume.{Subvolume}
@@ -14,8 +14,8 @@ use Rattle.send_model.specs.Store.{Key, Head, head_of, Store, Part, State, Stepp
 use Rattle.send_model.specs.Receive.{bytes_of}
 use Rattle.send_model.specs.Order.{onto_heads, heads_of}
 use Rattle.send_model.specs.Counts.{is_clone}
-use Rattle.send_model.proofs.Sorts.{by_sort, is_plain, plain_step, plain_step_without, head_step, plain_is_no_head, same_inside}
-use Rattle.send_model.proofs.Runs.{step_of, Takes}
+use Rattle.send_model.proofs.Sorts.{by_sort, is_plain, plain_step, plain_step_without, head_step, plain_is_no_head}
+use Rattle.send_model.proofs.Runs.{Takes}
 use Rattle.send_model.proofs.Stores.{key_with, finds_contents, key_of_new}
 
 abbrev pub NoClones : List Command → Type 0

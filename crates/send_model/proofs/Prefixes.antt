@@ -1,16 +1,15 @@
 -- A stream without its end is never read as whole: what was written before a fault is taken for no finished stream.
-use Rattle.std.specs.Prelude.{◌≡◌, ◌≢◌, ℕ, zero, suc, ◌+◌, ◌-◌, ◌^◌, ◌<◌, ◌≤◌, Bool, true, false, List, [], ◌∷◌, ◌++◌, map, length, take, drop, Option, None, Some, Result, Ok, Err, nat_le, nat_lt, if◌then◌else◌, ◌⊎◌}
+use Rattle.std.specs.Prelude.{◌≡◌, ◌≢◌, ℕ, zero, suc, ◌+◌, ◌-◌, ◌^◌, ◌<◌, ◌≤◌, Bool, true, false, List, [], ◌∷◌, ◌++◌, length, take, Err, nat_le, nat_lt, ◌⊎◌}
 use Rattle.std.specs.List.{AllByRecursion}
 use Rattle.std.specs.Int.{w16, w32, to_le_bytes}
-use Rattle.std.proofs.Common.{refl, sym, ap, subst, ◌∙◌, arith, length-append, length-take, lit<, le_refl, le-leb, le-ltb, zero-le, inl, inr, ⊎_elim}
+use Rattle.std.proofs.Common.{refl, sym, ap, subst, ◌∙◌, arith, length-append, length-take, le-ltb, inl, inr, ⊎_elim}
 use Rattle.std.proofs.lemmas.List.{take-append-le}
 use Rattle.std.proofs.Math.Seq.{take-append-add}
-use Rattle.std.proofs.lemmas.Bool.{true≢false, false≢true, leb-true, leb-false, lt-leb}
+use Rattle.std.proofs.lemmas.Bool.{leb-true, leb-false, lt-leb}
 use Rattle.send_model.specs.Refusal.{Refusal, Truncated}
-use Rattle.send_model.specs.Chain.{◌>>=◌, ◌>>◌, require, refuse_if}
 use Rattle.send_model.specs.Command.{Command, End, row, kind_of}
-use Rattle.send_model.specs.Spelling.{stream_header, attributes_of, body_of, frame_of, frame_checksum, greatest_body, canonical, canonical_all, IsSpellable}
-use Rattle.send_model.specs.Reading.{Item, Reading, Whole, Faulty, Due, HeaderDue, CommandDue, due_after, with_item, go_on, faulty, Front, front_of, frame_header_len, header_len, stream_version, frame_at, frame_with, reads_from, reads, number16, number32}
+use Rattle.send_model.specs.Spelling.{stream_header, attributes_of, body_of, frame_of, frame_checksum, greatest_body, canonical, canonical_all}
+use Rattle.send_model.specs.Reading.{Reading, Whole, HeaderDue, CommandDue, due_after, go_on, faulty, front_of, frame_header_len, header_len, stream_version, frame_at, frame_with, reads_from, reads}
 use Rattle.send_model.specs.Laws.{CanWrite}
 use Rattle.send_model.proofs.Frames.{header_says, frame_at_by}
 use Rattle.send_model.proofs.Canonical.{body_short, checksum_small, body_is_bytes, attributes_lawful}

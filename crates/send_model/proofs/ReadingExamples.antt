@@ -1,33 +1,42 @@
--- Worked examples of reading and of composing: two small streams, byte by byte as an assembler independent of this program
--- makes them, the commands that they hold, and the one stream that stands for both.
-use Rattle.std.specs.Prelude.{◌≡◌, ℕ, List, [], ◌∷◌, ◌++◌, Option, None, Some, replicate, codes, refl}
-use Rattle.send_model.specs.Checksum.{crc_of, crc_byte, shift, shifts}
-use Rattle.send_model.specs.Attribute.{form_of}
-use Rattle.send_model.specs.Command.{Command, Subvol, Snapshot, MkFile, Write, End, row, kind_of_number}
-use Rattle.send_model.specs.Spelling.{canonical, canonical_all, stream_header, frame_of, frame_checksum, attributes_of, attribute_bytes, body_of}
-use Rattle.send_model.specs.Reading.{Item, Reading, Whole, reads, reads_from, front_of, frame_at, frame_with, number16, number32, stream_version, attributes_at, attributes_from, taken, is_taken, command_of, wanted_there, input, input_from}
-use Rattle.send_model.specs.Order.{commands_of}
+-- Worked examples of reading: two small streams and the one stream that stands for both, byte by byte as an assembler
+-- independent of this program makes them, and the commands that they hold.
+use Rattle.std.specs.Prelude.{◌≡◌, List, ℕ, [], ◌∷◌, ◌++◌, codes, refl}
+use Rattle.send_model.specs.Command.{Subvol, Snapshot, MkFile, Write, End}
+use Rattle.send_model.specs.Spelling.{canonical}
+use Rattle.send_model.specs.Reading.{Whole, reads}
+use Rattle.send_model.proofs.ExampleWords.{hexadecimal, uuid, reading_words}
 
-abbrev uuid : ℕ → List ℕ
-uuid byte = replicate 16 byte
+-- The streams, a line for the header and one for each frame.
+unfoldable pub first_stream : List ℕ
+first_stream =
+    hexadecimal (codes "62747266732d73747265616d0001000000")
+    ++ hexadecimal (codes "250000000100333343ee01001000111111111111111111111111111111110200080001000000000000000f00010061")
+    ++ hexadecimal (codes "0500000003002f8a36730f00010078")
+    ++ hexadecimal (codes "170000000f00437eee5f0f00010078120008000000000000000000130002006869")
+    ++ hexadecimal (codes "000000001500506cc99d")
 
-first_stream : List ℕ
-first_stream = 98 ∷ 116 ∷ 114 ∷ 102 ∷ 115 ∷ 45 ∷ 115 ∷ 116 ∷ 114 ∷ 101 ∷ 97 ∷ 109 ∷ 0 ∷ 1 ∷ 0 ∷ 0 ∷ 0 ∷ 37 ∷ 0 ∷ 0 ∷ 0 ∷ 1 ∷ 0 ∷ 51 ∷ 51 ∷ 67 ∷ 238 ∷ 1 ∷ 0 ∷ 16 ∷ 0 ∷ 17 ∷ 17 ∷ 17 ∷ 17 ∷ 17 ∷ 17 ∷ 17 ∷ 17 ∷ 17 ∷ 17 ∷ 17 ∷ 17 ∷ 17 ∷ 17 ∷ 17 ∷ 17 ∷ 2 ∷ 0 ∷ 8 ∷ 0 ∷ 1 ∷ 0 ∷ 0 ∷ 0 ∷ 0 ∷ 0 ∷ 0 ∷ 0 ∷ 15 ∷ 0 ∷ 1 ∷ 0 ∷ 97 ∷ 5 ∷ 0 ∷ 0 ∷ 0 ∷ 3 ∷ 0 ∷ 47 ∷ 138 ∷ 54 ∷ 115 ∷ 15 ∷ 0 ∷ 1 ∷ 0 ∷ 120 ∷ 23 ∷ 0 ∷ 0 ∷ 0 ∷ 15 ∷ 0 ∷ 67 ∷ 126 ∷ 238 ∷ 95 ∷ 15 ∷ 0 ∷ 1 ∷ 0 ∷ 120 ∷ 18 ∷ 0 ∷ 8 ∷ 0 ∷ 0 ∷ 0 ∷ 0 ∷ 0 ∷ 0 ∷ 0 ∷ 0 ∷ 0 ∷ 19 ∷ 0 ∷ 2 ∷ 0 ∷ 104 ∷ 105 ∷ 0 ∷ 0 ∷ 0 ∷ 0 ∷ 21 ∷ 0 ∷ 80 ∷ 108 ∷ 201 ∷ 157 ∷ []
+unfoldable pub second_stream : List ℕ
+second_stream =
+    hexadecimal (codes "62747266732d73747265616d0001000000")
+    ++ hexadecimal (codes "450000000200ca93bfed01001000222222222222222222222222222222220200080002000000000000000f000100621400100011111111111111111111111111111111150008000100000000000000")
+    ++ hexadecimal (codes "160000000f0095b74b770f000100781200080002000000000000001300010021")
+    ++ hexadecimal (codes "000000001500506cc99d")
 
-second_stream : List ℕ
-second_stream = 98 ∷ 116 ∷ 114 ∷ 102 ∷ 115 ∷ 45 ∷ 115 ∷ 116 ∷ 114 ∷ 101 ∷ 97 ∷ 109 ∷ 0 ∷ 1 ∷ 0 ∷ 0 ∷ 0 ∷ 69 ∷ 0 ∷ 0 ∷ 0 ∷ 2 ∷ 0 ∷ 202 ∷ 147 ∷ 191 ∷ 237 ∷ 1 ∷ 0 ∷ 16 ∷ 0 ∷ 34 ∷ 34 ∷ 34 ∷ 34 ∷ 34 ∷ 34 ∷ 34 ∷ 34 ∷ 34 ∷ 34 ∷ 34 ∷ 34 ∷ 34 ∷ 34 ∷ 34 ∷ 34 ∷ 2 ∷ 0 ∷ 8 ∷ 0 ∷ 2 ∷ 0 ∷ 0 ∷ 0 ∷ 0 ∷ 0 ∷ 0 ∷ 0 ∷ 15 ∷ 0 ∷ 1 ∷ 0 ∷ 98 ∷ 20 ∷ 0 ∷ 16 ∷ 0 ∷ 17 ∷ 17 ∷ 17 ∷ 17 ∷ 17 ∷ 17 ∷ 17 ∷ 17 ∷ 17 ∷ 17 ∷ 17 ∷ 17 ∷ 17 ∷ 17 ∷ 17 ∷ 17 ∷ 21 ∷ 0 ∷ 8 ∷ 0 ∷ 1 ∷ 0 ∷ 0 ∷ 0 ∷ 0 ∷ 0 ∷ 0 ∷ 0 ∷ 22 ∷ 0 ∷ 0 ∷ 0 ∷ 15 ∷ 0 ∷ 149 ∷ 183 ∷ 75 ∷ 119 ∷ 15 ∷ 0 ∷ 1 ∷ 0 ∷ 120 ∷ 18 ∷ 0 ∷ 8 ∷ 0 ∷ 2 ∷ 0 ∷ 0 ∷ 0 ∷ 0 ∷ 0 ∷ 0 ∷ 0 ∷ 19 ∷ 0 ∷ 1 ∷ 0 ∷ 33 ∷ 0 ∷ 0 ∷ 0 ∷ 0 ∷ 21 ∷ 0 ∷ 80 ∷ 108 ∷ 201 ∷ 157 ∷ []
-
-merged_stream : List ℕ
-merged_stream = 98 ∷ 116 ∷ 114 ∷ 102 ∷ 115 ∷ 45 ∷ 115 ∷ 116 ∷ 114 ∷ 101 ∷ 97 ∷ 109 ∷ 0 ∷ 1 ∷ 0 ∷ 0 ∷ 0 ∷ 37 ∷ 0 ∷ 0 ∷ 0 ∷ 1 ∷ 0 ∷ 157 ∷ 131 ∷ 238 ∷ 248 ∷ 1 ∷ 0 ∷ 16 ∷ 0 ∷ 34 ∷ 34 ∷ 34 ∷ 34 ∷ 34 ∷ 34 ∷ 34 ∷ 34 ∷ 34 ∷ 34 ∷ 34 ∷ 34 ∷ 34 ∷ 34 ∷ 34 ∷ 34 ∷ 2 ∷ 0 ∷ 8 ∷ 0 ∷ 2 ∷ 0 ∷ 0 ∷ 0 ∷ 0 ∷ 0 ∷ 0 ∷ 0 ∷ 15 ∷ 0 ∷ 1 ∷ 0 ∷ 98 ∷ 5 ∷ 0 ∷ 0 ∷ 0 ∷ 3 ∷ 0 ∷ 47 ∷ 138 ∷ 54 ∷ 115 ∷ 15 ∷ 0 ∷ 1 ∷ 0 ∷ 120 ∷ 23 ∷ 0 ∷ 0 ∷ 0 ∷ 15 ∷ 0 ∷ 67 ∷ 126 ∷ 238 ∷ 95 ∷ 15 ∷ 0 ∷ 1 ∷ 0 ∷ 120 ∷ 18 ∷ 0 ∷ 8 ∷ 0 ∷ 0 ∷ 0 ∷ 0 ∷ 0 ∷ 0 ∷ 0 ∷ 0 ∷ 0 ∷ 19 ∷ 0 ∷ 2 ∷ 0 ∷ 104 ∷ 105 ∷ 22 ∷ 0 ∷ 0 ∷ 0 ∷ 15 ∷ 0 ∷ 149 ∷ 183 ∷ 75 ∷ 119 ∷ 15 ∷ 0 ∷ 1 ∷ 0 ∷ 120 ∷ 18 ∷ 0 ∷ 8 ∷ 0 ∷ 2 ∷ 0 ∷ 0 ∷ 0 ∷ 0 ∷ 0 ∷ 0 ∷ 0 ∷ 19 ∷ 0 ∷ 1 ∷ 0 ∷ 33 ∷ 0 ∷ 0 ∷ 0 ∷ 0 ∷ 21 ∷ 0 ∷ 80 ∷ 108 ∷ 201 ∷ 157 ∷ []
+unfoldable pub merged_stream : List ℕ
+merged_stream =
+    hexadecimal (codes "62747266732d73747265616d0001000000")
+    ++ hexadecimal (codes "2500000001009d83eef801001000222222222222222222222222222222220200080002000000000000000f00010062")
+    ++ hexadecimal (codes "0500000003002f8a36730f00010078")
+    ++ hexadecimal (codes "170000000f00437eee5f0f00010078120008000000000000000000130002006869")
+    ++ hexadecimal (codes "160000000f0095b74b770f000100781200080002000000000000001300010021")
+    ++ hexadecimal (codes "000000001500506cc99d")
 
 -- The END command is the ten bytes 00000000 1500 506cc99d.
-end_frame : canonical 1 End ≡ 0 ∷ 0 ∷ 0 ∷ 0 ∷ 21 ∷ 0 ∷ 80 ∷ 108 ∷ 201 ∷ 157 ∷ []
-unfolding canonical row frame_of frame_checksum attributes_of body_of crc_of crc_byte shifts shift
+end_frame : canonical 1 End ≡ hexadecimal (codes "000000001500506cc99d")
+unfolding reading_words
 end_frame = refl
 
-abbrev first_commands : List Command
-first_commands = Subvol (uuid 0x11) 1 (codes "a") ∷ MkFile (codes "x") ∷ Write (codes "x") 0 (codes "hi") ∷ End ∷ []
-
+-- A full stream of one small file: its four commands, with the places of their frames and of the data.
 first_read : reads 1 first_stream ≡ record {
   items =
       record { file = 1; number = 1; offset = 17; version = 1; data_at = 0; command = Subvol (uuid 0x11) 1 (codes "a") }
@@ -37,5 +46,31 @@ first_read : reads 1 first_stream ≡ record {
       ∷ [];
   end = Whole;
 }
-unfolding first_stream reads reads_from front_of number16 number32 frame_with frame_at stream_version attributes_at attributes_from taken is_taken command_of wanted_there kind_of_number row form_of frame_checksum crc_of crc_byte shifts shift
+unfolding first_stream reading_words
 first_read = refl
+
+-- A snapshot of it with one more write, as the second file.
+second_read : reads 2 second_stream ≡ record {
+  items =
+      record { file = 2; number = 1; offset = 17; version = 1; data_at = 0; command = Snapshot (uuid 0x22) 2 (codes "b") (uuid 0x11) 1 }
+      ∷ record { file = 2; number = 2; offset = 96; version = 1; data_at = 127; command = Write (codes "x") 2 (codes "!") }
+      ∷ record { file = 2; number = 3; offset = 128; version = 1; data_at = 0; command = End }
+      ∷ [];
+  end = Whole;
+}
+unfolding second_stream reading_words
+second_read = refl
+
+-- The one stream for both: the first one's commands under the second one's name and key, and then the second one's.
+merged_read : reads 1 merged_stream ≡ record {
+  items =
+      record { file = 1; number = 1; offset = 17; version = 1; data_at = 0; command = Subvol (uuid 0x22) 2 (codes "b") }
+      ∷ record { file = 1; number = 2; offset = 64; version = 1; data_at = 0; command = MkFile (codes "x") }
+      ∷ record { file = 1; number = 3; offset = 79; version = 1; data_at = 110; command = Write (codes "x") 0 (codes "hi") }
+      ∷ record { file = 1; number = 4; offset = 112; version = 1; data_at = 143; command = Write (codes "x") 2 (codes "!") }
+      ∷ record { file = 1; number = 5; offset = 144; version = 1; data_at = 0; command = End }
+      ∷ [];
+  end = Whole;
+}
+unfolding merged_stream reading_words
+merged_read = refl

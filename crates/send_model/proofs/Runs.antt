@@ -1,11 +1,11 @@
 -- Runs of commands that are all taken, without the items that they stand in.
-use Rattle.std.specs.Prelude.{◌≡◌, ℕ, Bool, true, false, List, [], ◌∷◌, ◌++◌, map, Option, None, Some}
+use Rattle.std.specs.Prelude.{◌≡◌, ℕ, List, [], ◌∷◌, ◌++◌, Option, None, Some}
 use Rattle.std.proofs.Common.{refl, sym, ap, subst, ◌∙◌}
 use Rattle.send_model.specs.Refusal.{Refusal}
 use Rattle.send_model.specs.Command.{Command}
-use Rattle.send_model.specs.Reading.{Item, Verdict, Ending, Whole, Faulty, Reading, input}
-use Rattle.send_model.specs.Store.{Store, State, Stepped, step}
-use Rattle.send_model.specs.Receive.{Run, run_items, then_run, receive_items, receive, byte_cells, bytes_of, verdict_of, start_of, IsAccepted}
+use Rattle.send_model.specs.Reading.{Item}
+use Rattle.send_model.specs.Store.{State, Stepped, step}
+use Rattle.send_model.specs.Receive.{Run, run_items, then_run, byte_cells, bytes_of, IsAccepted}
 use Rattle.send_model.specs.Order.{commands_of}
 
 abbrev pub step_of : State ℕ → Command → Stepped ℕ

@@ -1,12 +1,11 @@
 -- The four sorts of command: a head, END, a CLONE, and a plain edit, which looks at nothing but its part's subvolume.
-use Rattle.std.specs.Prelude.{◌≡◌, ℕ, Bool, true, false, List, [], Option, None, Some, Result, Ok, Err, IsTrue}
+use Rattle.std.specs.Prelude.{◌≡◌, Bool, true, false, List, [], None, Some}
 use Rattle.std.proofs.Common.{refl, ap, unwrap_or}
 use Rattle.std.proofs.lemmas.Bool.{false≢true}
-use Rattle.send_model.specs.Refusal.{Refusal, NoSubvolume}
-use Rattle.send_model.specs.Command.{Command, Subvol, Snapshot, MkFile, Clone, End}
-use Rattle.send_model.specs.Subvolume.{Subvolume}
+use Rattle.send_model.specs.Refusal.{NoSubvolume}
+use Rattle.send_model.specs.Command.{Command, Subvol, Snapshot, Clone, End}
 use Rattle.send_model.specs.Edit.{edit}
-use Rattle.send_model.specs.Store.{Key, Head, head_of, Store, Part, State, Stepped, step, step_head, step_edit, edit_part, edited}
+use Rattle.send_model.specs.Store.{Head, head_of, Store, Part, State, step, step_head, step_edit, edit_part, edited}
 use Rattle.send_model.specs.Outside.{keys_named}
 use Rattle.send_model.specs.Counts.{is_clone, is_end}
 

@@ -1,13 +1,12 @@
 -- What is read can be spelled: its numbers, times and lengths are those that the format can say.
-use Rattle.std.specs.Prelude.{◌≡◌, ℕ, zero, suc, ◌+◌, ◌-◌, ◌*◌, ◌^◌, ◌<◌, ◌≤◌, Bool, true, false, ◌&&◌, ◌==◌, List, [], ◌∷◌, ◌++◌, length, take, drop, Option, None, Some, Result, Ok, Err, nat_lt, nat_le, min, if◌then◌else◌}
+use Rattle.std.specs.Prelude.{◌≡◌, ℕ, zero, suc, ◌+◌, ◌^◌, ◌<◌, Bool, true, false, ◌&&◌, ◌==◌, List, [], ◌∷◌, length, take, drop, Option, None, Some, Result, Ok, Err, min, if◌then◌else◌}
 use Rattle.std.specs.List.{AllByRecursion, list_all}
 use Rattle.std.specs.Option.{unwrap_or}
-use Rattle.std.specs.Int.{w16, w32, w64, from_le_bytes}
-use Rattle.std.proofs.Common.{refl, sym, ap, subst, ◌∙◌, arith, eqb-true, ltb-true, length-take, get_or, lit<}
-use Rattle.std.proofs.lemmas.Bool.{true≢false}
+use Rattle.std.specs.Int.{w16, w64, from_le_bytes}
+use Rattle.std.proofs.Common.{refl, sym, ap, subst, ◌∙◌, arith, eqb-true, ltb-true, length-take}
 use Rattle.send_model.specs.Refusal.{Refusal, UnknownCommand, BadTime, MissingAttribute, BadAttribute}
 use Rattle.send_model.specs.Chain.{◌>>=◌, ◌>>◌, require, found}
-use Rattle.send_model.specs.Attribute.{Form, AnIdentifier, ANumber, AMoment, AnyBytes, form_of, Time, second, Field, Identifier, Number, Moment, Bytes, FieldFits, IsBytes}
+use Rattle.send_model.specs.Attribute.{AnIdentifier, AMoment, form_of, Identifier, Number, Moment, Bytes, FieldFits, IsBytes}
 use Rattle.send_model.specs.Command.{Kind, SUBVOL, SNAPSHOT, MKFILE, MKDIR, MKNOD, MKFIFO, MKSOCK, SYMLINK, RENAME, LINK, UNLINK, RMDIR, SET_XATTR, REMOVE_XATTR, WRITE, CLONE, TRUNCATE, CHMOD, CHOWN, UTIMES, END, UPDATE_EXTENT, Command, row, kind_of_number, fields_of, command_with, number_in, time_in}
 use Rattle.send_model.specs.Spelling.{Attribute, value_of, IsSpellable}
 use Rattle.send_model.specs.Reading.{number16, attribute_len, attribute_lawful, attribute_number, attributes_from, attributes_at, form_fits, wanted_there, bytes_at, nanos_lawful, moment_lawful, command_of}

@@ -1,11 +1,10 @@
 -- What a store finds once a part is complete.
-use Rattle.std.specs.Prelude.{◌≡◌, ℕ, Bool, true, false, cond, not, ◌&&◌, ◌||◌, List, [], ◌∷◌, ◌++◌, Option, None, Some, nat_eq, ◌==◌, if◌then◌else◌}
-use Rattle.std.proofs.Common.{refl, sym, ap, ap₂, subst, ◌∙◌, eqb-true, eq-eqb, unwrap_or}
+use Rattle.std.specs.Prelude.{◌≡◌, ℕ, Bool, true, false, ◌&&◌, ◌||◌, List, [], ◌∷◌, ◌++◌, Option, None, Some, ◌==◌, if◌then◌else◌}
+use Rattle.std.proofs.Common.{refl, ap, ◌∙◌, eqb-true, eq-eqb}
 use Rattle.std.specs.Str.{bytes_eq}
-use Rattle.std.specs.List.{list_any}
 use Rattle.std.proofs.lemmas.Slice.Eq.{bytes_eq-Decides}
 use Rattle.std.proofs.lemmas.Bool.{false≢true, true≢false}
-use Rattle.send_model.specs.Store.{Key, same_key, Head, Entry, Store, Part, State, has_uuid, has_name, find, with_contents, completed, unfinished}
+use Rattle.send_model.specs.Store.{Key, same_key, Head, Entry, Store, has_uuid, find, with_contents, unfinished}
 use Rattle.send_model.specs.Subvolume.{Subvolume}
 use Rattle.send_model.proofs.Sorts.{same_inside}
 

@@ -1,12 +1,11 @@
 -- One stream that was spelled is read whole, with its commands; and no part of it that lacks its end is read as whole.
-use Rattle.std.specs.Prelude.{◌≡◌, ◌≢◌, ℕ, zero, suc, ◌+◌, ◌-◌, ◌^◌, ◌<◌, ◌≤◌, Bool, true, false, List, [], ◌∷◌, ◌++◌, map, length, take, drop, Option, None, Some, Result, Ok, Err, nat_le, if◌then◌else◌}
-use Rattle.std.specs.List.{AllByRecursion, flat_map}
-use Rattle.std.proofs.Common.{refl, sym, ap, subst, ◌∙◌, arith, length-append, lit<, le_refl, append_assoc, le-leb, zero-le}
-use Rattle.std.proofs.lemmas.Bool.{true≢false, false≢true}
-use Rattle.send_model.specs.Refusal.{Refusal}
-use Rattle.send_model.specs.Command.{Command, End, row, kind_of, kind_of_number}
-use Rattle.send_model.specs.Spelling.{stream_header, IsSpellable, canonical, canonical_all, frame_of, Spells}
-use Rattle.send_model.specs.Reading.{Item, Reading, Whole, Faulty, Due, HeaderDue, CommandDue, due_after, may_end, with_item, go_on, ended, is_taken, taken, Front, front_of, data_place, header_len, stream_version, reads_from, reads, number32}
+use Rattle.std.specs.Prelude.{◌≡◌, ℕ, zero, suc, ◌+◌, ◌-◌, ◌<◌, ◌≤◌, true, false, List, [], ◌∷◌, ◌++◌, length, Ok, nat_le, if◌then◌else◌}
+use Rattle.std.specs.List.{AllByRecursion}
+use Rattle.std.proofs.Common.{refl, sym, ap, subst, ◌∙◌, arith, length-append, le-leb, zero-le}
+use Rattle.std.proofs.lemmas.Bool.{true≢false}
+use Rattle.send_model.specs.Command.{Command, End, row, kind_of_number}
+use Rattle.send_model.specs.Spelling.{stream_header, IsSpellable, canonical, canonical_all, frame_of}
+use Rattle.send_model.specs.Reading.{Item, Reading, Whole, Due, HeaderDue, CommandDue, due_after, may_end, with_item, go_on, ended, is_taken, taken, front_of, data_place, header_len, stream_version, reads_from, reads, number32}
 use Rattle.send_model.specs.Order.{commands_of}
 use Rattle.send_model.specs.Counts.{is_end}
 use Rattle.send_model.specs.Laws.{CanWrite}

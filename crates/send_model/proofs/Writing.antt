@@ -1,22 +1,20 @@
 -- What compose has written after some items: nothing before the first head, then the stream's header, the new head and the
 -- edits so far. It is never read as a whole stream before its END.
-use Rattle.std.specs.Prelude.{◌≡◌, ◌≢◌, ℕ, zero, suc, ◌+◌, ◌<◌, ◌≤◌, Bool, true, false, List, [], ◌∷◌, ◌++◌, map, length, take, Option, None, Some}
-use Rattle.std.specs.List.{AllByRecursion, flat_map}
-use Rattle.std.proofs.Common.{refl, sym, ap, ap₂, subst, ◌∙◌, arith, append_assoc, append-nil, length-append, lit≤}
+use Rattle.std.specs.Prelude.{◌≡◌, ℕ, zero, suc, ◌<◌, ◌≤◌, true, List, [], ◌∷◌, ◌++◌, length, take, Option, None, Some}
+use Rattle.std.specs.List.{AllByRecursion}
+use Rattle.std.proofs.Common.{refl, sym, ap, subst, ◌∙◌, arith, append_assoc, append-nil, length-append, lit≤}
 use Rattle.std.proofs.lemmas.List.{take-append-le}
-use Rattle.std.proofs.lemmas.Bool.{true≢false, false≢true}
-use Rattle.send_model.specs.Refusal.{Refusal, NoSubvolume}
+use Rattle.std.proofs.lemmas.Bool.{true≢false}
+use Rattle.send_model.specs.Refusal.{NoSubvolume}
 use Rattle.send_model.specs.Command.{Command, End}
 use Rattle.send_model.specs.Spelling.{stream_header, canonical, canonical_all}
-use Rattle.send_model.specs.Reading.{Item, Reading, Whole, reads}
-use Rattle.send_model.specs.Store.{Key, Head, head_of, Store, State, Stepped, step, completed}
-use Rattle.send_model.specs.Receive.{bytes_of, start_of}
-use Rattle.send_model.specs.Order.{onto_heads, heads_of, commands_of}
-use Rattle.send_model.specs.Composed.{first_head, last_head, head_command}
-use Rattle.send_model.specs.Counts.{is_clone, is_end}
+use Rattle.send_model.specs.Store.{Head, head_of, Store, State, step, completed}
+use Rattle.send_model.specs.Receive.{bytes_of}
+use Rattle.send_model.specs.Order.{onto_heads, heads_of}
+use Rattle.send_model.specs.Composed.{head_command}
 use Rattle.send_model.specs.Headline.{IsUnfinished}
 use Rattle.send_model.proofs.Sorts.{by_sort, is_plain, plain_step_without}
-use Rattle.send_model.proofs.Runs.{step_of, Takes}
+use Rattle.send_model.proofs.Runs.{Takes}
 use Rattle.send_model.proofs.Merging.{NoClones, edit_in, edits_of}
 use Rattle.send_model.proofs.Streams.{IsInner, canonical_long}
 use Rattle.send_model.proofs.Prefixes.{stream_cut}

@@ -1,5 +1,5 @@
 -- What the program's words ask for, and how it answers: the exit status and the line on standard error.
-use Rattle.std.specs.Prelude.{ℕ, ◌+◌, ◌-◌, Bool, false, ◌&&◌, List, [], ◌∷◌, ◌++◌, length, replicate, Option, None, Some, codes, if◌then◌else◌}
+use Rattle.std.specs.Prelude.{ℕ, ◌-◌, false, ◌&&◌, List, [], ◌∷◌, ◌++◌, length, replicate, Option, None, Some, codes, if◌then◌else◌}
 use Rattle.std.specs.Fmt.{decimal, digits}
 use Rattle.std.specs.Str.{bytes_eq}
 use Rattle.send_model.specs.Refusal.{Refusal, refusal_number, refusal_name, BadVersion, LongCommand, BadChecksum, UnknownCommand, BadAttribute, MissingAttribute, NotBuilt}

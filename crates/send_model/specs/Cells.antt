@@ -1,10 +1,10 @@
 -- The same subvolumes, stores and steps over other cells: each cell is replaced by what a function makes of it.
-use Rattle.std.specs.Prelude.{List, map, Option, None, Some, Result, Ok, Err}
+use Rattle.std.specs.Prelude.{map, Result, Ok, Err}
 use Rattle.std.specs.Option.{option_map}
 use Rattle.send_model.specs.Refusal.{Refusal}
-use Rattle.send_model.specs.Subvolume.{Inode, Subvolume}
+use Rattle.send_model.specs.Subvolume.{Subvolume}
 use Rattle.send_model.specs.Store.{Entry, Store, Part, State, Stepped}
-use Rattle.send_model.specs.Provenance.{inode_with, with_cells}
+use Rattle.send_model.specs.Provenance.{with_cells}
 
 abbrev pub recelled : {C D : Type 0} → (C → D) → Subvolume C → Subvolume D
 recelled f s = with_cells (λ ino cells. map f cells) s

@@ -1,10 +1,10 @@
 -- What CLONE does: cells of a file of the part itself, or of a complete subvolume, take the place of cells of a file.
 -- The rules are this project's profile of the FICLONERANGE call, ioctl_ficlonerange(2).
-use Rattle.std.specs.Prelude.{ℕ, ◌+◌, ◌%◌, ◌==◌, Bool, ◌&&◌, ◌||◌, not, List, [], length, take, drop, Option, Some, None, Result, Ok, Err, nat_lt, nat_le, is_some}
+use Rattle.std.specs.Prelude.{ℕ, ◌+◌, ◌%◌, ◌==◌, Bool, ◌&&◌, ◌||◌, List, [], length, take, drop, Option, Some, None, Result, Ok, nat_lt, nat_le, is_some}
 use Rattle.send_model.specs.Refusal.{Refusal, BadPath, NoSource, NotFile, BadRange, Unaligned, FileTooBig, Overlap}
 use Rattle.send_model.specs.Chain.{◌>>=◌, ◌>>◌, require, refuse_if, found}
 use Rattle.send_model.specs.Path.{path_names}
-use Rattle.send_model.specs.Subvolume.{Inode, Subvolume, inode_at, is_file, walk}
+use Rattle.send_model.specs.Subvolume.{Subvolume, inode_at, is_file, walk}
 use Rattle.send_model.specs.Edit.{greatest_end, overwritten, change_inode, set_cells}
 
 -- The cells of an inode, none where it is not there.

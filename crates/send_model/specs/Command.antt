@@ -1,6 +1,6 @@
 -- The commands of a stream and the one table of them: each command's number, name and wanted attributes.
 -- Source: enum btrfs_send_cmd in send.h of btrfs-progs, and process_.. in send-stream.c for the attributes.
-use Rattle.std.specs.Prelude.{ℕ, ◌+◌, ◌==◌, List, [], ◌∷◌, take, drop, Option, codes}
+use Rattle.std.specs.Prelude.{ℕ, ◌==◌, List, [], ◌∷◌, take, drop, Option, codes}
 use Rattle.std.specs.List.{find}
 use Rattle.std.specs.Int.{w32, w64, from_le_bytes}
 use Rattle.send_model.specs.Attribute.{Time, Field, Identifier, Number, Moment, Bytes, UUID, CTRANSID, SIZE, MODE, UID, GID, RDEV, MTIME, ATIME, XATTR_NAME, XATTR_DATA, PATH, PATH_TO, PATH_LINK, FILE_OFFSET, DATA, CLONE_UUID, CLONE_CTRANSID, CLONE_PATH, CLONE_OFFSET, CLONE_LEN}

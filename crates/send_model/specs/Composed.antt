@@ -6,7 +6,7 @@ use Rattle.std.specs.List.{flat_map}
 use Rattle.std.specs.Option.{unwrap_or}
 use Rattle.send_model.specs.Command.{Command, Subvol, Snapshot, Write, Clone, End}
 use Rattle.send_model.specs.Reading.{Item, input}
-use Rattle.send_model.specs.Subvolume.{Subvolume, first_path}
+use Rattle.send_model.specs.Subvolume.{first_path}
 use Rattle.send_model.specs.Store.{Key, Head, head_of, Store, State, find}
 use Rattle.send_model.specs.Receive.{start_of}
 use Rattle.send_model.specs.Order.{heads}

@@ -1,8 +1,8 @@
 -- The literal bytes and the clones among commands.
-use Rattle.std.specs.Prelude.{ℕ, ◌+◌, Bool, true, false, not, ◌&&◌, List, [], ◌∷◌, map, length, Option, None, sum, if◌then◌else◌}
+use Rattle.std.specs.Prelude.{ℕ, ◌+◌, Bool, true, false, not, ◌&&◌, List, [], ◌∷◌, length, Option, None, if◌then◌else◌}
 use Rattle.std.specs.List.{sum_by, count_by}
 use Rattle.send_model.specs.Command.{Command, Clone, End}
-use Rattle.send_model.specs.Reading.{Item, input}
+use Rattle.send_model.specs.Reading.{input}
 use Rattle.send_model.specs.Receive.{bytes_of}
 use Rattle.send_model.specs.Order.{commands_of}
 use Rattle.send_model.specs.Outside.{part_uuids}

@@ -1,16 +1,15 @@
 -- What each command but CLONE, the heads and END does to a subvolume: the first refusal in its order, or the subvolume
 -- afterwards. It looks at nothing but the subvolume of the part that is being received. Cells are moved and never looked at.
 -- Source: process_.. in cmds/receive.c of btrfs-progs and the manual pages of the system calls that it makes.
-use Rattle.std.specs.Prelude.{ℕ, ◌+◌, ◌-◌, ◌^◌, ◌%◌, ◌==◌, Bool, true, false, not, ◌&&◌, ◌||◌, List, [], ◌∷◌, ◌++◌, length, take, drop, replicate, Option, None, Some, Result, Ok, Err, nat_lt, nat_le, if◌then◌else◌, bit_and, is_some, is_none}
+use Rattle.std.specs.Prelude.{ℕ, ◌+◌, ◌-◌, ◌^◌, ◌%◌, ◌==◌, Bool, false, not, ◌&&◌, ◌||◌, List, [], ◌∷◌, ◌++◌, length, take, drop, replicate, Option, None, Some, Result, Ok, nat_le, if◌then◌else◌, bit_and, is_some, is_none}
 use Rattle.std.specs.List.{list_any}
 use Rattle.std.specs.Ordering.{nat_cmp}
-use Rattle.send_model.specs.Refusal.{Refusal, NoSubvolume, BadPath, NoEntry, NotDirectory, EntryThere, IsDirectory, NotEmpty, IntoItself, NotFile, BadXattr, NoXattr, BadDevice, IsRoot, FileTooBig, NoNumber}
+use Rattle.send_model.specs.Refusal.{Refusal, BadPath, NoEntry, NotDirectory, EntryThere, IsDirectory, NotEmpty, IntoItself, NotFile, BadXattr, NoXattr, BadDevice, FileTooBig, NoNumber}
 use Rattle.send_model.specs.Chain.{◌>>=◌, ◌>>◌, require, refuse_if, found}
-use Rattle.send_model.specs.Attribute.{Time}
-use Rattle.send_model.specs.Command.{Command, Subvol, Snapshot, MkFile, MkDir, MkNod, MkFifo, MkSock, Symlink, Rename, Link, Unlink, Rmdir, SetXattr, RemoveXattr, Write, Clone, Truncate, Chmod, Chown, Utimes, End, UpdateExtent}
+use Rattle.send_model.specs.Command.{Command, MkFile, MkDir, MkNod, MkFifo, MkSock, Symlink, Rename, Link, Unlink, Rmdir, SetXattr, RemoveXattr, Write, Truncate, Chmod, Chown, Utimes, UpdateExtent}
 use Rattle.send_model.specs.Path.{path_names}
 use Rattle.send_model.specs.Map.{bytes_cmp, named_cmp, value_at, with_value, without}
-use Rattle.send_model.specs.Subvolume.{NodeKind, File, Directory, SymbolicLink, CharacterDevice, BlockDevice, Fifo, Socket, Inode, Subvolume, Spot, new_inode, new_directory, root, inode_at, named, is_directory, is_file, walk, spot, all_but_last, inodes_on_way, name_count, is_empty_directory}
+use Rattle.send_model.specs.Subvolume.{NodeKind, File, SymbolicLink, CharacterDevice, BlockDevice, Fifo, Socket, Inode, Subvolume, Spot, new_inode, new_directory, root, inode_at, named, is_directory, is_file, walk, spot, all_but_last, inodes_on_way, name_count, is_empty_directory}
 
 -- ---- lists of cells
 

@@ -2,12 +2,12 @@
 -- names only the first stream's parent and subvolumes outside the list; every store holding these same subvolumes, and neither
 -- the last name nor uuid, accepts it and gets exactly the last stream's subvolume; and it writes literally only the streams' own
 -- bytes and cloned blocks that no outside subvolume carries.
-use Rattle.std.specs.Prelude.{◌≡◌, ◌≢◌, ℕ, ◌+◌, false, List, [], ◌∷◌, ◌++◌, length, Option, None, Some, ◌⊎◌}
+use Rattle.std.specs.Prelude.{◌≡◌, ◌≢◌, ℕ, ◌+◌, false, List, [], ◌∷◌, ◌++◌, length, Some, ◌⊎◌}
 use Rattle.std.specs.List.{AllByRecursion}
 use Rattle.send_model.specs.Command.{Command}
 use Rattle.send_model.specs.Reading.{Whole, reads, input}
 use Rattle.send_model.specs.Subvolume.{Subvolume}
-use Rattle.send_model.specs.Store.{Key, Head, Entry, Store, IsStore, has_name, has_uuid, find}
+use Rattle.send_model.specs.Store.{Head, Entry, Store, IsStore, has_name, has_uuid, find}
 use Rattle.send_model.specs.Receive.{IsAccepted, receive}
 use Rattle.send_model.specs.Order.{heads, heads_of, commands_of, IsConsecutive}
 use Rattle.send_model.specs.Outside.{outside, all_keys_named, IsAmong, SameOn}

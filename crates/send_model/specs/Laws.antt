@@ -1,18 +1,18 @@
 -- What the definitions mean together: laws that every later promise leans on.
-use Rattle.std.specs.Prelude.{◌≡◌, ℕ, ◌<◌, false, List, [], ◌∷◌, ◌++◌, map, length, take, Option, None, Some, Result, Ok}
+use Rattle.std.specs.Prelude.{◌≡◌, ℕ, ◌<◌, false, List, [], ◌∷◌, ◌++◌, map, length, take, None, Result, Ok}
 use Rattle.std.specs.List.{AllByRecursion}
 use Rattle.send_model.specs.Command.{Command, End, row, kind_of}
 use Rattle.send_model.specs.Spelling.{Spells, IsSpellable, stream_header, canonical, canonical_all}
-use Rattle.send_model.specs.Reading.{Item, Whole, reads, input, taken, Front, front_of, data_place}
+use Rattle.send_model.specs.Reading.{Whole, reads, input, taken, front_of, data_place}
 use Rattle.send_model.specs.Refusal.{Refusal}
 use Rattle.send_model.specs.Subvolume.{Subvolume, IsSound}
 use Rattle.send_model.specs.Edit.{edit}
-use Rattle.send_model.specs.Store.{Store, Part, State, step, edit_part, head_of, Head}
+use Rattle.send_model.specs.Store.{Store, Part, State, step, edit_part, head_of}
 use Rattle.send_model.specs.Receive.{IsAccepted, receive}
-use Rattle.send_model.specs.Order.{heads, commands_of, IsConsecutive}
+use Rattle.send_model.specs.Order.{commands_of, IsConsecutive}
 use Rattle.send_model.specs.Outside.{base}
 use Rattle.send_model.specs.Counts.{is_clone, is_end}
-use Rattle.send_model.specs.Composed.{first_head, last_head, composed}
+use Rattle.send_model.specs.Composed.{composed}
 use Rattle.send_model.specs.Cells.{recelled_state, recelled_step}
 use Rattle.send_model.specs.Headline.{IsComposed, IsUnfinished}
 

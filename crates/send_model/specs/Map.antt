@@ -1,5 +1,5 @@
 -- A finite map is the list of its entries in rising order of their keys; two maps are equal where their entries are.
-use Rattle.std.specs.Prelude.{ℕ, Bool, not, T, List, ◌∷◌, [], map, Option}
+use Rattle.std.specs.Prelude.{ℕ, not, T, List, map, Option}
 use Rattle.std.specs.declared.cmp.Ordering.{Ordering}
 use Rattle.std.specs.Ordering.{nat_cmp, ordering_then, eq_by_cmp}
 use Rattle.std.specs.Cmp.Lexicographic.{slice_cmp}

@@ -1,9 +1,9 @@
 -- The order of parts that compose asks for: each part but the first is a snapshot of the part before it. And the verdict on
 -- files: the first command that is refused, by its step or by this order, or the fault with which their reading ended.
-use Rattle.std.specs.Prelude.{◌≡◌, ◌≢◌, ℕ, Bool, true, false, not, ◌&&◌, List, [], ◌∷◌, ◌++◌, map, Option, None, Some, if◌then◌else◌}
-use Rattle.send_model.specs.Refusal.{Refusal, NotConsecutive}
+use Rattle.std.specs.Prelude.{◌≡◌, ◌≢◌, ℕ, Bool, false, not, List, [], ◌∷◌, map, Option, None, Some, if◌then◌else◌}
+use Rattle.send_model.specs.Refusal.{NotConsecutive}
 use Rattle.send_model.specs.Command.{Command}
-use Rattle.send_model.specs.Reading.{Item, Verdict, Ending, Whole, Faulty, Reading, input}
+use Rattle.send_model.specs.Reading.{Item, Verdict, Reading, input}
 use Rattle.send_model.specs.Store.{Key, same_key, Head, head_of, Store, State, Stepped, step}
 use Rattle.send_model.specs.Receive.{byte_cells, verdict_of, fault_of, first_of, start_of}
 

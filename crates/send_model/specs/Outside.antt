@@ -1,10 +1,10 @@
 -- What files need of a store beside their own parts: the subvolumes that they name as parents and as sources of clones.
-use Rattle.std.specs.Prelude.{◌≡◌, ◌⊎◌, ℕ, Bool, not, List, [], ◌∷◌, ◌++◌, map, Option, None, Some, if◌then◌else◌}
+use Rattle.std.specs.Prelude.{◌≡◌, ◌⊎◌, ℕ, Bool, not, List, [], ◌∷◌, map}
 use Rattle.std.specs.List.{list_any, filter, flat_map, AllByRecursion}
 use Rattle.std.specs.Str.{bytes_eq}
 use Rattle.send_model.specs.Command.{Command, Snapshot, Clone}
-use Rattle.send_model.specs.Reading.{Item, Reading, input}
-use Rattle.send_model.specs.Store.{Key, Head, Store, find}
+use Rattle.send_model.specs.Reading.{Item, input}
+use Rattle.send_model.specs.Store.{Key, Store, find}
 use Rattle.send_model.specs.Order.{heads, commands_of}
 
 -- The uuids of the parts.

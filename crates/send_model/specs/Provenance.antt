@@ -1,17 +1,16 @@
 -- Where the cells of cloned ranges come from: a byte of a subvolume outside the files stands at a place there, and edits
 -- carry this with the byte. Bytes that commands write, and zero bytes that they make, come from nowhere outside.
 -- Which blocks of a redirected clone are carried by an outside subvolume is decided by these places alone.
-use Rattle.std.specs.Prelude.{◌≡◌, ℕ, zero, suc, ◌+◌, ◌%◌, ◌==◌, Bool, true, false, not, ◌&&◌, ◌||◌, List, [], ◌∷◌, ◌++◌, map, length, take, drop, Option, None, Some, Result, Ok, Err, if◌then◌else◌, sum}
-use Rattle.std.specs.List.{sum_by, count_by, list_all}
+use Rattle.std.specs.Prelude.{ℕ, zero, suc, ◌+◌, ◌%◌, ◌==◌, Bool, true, false, not, ◌&&◌, ◌||◌, List, [], ◌∷◌, ◌++◌, map, length, take, drop, Option, None, Some, Ok, Err, if◌then◌else◌, sum}
+use Rattle.std.specs.List.{count_by}
 use Rattle.std.specs.Str.{bytes_eq}
 use Rattle.send_model.specs.Command.{Command, Clone, End}
-use Rattle.send_model.specs.Map.{Map}
-use Rattle.send_model.specs.Reading.{Item, Reading, input}
+use Rattle.send_model.specs.Reading.{Item, input}
 use Rattle.send_model.specs.Subvolume.{Inode, Subvolume, is_nameable}
-use Rattle.send_model.specs.Clone.{block_len, cells_of, Cloned, cloned}
-use Rattle.send_model.specs.Store.{Key, same_key, Head, head_of, Entry, Store, Part, State, Stepped, step, find, clone_source}
+use Rattle.send_model.specs.Clone.{block_len, cells_of, cloned}
+use Rattle.send_model.specs.Store.{Key, same_key, head_of, Entry, Store, State, Stepped, step, find, clone_source}
 use Rattle.send_model.specs.Receive.{bytes_of, start_of}
-use Rattle.send_model.specs.Outside.{base, is_among, part_uuids}
+use Rattle.send_model.specs.Outside.{is_among, part_uuids}
 
 -- ---- tags
 

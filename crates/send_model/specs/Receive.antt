@@ -1,9 +1,9 @@
 -- Receiving files into a store: each command's step in order, up to the first refusal or fault of reading.
-use Rattle.std.specs.Prelude.{◌≡◌, ℕ, ◌+◌, List, [], ◌∷◌, ◌++◌, map, length, Option, None, Some}
+use Rattle.std.specs.Prelude.{◌≡◌, ℕ, List, [], ◌∷◌, Option, None, Some}
 use Rattle.send_model.specs.Refusal.{Refusal}
 use Rattle.send_model.specs.Command.{Command, Write}
 use Rattle.send_model.specs.Reading.{Item, Verdict, Ending, Whole, Faulty, Reading, input}
-use Rattle.send_model.specs.Store.{Store, State, Stepped, step, completed}
+use Rattle.send_model.specs.Store.{Store, State, Stepped, step}
 
 -- What an item's WRITE puts into a file: its bytes, or cells that stand for them.
 abbrev pub bytes_of : Command → List ℕ

@@ -1,7 +1,7 @@
 -- Why a command is refused, with the values that a refusal keeps, and the number and name of each refusal,
 -- as notes print them. The first eight, UnknownCommand among them, are faults of the bytes of a stream; the others
 -- are faults of what a command asks for. The numbers are this program's own.
-use Rattle.std.specs.Prelude.{ℕ, List, [], ◌∷◌, codes}
+use Rattle.std.specs.Prelude.{ℕ, List, codes}
 
 pub data Refusal : Type 0 where
   BadMagic : Refusal

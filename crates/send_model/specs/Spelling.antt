@@ -1,6 +1,6 @@
 -- How commands stand in a stream as bytes: attributes, frames and the stream header, and the one spelling of a command
 -- that this program writes. Source: struct btrfs_stream_header, btrfs_cmd_header and btrfs_tlv_header in send.h.
-use Rattle.std.specs.Prelude.{◌≡◌, ℕ, ◌<◌, ◌≤◌, ◌^◌, ◌==◌, Bool, List, [], ◌∷◌, ◌++◌, length, map, Option, None, Some, codes, if◌then◌else◌}
+use Rattle.std.specs.Prelude.{◌≡◌, ℕ, ◌<◌, ◌≤◌, ◌^◌, ◌==◌, List, [], ◌∷◌, ◌++◌, length, Option, None, Some, codes, if◌then◌else◌}
 use Rattle.std.specs.List.{flat_map, AllByRecursion}
 use Rattle.std.specs.Int.{w16, w32, to_le_bytes}
 use Rattle.send_model.specs.Checksum.{crc_of}
