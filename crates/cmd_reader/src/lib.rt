@@ -7,6 +7,8 @@ mod frames;
 mod front;
 mod item;
 mod places;
+#[cfg(test)]
+mod tests;
 
 pub use command_reader::CmdReader;
 pub use item::{Item, ReadStop};
