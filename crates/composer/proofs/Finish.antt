@@ -85,7 +85,7 @@ unfinished items now sent k p h = by_last now.last refl
         subst U (sym (p.bytes last l)) (unfinished_so_far last (first_head (heads items)) (commands_of items) k (λ first f. inner items now sent first last p f l)) h
 
 -- The bytes after the first head.
-begun_bytes : (items : List Item) (now : Composing) (sent : List ℕ) (first last : Head) → Progress items now sent → first_head (heads items) ≡ Some first → now.last ≡ Some last
+pub begun_bytes : (items : List Item) (now : Composing) (sent : List ℕ) (first last : Head) → Progress items now sent → first_head (heads items) ≡ Some first → now.last ≡ Some last
     → sent ++ now.pending ≡ stream_header 1 ++ canonical_all 1 (head_command last.name last.key first.parent ∷ edits_of (commands_of items))
 unfolding written_so_far
 begun_bytes items now sent first last p f l = p.bytes last l ∙ ap (λ (o : Option Head). written_so_far last o (commands_of items)) f

@@ -3,3 +3,8 @@ pub mod Finish
 pub mod Loops
 pub mod Advancing
 pub mod Takes
+pub mod Folds
+pub mod FilesAhead
+pub mod FileWriting
+pub mod FilesWriting
+pub mod HeadsRead

@@ -5,24 +5,25 @@ use Rattle.std.proofs.Common.{refl, sym, ap, subst, ◌∙◌, append_assoc, app
 use Rattle.std.proofs.lemmas.Bool.{false≢true}
 use Rattle.send_model.specs.Refusal.{Refusal, NotConsecutive}
 use Rattle.send_model.specs.Command.{Command, Subvol, Snapshot, End}
-use Rattle.send_model.specs.Spelling.{IsSpellable, canonical}
+use Rattle.send_model.specs.Spelling.{IsSpellable, stream_header, canonical, canonical_all}
 use Rattle.send_model.specs.Reading.{Item, Verdict, Ending, Whole, Faulty, Reading, CommandDue, Front, header_len, with_item, ended, faulty, go_on, stream_version, front_of, reads_from, reads, joined, input_from, input}
 use Rattle.send_model.specs.Store.{Head, head_of, State}
 use Rattle.send_model.specs.Receive.{verdict_of, start_of, first_of}
-use Rattle.send_model.specs.Order.{heads, heads_of, onto_heads, breaks_order, last_item, judge}
-use Rattle.send_model.specs.Composed.{first_head, last_head}
+use Rattle.send_model.specs.Order.{heads, heads_of, onto_heads, breaks_order, commands_of, last_item, judge}
+use Rattle.send_model.specs.Composed.{first_head, last_head, head_command, composed}
 use Rattle.send_model.specs.Counts.{is_clone}
 use Rattle.send_model.specs.Laws.{CanWrite}
 use Rattle.send_model.specs.Headline.{IsComposed, IsUnfinished}
 use Rattle.send_model.proofs.Sorts.{same_inside}
 use Rattle.send_model.proofs.Fuel.{not_refused, bound}
-use Rattle.send_model.proofs.Writing.{written_so_far}
-use Rattle.send_model.proofs.Composed.{last_there}
+use Rattle.send_model.proofs.Merging.{NoClones, edits_of}
+use Rattle.send_model.proofs.Writing.{written_so_far, whole_parts}
+use Rattle.send_model.proofs.Composed.{composed_list, last_there}
 use Rattle.send_model.proofs.Judging.{empty_store}
 use Rattle.composer.specs.Advance.{Composing, blank_step, accepted, with_head, with_command, with_taken, advance}
 use Rattle.composer.specs.Ahead.{IsAhead, then_reading}
 use Rattle.composer.proofs.Progress.{HeadFits, Progress, heads_more, ok_is}
-use Rattle.composer.proofs.Finish.{unfinished_end, composed, judged, judged_end, judged_whole, judged_empty}
+use Rattle.composer.proofs.Finish.{begun_bytes, unfinished_end, composed as is_composed, judged, judged_end, judged_whole, judged_empty}
 
 -- ---- the start, and sending
 
@@ -260,7 +261,24 @@ pub composed_ahead : (files : List (List ℕ)) (items : List Item) (left : Readi
 composed_ahead files items left number now sent is e p last_is b =
     let whole = ahead_whole files items left number is e in
     let h = heads_there items now sent p b (last_is ∙ last_of_all files items Whole whole) in
-    (composed files items now sent h.last whole p h.last_is h.told, judged_whole files items now sent whole p (has_begun items now sent p b))
+    (is_composed files items now sent h.last whole p h.last_is h.told, judged_whole files items now sent whole p (has_begun items now sent p b))
+
+-- It is the spelling of the composed list of commands.
+pub spelled_ahead : (files : List (List ℕ)) (items : List Item) (left : Reading) (number : ℕ) (now : Composing) (sent : List ℕ)
+    → IsAhead files items left number [] → left ≡ ended → Progress items now sent → now.last ≡ last_head (heads (input files).items) → now.begun ≡ true
+    → (sent ++ now.pending) ++ canonical 1 End ≡ stream_header 1 ++ canonical_all 1 (composed empty_store files)
+spelled_ahead files items left number now sent is e p last_is b =
+    let whole = ahead_whole files items left number is e in
+    let h = heads_there items now sent p b (last_is ∙ last_of_all files items Whole whole) in
+    let same : items ≡ (input files).items = ap (λ (r : Reading). r.items) (sym whole) in
+    let cs : List Command = head_command h.last.name h.last.key h.first.parent ∷ edits_of (commands_of items) in
+    let plain : NoClones (commands_of (input files).items) = subst (λ (xs : List Item). NoClones (commands_of xs)) same p.no_clones in
+    let firsts : first_head (heads (input files).items) ≡ Some h.first = ap (λ (xs : List Item). first_head (heads xs)) (sym same) ∙ h.first_is in
+    let lasts : last_head (heads (input files).items) ≡ Some h.last = ap (λ (xs : List Item). last_head (heads xs)) (sym same) ∙ h.last_is in
+    let list : composed empty_store files ≡ cs ++ End ∷ [] =
+    composed_list empty_store files h.first h.last firsts lasts plain ∙ ap (λ (xs : List Item). head_command h.last.name h.last.key h.first.parent ∷ (edits_of (commands_of xs) ++ End ∷ [])) (sym same) in
+    ap (λ (bytes : List ℕ). bytes ++ canonical 1 End) (begun_bytes items now sent h.first h.last p h.first_is h.told) ∙ sym (whole_parts (stream_header 1) cs)
+    ∙ ap (λ (list : List Command). stream_header 1 ++ canonical_all 1 list) (sym list)
 
 -- And none of its proper front parts is read as whole.
 pub unfinished_ahead : (files : List (List ℕ)) (items : List Item) (left : Reading) (number : ℕ) (now : Composing) (sent : List ℕ) (k : ℕ)

@@ -2,10 +2,14 @@
 #![tactic(auto)]
 
 mod composing;
+mod heads;
 mod part_head;
+mod places;
 #[cfg(test)]
 mod tests;
 mod whole;
+#[cfg(test)]
+mod whole_tests;
 
 pub use composing::Composer;
 pub use part_head::PartHead;

@@ -1,28 +1,40 @@
 // Composing files: once over all of them for the last head, and once more to write.
-ghost use Rattle.std.specs.Prelude.{◌≡◌, IsTrue};
+ghost use Rattle.std.specs.Prelude.{◌≡◌, ◌≢◌, ◌≤◌, [], map, IsTrue};
+ghost use Rattle.std.specs.Io.KnownBytes.{Appends};
+ghost use Rattle.std.specs.String.{string_bytes};
 ghost use Rattle.send_model.specs.Command.{kind_of};
 ghost use Rattle.send_model.specs.Reading.{is_taken};
 ghost use Rattle.send_commands.specs.Meaning.{meaning_of};
 ghost use Rattle.send_commands.specs.Writing.{IsWritable};
+ghost use Rattle.cmd_reader.specs.Fronts.{IfTold};
+ghost use Rattle.composer.specs.Files.{IfAllTold, Caused, ErrCaused, Wrote, EndSays, FilesEnd, FileEnd, CommandEnd, SendEnd, StopEnd};
 
 use crate::composing::Composer;
-use crate::part_head::PartHead;
-use cmd_reader::{CmdReader, ReadStop};
+use crate::heads::last_head;
+use crate::places::{Place, outcome_of};
+use cmd_reader::CmdReader;
 use send_commands::Command;
 use std::alloc::Global;
-use sx_base::{Inputs, Outcome, Refusal, Sink, Stop, Verdict, write_whole};
+use sx_base::{Inputs, Outcome, Refusal, Sink, Stop, write_whole};
 
 // How many bytes are gathered before they are written.
 const PIECE: usize = 65_536;
 
 /// Composes the consecutive parts in the files into one stream and writes it to `out`. The files are read twice, in order
-/// and one command at a time: first for the name and the key of the last part, then to write.
+/// and one command at a time: first for the name and the key of the last part, then to write. `Done` says that `out` took
+/// the composed stream, and `Refused` gives the verdict on the files; then and with every other outcome what `out` took is
+/// no whole stream.
 pub fn compose<I: Inputs, O: Sink>(
     alloc: Global,
     inputs: &mut I,
     files: &[String],
     out: &mut O,
-) -> Outcome {
+) -> Outcome
+    requires some { files.now ≢ [] }
+    ensures same { I.told inputs.new ≡ I.told inputs.old }
+    ensures cause { Caused (I.faults inputs.old) (I.faults inputs.new) (O.faults out.old) (O.faults out.new) result }
+    ensures composed { IfAllTold (I.told inputs.old) (map string_bytes files.now) (λ files. Wrote (O.taken out.old) (O.taken out.new) (λ written. EndSays files written result)) }
+{
     match compose_files(alloc, inputs, files, out) {
         Ok(()) => Outcome::Done,
         Err(outcome) => outcome,
@@ -34,13 +46,21 @@ fn compose_files<I: Inputs, O: Sink>(
     inputs: &mut I,
     files: &[String],
     out: &mut O,
-) -> Result<(), Outcome> {
-    let last = last_head(alloc, inputs, files)?;
+) -> Result<(), Outcome>
+    requires some { files.now ≢ [] }
+    ensures same { I.told inputs.new ≡ I.told inputs.old }
+    ensures cause { ErrCaused (I.faults inputs.old) (I.faults inputs.new) (O.faults out.old) (O.faults out.new) result }
+    ensures composed { IfAllTold (I.told inputs.old) (map string_bytes files.now) (FilesEnd (O.taken out.old) (O.taken out.new) result) }
+{
+    let last = match last_head(alloc, inputs, files) {
+        Ok(last) => last,
+        Err(outcome) => return Err(outcome),
+    };
     let mut composer = Composer::new(alloc, last);
     let mut place = Place::start();
     let mut file = 0;
     while file < files.len() {
-        place = write_file(
+        place = match write_file(
             alloc,
             inputs,
             out,
@@ -48,7 +68,10 @@ fn compose_files<I: Inputs, O: Sink>(
             files[file].as_str(),
             &mut composer,
             place,
-        )?;
+        ) {
+            Ok(place) => place,
+            Err(outcome) => return Err(outcome),
+        };
         file += 1;
     }
     if !composer.has_begun() {
@@ -60,83 +83,6 @@ fn compose_files<I: Inputs, O: Sink>(
     send(&mut composer, out)
 }
 
-// Where a command stands.
-#[derive(Clone, Copy)]
-struct Place {
-    file: u64,
-    command: u64,
-    offset: u64,
-}
-
-impl Place {
-    // The first command of the first file.
-    fn start() -> Place {
-        Place {
-            file: 1,
-            command: 1,
-            offset: 0,
-        }
-    }
-
-    fn refused(self, refusal: Refusal) -> Verdict {
-        Verdict {
-            file: self.file,
-            command: self.command,
-            offset: self.offset,
-            refusal,
-        }
-    }
-}
-
-// The last head of the files, as far as they can be read.
-fn last_head<I: Inputs>(
-    alloc: Global,
-    inputs: &mut I,
-    files: &[String],
-) -> Result<Option<PartHead>, Outcome> {
-    let mut last = None;
-    let mut file = 0;
-    while file < files.len() {
-        if !heads_of_file(
-            alloc,
-            inputs,
-            file as u64 + 1,
-            files[file].as_str(),
-            &mut last,
-        )? {
-            return Ok(last);
-        }
-        file += 1;
-    }
-    Ok(last)
-}
-
-// Goes over the heads of a file, and says whether it can be read to its end.
-fn heads_of_file<I: Inputs>(
-    alloc: Global,
-    inputs: &mut I,
-    file: u64,
-    name: &str,
-    last: &mut Option<PartHead>,
-) -> Result<bool, Outcome> {
-    let Ok(mut reader) = CmdReader::new(alloc, file, name) else {
-        return Err(Outcome::NoMemory);
-    };
-    loop {
-        let item = match reader.next(inputs) {
-            Ok(Some(item)) => item,
-            Ok(None) => return Ok(true),
-            Err(ReadStop::Refused(_)) => return Ok(false),
-            Err(stop) => return Err(outcome_of(file, stop)),
-        };
-        match PartHead::of(alloc, &item.command) {
-            Ok(Some(head)) => *last = Some(head),
-            Ok(None) => {}
-            Err(_) => return Err(Outcome::NoMemory),
-        }
-    }
-}
-
 // Composes a file's commands, and gives the place of the last.
 fn write_file<I: Inputs, O: Sink>(
     alloc: Global,
@@ -146,7 +92,13 @@ fn write_file<I: Inputs, O: Sink>(
     name: &str,
     composer: &mut Composer,
     before: Place,
-) -> Result<Place, Outcome> {
+) -> Result<Place, Outcome>
+    ensures same { I.told inputs.new ≡ I.told inputs.old }
+    ensures later { I.faults inputs.old ≤ I.faults inputs.new }
+    ensures out_later { O.faults out.old ≤ O.faults out.new }
+    ensures cause { ErrCaused (I.faults inputs.old) (I.faults inputs.new) (O.faults out.old) (O.faults out.new) result }
+    ensures wrote { IfTold (I.told inputs.old) name.now (FileEnd file composer.old composer.new (O.taken out.old) (O.taken out.new) before result) }
+{
     let Ok(mut reader) = CmdReader::new(alloc, file, name) else {
         return Err(Outcome::NoMemory);
     };
@@ -160,7 +112,9 @@ fn write_file<I: Inputs, O: Sink>(
                     command: item.number,
                     offset: item.offset,
                 };
-                if let Err(outcome) = write_command(out, composer, &item.command, place) {
+                let written = write_command(out, composer, &item.command, place);
+                drop(item);
+                if let Err(outcome) = written {
                     return Err(outcome);
                 }
             }
@@ -178,6 +132,9 @@ fn write_command<O: Sink>(
 ) -> Result<(), Outcome>
     requires taken { IsTrue (is_taken (kind_of (meaning_of command.now))) }
     requires writable { IsWritable (meaning_of command.now) }
+    ensures later { O.faults out.old ≤ O.faults out.new }
+    ensures cause { ErrCaused 0 0 (O.faults out.old) (O.faults out.new) result }
+    ensures composed { CommandEnd composer.old composer.new (meaning_of command.now) place (O.taken out.old) (O.taken out.new) result }
 {
     match composer.take(command) {
         Ok(()) => {
@@ -194,7 +151,10 @@ fn write_command<O: Sink>(
 }
 
 // The outcome of a run that ends here, once what is pending is written.
-fn stopped<O: Sink>(out: &mut O, composer: &mut Composer, outcome: Outcome) -> Outcome {
+fn stopped<O: Sink>(out: &mut O, composer: &mut Composer, outcome: Outcome) -> Outcome
+    ensures later { O.faults out.old ≤ O.faults out.new }
+    ensures stopped { StopEnd composer.old.pending (O.taken out.old) (O.taken out.new) (O.faults out.old) (O.faults out.new) outcome result }
+{
     match send(composer, out) {
         Ok(()) => outcome,
         Err(fault) => fault,
@@ -202,20 +162,13 @@ fn stopped<O: Sink>(out: &mut O, composer: &mut Composer, outcome: Outcome) -> O
 }
 
 // Writes what is pending.
-fn send<O: Sink>(composer: &mut Composer, out: &mut O) -> Result<(), Outcome> {
+fn send<O: Sink>(composer: &mut Composer, out: &mut O) -> Result<(), Outcome>
+    ensures later { O.faults out.old ≤ O.faults out.new }
+    ensures sent { SendEnd composer.old composer.new (O.taken out.old) (O.taken out.new) (O.faults out.old) (O.faults out.new) result }
+{
     if write_whole(out, composer.pending()).is_err() {
         return Err(Outcome::OutputFault);
     }
     composer.sent();
     Ok(())
-}
-
-// The outcome of a file that could not be read on.
-fn outcome_of(file: u64, stop: ReadStop) -> Outcome {
-    match stop {
-        ReadStop::Refused(verdict) => Outcome::Refused(verdict),
-        ReadStop::NoMemory => Outcome::NoMemory,
-        ReadStop::InputFault => Outcome::InputFault,
-        ReadStop::InputTooLong => Outcome::InputTooLong { file },
-    }
 }

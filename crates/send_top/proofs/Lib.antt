@@ -1,3 +1,4 @@
 pub mod Hexadecimal
 pub mod Notes
 pub mod Statuses
+pub mod Endings

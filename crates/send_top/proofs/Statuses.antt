@@ -41,6 +41,26 @@ pub zero-of_done : (answer : Answer) → answer ≡ Done → status_of answer �
 unfolding status_of
 zero-of_done answer e = ap status_of e
 
+pub input_fault-of_three : (answer : Answer) → status_of answer ≡ 3 → answer ≡ InputFault
+unfolding status_of
+input_fault-of_three Done e = absurd (omega arith)
+input_fault-of_three (Refused verdict) e = absurd (omega arith)
+input_fault-of_three Usage e = absurd (omega arith)
+input_fault-of_three InputFault e = refl
+input_fault-of_three OutputFault e = absurd (omega arith)
+input_fault-of_three NoMemory e = absurd (omega arith)
+input_fault-of_three (InputTooLong file) e = absurd (omega arith)
+
+pub output_fault-of_four : (answer : Answer) → status_of answer ≡ 4 → answer ≡ OutputFault
+unfolding status_of
+output_fault-of_four Done e = absurd (omega arith)
+output_fault-of_four (Refused verdict) e = absurd (omega arith)
+output_fault-of_four Usage e = absurd (omega arith)
+output_fault-of_four InputFault e = absurd (omega arith)
+output_fault-of_four OutputFault e = refl
+output_fault-of_four NoMemory e = absurd (omega arith)
+output_fault-of_four (InputTooLong file) e = absurd (omega arith)
+
 -- Nothing is written where all was done.
 pub no_note : (answer : Answer) → status_of answer ≡ 0 → note_of answer ≡ []
 unfolding note_of

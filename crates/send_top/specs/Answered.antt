@@ -3,22 +3,17 @@ use Rattle.std.specs.Prelude.{◌≡◌, ◌⊎◌, ℕ, ◌==◌, Bool, List, [
 use Rattle.std.specs.List.{list_any}
 use Rattle.std.specs.Io.KnownBytes.{Appends}
 use Rattle.send_model.specs.Answer as meant
-use Rattle.send_model.specs.Reading as reading
 use Rattle.sx_base.specs.Causes.{Rose}
 use Rattle.sx_base.specs.Outside.{AppendsPart}
-use Rattle.sx_base.specs.Refusals.{refusal_of}
-use Rattle.sx_base.specs.declared.outcome.Verdict.{Verdict}
 use Rattle.sx_base.specs.declared.outcome.Outcome.{Outcome}
 use Rattle.sx_base.specs.declared.outcome.Outcome.TheVariants as ended
+use Rattle.cmd_reader.specs.Next.{verdict_meant}
 use Rattle.send_top.specs.declared.noting.Answer.{Answer}
 use Rattle.send_top.specs.declared.noting.Answer.TheVariants as made
 
-abbrev pub verdict_of : Verdict → reading.Verdict
-verdict_of v = record { file = v.file; command = v.command; offset = v.offset; refusal = refusal_of v.refusal }
-
 abbrev pub outcome_of : Outcome → meant.Answer
 outcome_of ended.Done = meant.Done
-outcome_of (ended.Refused verdict) = meant.Refused (verdict_of verdict)
+outcome_of (ended.Refused verdict) = meant.Refused (verdict_meant verdict)
 outcome_of ended.InputFault = meant.InputFault
 outcome_of ended.OutputFault = meant.OutputFault
 outcome_of ended.NoMemory = meant.NoMemory

@@ -5,7 +5,8 @@ ghost use Rattle.send_model.specs.Answer.{Done, status_of, note_of, kept_values,
 ghost use Rattle.sx_base.specs.Causes.{HasCause};
 ghost use Rattle.sx_base.specs.Outside.{AppendsPart};
 ghost use Rattle.sx_base.specs.Refusals.{refusal_of};
-ghost use Rattle.send_top.specs.Answered.{answer_of, verdict_of};
+ghost use Rattle.cmd_reader.specs.Next.{verdict_meant};
+ghost use Rattle.send_top.specs.Answered.{answer_of};
 
 use crate::one_line::Line;
 use sx_base::{Failed, Outcome, Refusal, Sink, Verdict, write_whole};
@@ -74,7 +75,7 @@ fn note_line(answer: &Answer) -> Line
 #[tactic(auto, using(crate::proofs::Notes::short_name), unfolding(send_model::specs::Answer::verdict_text))]
 fn push_verdict(verdict: &Verdict, line: &mut Line)
     requires room { length line.old ≡ 0 }
-    ensures pushed { line.new ≡ line.old ++ verdict_text (verdict_of verdict.now) }
+    ensures pushed { line.new ≡ line.old ++ verdict_text (verdict_meant verdict.now) }
     ensures len { length line.new ≤ 130 }
 {
     line.push(b"refused");

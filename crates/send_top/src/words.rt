@@ -1,5 +1,5 @@
 // What the words of a call ask for.
-ghost use Rattle.std.specs.Prelude.{◌≡◌, ◌<◌, length, map, option_map, IfSome};
+ghost use Rattle.std.specs.Prelude.{◌≡◌, ◌<◌, ◌≤◌, length, drop, map, option_map, IfSome};
 ghost use Rattle.std.specs.String.{string_bytes};
 ghost use Rattle.send_model.specs.Answer.{request};
 ghost use Rattle.send_top.specs.Requests.{request_of, files_from};
@@ -14,6 +14,18 @@ pub enum Request {
         /// The place of the first file among the words, from 0. All words from there on are files.
         files: usize,
     },
+}
+
+impl Request {
+    /// The files that it asks for, among the words.
+    pub fn files(self, words: &[String]) -> &[String]
+        requires within { files_from self ≤ length words.now }
+        ensures files { result.now ≡ drop (files_from self) words.now }
+    {
+        match self {
+            Request::Compose { files, .. } => &words[files..],
+        }
+    }
 }
 
 /// What the words after the program's name ask for; `None` where they mean nothing. Takes no memory.

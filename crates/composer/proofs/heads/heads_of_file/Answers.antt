@@ -1,0 +1,25 @@
+use Rattle.std.proofs.Common.{refl, ap, arith, ◌∙◌}
+use Rattle.cmd_reader.specs.Left.{Reader}
+use Rattle.composer.proofs.HeadsRead.{heads_start, heads_next}
+use Rattle.composer.proofs.heads.heads_of_file.Goals as goal
+
+pub loop-item-init : goal.loop-item-init
+loop-item-init g c = record {
+  same = refl;
+  later = omega arith;
+  file = ap (λ (r : Reader). r.file) c.in-Ok.ensures.start;
+  name = ap (λ (r : Reader). r.name) c.in-Ok.ensures.start;
+  heads = heads_start _ c.args.file c.args.name.now c.in-Ok.reader c.args.last.now c.in-Ok.ensures.start;
+}
+
+pub loop-item-preserved : goal.loop-item-preserved
+loop-item-preserved g c =
+    let kept = c.loop-item.invariant in
+    record {
+      same = c.next.ensures.same ∙ kept.same;
+      later = omega (arith, kept.later, c.next.ensures.later);
+      file = c.next.ensures.file ∙ kept.file;
+      name = c.next.ensures.name ∙ kept.name;
+      heads = heads_next _ _ c.args.file c.args.name.now c.loop-item.reader c.next.new.self c.in-Ok-Some.field-0 c.in-Ok-Some.item c.args.last.now c.loop-item.last c.keep_head.new.last 0 0
+          kept.same kept.file kept.name c.in-Ok-Some.field-0-is c.in-Ok-Some.ensures.fits c.in-Ok-keep_head.ensures.kept kept.heads c.in-Ok-Some.ensures.read;
+    }

@@ -1,0 +1,19 @@
+use Rattle.std.proofs.Common.{◌≡◌, ◌≤◌, ◌-◌}
+use Rattle.cmd_reader.specs.Places.{limit}
+use Rattle.cmd_reader.specs.Fronts.{IfTold}
+use Rattle.composer.proofs.HeadsRead.{HeadsSoFar}
+use Rattle.composer.proofs.heads.heads_of_file.Given as goal
+
+-- Each command brings the reader nearer to the limit.
+abbrev pub decreases-loop-item : goal.decreases-loop-item
+decreases-loop-item g l = limit - l.reader.offset
+
+-- The last head is that of the commands so far, or else the one before the file; what is left to read is left to the reader.
+abbrev pub invariant-loop-item : goal.invariant-loop-item
+invariant-loop-item g l = record {
+  same : g.I.Inputs.told l.inputs ≡ g.I.Inputs.told l.fn.inputs;
+  later : g.I.Inputs.faults l.fn.inputs ≤ g.I.Inputs.faults l.inputs;
+  file : l.reader.file ≡ l.file;
+  name : l.reader.name ≡ l.name;
+  heads : IfTold (g.I.Inputs.told l.fn.inputs) l.name (HeadsSoFar l.file l.reader l.fn.last l.last);
+}
