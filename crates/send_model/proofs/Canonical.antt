@@ -2,14 +2,16 @@
 use Rattle.std.specs.Prelude.{◌≡◌, ℕ, zero, suc, ◌+◌, ◌%◌, ◌^◌, ◌<◌, ◌≤◌, List, [], ◌∷◌, ◌++◌, length, Some, Ok}
 use Rattle.std.specs.List.{AllByRecursion}
 use Rattle.std.specs.Int.{w16, w32, w64, to_le_bytes}
-use Rattle.std.proofs.Common.{refl, ap, ◌∙◌, arith, length-append, le_trans, lit<, lit≤, get_or, zero-le}
+use Rattle.std.proofs.Common.{refl, sym, ap, ◌∙◌, append-nil, arith, length-append, le_trans, lit<, lit≤, get_or, zero-le}
 use Rattle.std.proofs.Math.Nat.{mod-lt}
 use Rattle.send_model.specs.Attribute.{Field, Identifier, Number, Moment, Bytes, field_bytes, FieldFits, IsBytes}
 use Rattle.send_model.specs.Command.{Command, Subvol, Snapshot, MkFile, MkDir, MkNod, MkFifo, MkSock, Symlink, Rename, Link, Unlink, Rmdir, SetXattr, RemoveXattr, Write, Clone, Truncate, Chmod, Chown, Utimes, End, UpdateExtent, row, kind_of, fields_of}
 use Rattle.send_model.specs.Spelling.{Attribute, attribute_bytes, body_of, value_of, IsAttribute, AreAttributes, frame_checksum, greatest_body, with_fields, attributes_of, IsSpellable, Spells, canonical}
-use Rattle.send_model.specs.Reading.{frame_at, taken, front_of, data_place}
+use Rattle.send_model.specs.Reading.{Frame, frame_at, attributes_at, command_of, taken, front_of, data_place}
+use Rattle.send_model.specs.Laws.{FrameHasOneReading}
 use Rattle.send_model.proofs.ChecksumLaws.{crc_of-below}
 use Rattle.send_model.proofs.Frames.{frame_read_back}
+use Rattle.send_model.proofs.Fuel.{ok_same}
 use Rattle.send_model.proofs.Attributes.{attributes_read_back}
 use Rattle.send_model.proofs.Commands.{command_read_back, number_small}
 
@@ -208,3 +210,25 @@ spelled_front file version number offset bytes rest c s is_taken =
     let read : frame_at (bytes ++ rest) ≡ Ok (record { number = n; body = body; rest = rest }) =
     ap (λ (b : List ℕ). frame_at (b ++ rest)) s.frame ∙ frame_read_back body rest n (number_small (kind_of c)) s.short (checksum_small n body (body_is_bytes version s.attributes s.lawful)) in
     rw (read, attributes_read_back version s.attributes s.lawful, is_taken, command_read_back version c s.attributes s.values s.wanted) refl
+
+-- ---- one reading
+
+frame_read : (version : ℕ) (bytes : List ℕ) (c : Command) (s : Spells version bytes c) → frame_at bytes ≡ Ok (record { number = (row (kind_of c)).number; body = body_of s.attributes; rest = [] })
+frame_read version bytes c s =
+    let body : List ℕ = body_of s.attributes in
+    let n : ℕ = (row (kind_of c)).number in
+    ap frame_at (sym (append-nil bytes)) ∙ ap (λ (b : List ℕ). frame_at (b ++ [])) s.frame ∙ frame_read_back body [] n (number_small (kind_of c)) s.short (checksum_small n body (body_is_bytes version s.attributes s.lawful))
+
+-- Bytes that spell a command spell no other.
+pub spelled_once : FrameHasOneReading
+spelled_once version bytes c d s t =
+    let frames : record { number = (row (kind_of c)).number; body = body_of s.attributes; rest = [] } ≡ record { number = (row (kind_of d)).number; body = body_of t.attributes; rest = [] } =
+    ok_same (sym (frame_read version bytes c s) ∙ frame_read version bytes d t) in
+    let attributes : s.attributes ≡ t.attributes =
+    ok_same (sym (attributes_read_back version s.attributes s.lawful) ∙ ap (λ (f : Frame). attributes_at version f.body) frames ∙ attributes_read_back version t.attributes t.lawful) in
+    ok_same (
+    sym (command_read_back version c s.attributes s.values s.wanted)
+    ∙ ap (λ (f : Frame). command_of version f.number s.attributes) frames
+    ∙ ap (command_of version (row (kind_of d)).number) attributes
+    ∙ command_read_back version d t.attributes t.values t.wanted
+    )

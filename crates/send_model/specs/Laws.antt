@@ -26,6 +26,10 @@ abbrev pub SpelledIsRead : Type 0
 SpelledIsRead = (file version number offset : ℕ) (bytes rest : List ℕ) (c : Command) (s : Spells version bytes c) → taken version (row (kind_of c)).number ≡ Ok tt
     → front_of file version number offset (bytes ++ rest) ≡ Ok (record { item = record { file = file; number = number; offset = offset; version = version; data_at = data_place offset s.attributes; command = c }; rest = rest })
 
+-- A frame has one reading: bytes that spell a command spell no other.
+abbrev pub FrameHasOneReading : Type 0
+FrameHasOneReading = (version : ℕ) (bytes : List ℕ) (c d : Command) → Spells version bytes c → Spells version bytes d → c ≡ d
+
 -- The canonical spelling of a command spells it.
 abbrev pub CanonicalSpells : Type 0
 CanonicalSpells = (version : ℕ) (c : Command) → IsSpellable c → Spells version (canonical version c) c

@@ -4,11 +4,13 @@ ghost use Rattle.send_model.specs.Command.{Command};
 ghost use Rattle.send_model.specs.Subvolume.{Subvolume, IsSound, root_alone};
 ghost use Rattle.send_model.specs.Edit.{edit};
 ghost use Rattle.send_model.specs.Clone.{clone};
-ghost use Rattle.send_model.specs.Laws.{SpelledIsRead, CanonicalSpells, AreInner, StreamIsRead, CutIsUnfinished, EditLooksAtItsPart, StepKeepsCells, KeepsSoundness, ComposedHolds};
+ghost use Rattle.send_model.specs.Laws.{SpelledIsRead, FrameHasOneReading, CanonicalSpells, AreInner, StreamIsRead, CutIsUnfinished, EditLooksAtItsPart, StepKeepsCells, KeepsSoundness, ComposedHolds};
 
-/// Whatever spells a command is read as that command, whatever follows it; and the canonical spelling spells it.
+/// Whatever spells a command is read as that command, whatever follows it, and spells no other; and the canonical spelling
+/// spells it.
 pub fn spelling_is_read_back()
     ensures spelled { SpelledIsRead }
+    ensures once { FrameHasOneReading }
     ensures canonical { CanonicalSpells }
 {}
 
