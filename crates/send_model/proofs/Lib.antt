@@ -33,3 +33,4 @@ pub mod SoundRemovals
 pub mod SoundChanges
 pub mod SoundEdits
 pub mod SoundRenames
+pub mod Fronts

@@ -9,7 +9,7 @@ use Rattle.send_model.specs.Reading.{Item, input}
 use Rattle.send_model.specs.Subvolume.{first_path}
 use Rattle.send_model.specs.Store.{Key, Head, head_of, Store, State, find}
 use Rattle.send_model.specs.Receive.{start_of}
-use Rattle.send_model.specs.Order.{heads}
+use Rattle.send_model.specs.Order.{heads, lawful}
 use Rattle.send_model.specs.Outside.{part_uuids}
 use Rattle.send_model.specs.Provenance.{Place, Traced, Piece, Carried, Literal, traced_store, traced_step, uuid_after, is_own, is_redirected, clone_range, pieces_of}
 
@@ -85,3 +85,14 @@ composed_for store _ _ items = []
 
 unfoldable pub composed : Store ℕ → List (List ℕ) → List Command
 composed store files = let items = (input files).items in composed_for store (first_head (heads items)) (last_head (heads items)) items
+
+-- ---- what stands for the commands before the first unlawful one
+
+-- The composed commands of some first items, for the first head among them and the last head of all, without END; none
+-- before the first head.
+abbrev pub composed_part : Store ℕ → Option Head → Option Head → List Item → List Command
+composed_part store (Some first) (Some last) items = head_command last.name last.key first.parent ∷ composed_edits store last.key items
+composed_part store _ _ items = []
+
+unfoldable pub composed_before : Store ℕ → List (List ℕ) → List Command
+composed_before store files = composed_part store (first_head (heads (lawful store files))) (last_head (heads (input files).items)) (lawful store files)

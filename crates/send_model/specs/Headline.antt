@@ -2,18 +2,19 @@
 -- names only the first stream's parent and subvolumes outside the list; every store holding these same subvolumes, and neither
 -- the last name nor uuid, accepts it and gets exactly the last stream's subvolume; and it writes literally only the streams' own
 -- bytes and cloned blocks that no outside subvolume carries.
-use Rattle.std.specs.Prelude.{◌≡◌, ◌≢◌, ℕ, ◌+◌, false, List, [], ◌∷◌, ◌++◌, length, Some, ◌⊎◌}
+use Rattle.std.specs.Prelude.{◌≡◌, ◌≢◌, ℕ, ◌+◌, ◌≤◌, List, [], ◌∷◌, ◌++◌, length, take, Option, None, Some, false, ◌⊎◌}
 use Rattle.std.specs.List.{AllByRecursion}
 use Rattle.send_model.specs.Command.{Command}
-use Rattle.send_model.specs.Reading.{Whole, reads, input}
+use Rattle.send_model.specs.Spelling.{stream_header, canonical_all}
+use Rattle.send_model.specs.Reading.{Verdict, Whole, reads, input}
 use Rattle.send_model.specs.Subvolume.{Subvolume}
 use Rattle.send_model.specs.Store.{Head, Entry, Store, IsStore, has_name, has_uuid, find}
 use Rattle.send_model.specs.Receive.{IsAccepted, receive}
-use Rattle.send_model.specs.Order.{heads, heads_of, commands_of, IsConsecutive}
+use Rattle.send_model.specs.Order.{heads, heads_of, commands_of, IsConsecutive, judge}
 use Rattle.send_model.specs.Outside.{outside, all_keys_named, IsAmong, SameOn}
 use Rattle.send_model.specs.Provenance.{uncarried, runs}
 use Rattle.send_model.specs.Counts.{literal, clones, streams, kept}
-use Rattle.send_model.specs.Composed.{first_head, last_head}
+use Rattle.send_model.specs.Composed.{first_head, last_head, composed, composed_before}
 
 -- The commands of a stream that was written.
 abbrev pub commands_in : List ℕ → List Command
@@ -60,3 +61,30 @@ pub record IsComposed (base : Store ℕ) (files : List (List ℕ)) (written : Li
 -- What stands on standard output does not read as a whole stream.
 abbrev pub IsUnfinished : List ℕ → Type 0
 IsUnfinished written = (reads 1 written).end ≢ Whole
+
+-- ---- what stands on standard output where compose stops before its end
+
+-- The header of a stream and commands; nothing where there are no commands.
+abbrev pub stream_front : List Command → List ℕ
+stream_front [] = []
+stream_front (c ∷ cs) = stream_header 1 ++ canonical_all 1 (c ∷ cs)
+
+-- All that compose may write for files, by the verdict on them: what they are composed to; or, where a command is unlawful or
+-- their reading ends at a fault, what the commands before that place are composed to, without END.
+abbrev pub output_for : Option Verdict → Store ℕ → List (List ℕ) → List ℕ
+output_for None base files = stream_header 1 ++ canonical_all 1 (composed base files)
+output_for (Some verdict) base files = stream_front (composed_before base files)
+
+unfoldable pub whole_output : Store ℕ → List (List ℕ) → List ℕ
+whole_output base files = output_for (judge base files) base files
+
+-- Bytes are a front part of others.
+pub record IsFrontOf (all written : List ℕ) : Type 0 where
+  pub count : ℕ
+  pub within : count ≤ length all
+  pub written_is : written ≡ take count all
+
+-- What was written before compose stopped: no whole stream, and nothing but a front part of what was to be written.
+pub record IsStopped (base : Store ℕ) (files : List (List ℕ)) (written : List ℕ) : Type 0 where
+  pub unfinished : IsUnfinished written
+  pub front : IsFrontOf (whole_output base files) written

@@ -81,3 +81,22 @@ judge_reading zero_cell cells store reading =
 
 unfoldable pub judge : Store ℕ → List (List ℕ) → Option Verdict
 judge store files = judge_reading 0 byte_cells store (input files)
+
+-- ---- what is taken before the verdict
+
+-- An item and those after it, up to the first whose step is refused or whose head breaks the order.
+abbrev pub then_lawful : {C : Type 0} → Item → Stepped C → Bool → List Item → List Item
+then_lawful item stepped breaks rest = elim stepped.refusal [
+  | Some refusal ↦ []
+  | None ↦ if breaks then [] else item ∷ rest
+]
+
+-- The items before the first that its step refuses or whose head breaks the order; all of them, where there is none.
+unfoldable pub lawful_items : {C : Type 0} → C → (Item → List C) → State C → Option Key → List Item → List Item
+lawful_items zero_cell cells state previous [] = []
+lawful_items zero_cell cells state previous (item ∷ items) = let stepped = step zero_cell (cells item) state item.command in
+    then_lawful item stepped (breaks_order previous (head_of item.command))
+    (lawful_items zero_cell cells stepped.state (part_after previous (head_of item.command)) items)
+
+unfoldable pub lawful : Store ℕ → List (List ℕ) → List Item
+lawful store files = lawful_items 0 byte_cells (start_of store) None (input files).items
