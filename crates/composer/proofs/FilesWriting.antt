@@ -4,17 +4,18 @@ use Rattle.std.specs.String.{string_bytes}
 use Rattle.std.specs.Io.KnownBytes.{Appends}
 use Rattle.std.proofs.Common.{refl, sym, ap, subst, ◌∙◌, append_assoc, append-nil, arith, ⊎_elim}
 use Rattle.std.proofs.KnownBytes.{Appends-nil, Appends-trans}
-use Rattle.std.proofs.Math.Seq.{take-append-add, take-append_seam, take-length}
+use Rattle.std.proofs.Math.Seq.{take-append-add, take-append_seam}
 use Rattle.std.proofs.lemmas.List.{drop_all, length-append, length-map}
 use Rattle.send_model.specs.Refusal.{NotConsecutive}
 use Rattle.send_model.specs.Command.{End}
 use Rattle.send_model.specs.Spelling.{canonical}
 use Rattle.send_model.specs.Reading as read
-use Rattle.send_model.specs.Reading.{Item, Reading, Whole, Faulty, ended, reads, input}
+use Rattle.send_model.specs.Reading.{Item, Reading, Whole, ended, joined, reads, input_from, input}
 use Rattle.send_model.specs.Store.{Head}
 use Rattle.send_model.specs.Order.{heads, last_item, judge}
-use Rattle.send_model.specs.Composed.{last_head}
-use Rattle.send_model.specs.Headline.{IsUnfinished}
+use Rattle.send_model.specs.Composed.{first_head, last_head}
+use Rattle.send_model.specs.Headline.{whole_output, IsUnfinished, IsFrontOf, IsStopped}
+use Rattle.send_model.proofs.Fronts.{whole_lawful, nothing_front, so_far_front}
 use Rattle.send_model.proofs.Writing.{nothing_unfinished}
 use Rattle.sx_base.specs.Outside.{file_at, AppendsPart}
 use Rattle.sx_base.specs.declared.outcome.Verdict.{Verdict}
@@ -27,7 +28,7 @@ use Rattle.composer.specs.declared.places.Place.{Place}
 use Rattle.composer.specs.Advance.{Composing}
 use Rattle.composer.specs.Ahead.{IsAhead, then_reading}
 use Rattle.composer.specs.Folding.{TakesAll, unsent}
-use Rattle.composer.specs.Files.{contents, IfAllTold, IsLongFile, StopSays, DoneSays, FilesEnd, SendEnd, Wrote, LastRead, LastStop, IsLastPlace, FileTaken, NextRefused, FileWhy, FileStops}
+use Rattle.composer.specs.Files.{nothing, contents, IfAllTold, IsLongFile, StopSays, DoneSays, FilesEnd, SendEnd, Wrote, LastRead, LastStop, IsLastPlace, FileTaken, NextRefused, FileWhy, FileStops}
 use Rattle.composer.proofs.Progress.{Progress}
 use Rattle.composer.proofs.Finish.{unfinished}
 use Rattle.composer.proofs.Loops.{LastFits, ahead_start, ahead_whole, input_some, last_item_none, judged_ahead, faulty_ahead, empty_ahead, composed_ahead, spelled_ahead, unfinished_ahead}
@@ -134,12 +135,31 @@ progress files last old items total known start all =
 
 -- ---- the ends
 
--- A front part of what is written before END is no whole stream.
-front_unfinished : (items : List Item) (total : Composing) (count : ℕ) → Progress items total [] → count ≤ length total.pending → IsUnfinished (take count total.pending)
-front_unfinished items total count p within = unfinished items total [] count p within
+-- A front part of what is written before END is no whole stream, and a front part of all that may be written.
+front_stopped : (files : List (List ℕ)) (items : List Item) (left : Reading) (number : ℕ) (after : List (List ℕ)) (total : Composing) (count : ℕ) → IsAhead files items left number after → Progress items total [] → total.last ≡ last_head (heads (input files).items)
+    → count ≤ length total.pending → IsStopped nothing files (take count total.pending)
+front_stopped files items left number after total count ahead p last_is within = record {
+  unfinished = unfinished items total [] count p within;
+  front = by_last total.last refl;
+}
+  where
+    more : List Item
+    more = (joined left (input_from (number + 1) after)).items
 
-all_unfinished : (items : List Item) (total : Composing) → Progress items total [] → IsUnfinished total.pending
-all_unfinished items total p = subst IsUnfinished (take-length total.pending) (front_unfinished items total (length total.pending) p (omega (arith)))
+    all : (input files).items ≡ items ++ more
+    all = ap (λ (r : Reading). r.items) ahead
+
+    by_last : (o : Option Head) → total.last ≡ o → IsFrontOf (whole_output nothing files) (take count total.pending)
+    by_last None l = let F : List ℕ → Type 0 = λ bytes. IsFrontOf (whole_output nothing files) (take count bytes) in subst F (sym (p.quiet_yet l).0) (nothing_front (whole_output nothing files) count)
+    by_last (Some last) l =
+        let F : List ℕ → Type 0 = λ bytes. count ≤ length bytes → IsFrontOf (whole_output nothing files) (take count bytes) in
+        subst F (sym (p.bytes last l)) (so_far_front files items more p.state last (first_head (heads items)) count all p.taken p.ordered p.no_clones refl (sym last_is ∙ l)) within
+
+-- The same of what was sent.
+sent_stopped : (files : List (List ℕ)) (items : List Item) (left : Reading) (number : ℕ) (after : List (List ℕ)) (now : Composing) (sent : List ℕ) → IsAhead files items left number after → Progress items (unsent sent now) [] → now.last ≡ last_head (heads (input files).items)
+    → IsStopped nothing files sent
+sent_stopped files items left number after now sent ahead p last_is =
+    subst (IsStopped nothing files) (take-append_seam sent now.pending) (front_stopped files items left number after (unsent sent now) (length sent) ahead p last_is (omega (arith, length-append sent now.pending)))
 
 -- Where a file comes after those that were composed.
 record Within (files : List (List ℕ)) (number : ℕ) (bytes : List ℕ) : Type 0 where
@@ -157,15 +177,15 @@ file_stopped last old out0 number now out_now out_next before place outcome file
     let all : TakesAll old items total = takes_more old (unsent s.sent now) total s.items t.items s.all (takes_unsent s.sent now t.next t.items t.all) in
     let p = progress files last old items total known start all in
     let front = front_after out0 out_now out_next s.sent t.next.pending s.appends t.front in
-    let short : IsUnfinished (take front.count total.pending) = front_unfinished items total front.count p.0 front.within in
     let A : List (List ℕ) → Type 0 = λ fs. IsAhead files s.items ended number fs in
     let ahead : IsAhead files items t.rest (number + 1) w.after = ahead_file files s.items number bytes w.after t.items t.rest (subst A w.there s.ahead) t.read in
+    let short : IsStopped nothing files (take front.count total.pending) = front_stopped files items t.rest (number + 1) w.after total front.count ahead p.0 p.1 front.within in
     (take front.count total.pending, front.appends, by_outcome items p.0 p.1 ahead (take front.count total.pending) short outcome t.why)
   where
     total : Composing
     total = unsent s.sent t.next
 
-    by_outcome : (items : List Item) → Progress items total [] → total.last ≡ last_head (heads (input files).items) → IsAhead files items t.rest (number + 1) w.after → (written : List ℕ) → IsUnfinished written → (x : Outcome)
+    by_outcome : (items : List Item) → Progress items total [] → total.last ≡ last_head (heads (input files).items) → IsAhead files items t.rest (number + 1) w.after → (written : List ℕ) → IsStopped nothing files written → (x : Outcome)
         → FileWhy (number + 1) t.next t.rest x bytes → StopSays files written x
     by_outcome items p last_is ahead written short over.Done why = elim why [ ]
     by_outcome items p last_is ahead written short (over.Refused verdict) why = (
@@ -202,16 +222,16 @@ files_stopped {Z} told inputs names last old out0 number name spelled now out_no
 pub heads_stopped : (told : Option (List (List ℕ × List ℕ))) (names : List (List ℕ)) (out : Option (List ℕ)) (outcome : Outcome) → IfAllTold told names (LastStop outcome) → IfAllTold told names (λ files. Wrote out out (λ written. StopSays files written outcome))
 heads_stopped told names out outcome stops = all_map told names (LastStop outcome) (λ files. Wrote out out (λ written. StopSays files written outcome)) (λ files why. ([], Appends-nil out, by_outcome files outcome why)) stops
   where
-    short : IsUnfinished []
-    short = nothing_unfinished 0
+    short : (files : List (List ℕ)) → IsStopped nothing files []
+    short files = record { unfinished = nothing_unfinished 0; front = nothing_front (whole_output nothing files) 0 }
 
     by_outcome : (files : List (List ℕ)) (x : Outcome) → LastStop x files → StopSays files [] x
     by_outcome files over.Done why = elim why [ ]
     by_outcome files (over.Refused verdict) why = elim why [ ]
-    by_outcome files over.InputFault why = short
+    by_outcome files over.InputFault why = short files
     by_outcome files over.OutputFault why = elim why [ ]
-    by_outcome files over.NoMemory why = short
-    by_outcome files (over.InputTooLong n) why = (short, why)
+    by_outcome files over.NoMemory why = short files
+    by_outcome files (over.InputTooLong n) why = (short files, why)
 
 -- The last file has ended.
 record AtEnd (last : Option Head) (old : Composing) (out0 : Option (List ℕ)) (now : Composing) (out_now : Option (List ℕ)) (before place : Place) (files : List (List ℕ)) : Type 0 where
@@ -251,8 +271,8 @@ none_begun last old out0 now out_now before place verdict files some begun verdi
     total : Composing
     total = unsent e.sent now
 
-    sent_short : IsUnfinished e.sent
-    sent_short = subst IsUnfinished (take-append_seam e.sent now.pending) (front_unfinished e.items total (length e.sent) e.so_far (omega (arith, length-append e.sent now.pending)))
+    sent_short : IsStopped nothing files e.sent
+    sent_short = sent_stopped files e.items ended e.number [] now e.sent e.ahead e.so_far e.last_is
 
     items_there : input files ≡ record { items = e.items; end = Whole } → e.items ≡ [] → ⊥
     items_there whole none = by_files files some (ap (λ (r : Reading). r.end) whole) (ap (λ (r : Reading). r.items) whole ∙ none)
@@ -293,17 +313,21 @@ end_unsent last old out0 now out_now out_next before place files begun e (count,
     let total : Composing = unsent e.sent now in
     let all : List ℕ = now.pending ++ canonical 1 End in
     let same : take (length e.sent + count) ((e.sent ++ now.pending) ++ canonical 1 End) ≡ e.sent ++ take count all = ap (take (length e.sent + count)) (append_assoc e.sent now.pending (canonical 1 End)) ∙ take-append-add e.sent all count in
-    let within : length e.sent + count < length ((e.sent ++ now.pending) ++ canonical 1 End) = omega (arith, short, length-append e.sent all, ap length (append_assoc e.sent now.pending (canonical 1 End))) in (
-      e.sent ++ take count all,
-      Appends-trans out0 out_now out_next e.sent (take count all) e.appends sent,
-      subst IsUnfinished same (unfinished_ahead files e.items ended e.number total [] (length e.sent + count) e.ahead refl e.so_far e.last_is begun within),
-    )
+    let within : length e.sent + count < length ((e.sent ++ now.pending) ++ canonical 1 End) = omega (arith, short, length-append e.sent all, ap length (append_assoc e.sent now.pending (canonical 1 End))) in
+    let lawful = (composed_ahead files e.items ended e.number total [] e.ahead refl e.so_far e.last_is begun).1 in
+    let whole : (e.sent ++ now.pending) ++ canonical 1 End ≡ whole_output nothing files = spelled_ahead files e.items ended e.number total [] e.ahead refl e.so_far e.last_is begun ∙ sym (whole_lawful files lawful) in
+    let F : List ℕ → Type 0 = λ bytes. IsFrontOf bytes (e.sent ++ take count all) in
+    let says : IsStopped nothing files (e.sent ++ take count all) = record {
+      unfinished = subst IsUnfinished same (unfinished_ahead files e.items ended e.number total [] (length e.sent + count) e.ahead refl e.so_far e.last_is begun within);
+      front = subst F whole (record { count = length e.sent + count; within = omega (arith, within); written_is = sym same });
+    } in
+    (e.sent ++ take count all, Appends-trans out0 out_now out_next e.sent (take count all) e.appends sent, says)
 
 -- There is no memory for END.
 end_unmade : (last : Option Head) (old : Composing) (out0 : Option (List ℕ)) (now : Composing) (out_now : Option (List ℕ)) (before place : Place) (files : List (List ℕ)) → AtEnd last old out0 now out_now before place files
     → Wrote out0 out_now (λ written. StopSays files written over.NoMemory)
 end_unmade last old out0 now out_now before place files e =
-    (e.sent, e.appends, subst IsUnfinished (take-append_seam e.sent now.pending) (front_unfinished e.items (unsent e.sent now) (length e.sent) e.so_far (omega (arith, length-append e.sent now.pending))))
+    (e.sent, e.appends, sent_stopped files e.items ended e.number [] now e.sent e.ahead e.so_far e.last_is)
 
 -- ---- the ends, where the inputs tell their files
 

@@ -10,7 +10,7 @@ use Rattle.send_model.specs.Store.{Head, Store}
 use Rattle.send_model.specs.Receive.{verdict_of, first_of}
 use Rattle.send_model.specs.Order.{heads, last_item, judge}
 use Rattle.send_model.specs.Composed.{last_head, composed}
-use Rattle.send_model.specs.Headline.{IsComposed, IsUnfinished}
+use Rattle.send_model.specs.Headline.{IsComposed, IsStopped}
 use Rattle.send_model.specs.Laws.{CanWrite}
 use Rattle.sx_base.specs.Causes.{Rose}
 use Rattle.sx_base.specs.Outside.{file_at, AppendsPart}
@@ -62,9 +62,9 @@ nothing = []
 -- What was written for files, and with which outcome composing stopped before the stream was whole.
 abbrev pub StopSays : List (List ℕ) → List ℕ → Outcome → Type 0
 StopSays files written ended.Done = ⊥
-StopSays files written (ended.Refused verdict) = IsUnfinished written × (judge nothing files ≡ Some (verdict_meant verdict))
-StopSays files written (ended.InputTooLong number) = IsUnfinished written × IsLongFile files number
-StopSays files written _ = IsUnfinished written
+StopSays files written (ended.Refused verdict) = IsStopped nothing files written × (judge nothing files ≡ Some (verdict_meant verdict))
+StopSays files written (ended.InputTooLong number) = IsStopped nothing files written × IsLongFile files number
+StopSays files written _ = IsStopped nothing files written
 
 -- The files are composed: what was written is the composed stream, which the headline holds of.
 pub record DoneSays (files : List (List ℕ)) (written : List ℕ) : Type 0 where

@@ -105,6 +105,11 @@ by_judge : (files : List (List ℕ)) (written : List ℕ) (o : Option Verdict) �
 by_judge files written None whole before = whole
 by_judge files written (Some verdict) whole before = before
 
+-- Where all commands are lawful, it is all that they are composed to.
+pub whole_lawful : (files : List (List ℕ)) → judge empty_store files ≡ None → whole_output empty_store files ≡ stream_header 1 ++ canonical_all 1 (composed empty_store files)
+unfolding whole_output
+whole_lawful files none = ap (λ (o : Option Verdict). output_for o empty_store files) none
+
 -- Nothing is a front part of any bytes.
 pub nothing_front : (all : List ℕ) (count : ℕ) → IsFrontOf all (take count [])
 nothing_front all count = record { count = 0; within = omega (arith); written_is = take-nil count }

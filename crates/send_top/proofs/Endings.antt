@@ -5,7 +5,7 @@ use Rattle.std.proofs.Common.{refl, sym, ap, subst, ◌∙◌}
 use Rattle.std.proofs.lemmas.List.{drop-map}
 use Rattle.send_model.specs.Answer.{Done, request}
 use Rattle.send_model.specs.Composed.{composed}
-use Rattle.send_model.specs.Headline.{IsComposed, IsUnfinished}
+use Rattle.send_model.specs.Headline.{IsComposed, IsStopped}
 use Rattle.send_model.specs.Spelling.{stream_header, canonical_all}
 use Rattle.sx_base.specs.Outside.{file_at}
 use Rattle.sx_base.specs.declared.outcome.Outcome.{Outcome}
@@ -39,7 +39,7 @@ module _ (old new : Option (List ℕ)) (files : List (List ℕ)) where
   spelled_end ended.Done e w = subst (Appends old new) w.2.spelled w.1
   spelled_end outcome e w = cc
 
-  pub unfinished_end : (outcome : Outcome) → outcome_of outcome ≢ Done → Wrote old new (λ written. EndSays files written outcome) → Wrote old new IsUnfinished
+  pub unfinished_end : (outcome : Outcome) → outcome_of outcome ≢ Done → Wrote old new (λ written. EndSays files written outcome) → Wrote old new (IsStopped [] files)
   unfinished_end ended.Done e w = absurd (e refl)
   unfinished_end (ended.Refused verdict) e w = (w.0, w.1, w.2.0)
   unfinished_end (ended.InputTooLong number) e w = (w.0, w.1, w.2.0)

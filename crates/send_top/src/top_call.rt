@@ -5,7 +5,7 @@ ghost use Rattle.std.specs.String.{string_bytes};
 ghost use Rattle.send_model.specs.Answer as meant;
 ghost use Rattle.send_model.specs.Answer.{Done, InputFault, OutputFault, Usage, request};
 ghost use Rattle.send_model.specs.Composed.{composed};
-ghost use Rattle.send_model.specs.Headline.{IsComposed, IsUnfinished};
+ghost use Rattle.send_model.specs.Headline.{IsComposed, IsStopped};
 ghost use Rattle.send_model.specs.Spelling.{stream_header, canonical_all};
 ghost use Rattle.sx_base.specs.Causes.{Rose};
 ghost use Rattle.composer.specs.Files.{Wrote};
@@ -22,7 +22,8 @@ use sx_base::{Inputs, Sink};
 /// the line that says why; a line that fails leaves the status. Words that mean nothing are answered without memory,
 /// and then nothing is asked of `inputs` and `out`.
 ///
-/// With status 0 `out` took the one stream that the files are composed into, and with any other no whole stream. Where
+/// With status 0 `out` took the one stream that the files are composed into, and with any other no whole stream,
+/// but a front part of what is to be written for the commands before the first unlawful one. Where
 /// there was memory, no count of faults rose and no file is too long, the status is 0 if all commands of the files are
 /// lawful, and 1 if not; then the note names the first that is unlawful.
 pub fn run<I: Inputs, O: Sink, N: Sink>(
@@ -40,7 +41,7 @@ pub fn run<I: Inputs, O: Sink, N: Sink>(
     ensures output_fault { result ≡ 4 → Rose (O.faults out.old) (O.faults out.new) }
     ensures composed { result ≡ 0 → OfFiles (I.told inputs.old) (map string_bytes words.now) (λ files. Wrote (O.taken out.old) (O.taken out.new) (IsComposed [] files)) }
     ensures spelled { result ≡ 0 → OfFiles (I.told inputs.old) (map string_bytes words.now) (λ files. Appends (O.taken out.old) (O.taken out.new) (stream_header 1 ++ canonical_all 1 (composed [] files))) }
-    ensures unfinished { result ≢ 0 → OfFiles (I.told inputs.old) (map string_bytes words.now) (λ files. Wrote (O.taken out.old) (O.taken out.new) IsUnfinished) }
+    ensures unfinished { result ≢ 0 → OfFiles (I.told inputs.old) (map string_bytes words.now) (λ files. Wrote (O.taken out.old) (O.taken out.new) (IsStopped [] files)) }
     ensures quiet { result ≡ 0 → notes.new ≡ notes.old }
     ensures noted { (answer : meant.Answer) × IsGiven answer (N.taken notes.old) (N.taken notes.new) (N.faults notes.old) (N.faults notes.new) result × OfFiles (I.told inputs.old) (map string_bytes words.now) (λ files. IsRight files answer) }
 {
@@ -62,7 +63,7 @@ fn answer_to<I: Inputs, O: Sink>(
     ensures output_fault { answer_of result ≡ OutputFault → Rose (O.faults out.old) (O.faults out.new) }
     ensures composed { answer_of result ≡ Done → OfFiles (I.told inputs.old) (map string_bytes words.now) (λ files. Wrote (O.taken out.old) (O.taken out.new) (IsComposed [] files)) }
     ensures spelled { answer_of result ≡ Done → OfFiles (I.told inputs.old) (map string_bytes words.now) (λ files. Appends (O.taken out.old) (O.taken out.new) (stream_header 1 ++ canonical_all 1 (composed [] files))) }
-    ensures unfinished { answer_of result ≢ Done → OfFiles (I.told inputs.old) (map string_bytes words.now) (λ files. Wrote (O.taken out.old) (O.taken out.new) IsUnfinished) }
+    ensures unfinished { answer_of result ≢ Done → OfFiles (I.told inputs.old) (map string_bytes words.now) (λ files. Wrote (O.taken out.old) (O.taken out.new) (IsStopped [] files)) }
     ensures right { OfFiles (I.told inputs.old) (map string_bytes words.now) (λ files. IsRight files (answer_of result)) }
 {
     match read_words(words) {

@@ -2,7 +2,7 @@ use Rattle.std.specs.Prelude.{◌++◌, List, ℕ, [], map}
 use Rattle.std.specs.Io.KnownBytes.{Appends}
 use Rattle.std.specs.String.{string_bytes}
 use Rattle.send_model.specs.Composed.{composed}
-use Rattle.send_model.specs.Headline.{IsComposed, IsUnfinished}
+use Rattle.send_model.specs.Headline.{IsComposed, IsStopped}
 use Rattle.send_model.specs.Spelling.{stream_header, canonical_all}
 use Rattle.composer.specs.Files.{Wrote, EndSays}
 use Rattle.send_top.specs.Answered.{outcome_of}
@@ -32,7 +32,7 @@ returns-in-Some-clause-spelled g c done =
 
 pub returns-in-Some-clause-unfinished : goal.returns-in-Some-clause-unfinished
 returns-in-Some-clause-unfinished g c other =
-    asked g c (λ files. Wrote (g.O.Sink.taken c.args.out.now) (g.O.Sink.taken c.compose.new.out) IsUnfinished)
+    asked g c (λ files. Wrote (g.O.Sink.taken c.args.out.now) (g.O.Sink.taken c.compose.new.out) (IsStopped [] files))
     (λ files. unfinished_end (g.O.Sink.taken c.args.out.now) (g.O.Sink.taken c.compose.new.out) files c.compose.result other)
 
 pub returns-in-Some-clause-right : goal.returns-in-Some-clause-right
