@@ -2,9 +2,12 @@
 //
 //   streams full MIB                a stream on standard output: files of 1 MiB in WRITEs of 49,152 bytes
 //   streams chain FOLDER PARTS FILES   a full stream of FILES files of 4,096 bytes, and PARTS snapshots that write one each
+//   streams folder FOLDER TO        a full stream of half of the plain files of FOLDER in TO/first, a snapshot with the others
+//                                   in TO/second, and what the two are composed into in TO/both
 //   streams copy FILE               reads FILE twice, sums each byte three times and writes it to standard output
 //   streams measure OUT WORD..      runs the program with standard output in OUT: its seconds and its peak memory in KiB
 #define _GNU_SOURCE
+#include <dirent.h>
 #include <fcntl.h>
 #include <stdint.h>
 #include <stdio.h>
@@ -88,21 +91,24 @@ static void uuid(int kind, uint32_t part) {
     attribute(kind, bytes, 16);
 }
 
-// The head of a part, of which the first is no snapshot.
-static void head(FILE *to, uint32_t part) {
+// The head of a part, as a snapshot of the one before it or not.
+static void head_as(FILE *to, uint32_t part, int snapshot) {
     char text[32];
     put(to, "btrfs-stream\0\1\0\0\0", 17);
-    begin(part ? 2 : 1);
+    begin(snapshot ? 2 : 1);
     uuid(1, part);
     number(2, part + 1);
     snprintf(text, sizeof text, "part%u", part);
     name(15, text);
-    if (part) {
+    if (snapshot) {
         uuid(20, part - 1);
         number(21, part);
     }
     finish(to);
 }
+
+// The head of a part of a chain, of which the first is no snapshot.
+static void head(FILE *to, uint32_t part) { head_as(to, part, part > 0); }
 
 static void make_file(FILE *to, const char *path) {
     begin(3);
@@ -147,12 +153,18 @@ static void full(long mebibytes) {
     end(stdout);
 }
 
-static FILE *open_part(const char *folder, long part) {
+static FILE *open_in(const char *folder, const char *name, const char *mode) {
     char path[4096];
-    snprintf(path, sizeof path, "%s/%06ld", folder, part);
-    FILE *to = fopen(path, "wb");
-    if (!to) stop(path);
-    return to;
+    snprintf(path, sizeof path, "%s/%s", folder, name);
+    FILE *file = fopen(path, mode);
+    if (!file) stop(path);
+    return file;
+}
+
+static FILE *open_part(const char *folder, long part) {
+    char text[32];
+    snprintf(text, sizeof text, "%06ld", part);
+    return open_in(folder, text, "wb");
 }
 
 static void chain(const char *folder, long parts, long files) {
@@ -170,6 +182,38 @@ static void chain(const char *folder, long parts, long files) {
         end(to);
         if (fclose(to)) stop("close");
     }
+}
+
+static int is_file(const struct dirent *entry) { return entry->d_type == DT_REG; }
+
+// Files of a folder, each made and then written piece by piece.
+static void copy_files(FILE *to, const char *folder, struct dirent **files, int count) {
+    static uint8_t bytes[PIECE];
+    for (int file = 0; file < count; file++) {
+        const char *path = files[file]->d_name;
+        FILE *from = open_in(folder, path, "rb");
+        size_t took;
+        make_file(to, path);
+        for (uint64_t at = 0; (took = fread(bytes, 1, PIECE, from)) > 0; at += took) write_data(to, path, at, bytes, took);
+        if (ferror(from) || fclose(from)) stop(path);
+    }
+}
+
+static void folder(const char *from, const char *into) {
+    struct dirent **files;
+    int count = scandir(from, &files, is_file, alphasort);
+    if (count < 0) stop(from);
+    FILE *first = open_in(into, "first", "wb"), *second = open_in(into, "second", "wb"), *both = open_in(into, "both", "wb");
+    head(first, 0);
+    copy_files(first, from, files, count / 2);
+    end(first);
+    head(second, 1);
+    copy_files(second, from, files + count / 2, count - count / 2);
+    end(second);
+    head_as(both, 1, 0);
+    copy_files(both, from, files, count);
+    end(both);
+    if (fclose(first) || fclose(second) || fclose(both)) stop(into);
 }
 
 static void copy(const char *path) {
@@ -217,6 +261,8 @@ int main(int count, char **words) {
         full(atol(words[2]));
     else if (count == 5 && !strcmp(words[1], "chain"))
         chain(words[2], atol(words[3]), atol(words[4]));
+    else if (count == 4 && !strcmp(words[1], "folder"))
+        folder(words[2], words[3]);
     else if (count == 3 && !strcmp(words[1], "copy"))
         copy(words[2]);
     else if (count >= 4 && !strcmp(words[1], "measure"))

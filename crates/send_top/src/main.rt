@@ -6,6 +6,10 @@ mod one_line;
 mod out_sink;
 mod path_inputs;
 #[cfg(test)]
+mod run_tests;
+#[cfg(test)]
+mod test_streams;
+#[cfg(test)]
 mod tests;
 mod top_call;
 mod words;

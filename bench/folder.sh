@@ -1,0 +1,20 @@
+#!/bin/sh
+# Composes streams of the plain files of a folder (of docs, if no word says another) and compares each byte with what a C
+# program makes: half of the files as a full stream, the others in a snapshot of it, each written 49,152 bytes at a time.
+# Proves and builds the program first.
+here=$(CDPATH='' cd -- "$(dirname -- "$0")" && pwd) || exit 2
+files=${1:-$here/../docs}
+"$here/../btrsend" --version >/dev/null || exit 2
+program=$here/../crates/send_top/out/send_top
+folder=$(mktemp -d) || exit 2
+trap 'rm -rf -- "$folder"' EXIT
+trap 'exit 2' HUP INT TERM
+gcc -O2 -o "$folder/streams" "$here/streams.c" || exit 2
+"$folder/streams" folder "$files" "$folder" || exit 2
+
+# A full stream alone is spelled as the program spells it, so composing it gives it back.
+"$program" compose none "$folder/first" >"$folder/out" || exit 1
+cmp -- "$folder/first" "$folder/out" || exit 1
+"$program" compose none "$folder/first" "$folder/second" >"$folder/out" || exit 1
+cmp -- "$folder/both" "$folder/out" || exit 1
+echo "the same: $(wc -c <"$folder/first" | tr -d ' ') and $(wc -c <"$folder/both" | tr -d ' ') bytes"
