@@ -139,9 +139,9 @@ SendEnd old new out_old out_new before now (Ok done) = (new ≡ record old { pen
 SendEnd old new out_old out_new before now (Err ended.OutputFault) = Rose before now × AppendsPart out_old out_new old.pending
 SendEnd old new out_old out_new before now (Err outcome) = ⊥
 
--- A front part of what was pending was written, and the outcome stays where the output did not fail.
+-- All that was pending was written and the outcome stays, or the output failed after a front part of it.
 pub record StopEnd (pending : List ℕ) (out_old out_new : Option (List ℕ)) (before now : ℕ) (outcome result : Outcome) : Type 0 where
-  pub outcome_is : (result ≡ outcome) ⊎ ((result ≡ ended.OutputFault) × Rose before now)
+  pub outcome_is : ((result ≡ outcome) × Appends out_old out_new pending) ⊎ ((result ≡ ended.OutputFault) × Rose before now)
   pub front : AppendsFront out_old out_new pending
 
 -- ---- one command
