@@ -1,5 +1,6 @@
 mod EntryLemmas
 mod FileLemmas
 mod FlatLemmas
+mod IndexLemmas
 mod NameLemmas
 mod StepLemmas

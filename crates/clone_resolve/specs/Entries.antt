@@ -1,5 +1,5 @@
 -- The entries and the part of the code as those of the definitions.
-use Rattle.std.specs.Prelude.{ℕ, Bool, ◌&&◌, is_some, List, Option, map}
+use Rattle.std.specs.Prelude.{ℕ, List, Option, map}
 use Rattle.std.specs.Option.{option_map}
 use Rattle.send_model.specs.Store as meant
 use Rattle.clone_resolve.specs.declared.key.Key.{Key}
@@ -17,7 +17,3 @@ store_of es = map entry_of es
 
 abbrev pub head_with : List ℕ → Key → Option Key → meant.Head
 head_with name key parent = record { name = name; key = key_of key; parent = option_map key_of parent }
-
--- A complete entry of a key.
-abbrev pub is_complete : meant.Key → Entry → Bool
-is_complete key e = meant.same_key (key_of e.key) key && is_some e.tree

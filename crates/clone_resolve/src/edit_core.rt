@@ -1,14 +1,12 @@
 // The core.
 ghost use Rattle.std.specs.Prelude.{◌≡◌, ◌++◌, ◌∷◌, [], List, IsTrue, IfOk, OnOk, OnErr, MatchResult, None, Some, position};
-ghost use Rattle.std.specs.List as lists;
-ghost use Rattle.std.specs.List.{list_any};
 ghost use Rattle.std.specs.Option.{option_map};
 ghost use Rattle.std.specs.Str.{bytes_eq};
 ghost use Rattle.send_model.specs.Command.{kind_of};
 ghost use Rattle.send_model.specs.Reading.{is_taken};
 ghost use Rattle.send_model.specs.Store.{has_name, has_uuid, find, with_contents, completed, begun, step_head, step, unfinished, start_from};
 ghost use Rattle.send_commands.specs.Meaning.{meaning_of};
-ghost use Rattle.clone_resolve.specs.Entries.{key_of, head_with, is_complete};
+ghost use Rattle.clone_resolve.specs.Entries.{key_of, head_with};
 ghost use Rattle.clone_resolve.specs.declared.done.Done.TheVariants as did;
 ghost use Rattle.clone_resolve.specs.Flat.{blank};
 ghost use Rattle.clone_resolve.specs.Steps.{cells_of, done_by, Fits, Answers, Starts, Begins, Edits};
@@ -20,6 +18,7 @@ use crate::tree::FlatTree;
 use path_rules::name_ok;
 use send_commands::Command;
 use std::alloc::Global;
+use std::collections::BTreeMap;
 use std::marker::Model;
 use sx_base::{Blob, Refusal, Stop};
 use uuid::Uuid;
@@ -37,6 +36,10 @@ struct Entry {
 #[derive(Drop)]
 pub struct EditCore {
     entries: Vec<Entry>,
+    // The place of each entry by its name, and by its UUID. A head for which memory ran out may leave its own here: a place
+    // counts only if the entry there has the name or the UUID.
+    by_name: BTreeMap<Vec<u8>, usize>,
+    by_uuid: BTreeMap<Uuid, usize>,
 }
 
 impl Model for EditCore {
@@ -48,6 +51,10 @@ impl Model for EditCore {
     ghost use Rattle.clone_resolve.specs.Entries.{store_of};
 
     ghost view = { λ c. store_of c.entries.items };
+
+    ghost use Rattle.clone_resolve.specs.Indexes.{AreIndexed};
+
+    ghost invariant = { λ c. AreIndexed c.by_name.entries c.by_uuid.entries c.entries.items };
 }
 
 impl EditCore {
@@ -57,6 +64,8 @@ impl EditCore {
     {
         EditCore {
             entries: Vec::new(alloc),
+            by_name: BTreeMap::new(alloc),
+            by_uuid: BTreeMap::new(alloc),
         }
     }
 
@@ -64,21 +73,44 @@ impl EditCore {
     fn has_name(&self, name: &[u8]) -> bool
         ensures { result ≡ has_name name.now self.now }
     {
-        any_named(&self.entries, name)
+        let Some(at) = self.by_name.get(name) else {
+            return false;
+        };
+        let Some(entry) = self.entries.get(*at) else {
+            return false;
+        };
+        entry.name.as_slice() == name
     }
 
     // Whether an entry has the UUID.
     fn has_uuid(&self, uuid: Uuid) -> bool
         ensures { result ≡ has_uuid uuid self.now }
     {
-        any_with(&self.entries, uuid)
+        self.place_of(uuid).is_some()
+    }
+
+    // The place of the entry with the UUID.
+    fn place_of(&self, uuid: Uuid) -> Option<usize>
+        ensures { result ≡ position (λ e. bytes_eq e.key.uuid uuid) self.now }
+    {
+        let at = *self.by_uuid.get(&uuid)?;
+        let entry = self.entries.get(at)?;
+        if entry.key.uuid == uuid {
+            Some(at)
+        } else {
+            None
+        }
     }
 
     // The complete subvolume of a key.
     fn find(&self, key: Key) -> Option<&FlatTree>
         ensures { option_map (λ tree. tree.now) result ≡ find self.now (key_of key) }
     {
-        let entry = first_complete(&self.entries, key)?;
+        let at = self.place_of(key.uuid)?;
+        let entry = &self.entries[at];
+        if entry.key.ctransid != key.ctransid {
+            return None;
+        }
         entry.tree.as_ref()
     }
 
@@ -86,8 +118,7 @@ impl EditCore {
     fn complete(&mut self, part: Part)
         ensures complete { self.new ≡ with_contents part.key.uuid part.subvolume self.old }
     {
-        let uuid = part.key().uuid;
-        let Some(at) = place_of(&self.entries, uuid) else {
+        let Some(at) = self.place_of(part.key().uuid) else {
             return;
         };
         self.entries[at].tree = Some(part.into_tree());
@@ -133,7 +164,12 @@ impl EditCore {
             return Err(Stop::Refused(Refusal::UuidThere));
         }
         let tree = self.start(parent)?;
-        let name = Blob::from(Vec::from_slice(*self.entries.allocator(), name)?);
+        let alloc = *self.entries.allocator();
+        let at = self.entries.len();
+        let indexed = Vec::from_slice(alloc, name)?;
+        let name = Blob::from(Vec::from_slice(alloc, name)?);
+        self.by_name.insert(indexed, at)?;
+        self.by_uuid.insert(key.uuid, at)?;
         self.entries.push(Entry {
             name,
             key,
@@ -209,36 +245,6 @@ impl EditCore {
             _ => edit_open(part, c),
         }
     }
-}
-
-// Whether an entry has the name.
-fn any_named(entries: &[Entry], name: &[u8]) -> bool
-    ensures { result ≡ list_any (λ e. bytes_eq e.name name.now) entries.now }
-{
-    entries.iter().any(|e| e.name.as_slice() == name)
-}
-
-// Whether an entry has the UUID.
-fn any_with(entries: &[Entry], uuid: Uuid) -> bool
-    ensures { result ≡ list_any (λ e. bytes_eq e.key.uuid uuid) entries.now }
-{
-    entries.iter().any(|e| e.key.uuid == uuid)
-}
-
-// The place of the first entry with the UUID.
-fn place_of(entries: &[Entry], uuid: Uuid) -> Option<usize>
-    ensures { result ≡ position (λ e. bytes_eq e.key.uuid uuid) entries.now }
-{
-    entries.iter().position(|e| e.key.uuid == uuid)
-}
-
-// The first complete entry of a key.
-fn first_complete(entries: &[Entry], key: Key) -> Option<&Entry>
-    ensures { option_map (λ e. e.now) result ≡ lists.find (is_complete (key_of key)) entries.now }
-{
-    entries.iter().find(|e| e.key.uuid == key.uuid
-        && e.key.ctransid == key.ctransid
-        && e.tree.is_some())
 }
 
 // An edit of the part, if there is one.
