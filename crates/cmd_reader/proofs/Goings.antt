@@ -1,11 +1,10 @@
 -- What a call of a reader says, from what was read.
-use Rattle.std.specs.Prelude.{◌≡◌, ◌≢◌, ℕ, ◌+◌, ◌-◌, ◌^◌, ◌≤◌, Bool, true, false, ◌&&◌, List, [], length, drop, min, Option, None, Some, Result, Ok, Err, nat_lt}
+use Rattle.std.specs.Prelude.{◌≡◌, ℕ, ◌≤◌, Bool, true, ◌&&◌, List, [], length, take, drop, Option, None, Some, Result, Ok, Err, nat_lt}
 use Rattle.std.proofs.Common.{refl, sym, ap, subst, ◌∙◌, arith, length-drop}
 use Rattle.send_model.specs.Refusal as meant
 use Rattle.send_model.specs.Reading as reading
 use Rattle.send_model.specs.Reading.{Reading, Due, HeaderDue, CommandDue, ended, faulty, with_item, stream_version, header_len, frame_header_len, is_version, front_of}
 use Rattle.send_model.proofs.Fuel.{header_there}
-use Rattle.sx_base.specs.Outside.{file_at}
 use Rattle.sx_base.specs.Causes.{Rose}
 use Rattle.sx_base.specs.Refusals.{refusal_of}
 use Rattle.send_commands.specs.Meaning.{meaning_of}
@@ -15,11 +14,13 @@ use Rattle.cmd_reader.specs.declared.item.Item.{Item}
 use Rattle.cmd_reader.specs.declared.item.ReadStop.{ReadStop}
 use Rattle.cmd_reader.specs.declared.item.ReadStop.TheVariants as stop
 use Rattle.cmd_reader.specs.declared.front.Front.{Front}
-use Rattle.cmd_reader.specs.Places.{limit, IsTooLong}
-use Rattle.cmd_reader.specs.Fronts.{IfTold, HeaderFits, HeaderIs, NoHeader, ReadsHeader}
+use Rattle.send_model.specs.Lengths.{limit, is_truncated, only_ends}
+use Rattle.cmd_reader.specs.Places.{IfTold}
+use Rattle.cmd_reader.specs.Fronts.{IsRefused, IsLongAt, HeaderFits, HeaderIs, NoHeader, ShortHeader, ReadsHeader}
 use Rattle.cmd_reader.specs.Left.{Reader, due_of, is_header_due, may_end_here, left, after_header, after_command}
-use Rattle.cmd_reader.specs.Next.{item_of, verdict_meant, FrontIs, ReadsFront, FrontFits, HasBegun, BeginsAt, Begins, IsNext, NextSays, StopAt}
-use Rattle.cmd_reader.proofs.Lefts.{left_ended, left_header, left_no_header, left_command, left_no_command}
+use Rattle.cmd_reader.specs.Next.{item_of, FrontIs, NoFront, ReadsFront, FrontFits, HasBegun, BeginsAt, Begins, HasEnded, NothingLeft, OnlyEnds, IsFaulty, IsNext, NextSays, StopAt}
+use Rattle.cmd_reader.proofs.Told.{Here, told_map, told_both, told_here}
+use Rattle.cmd_reader.proofs.Lefts.{left_ended, left_header, left_no_header, left_short, only_cut, left_command, left_no_command}
 
 -- ---- the header
 
@@ -31,31 +32,37 @@ reads_at : (told : Option (List (List ℕ × List ℕ))) (r : Reader) (name : Li
 reads_at told r name at may_end before now result n a m p = subst (λ (x : List ℕ). ReadsHeader told x r.offset (nat_lt 1 r.number) before now result) (sym n) (subst (λ (o : ℕ). ReadsHeader told name o (nat_lt 1 r.number) before now result) (sym a) (subst (λ (b : Bool). ReadsHeader told name at b before now result) (sym m) p))
 
 begin_fault_at : (told : Option (List (List ℕ × List ℕ))) (r : Reader) (before now : ℕ) (fault : Fault) → r.due ≡ HeaderDue → ReadsHeader told r.name r.offset (nat_lt 1 r.number) before now (Err fault) → Begins told r r before now (Err fault)
-begin_fault_at None r before now (Refused refusal) due p = (refl, tt)
-begin_fault_at (Some files) r before now (Refused refusal) due p = (refl, left_no_header r (file_at files r.name) (refusal_of refusal) due p.0 (λ q. p.1 (sym (may_end_is r due) ∙ q)))
+begin_fault_at told r before now (Refused refusal) due p = (
+  refl,
+  told_map told r.name (IsRefused (NoHeader r.offset (nat_lt 1 r.number)) (refusal_of refusal)) (IsRefused (NothingLeft r) (refusal_of refusal))
+      (λ file (bad, early). (left_no_header r file (refusal_of refusal) due bad.0 (λ q. bad.1 (sym (may_end_is r due) ∙ q)), early)) p,
+)
 begin_fault_at told r before now NoMemory due p = refl
 begin_fault_at told r before now InputFault due p = (refl, p)
-begin_fault_at told r before now InputTooLong due p = (refl, p)
+begin_fault_at told r before now InputTooLong due p = (
+  refl,
+  told_map told r.name (IsLongAt r.offset (ShortHeader r.offset)) (IsLongAt r.offset (OnlyEnds r)) (λ file long reached. (let l = long reached in (l.0, left_short r (take limit file) due l.1))) p,
+)
 
 pub begin_fault : (told : Option (List (List ℕ × List ℕ))) (r : Reader) (name : List ℕ) (at : ℕ) (may_end : Bool) (before now : ℕ) (fault : Fault) → r.due ≡ HeaderDue → r.name ≡ name → r.offset ≡ at → nat_lt 1 r.number ≡ may_end → ReadsHeader told name at may_end before now (Err fault) → Begins told r r before now (Err fault)
 begin_fault told r name at may_end before now fault due n a m p = begin_fault_at told r before now fault due (reads_at told r name at may_end before now (Err fault) n a m p)
 
-begin_end_at : (told : Option (List (List ℕ × List ℕ))) (r : Reader) → r.due ≡ HeaderDue → IfTold told r.name (HeaderIs r.offset (nat_lt 1 r.number) None) → IfTold told r.name (λ file. left r file ≡ ended)
-begin_end_at None r due p = tt
-begin_end_at (Some files) r due p = left_ended r (file_at files r.name) (may_end_is r due ∙ p.1) p.0
+begin_end_at : (told : Option (List (List ℕ × List ℕ))) (r : Reader) → r.due ≡ HeaderDue → IfTold told r.name (HeaderIs r.offset (nat_lt 1 r.number) None) → IfTold told r.name (HasEnded r)
+begin_end_at told r due p = told_map told r.name (HeaderIs r.offset (nat_lt 1 r.number) None) (HasEnded r) (λ file is. (left_ended r file (may_end_is r due ∙ is.1) is.0, is.2)) p
 
-pub begin_end : (told : Option (List (List ℕ × List ℕ))) (r : Reader) (name : List ℕ) (at : ℕ) (may_end : Bool) (before now : ℕ) (o : Option ℕ) → o ≡ None → r.due ≡ HeaderDue → r.name ≡ name → r.offset ≡ at → nat_lt 1 r.number ≡ may_end → ReadsHeader told name at may_end before now (Ok o) → IfTold told r.name (λ file. left r file ≡ ended)
+pub begin_end : (told : Option (List (List ℕ × List ℕ))) (r : Reader) (name : List ℕ) (at : ℕ) (may_end : Bool) (before now : ℕ) (o : Option ℕ) → o ≡ None → r.due ≡ HeaderDue → r.name ≡ name → r.offset ≡ at → nat_lt 1 r.number ≡ may_end → ReadsHeader told name at may_end before now (Ok o) → IfTold told r.name (HasEnded r)
 begin_end told r name at may_end before now o none due n a m p = begin_end_at told r due (subst (λ (x : Option ℕ). IfTold told r.name (HeaderIs r.offset (nat_lt 1 r.number) x)) none (reads_at told r name at may_end before now (Ok o) n a m p))
 
 begin_some_at : (told : Option (List (List ℕ × List ℕ))) (r : Reader) (version : ℕ) → r.due ≡ HeaderDue → IfTold told r.name (HeaderIs r.offset (nat_lt 1 r.number) (Some version)) → IfTold told r.name (BeginsAt r (after_header r version))
-begin_some_at None r version due p = tt
-begin_some_at (Some files) r version due p =
-    let file = file_at files r.name in
-    let long = header_there (drop r.offset file) version p in
-    record {
-      left_is = left_header r file version due p;
-      reached = λ within. (let d = length-drop r.offset file in omega (arith, long, within, d));
-    }
+begin_some_at told r version due p = told_map told r.name (HeaderIs r.offset (nat_lt 1 r.number) (Some version)) (BeginsAt r (after_header r version)) by_file p
+  where
+    by_file : (file : List ℕ) → HeaderIs r.offset (nat_lt 1 r.number) (Some version) file → BeginsAt r (after_header r version) file
+    by_file file is =
+        let long = header_there (drop r.offset file) version is in
+        record {
+          left_is = left_header r file version due is;
+          reached = λ within. (let d = length-drop r.offset file in omega (arith, long, within, d));
+        }
 
 pub begin_some : (told : Option (List (List ℕ × List ℕ))) (r new : Reader) (name : List ℕ) (at : ℕ) (may_end : Bool) (before now version : ℕ) (o : Option ℕ) → o ≡ Some version → r.due ≡ HeaderDue → r.name ≡ name → r.offset ≡ at → nat_lt 1 r.number ≡ may_end → is_version version ≡ true → new ≡ after_header r version → ReadsHeader told name at may_end before now (Ok o)
     → HasBegun r new version × IfTold told r.name (BeginsAt r new)
@@ -70,10 +77,17 @@ rises : (before mid now : ℕ) → before ≤ mid → Rose mid now → Rose befo
 rises before mid now p q = omega (arith, p, q)
 
 stopped_at : (told : Option (List (List ℕ × List ℕ))) (old mid new : Reader) (version before between now : ℕ) (fault : Fault) (why : ReadStop) → HasBegun old mid version → IfTold told old.name (BeginsAt old mid) → before ≤ between → ReadsFront told old.name mid.offset version between now (Err fault) → StopAt mid fault why → NextSays told old new before now (Err why)
-stopped_at None old mid new version before between now (Refused refusal) (stop.Refused verdict) b at le p s = tt
-stopped_at (Some files) old mid new version before between now (Refused refusal) (stop.Refused verdict) b at le p s =
-    let file = file_at files old.name in
-    at.left_is ∙ left_no_command mid file version (refusal_of refusal) b.due (p mid.file mid.number) ∙ ap (λ (v : reading.Verdict). record { items = []; end = reading.Faulty v }) (sym s)
+stopped_at told old mid new version before between now (Refused refusal) (stop.Refused verdict) b at le p s =
+    told_both told old.name (BeginsAt old mid) (IsRefused (NoFront mid.offset version) (refusal_of refusal)) (IsRefused (λ _. IsFaulty old verdict) (refusal_of verdict.refusal)) by_file at p
+  where
+    same_refusal : refusal_of verdict.refusal ≡ refusal_of refusal
+    same_refusal = ap (λ (v : reading.Verdict). v.refusal) s
+
+    by_file : (file : List ℕ) → BeginsAt old mid file → IsRefused (NoFront mid.offset version) (refusal_of refusal) file → IsRefused (λ _. IsFaulty old verdict) (refusal_of verdict.refusal) file
+    by_file file at (bad, early) = (
+      at.left_is ∙ left_no_command mid file version (refusal_of refusal) b.due (bad mid.file mid.number) ∙ ap (λ (v : reading.Verdict). record { items = []; end = reading.Faulty v }) (sym s),
+      λ cut. early (ap (λ (r : meant.Refusal). is_truncated r) (sym same_refusal) ∙ cut),
+    )
 stopped_at told old mid new version before between now (Refused refusal) stop.NoMemory b at le p s = elim s [ ]
 stopped_at told old mid new version before between now (Refused refusal) stop.InputFault b at le p s = elim s [ ]
 stopped_at told old mid new version before between now (Refused refusal) stop.InputTooLong b at le p s = elim s [ ]
@@ -85,8 +99,14 @@ stopped_at told old mid new version before between now InputFault stop.InputFaul
 stopped_at told old mid new version before between now InputFault (stop.Refused verdict) b at le p s = elim s [ ]
 stopped_at told old mid new version before between now InputFault stop.NoMemory b at le p s = elim s [ ]
 stopped_at told old mid new version before between now InputFault stop.InputTooLong b at le p s = elim s [ ]
-stopped_at None old mid new version before between now InputTooLong stop.InputTooLong b at le p s = tt
-stopped_at (Some files) old mid new version before between now InputTooLong stop.InputTooLong b at le p s = λ q. p (at.reached q)
+stopped_at told old mid new version before between now InputTooLong stop.InputTooLong b at le p s =
+    told_both told old.name (Here (BeginsAt old mid)) (IsLongAt mid.offset (NoFront mid.offset version meant.Truncated)) (IsLongAt old.offset (OnlyEnds old)) by_file (told_here told old.name (BeginsAt old mid) at) p
+  where
+    by_file : (file : List ℕ) → Here (BeginsAt old mid) file → IsLongAt mid.offset (NoFront mid.offset version meant.Truncated) file → IsLongAt old.offset (OnlyEnds old) file
+    by_file file (here, front) long reached =
+        let l = long (here.reached reached) in
+        let O : Reading → Type 0 = λ x. (x.items ≡ []) × (only_ends x.end ≡ true) in
+        (l.0, subst O (sym front.left_is) (only_cut mid (take limit file) (left_no_command mid (take limit file) version meant.Truncated b.due (l.1 mid.file mid.number))))
 stopped_at told old mid new version before between now InputTooLong (stop.Refused verdict) b at le p s = elim s [ ]
 stopped_at told old mid new version before between now InputTooLong stop.NoMemory b at le p s = elim s [ ]
 stopped_at told old mid new version before between now InputTooLong stop.InputFault b at le p s = elim s [ ]
@@ -101,22 +121,27 @@ stopped told after old mid new name version before between now fault why same n 
 abbrev item_at : Reader → ℕ → Front → reading.Item
 item_at r version front = record { file = r.file; number = r.number; offset = r.offset; version = version; data_at = front.data_at; command = meaning_of front.command }
 
+-- The command and what is left after it.
+abbrev PassedAt : Reader → Reader → ℕ → Front → List ℕ → Type 0
+PassedAt old mid version front file = (left old file ≡ with_item (item_at mid version front) (left (after_command mid version (meaning_of front.command) front.next) file)) × (front.next ≤ length file)
+
 passed_at : (told : Option (List (List ℕ × List ℕ))) (old mid : Reader) (version : ℕ) (front : Front) → HasBegun old mid version → 1 ≤ mid.number → IfTold told old.name (BeginsAt old mid) → FrontFits mid.offset front → IfTold told old.name (FrontIs mid.offset version front)
-    → IfTold told old.name (λ file. (left old file ≡ with_item (item_at mid version front) (left (after_command mid version (meaning_of front.command) front.next) file)) × (front.next ≤ length file))
-passed_at None old mid version front b first at fits p = tt
-passed_at (Some files) old mid version front b first at fits p =
-    let file = file_at files old.name in
-    (at.left_is ∙ left_command mid file version (item_at mid version front) front.next first b.due fits.further p.within (p.reads mid.file mid.number), p.within)
+    → IfTold told old.name (PassedAt old mid version front)
+passed_at told old mid version front b first at fits p =
+    told_both told old.name (BeginsAt old mid) (FrontIs mid.offset version front) (PassedAt old mid version front)
+    (λ file at is. (at.left_is ∙ left_command mid file version (item_at mid version front) front.next first b.due fits.further is.within (is.reads mid.file mid.number), is.within)) at p
 
 is_next : (told : Option (List (List ℕ × List ℕ))) (old mid new : Reader) (version : ℕ) (front : Front) (item : Item) → HasBegun old mid version → new ≡ after_command mid version (meaning_of front.command) front.next → item_of mid.file item ≡ item_at mid version front
-    → IfTold told old.name (λ file. (left old file ≡ with_item (item_at mid version front) (left (after_command mid version (meaning_of front.command) front.next) file)) × (front.next ≤ length file)) → IfTold told old.name (IsNext old new item)
-is_next None old mid new version front item b new_is item_is p = tt
-is_next (Some files) old mid new version front item b new_is item_is p =
-    let file = file_at files old.name in
-    let item_here : item_at mid version front ≡ item_of old.file item = sym item_is ∙ ap (λ (k : ℕ). item_of k item) b.file in
-    record {
-      left_is = p.0 ∙ ap (λ (r : Reader). with_item (item_at mid version front) (left r file)) (sym new_is) ∙ ap (λ (i : reading.Item). with_item i (left new file)) item_here;
-      reached = λ q. subst (λ (n : ℕ). n ≤ length file) (sym (ap (λ (r : Reader). r.offset) new_is)) p.1;
+    → IfTold told old.name (PassedAt old mid version front) → IfTold told old.name (IsNext old new item)
+is_next told old mid new version front item b new_is item_is p = told_map told old.name (PassedAt old mid version front) (IsNext old new item) by_file p
+  where
+    item_here : item_at mid version front ≡ item_of old.file item
+    item_here = sym item_is ∙ ap (λ (k : ℕ). item_of k item) b.file
+
+    by_file : (file : List ℕ) → PassedAt old mid version front file → IsNext old new item file
+    by_file file (is, within) = record {
+      left_is = is ∙ ap (λ (r : Reader). with_item (item_at mid version front) (left r file)) (sym new_is) ∙ ap (λ (i : reading.Item). with_item i (left new file)) item_here;
+      reached = λ q. subst (λ (n : ℕ). n ≤ length file) (sym (ap (λ (r : Reader). r.offset) new_is)) within;
     }
 
 pub passed : (told after : Option (List (List ℕ × List ℕ))) (old mid new : Reader) (name : List ℕ) (version : ℕ) (front : Front) (item : Item) → after ≡ told → mid.name ≡ name → HasBegun old mid version → 1 ≤ mid.number → IfTold told old.name (BeginsAt old mid) → FrontFits mid.offset front → IfTold after name (FrontIs mid.offset version front)

@@ -1,11 +1,12 @@
 -- What is left to read, step by step.
-use Rattle.std.specs.Prelude.{◌≡◌, ◌≢◌, ℕ, zero, suc, ◌+◌, ◌-◌, ◌<◌, ◌≤◌, Bool, true, false, ◌&&◌, List, [], ◌∷◌, length, drop, Result, Ok, Err, nat_lt, if◌then◌else◌}
+use Rattle.std.specs.Prelude.{◌≡◌, ◌≢◌, ℕ, suc, ◌+◌, ◌-◌, ◌≤◌, Bool, true, false, ◌&&◌, List, [], ◌∷◌, length, drop, Ok, Err, nat_lt, if◌then◌else◌}
 use Rattle.std.proofs.Common.{refl, sym, ap, subst, ◌∙◌, arith, length-drop, lt-ltb, drop-drop}
 use Rattle.std.proofs.lemmas.Bool.{true≢false}
-use Rattle.send_model.specs.Refusal.{Refusal}
-use Rattle.send_model.specs.Command.{Command}
-use Rattle.send_model.specs.Reading.{Item, Reading, Due, HeaderDue, CommandDue, due_after, may_end, with_item, go_on, ended, faulty, Front, front_of, stream_version, header_len, frame_header_len, reads_from}
+use Rattle.send_model.specs.Refusal.{Refusal, Truncated}
+use Rattle.send_model.specs.Reading.{Item, Reading, Due, HeaderDue, CommandDue, may_end, with_item, go_on, ended, faulty, front_of, stream_version, header_len, frame_header_len, reads_from}
+use Rattle.send_model.specs.Lengths.{only_ends}
 use Rattle.send_model.proofs.Fuel.{same_fuel, header_there, front_shorter}
+use Rattle.cmd_reader.specs.Next.{OnlyEnds}
 use Rattle.cmd_reader.specs.Left.{Reader, after_header, after_command, is_header_due, is_empty, may_end_here, left}
 
 pub left_ended : (r : Reader) (file : List ℕ) → may_end_here r ≡ true → drop r.offset file ≡ [] → left r file ≡ ended
@@ -52,6 +53,22 @@ left_no_header r file refusal due e some =
     by_end false bytes s = refl
     by_end true [] s = absurd (s refl refl)
     by_end true (x ∷ bytes) s = refl
+
+-- What is left ends at once, as one of these does.
+pub only_ended : (r : Reader) (file : List ℕ) → left r file ≡ ended → OnlyEnds r file
+only_ended r file e = let O : Reading → Type 0 = λ x. (x.items ≡ []) × (only_ends x.end ≡ true) in subst O (sym e) (refl, refl)
+
+pub only_cut : (r : Reader) (file : List ℕ) → left r file ≡ faulty r.file r.number r.offset Truncated → OnlyEnds r file
+only_cut r file e = let O : Reading → Type 0 = λ x. (x.items ≡ []) × (only_ends x.end ≡ true) in subst O (sym e) (refl, refl)
+
+-- Too few bytes are left for a header.
+pub left_short : (r : Reader) (file : List ℕ) → r.due ≡ HeaderDue → stream_version (drop r.offset file) ≡ Err Truncated → OnlyEnds r file
+left_short r file due e = by_end (may_end_here r) (drop r.offset file) refl refl
+  where
+    by_end : (b : Bool) (bytes : List ℕ) → may_end_here r ≡ b → drop r.offset file ≡ bytes → OnlyEnds r file
+    by_end true [] may none = only_ended r file (left_ended r file may none)
+    by_end true (x ∷ bytes) may some = only_cut r file (left_no_header r file Truncated due e (λ _ none. let q : x ∷ bytes ≡ [] = sym some ∙ none in cc))
+    by_end false bytes may some = only_cut r file (left_no_header r file Truncated due e (λ ends. absurd (true≢false (sym ends ∙ may))))
 
 same_end : (due : Due) (number : ℕ) (bytes : List ℕ) → 1 ≤ number → may_end due bytes ≡ (is_header_due due && nat_lt 1 (number + 1)) && is_empty bytes
 same_end HeaderDue number [] h = let more : nat_lt 1 (number + 1) ≡ true = lt-ltb _ _ (omega (arith, h)) in rw more refl

@@ -1,3 +1,5 @@
+pub mod Told
+mod Uncut
 mod Fillings
 mod Headers
 mod Lefts

@@ -2,7 +2,7 @@
 use Rattle.std.specs.Prelude.{◌≡◌, ◌≤◌, ⊤, Option, None, Some, ℕ, suc, ◌+◌, Bool, true, false, ◌&&◌, List, [], ◌∷◌, length, drop, nat_lt, if◌then◌else◌}
 use Rattle.send_model.specs.Command.{Command}
 use Rattle.send_model.specs.Reading.{Reading, Due, HeaderDue, CommandDue, due_after, header_len, ended, is_version, reads_from}
-use Rattle.cmd_reader.specs.Places.{limit}
+use Rattle.send_model.specs.Lengths.{limit}
 
 -- The file's number and name, what is due, the number of the next command, and the place in the file.
 pub record Reader : Type 0 where

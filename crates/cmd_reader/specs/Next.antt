@@ -1,11 +1,11 @@
 -- What a reader gives at a call: the next command, the end, or the reason why there is none.
-use Rattle.std.specs.Prelude.{◌≡◌, ℕ, ◌+◌, ◌^◌, ◌<◌, ◌≤◌, true, List, [], length, drop, Option, None, Some, Result, Ok, Err, ⊤}
+use Rattle.std.specs.Prelude.{◌≡◌, ℕ, ◌+◌, ◌<◌, ◌≤◌, true, List, [], length, drop, Option, None, Some, Result, Ok, Err, ⊤}
 use Rattle.send_model.specs.Refusal as meant
-use Rattle.send_model.specs.Command.{row, kind_of}
 use Rattle.send_model.specs.Receive.{bytes_of}
 use Rattle.send_model.specs.Reading as reading
 use Rattle.send_model.specs.Reading.{Reading, CommandDue, ended, with_item, faulty, is_version, front_of, frame_header_len}
 use Rattle.send_model.specs.Laws.{CanWrite}
+use Rattle.send_model.specs.Lengths.{limit, only_ends}
 use Rattle.sx_base.specs.declared.outcome.Verdict.{Verdict}
 use Rattle.sx_base.specs.Refusals.{refusal_of}
 use Rattle.send_commands.specs.Meaning.{meaning_of}
@@ -16,10 +16,9 @@ use Rattle.cmd_reader.specs.declared.item.ReadStop.TheVariants as stop
 use Rattle.cmd_reader.specs.declared.front.Front.{Front}
 use Rattle.cmd_reader.specs.declared.fault.Fault.{Fault}
 use Rattle.cmd_reader.specs.declared.fault.Fault.TheVariants as fault
-use Rattle.cmd_reader.specs.Places.{limit, IsTooLong}
-use Rattle.cmd_reader.specs.Faults.{ExplainsFault}
-use Rattle.cmd_reader.specs.Fronts.{IfTold, Says}
-use Rattle.cmd_reader.specs.Left.{Reader, may_end_here, left}
+use Rattle.cmd_reader.specs.Places.{IfTold}
+use Rattle.cmd_reader.specs.Fronts.{IsRefused, IsLongAt, Says}
+use Rattle.cmd_reader.specs.Left.{Reader, left}
 use Rattle.sx_base.specs.Causes.{Rose}
 
 -- An item of a file as the definitions see it.
@@ -43,7 +42,7 @@ abbrev pub NoFront : ℕ → ℕ → meant.Refusal → List ℕ → Type 0
 NoFront at version refusal file = (k number : ℕ) → front_of k version number at (drop at file) ≡ Err refusal
 
 abbrev pub ReadsFront : Option (List (List ℕ × List ℕ)) → List ℕ → ℕ → ℕ → ℕ → ℕ → Result Front Fault → Type 0
-ReadsFront told name at version before now result = Says (FrontIs at version) (NoFront at version) told name at before now result
+ReadsFront told name at version before now result = Says (FrontIs at version) (NoFront at version) (NoFront at version meant.Truncated) told name at before now result
 
 -- What holds of a command that was read, whether or not the inputs tell.
 pub record FrontFits (at : ℕ) (front : Front) : Type 0 where
@@ -69,14 +68,26 @@ pub record BeginsAt (old new : Reader) (file : List ℕ) : Type 0 where
   pub left_is : left old file ≡ left new file
   pub reached : old.offset ≤ length file → new.offset ≤ length file
 
+-- Nothing is left, and the file ends before the limit.
+abbrev pub HasEnded : Reader → List ℕ → Type 0
+HasEnded r file = (left r file ≡ ended) × (length file < limit)
+
+-- What is left breaks a rule at once.
+abbrev pub NothingLeft : Reader → meant.Refusal → List ℕ → Type 0
+NothingLeft r refusal file = left r file ≡ faulty r.file r.number r.offset refusal
+
+-- What is left ends at once, and breaks no rule but that there is no more.
+abbrev pub OnlyEnds : Reader → List ℕ → Type 0
+OnlyEnds r file = ((left r file).items ≡ []) × (only_ends (left r file).end ≡ true)
+
 -- A command is due, or the file has ended, or neither: then nothing has changed.
 abbrev pub Begins : Option (List (List ℕ × List ℕ)) → Reader → Reader → ℕ → ℕ → Result (Option ℕ) Fault → Type 0
 Begins told old new before now (Ok (Some version)) = HasBegun old new version × IfTold told old.name (BeginsAt old new)
-Begins told old new before now (Ok None) = (new ≡ old) × IfTold told old.name (λ file. left old file ≡ ended)
-Begins told old new before now (Err (fault.Refused refusal)) = (new ≡ old) × IfTold told old.name (λ file. left old file ≡ faulty old.file old.number old.offset (refusal_of refusal))
+Begins told old new before now (Ok None) = (new ≡ old) × IfTold told old.name (HasEnded old)
+Begins told old new before now (Err (fault.Refused refusal)) = (new ≡ old) × IfTold told old.name (IsRefused (NothingLeft old) (refusal_of refusal))
 Begins told old new before now (Err fault.NoMemory) = new ≡ old
 Begins told old new before now (Err fault.InputFault) = (new ≡ old) × Rose before now
-Begins told old new before now (Err fault.InputTooLong) = (new ≡ old) × IsTooLong told old.name old.offset
+Begins told old new before now (Err fault.InputTooLong) = (new ≡ old) × IfTold told old.name (IsLongAt old.offset (OnlyEnds old))
 
 -- ---- a call
 
@@ -85,13 +96,19 @@ pub record IsNext (old new : Reader) (item : Item) (file : List ℕ) : Type 0 wh
   pub left_is : left old file ≡ with_item (item_of old.file item) (left new file)
   pub reached : old.offset ≤ length file → new.offset ≤ length file
 
+-- What is left breaks a rule at once, with this verdict.
+abbrev pub IsFaulty : Reader → Verdict → List ℕ → Type 0
+IsFaulty r verdict file = left r file ≡ record { items = []; end = reading.Faulty (verdict_meant verdict) }
+
+-- The next command; or the end, or a verdict; or that the file is too long. An end, and a verdict that the file is cut short,
+-- are given only of a file that ends before the limit.
 abbrev pub NextSays : Option (List (List ℕ × List ℕ)) → Reader → Reader → ℕ → ℕ → Result (Option Item) ReadStop → Type 0
 NextSays told old new before now (Ok (Some item)) = IfTold told old.name (IsNext old new item)
-NextSays told old new before now (Ok None) = IfTold told old.name (λ file. left old file ≡ ended)
-NextSays told old new before now (Err (stop.Refused verdict)) = IfTold told old.name (λ file. left old file ≡ record { items = []; end = reading.Faulty (verdict_meant verdict) })
+NextSays told old new before now (Ok None) = IfTold told old.name (HasEnded old)
+NextSays told old new before now (Err (stop.Refused verdict)) = IfTold told old.name (IsRefused (λ refusal. IsFaulty old verdict) (refusal_of verdict.refusal))
 NextSays told old new before now (Err stop.NoMemory) = ⊤
 NextSays told old new before now (Err stop.InputFault) = Rose before now
-NextSays told old new before now (Err stop.InputTooLong) = IsTooLong told old.name old.offset
+NextSays told old new before now (Err stop.InputTooLong) = IfTold told old.name (IsLongAt old.offset (OnlyEnds old))
 
 -- What holds of an item, whether or not the inputs tell.
 pub record ItemFits (old new : Reader) (item : Item) : Type 0 where

@@ -2,7 +2,7 @@
 ghost use Rattle.std.specs.Prelude.{◌≡◌, ◌≤◌, IfOk};
 ghost use Rattle.send_model.specs.Reading.{HeaderDue, CommandDue, is_version};
 ghost use Rattle.send_commands.specs.Meaning.{meaning_of};
-ghost use Rattle.cmd_reader.specs.Places.{limit};
+ghost use Rattle.send_model.specs.Lengths.{limit};
 ghost use Rattle.cmd_reader.specs.Left.{Reader, after_command};
 ghost use Rattle.cmd_reader.specs.Next.{item_of, FrontFits, Begins, StopAt, NextSays, ItemFits, IfItem};
 
@@ -59,7 +59,8 @@ impl CmdReader {
 
     /// The next command, or None where the file ends after END. Refused, with the place, exactly where the bytes break a
     /// rule of reading, by the first rule that they break; InputFault only where the inputs count another fault;
-    /// InputTooLong only where the file has 2^62 bytes.
+    /// InputTooLong exactly where the file has 2^62 bytes or more and what is left of the first 2^62 ends at once, whole or
+    /// cut short.
     pub fn next<I: Inputs>(&mut self, inputs: &mut I) -> Result<Option<Item>, ReadStop>
         ensures same { I.told inputs.new ≡ I.told inputs.old }
         ensures later { I.faults inputs.old ≤ I.faults inputs.new }

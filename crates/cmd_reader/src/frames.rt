@@ -1,7 +1,7 @@
 // The header of a stream, and a frame with its body, at a place of a file.
 ghost use Rattle.std.specs.Prelude.{◌≡◌, ◌+◌, ◌≤◌, length, IfOk};
 ghost use Rattle.send_model.specs.Spelling.{greatest_body};
-ghost use Rattle.cmd_reader.specs.Places.{limit};
+ghost use Rattle.send_model.specs.Lengths.{limit};
 ghost use Rattle.cmd_reader.specs.Fronts.{HeaderFits, ReadsHeader, ReadsHead, ReadsBody};
 
 use crate::fault::Fault;
@@ -27,7 +27,10 @@ pub(crate) fn stream_version<I: Inputs>(
     ensures read { ReadsHeader (I.told inputs.old) name.now at may_end (I.faults inputs.old) (I.faults inputs.new) result }
 {
     let mut bytes = [0; HEADER_LEN];
-    let count = fill_within(inputs, name, at, &mut bytes)?;
+    let count = match fill_within(inputs, name, at, &mut bytes) {
+        Ok(count) => count,
+        Err(fault) => return Err(fault),
+    };
     if count == 0 && may_end {
         return Ok(None);
     }
@@ -50,7 +53,10 @@ pub(crate) fn frame_head<I: Inputs>(inputs: &mut I, name: &str, at: u64) -> Resu
     ensures read { ReadsHead (I.told inputs.old) name.now at (I.faults inputs.old) (I.faults inputs.new) result }
 {
     let mut bytes = [0; FRAME_HEAD_LEN];
-    let count = fill_within(inputs, name, at, &mut bytes)?;
+    let count = match fill_within(inputs, name, at, &mut bytes) {
+        Ok(count) => count,
+        Err(fault) => return Err(fault),
+    };
     if count < FRAME_HEAD_LEN {
         return Err(Fault::Refused(Refusal::Truncated));
     }
@@ -76,7 +82,10 @@ pub(crate) fn frame_body<I: Inputs>(
     ensures place { IfOk result (λ _. at + head.now.len ≤ limit) }
     ensures read { ReadsBody (I.told inputs.old) name.now at head.now body.new (I.faults inputs.old) (I.faults inputs.new) result }
 {
-    let count = fill_within(inputs, name, at, body)?;
+    let count = match fill_within(inputs, name, at, body) {
+        Ok(count) => count,
+        Err(fault) => return Err(fault),
+    };
     if count < body.len() {
         return Err(Fault::Refused(Refusal::Truncated));
     }

@@ -2,7 +2,7 @@
 ghost use Rattle.std.specs.Prelude.{◌≡◌, ◌≤◌, true, length, IfOk};
 ghost use Rattle.send_model.specs.Attribute.{IsBytes};
 ghost use Rattle.send_model.specs.Reading.{is_version};
-ghost use Rattle.cmd_reader.specs.Places.{limit};
+ghost use Rattle.send_model.specs.Lengths.{limit};
 ghost use Rattle.cmd_reader.specs.Commands.{ReadsCommand, CommandFits};
 ghost use Rattle.cmd_reader.specs.Next.{ReadsFront, FrontFits};
 

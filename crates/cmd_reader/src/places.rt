@@ -1,7 +1,8 @@
 // Bytes at a place of a file.
 ghost use Rattle.std.specs.Prelude.{◌≡◌, ◌+◌, ◌^◌, ◌<◌, ◌≤◌, length, IfOk};
 ghost use Rattle.sx_base.specs.Causes.{HasCause};
-ghost use Rattle.cmd_reader.specs.Places.{FillsAt, FillsWithin, limit};
+ghost use Rattle.send_model.specs.Lengths.{limit};
+ghost use Rattle.cmd_reader.specs.Places.{FillsAt, FillsWithin};
 ghost use Rattle.cmd_reader.specs.Faults.{Explains};
 
 use crate::fault::Fault;
@@ -25,7 +26,7 @@ pub(crate) fn fill_within<I: Inputs>(
     ensures place { IfOk result (λ count. at + count ≤ limit) }
     ensures bytes { IfOk result (λ count. FillsWithin (I.told inputs.old) name.now at buf.new count) }
     ensures later { I.faults inputs.old ≤ I.faults inputs.new }
-    ensures fault { Explains (I.told inputs.old) name.now at (I.faults inputs.old) (I.faults inputs.new) result }
+    ensures fault { Explains (I.told inputs.old) name.now at (length buf.new) (I.faults inputs.old) (I.faults inputs.new) result }
 {
     let room = LIMIT - at;
     if buf.len() as u64 <= room {

@@ -5,20 +5,24 @@ use Rattle.std.proofs.Common.{refl, sym, ap, subst, ◌∙◌, append_assoc, app
 use Rattle.std.proofs.Math.Seq.{take-append-add}
 use Rattle.std.proofs.lemmas.List.{length-append}
 use Rattle.std.proofs.KnownBytes.{Appends-nil, Appends-trans}
-use Rattle.send_model.specs.Reading.{Item, Reading, HeaderDue, Whole, ended, with_item, reads}
+use Rattle.send_model.specs.Reading.{Item, Reading, HeaderDue, Whole, with_item, reads}
 use Rattle.send_model.specs.Receive.{verdict_of}
 use Rattle.send_model.specs.Order.{last_item}
 use Rattle.send_model.specs.Laws.{CanWrite}
+use Rattle.send_model.specs.Lengths.{limit, only_ends}
 use Rattle.send_commands.specs.Meaning.{meaning_of}
+use Rattle.sx_base.specs.Refusals.{refusal_of}
 use Rattle.sx_base.specs.declared.outcome.Verdict.{Verdict}
 use Rattle.sx_base.specs.declared.outcome.Outcome.{Outcome}
 use Rattle.sx_base.specs.declared.outcome.Outcome.TheVariants as over
 use Rattle.cmd_reader.specs.declared.item.Item as read
 use Rattle.cmd_reader.specs.declared.item.ReadStop.{ReadStop}
 use Rattle.cmd_reader.specs.declared.item.ReadStop.TheVariants as stop
-use Rattle.cmd_reader.specs.Fronts.{IfTold}
+use Rattle.cmd_reader.specs.Places.{IfTold}
+use Rattle.cmd_reader.specs.Fronts.{IsRefused, IsLongAt}
 use Rattle.cmd_reader.specs.Left.{Reader, left}
-use Rattle.cmd_reader.specs.Next.{item_of, IsNext, NextSays, ItemFits, IfItem}
+use Rattle.cmd_reader.specs.Next.{item_of, HasEnded, IsFaulty, OnlyEnds, IsNext, NextSays, ItemFits, IfItem}
+use Rattle.cmd_reader.proofs.Told.{Here, told_map, told_both, told_always, told_here, told_moved}
 use Rattle.composer.specs.declared.places.Place.{Place}
 use Rattle.composer.specs.Advance.{Composing, advance}
 use Rattle.composer.specs.Ahead.{then_reading}
@@ -26,25 +30,8 @@ use Rattle.composer.specs.Folding.{TakesAll, AppendsFront, unsent}
 use Rattle.composer.specs.Stopping.{outcome_at}
 use Rattle.composer.specs.Files.{StopEnd, CommandTaken, Refuses, CommandWhy, CommandStops, IsPlace, IsLastPlace, FileTaken, NextRefused, FileWhy, FileStops}
 use Rattle.composer.proofs.Loops.{last_item_after}
+use Rattle.composer.proofs.TooLong.{short_fits, long_is}
 use Rattle.composer.proofs.Folds.{takes_none, takes_one, takes_more, unsent_more, advance_unsent_ok, advance_unsent_err}
-
--- ---- facts about a file that the inputs tell
-
-pub told_map : (told : Option (List (List ℕ × List ℕ))) (name : List ℕ) (P Q : List ℕ → Type 0) → ((bytes : List ℕ) → P bytes → Q bytes) → IfTold told name P → IfTold told name Q
-told_map None name P Q f p = tt
-told_map (Some table) name P Q f p = f _ p
-
-pub told_both : (told : Option (List (List ℕ × List ℕ))) (name : List ℕ) (P Q R : List ℕ → Type 0) → ((bytes : List ℕ) → P bytes → Q bytes → R bytes) → IfTold told name P → IfTold told name Q → IfTold told name R
-told_both None name P Q R f p q = tt
-told_both (Some table) name P Q R f p q = f _ p q
-
-pub told_always : (told : Option (List (List ℕ × List ℕ))) (name : List ℕ) (P : List ℕ → Type 0) → ((bytes : List ℕ) → P bytes) → IfTold told name P
-told_always None name P f = tt
-told_always (Some table) name P f = f _
-
--- The same inputs and the same name.
-pub told_moved : (told now : Option (List (List ℕ × List ℕ))) (name same : List ℕ) (P : List ℕ → Type 0) → now ≡ told → same ≡ name → IfTold now same P → IfTold told name P
-told_moved told now name same P e f p = subst (λ (n : List ℕ). IfTold told n P) f (subst (λ (t : Option (List (List ℕ × List ℕ))). IfTold t same P) e p)
 
 -- ---- what the loop keeps
 
@@ -140,17 +127,18 @@ pub file_ends : (told inputs : Option (List (List ℕ × List ℕ))) (file : ℕ
     (f0 f1 : ℕ) (o : Option read.Item) → o ≡ None → inputs ≡ told → old.name ≡ name → NextSays inputs old new f0 f1 (Ok o) → IfTold told name (Stands file c0 out0 old now out_now before place)
     → IfTold told name (FileTaken file c0 now out0 out_now before place)
 file_ends told inputs file name c0 out0 old new now out_now before place f0 f1 o e same name_is says stands =
-    told_both told name (λ bytes. left old bytes ≡ ended) (Stands file c0 out0 old now out_now before place) (FileTaken file c0 now out0 out_now before place) step
-    (told_moved told inputs name old.name (λ bytes. left old bytes ≡ ended) same name_is (subst (λ (x : Option read.Item). NextSays inputs old new f0 f1 (Ok x)) e says)) stands
+    told_both told name (HasEnded old) (Stands file c0 out0 old now out_now before place) (FileTaken file c0 now out0 out_now before place) step
+    (told_moved told inputs name old.name (HasEnded old) same name_is (subst (λ (x : Option read.Item). NextSays inputs old new f0 f1 (Ok x)) e says)) stands
   where
-    step : (bytes : List ℕ) → left old bytes ≡ ended → Stands file c0 out0 old now out_now before place bytes → FileTaken file c0 now out0 out_now before place bytes
-    step bytes is s = record {
+    step : (bytes : List ℕ) → HasEnded old bytes → Stands file c0 out0 old now out_now before place bytes → FileTaken file c0 now out0 out_now before place bytes
+    step bytes (is, less) s = record {
       items = s.items;
       sent = s.sent;
       read = s.read ∙ ap (then_reading s.items) is ∙ ap (λ (xs : List Item). record { items = xs; end = Whole }) (append-nil s.items);
       all = s.all;
       appends = s.appends;
       last = s.last;
+      fits = short_fits file bytes less;
     }
 
 -- What was sent, and then a front part of what was pending.
@@ -178,15 +166,15 @@ file_unopened told file name now out = told_always told name (FileStops file now
 
 -- Why a file can not be read on, whatever was composed.
 Unread : ℕ → Reader → ReadStop → List ℕ → Type 0
-Unread file old why bytes = old.offset ≤ length bytes → (now : Composing) → FileWhy file now (left old bytes) (outcome_at file why) bytes
+Unread file old why bytes = old.offset ≤ length bytes → (reads file (take limit bytes)).end ≡ (left old (take limit bytes)).end → (now : Composing) → FileWhy file now (left old bytes) (outcome_at file why) bytes
 
 unread : (told : Option (List (List ℕ × List ℕ))) (file : ℕ) (old new : Reader) (f0 f1 : ℕ) (why : ReadStop) → NextSays told old new f0 f1 (Err why) → IfTold told old.name (Unread file old why)
 unfolding Unread
-unread None file old new f0 f1 why says = tt
-unread (Some table) file old new f0 f1 (stop.Refused verdict) says = λ reached now. inl says
-unread (Some table) file old new f0 f1 stop.NoMemory says = λ reached now. tt
-unread (Some table) file old new f0 f1 stop.InputFault says = λ reached now. tt
-unread (Some table) file old new f0 f1 stop.InputTooLong says = λ reached now. (refl, says reached)
+unread told file old new f0 f1 (stop.Refused verdict) says = told_map told old.name (IsRefused (λ _. IsFaulty old verdict) (refusal_of verdict.refusal)) (Unread file old (stop.Refused verdict)) (λ bytes (bad, early) reached ends now. inl bad) says
+unread told file old new f0 f1 stop.NoMemory says = told_always told old.name (Unread file old stop.NoMemory) (λ bytes reached ends now. tt)
+unread told file old new f0 f1 stop.InputFault says = told_always told old.name (Unread file old stop.InputFault) (λ bytes reached ends now. tt)
+unread told file old new f0 f1 stop.InputTooLong says =
+    told_map told old.name (IsLongAt old.offset (OnlyEnds old)) (Unread file old stop.InputTooLong) (λ bytes long reached ends now. (let l = long reached in (refl, long_is file bytes l.0 (ap only_ends ends ∙ l.1.1)))) says
 
 -- The file can not be read on.
 pub file_stops : (told inputs : Option (List (List ℕ × List ℕ))) (file : ℕ) (name : List ℕ) (c0 : Composing) (out0 : Option (List ℕ)) (old new : Reader) (now : Composing) (out_now out_next : Option (List ℕ)) (before place : Place)
@@ -194,11 +182,11 @@ pub file_stops : (told inputs : Option (List (List ℕ × List ℕ))) (file : �
     → IfTold told name (Stands file c0 out0 old now out_now before place) → IfTold told name (FileStops file c0 out0 out_next result)
 unfolding Unread
 file_stops told inputs file name c0 out0 old new now out_now out_next before place f0 f1 g0 g1 why outcome result same name_is says outcome_is stopped stands =
-    told_both told name (Unread file old why) (Stands file c0 out0 old now out_now before place) (FileStops file c0 out0 out_next result) step
-    (told_moved told inputs name old.name (Unread file old why) same name_is (unread inputs file old new f0 f1 why says)) stands
+    told_both told name (Unread file old why) (Here (Stands file c0 out0 old now out_now before place)) (FileStops file c0 out0 out_next result) step
+    (told_moved told inputs name old.name (Unread file old why) same name_is (unread inputs file old new f0 f1 why says)) (told_here told name (Stands file c0 out0 old now out_now before place) stands)
   where
-    step : (bytes : List ℕ) → Unread file old why bytes → Stands file c0 out0 old now out_now before place bytes → FileStops file c0 out0 out_next result bytes
-    step bytes u s =
+    step : (bytes : List ℕ) → Unread file old why bytes → Here (Stands file c0 out0 old now out_now before place) bytes → FileStops file c0 out0 out_next result bytes
+    step bytes u (s, front) =
         let next = unsent s.sent now in
         let F : Outcome → Type 0 = λ x. FileWhy file next (left old bytes) x bytes in
         record {
@@ -208,7 +196,7 @@ file_stops told inputs file name c0 out0 old new now out_now out_next before pla
           read = s.read;
           all = s.all;
           front = front_after out0 out_now out_next s.sent now.pending s.appends stopped.front;
-          why = ⊎_elim (λ (same, all). subst F (sym (same ∙ outcome_is)) (u s.reached next)) (λ (failed, rose). subst F (sym failed) tt) stopped.outcome_is;
+          why = ⊎_elim (λ (same, all). subst F (sym (same ∙ outcome_is)) (u s.reached (ap (λ (r : Reading). r.end) front.read) next)) (λ (failed, rose). subst F (sym failed) tt) stopped.outcome_is;
         }
 
 -- Composing stops at the next command, which is not taken.

@@ -1,13 +1,12 @@
 -- What is ahead of a loop over named files, a whole file at a time.
-use Rattle.std.specs.Prelude.{◌≡◌, ℕ, ◌+◌, ◌<◌, ◌≤◌, List, ◌∷◌, ◌++◌, map, length, take, drop, slice_index_or, String}
+use Rattle.std.specs.Prelude.{◌≡◌, ℕ, ◌+◌, ◌<◌, List, ◌∷◌, ◌++◌, map, length, drop, slice_index_or, String}
 use Rattle.std.specs.String.{string_bytes}
-use Rattle.std.proofs.Common.{sym, ap, ◌∙◌, refl, append_assoc, add-one, drop-cons, arith}
-use Rattle.std.proofs.lemmas.List.{length-map, drop-map, take-append-drop, length-take-le}
+use Rattle.std.proofs.Common.{sym, ap, ◌∙◌, refl, append_assoc, add-one, drop-cons}
+use Rattle.std.proofs.lemmas.List.{length-map, drop-map}
 use Rattle.send_model.specs.Reading.{Item, Ending, Whole, Faulty, Reading, ended, joined, reads, input_from}
 use Rattle.sx_base.specs.Outside.{file_at}
-use Rattle.cmd_reader.specs.Places.{limit}
 use Rattle.composer.specs.Ahead.{IsAhead, then_reading}
-use Rattle.composer.specs.Files.{contents, IsLongFile}
+use Rattle.composer.specs.Files.{contents}
 use Rattle.composer.proofs.Loops.{ahead_next}
 
 -- ---- the commands of a file
@@ -48,19 +47,3 @@ file_there {Z} table names n name less is =
 -- There are as many files as names.
 pub count_of_files : {Z : Type 0} (table : List (List ℕ × List ℕ)) (names : List (String Z)) → length (contents table (map string_bytes names)) ≡ length names
 count_of_files table names = length-map (map string_bytes names) (file_at table) ∙ length-map names string_bytes
-
--- The next name's file has too many bytes.
-pub long_file : {Z : Type 0} (table : List (List ℕ × List ℕ)) (names : List (String Z)) (n : ℕ) (name : String Z) → n < length names → name ≡ slice_index_or names n name
-    → limit ≤ length (file_at table (string_bytes name)) → IsLongFile (contents table (map string_bytes names)) (n + 1)
-long_file {Z} table names n name less is long =
-    let files : List (List ℕ) = contents table (map string_bytes names) in
-    let count : length files ≡ length names = count_of_files table names in
-    let within : n ≤ length files = omega (arith, count, less) in
-    record {
-      before = take n files;
-      bytes = file_at table (string_bytes name);
-      after = drop (n + 1) files;
-      there = sym (take-append-drop n files) ∙ ap (λ (l : List (List ℕ)). take n files ++ l) (file_there table names n name less is);
-      number_is = ap (λ (k : ℕ). k + 1) (sym (length-take-le n files within));
-      long = long;
-    }

@@ -15,34 +15,38 @@ use Rattle.send_model.specs.Store.{Head}
 use Rattle.send_model.specs.Order.{heads, last_item, judge}
 use Rattle.send_model.specs.Composed.{first_head, last_head}
 use Rattle.send_model.specs.Headline.{whole_output, IsUnfinished, IsFrontOf, IsStopped}
+use Rattle.send_model.specs.Lengths.{too_long}
 use Rattle.send_model.proofs.Fronts.{whole_lawful, nothing_front, so_far_front}
 use Rattle.send_model.proofs.Writing.{nothing_unfinished}
 use Rattle.sx_base.specs.Outside.{file_at, AppendsPart}
 use Rattle.sx_base.specs.declared.outcome.Verdict.{Verdict}
 use Rattle.sx_base.specs.declared.outcome.Outcome.{Outcome}
 use Rattle.sx_base.specs.declared.outcome.Outcome.TheVariants as over
-use Rattle.cmd_reader.specs.Places.{limit}
-use Rattle.cmd_reader.specs.Fronts.{IfTold}
+use Rattle.cmd_reader.specs.Places.{IfTold}
 use Rattle.cmd_reader.specs.Next.{verdict_meant}
 use Rattle.composer.specs.declared.places.Place.{Place}
 use Rattle.composer.specs.Advance.{Composing}
 use Rattle.composer.specs.Ahead.{IsAhead, then_reading}
 use Rattle.composer.specs.Folding.{TakesAll, unsent}
-use Rattle.composer.specs.Files.{nothing, contents, IfAllTold, IsLongFile, StopSays, DoneSays, FilesEnd, SendEnd, Wrote, LastRead, LastStop, IsLastPlace, FileTaken, NextRefused, FileWhy, FileStops}
+use Rattle.composer.specs.Files.{nothing, contents, IfAllTold, StopSays, DoneSays, FilesEnd, SendEnd, Wrote, LastRead, LastStop, IsLastPlace, FileTaken, NextRefused, FileWhy, FileStops}
 use Rattle.composer.proofs.Progress.{Progress}
 use Rattle.composer.proofs.Finish.{unfinished}
 use Rattle.composer.proofs.Loops.{LastFits, ahead_start, ahead_whole, input_some, last_item_none, judged_ahead, faulty_ahead, empty_ahead, composed_ahead, spelled_ahead, unfinished_ahead}
 use Rattle.composer.proofs.Folds.{fresh, takes_none, takes_more, takes_unsent, takes_last, unsent_more, progress_from_start, last_head_fits, no_clone, advance_unsent_err}
-use Rattle.composer.proofs.FileWriting.{told_moved, front_after}
-use Rattle.composer.proofs.FilesAhead.{ahead_file, file_there, long_file}
+use Rattle.cmd_reader.proofs.Told.{told_moved}
+use Rattle.composer.proofs.FileWriting.{front_after}
+use Rattle.composer.proofs.FilesAhead.{ahead_file, file_there}
+use Rattle.composer.proofs.TooLong.{LongAhead, long_start, long_next, long_here}
 
 -- ---- what the loop keeps
 
--- All commands of the files before this place were taken, and of the bytes that are then to be written some were.
+-- All commands of the files before this place were taken, and of the bytes that are then to be written some were. None of these
+-- files is too long.
 pub record FilesStand (old : Composing) (out_old : Option (List ℕ)) (number : ℕ) (now : Composing) (out_now : Option (List ℕ)) (before place : Place) (files : List (List ℕ)) : Type 0 where
   items : List Item
   sent : List ℕ
   ahead : IsAhead files items ended number (drop number files)
+  long : LongAhead files number (drop number files)
   all : TakesAll old items (unsent sent now)
   appends : Appends out_old out_now sent
   last : IsLastPlace before place (last_item items)
@@ -65,6 +69,7 @@ files_start told names now out place = all_always told names (FilesStand now out
   items = [];
   sent = [];
   ahead = ahead_start files;
+  long = long_start files;
   all = takes_none now;
   appends = Appends-nil out;
   last = refl;
@@ -96,12 +101,14 @@ one_file : (old : Composing) (out0 : Option (List ℕ)) (number : ℕ) (now next
 one_file old out0 number now next out_now out_next before place after files bytes rest there rest_is s t =
     let A : List (List ℕ) → Type 0 = λ fs. IsAhead files s.items ended number fs in
     let B : List (List ℕ) → Type 0 = λ fs. IsAhead files (s.items ++ t.items) ended (number + 1) fs in
+    let L : List (List ℕ) → Type 0 = λ fs. LongAhead files (number + 1) fs in
     let T : Composing → Type 0 = λ x. TakesAll old (s.items ++ t.items) x in
     let whole : reads (number + 1) bytes ≡ then_reading t.items ended = t.read ∙ ap (λ (is : List Item). record { items = is; end = Whole }) (sym (append-nil t.items)) in
     record {
       items = s.items ++ t.items;
       sent = s.sent ++ t.sent;
       ahead = subst B rest_is (ahead_file files s.items number bytes rest t.items ended (subst A there s.ahead) whole);
+      long = subst L rest_is (long_next files number bytes rest there s.long t.fits (ap (λ (r : Reading). r.end) t.read));
       all = subst T (unsent_more s.sent t.sent next) (takes_more old (unsent s.sent now) (unsent s.sent (unsent t.sent next)) s.items t.items s.all (takes_unsent s.sent now (unsent t.sent next) t.items t.all));
       appends = Appends-trans out0 out_now out_next s.sent t.sent s.appends t.appends;
       last = last_place_more before place after s.items t.items s.last t.last;
@@ -119,7 +126,7 @@ files_after {Z} told inputs names old out0 number name spelled now next out_now 
     by_told None p s = tt
     by_told (Some table) p s =
         let files = contents table (map string_bytes names) in
-        one_file old out0 number now next out_now out_next before place after files (file_at table (string_bytes name)) (drop (number + 1) files) (file_there table names number name less is) refl s p
+        one_file old out0 number now next out_now out_next before place after files (file_at table (string_bytes name)) (drop (number + 1) files) (file_there table names number name less is) refl s (p (file_at table (string_bytes name)) refl)
 
 -- ---- what is known from the heads
 
@@ -165,7 +172,6 @@ sent_stopped files items left number after now sent ahead p last_is =
 record Within (files : List (List ℕ)) (number : ℕ) (bytes : List ℕ) : Type 0 where
   after : List (List ℕ)
   there : drop number files ≡ bytes ∷ after
-  is_long : limit ≤ length bytes → IsLongFile files (number + 1)
 
 -- Composing stopped in a file, in a list of files.
 file_stopped : (last : Option Head) (old : Composing) (out0 : Option (List ℕ)) (number : ℕ) (now : Composing) (out_now out_next : Option (List ℕ)) (before place : Place) (outcome : Outcome) (files : List (List ℕ)) (bytes : List ℕ)
@@ -193,11 +199,12 @@ file_stopped last old out0 number now out_now out_next before place outcome file
       ⊎_elim (λ ends. faulty_ahead files items t.rest (verdict_meant verdict) (number + 1) w.after total [] ahead ends p)
           (λ (r : NextRefused t.next t.rest verdict). judged_ahead files items r.item t.rest r.more (number + 1) w.after total [] r.refusal ahead r.front p last_is (no_clone r.item.command r.writable) (advance_unsent_err s.sent t.next r.item.command r.refusal r.refused) ∙ ap (λ (v : read.Verdict). Some v) (sym r.verdict_is))
           why,
+      known.fits,
     )
     by_outcome items p last_is ahead written short over.InputFault why = short
     by_outcome items p last_is ahead written short over.OutputFault why = short
     by_outcome items p last_is ahead written short over.NoMemory why = short
-    by_outcome items p last_is ahead written short (over.InputTooLong n) (is, long) = (short, subst (λ (k : ℕ). IsLongFile files k) (sym is) (w.is_long long))
+    by_outcome items p last_is ahead written short (over.InputTooLong n) (is, long) = (short, long_here files number bytes w.after w.there s.long long ∙ ap (λ (k : ℕ). Some k) (sym is))
 
 -- Composing stopped in a file.
 pub files_stopped : {Z : Type 0} (told inputs : Option (List (List ℕ × List ℕ))) (names : List (String Z)) (last : Option Head) (old : Composing) (out0 : Option (List ℕ)) (number : ℕ) (name : String Z) (spelled : List ℕ) (now : Composing) (out_now out_next : Option (List ℕ)) (before place : Place) (outcome : Outcome)
@@ -214,9 +221,8 @@ files_stopped {Z} told inputs names last old out0 number name spelled now out_no
         let within : Within files number (file_at table (string_bytes name)) = record {
           after = drop (number + 1) files;
           there = file_there table names number name less is;
-          is_long = long_file table names number name less is;
         } in
-        file_stopped last old out0 number now out_now out_next before place outcome files (file_at table (string_bytes name)) start k within s p
+        file_stopped last old out0 number now out_now out_next before place outcome files (file_at table (string_bytes name)) start k within s (p (file_at table (string_bytes name)) refl)
 
 -- The heads could not be read.
 pub heads_stopped : (told : Option (List (List ℕ × List ℕ))) (names : List (List ℕ)) (out : Option (List ℕ)) (outcome : Outcome) → IfAllTold told names (LastStop outcome) → IfAllTold told names (λ files. Wrote out out (λ written. StopSays files written outcome))
@@ -243,6 +249,7 @@ record AtEnd (last : Option Head) (old : Composing) (out0 : Option (List ℕ)) (
   last_place : IsLastPlace before place (last_item items)
   so_far : Progress items (unsent sent now) []
   last_is : now.last ≡ last_head (heads (input files).items)
+  fits : too_long files ≡ None
 
 at_end : (last : Option Head) (old : Composing) (out0 : Option (List ℕ)) (number : ℕ) (now : Composing) (out_now : Option (List ℕ)) (before place : Place) (files : List (List ℕ)) → old ≡ fresh last → drop number files ≡ []
     → LastRead last files → FilesStand old out0 number now out_now before place files → AtEnd last old out0 now out_now before place files
@@ -258,6 +265,7 @@ at_end last old out0 number now out_now before place files start none known s =
       last_place = s.last;
       so_far = p.0;
       last_is = p.1;
+      fits = known.fits;
     }
 
 -- No part has begun.
@@ -266,7 +274,7 @@ none_begun : (last : Option Head) (old : Composing) (out0 : Option (List ℕ)) (
     → Wrote out0 out_now (λ written. StopSays files written (over.Refused verdict))
 none_begun last old out0 now out_now before place verdict files some begun verdict_is e =
     let whole = ahead_whole files e.items ended e.number e.ahead refl in
-    (e.sent, e.appends, (sent_short, by_last (last_item e.items) refl (λ none. items_there whole (last_item_none e.items none)) e.last_place))
+    (e.sent, e.appends, (sent_short, by_last (last_item e.items) refl (λ none. items_there whole (last_item_none e.items none)) e.last_place, e.fits))
   where
     total : Composing
     total = unsent e.sent now
@@ -303,6 +311,7 @@ all_done last old out0 now out_now out_next before place files begun e sent =
       composed_is = done.0;
       spelled = spelled_ahead files e.items ended e.number total [] e.ahead refl e.so_far e.last_is begun;
       lawful = done.1;
+      fits = e.fits;
     } in
     (e.sent ++ (now.pending ++ canonical 1 End), Appends-trans out0 out_now out_next e.sent (now.pending ++ canonical 1 End) e.appends sent, subst D (append_assoc e.sent now.pending (canonical 1 End)) says)
 

@@ -1,5 +1,5 @@
 -- The last head of the commands of a file and of files: what the loops over them keep, and what holds at each of their ends.
-use Rattle.std.specs.Prelude.{◌≡◌, ℕ, ◌+◌, ◌<◌, ◌≤◌, Bool, true, false, List, [], ◌∷◌, ◌++◌, map, length, drop, Option, None, Some, Result, Ok, Err, slice_index_or, String}
+use Rattle.std.specs.Prelude.{◌≡◌, ℕ, ◌+◌, ◌<◌, ◌≤◌, Bool, true, false, List, [], ◌∷◌, ◌++◌, map, length, take, drop, Option, None, Some, Result, Ok, Err, slice_index_or, String}
 use Rattle.std.specs.String.{string_bytes}
 use Rattle.std.proofs.Common.{refl, sym, ap, subst, ◌∙◌, append-nil, arith}
 use Rattle.std.proofs.lemmas.List.{drop_all}
@@ -10,21 +10,29 @@ use Rattle.send_model.specs.Receive.{first_of}
 use Rattle.send_model.specs.Order.{heads, heads_of, onto_heads}
 use Rattle.send_model.specs.Composed.{last_head}
 use Rattle.send_model.specs.Laws.{CanWrite}
+use Rattle.send_model.specs.Lengths.{limit, only_ends, too_long}
 use Rattle.send_model.proofs.Composed.{last_there}
 use Rattle.sx_base.specs.Outside.{file_at}
+use Rattle.sx_base.specs.Refusals.{refusal_of}
+use Rattle.sx_base.specs.declared.outcome.Verdict.{Verdict}
 use Rattle.sx_base.specs.declared.outcome.Outcome.{Outcome}
 use Rattle.sx_base.specs.declared.outcome.Outcome.TheVariants as ended_by
 use Rattle.send_commands.specs.Meaning.{meaning_of}
 use Rattle.cmd_reader.specs.declared.item.Item as read
-use Rattle.cmd_reader.specs.Places.{limit}
-use Rattle.cmd_reader.specs.Fronts.{IfTold}
+use Rattle.cmd_reader.specs.declared.item.ReadStop.{ReadStop}
+use Rattle.cmd_reader.specs.declared.item.ReadStop.TheVariants as stop
+use Rattle.cmd_reader.specs.Places.{IfTold}
+use Rattle.cmd_reader.specs.Fronts.{IsRefused, IsLongAt}
 use Rattle.cmd_reader.specs.Left.{Reader, left}
-use Rattle.cmd_reader.specs.Next.{item_of, IsNext, NextSays, ItemFits, IfItem}
+use Rattle.cmd_reader.specs.Next.{item_of, verdict_meant, HasEnded, IsFaulty, OnlyEnds, IsNext, NextSays, ItemFits, IfItem}
+use Rattle.cmd_reader.proofs.Told.{Here, told_both, told_always, told_here, told_moved}
 use Rattle.composer.specs.Ahead.{IsAhead, then_reading}
 use Rattle.composer.specs.Folding.{AllCanWrite}
-use Rattle.composer.specs.Files.{contents, IfAllTold, IsLongFile, last_of, HeadsRead, HeadsStop, HeadsEnd, LastRead, LastStop, LastEnd}
+use Rattle.composer.specs.Stopping.{outcome_at}
+use Rattle.composer.specs.Files.{contents, IfAllTold, last_of, HeadsRead, HeadsStop, HeadsEnd, LastRead, LastStop, LastEnd}
 use Rattle.composer.proofs.Loops.{ahead_start, ahead_whole, ahead_fault, last_of_all}
-use Rattle.composer.proofs.FilesAhead.{then_then, ahead_file, file_there, count_of_files, long_file}
+use Rattle.composer.proofs.TooLong.{LongAhead, short_fits, fault_fits, long_is, long_start, long_end, long_next, long_fault, long_here}
+use Rattle.composer.proofs.FilesAhead.{then_then, ahead_file, file_there, count_of_files}
 
 -- ---- commands and more commands
 
@@ -74,18 +82,16 @@ pub record HeadsSoFar (file : ℕ) (reader : Reader) (old now : Option Head) (by
   pub last : now ≡ last_of items old
   pub within : reader.offset ≤ length bytes
 
--- The same facts of the same file, by what the inputs tell now.
-told_as : (told now : Option (List (List ℕ × List ℕ))) (name other : List ℕ) (P : List ℕ → Type 0) → now ≡ told → other ≡ name → IfTold now other P → IfTold told name P
-told_as told now name other P t n p = subst (λ (x : Option (List (List ℕ × List ℕ))). IfTold x name P) t (subst (λ (x : List ℕ). IfTold now x P) n p)
-
 start_of_file : (file : ℕ) (name : List ℕ) (last : Option Head) (bytes : List ℕ) → HeadsSoFar file (record { file = file; name = name; due = HeaderDue; number = 1; offset = 0 }) last last bytes
 unfolding left reads heads_of
 start_of_file file name last bytes = record { items = []; read = refl; writable = tt; last = refl; within = omega arith }
 
 -- Before the first command.
 pub heads_start : (told : Option (List (List ℕ × List ℕ))) (file : ℕ) (name : List ℕ) (reader : Reader) (last : Option Head) → reader ≡ record { file = file; name = name; due = HeaderDue; number = 1; offset = 0 } → IfTold told name (HeadsSoFar file reader last last)
-heads_start None file name reader last is = tt
-heads_start (Some table) file name reader last is = subst (λ (r : Reader). HeadsSoFar file r last last (file_at table name)) (sym is) (start_of_file file name last (file_at table name))
+heads_start told file name reader last is =
+    let S : Reader → Type 0 = λ r. IfTold told name (HeadsSoFar file r last last) in
+    let fresh : Reader = record { file = file; name = name; due = HeaderDue; number = 1; offset = 0 } in
+    subst S (sym is) (told_always told name (HeadsSoFar file fresh last last) (λ bytes. start_of_file file name last bytes))
 
 next_of_file : (file : ℕ) (old new : Reader) (item : read.Item) (before last now : Option Head) (bytes : List ℕ) → old.file ≡ file → CanWrite (meaning_of item.command) → now ≡ first_of (head_of (meaning_of item.command)) last
     → HeadsSoFar file old before last bytes → IsNext old new item bytes → HeadsSoFar file new before now bytes
@@ -103,21 +109,66 @@ next_of_file file old new item before last now bytes f can head h n =
 pub heads_next : (told told_now : Option (List (List ℕ × List ℕ))) (file : ℕ) (name : List ℕ) (old new : Reader) (o : Option read.Item) (item : read.Item) (before last now : Option Head) (early late : ℕ) → told_now ≡ told → old.file ≡ file → old.name ≡ name → o ≡ Some item
     → IfItem (Ok o) (ItemFits old new) → now ≡ first_of (head_of (meaning_of item.command)) last → IfTold told name (HeadsSoFar file old before last) → NextSays told_now old new early late (Ok o) → IfTold told name (HeadsSoFar file new before now)
 heads_next told told_now file name old new o item before last now early late t f n is fits head h next =
-    by_told told h (told_as told told_now name old.name (IsNext old new item) t n (subst (λ (x : Option read.Item). NextSays told_now old new early late (Ok x)) is next))
+    told_both told name (HeadsSoFar file old before last) (IsNext old new item) (HeadsSoFar file new before now) (λ bytes so_far next. next_of_file file old new item before last now bytes f can head so_far next) h
+    (told_moved told told_now name old.name (IsNext old new item) t n (subst (λ (x : Option read.Item). NextSays told_now old new early late (Ok x)) is next))
   where
     can : CanWrite (meaning_of item.command)
     can = (subst (λ (x : Option read.Item). IfItem (Ok x) (ItemFits old new)) is fits).can_write
 
-    by_told : (told : Option (List (List ℕ × List ℕ))) → IfTold told name (HeadsSoFar file old before last) → IfTold told name (IsNext old new item) → IfTold told name (HeadsSoFar file new before now)
-    by_told None h next = tt
-    by_told (Some table) h next = next_of_file file old new item before last now (file_at table name) f can head h next
+read_to : (file : ℕ) (reader : Reader) (before last : Option Head) (bytes : List ℕ) (ending : reading.Ending) (h : HeadsSoFar file reader before last bytes) → left reader bytes ≡ record { items = []; end = ending } → reads file bytes ≡ record { items = h.items; end = ending }
+read_to file reader before last bytes ending h is = h.read ∙ ap (then_reading h.items) is ∙ ap (λ (is : List Item). record { items = is; end = ending }) (append-nil h.items)
+
+-- The file ends.
+pub heads_whole : (told told_now : Option (List (List ℕ × List ℕ))) (file : ℕ) (name : List ℕ) (old new : Reader) (o : Option read.Item) (before last : Option Head) (early late : ℕ) → told_now ≡ told → old.name ≡ name → o ≡ None
+    → IfTold told name (HeadsSoFar file old before last) → NextSays told_now old new early late (Ok o) → IfTold told name (HeadsRead file true before last)
+heads_whole told told_now file name old new o before last early late t n none h says =
+    told_both told name (HeadsSoFar file old before last) (HasEnded old) (HeadsRead file true before last) by_file h
+    (told_moved told told_now name old.name (HasEnded old) t n (subst (λ (x : Option read.Item). NextSays told_now old new early late (Ok x)) none says))
+  where
+    by_file : (bytes : List ℕ) → HeadsSoFar file old before last bytes → HasEnded old bytes → HeadsRead file true before last bytes
+    by_file bytes h (is, less) = record { items = h.items; ending = Whole; read = read_to file old before last bytes Whole h is; end_is = refl; writable = h.writable; last = h.last; fits = short_fits file bytes less }
+
+-- The file breaks a rule.
+pub heads_fault : (told told_now : Option (List (List ℕ × List ℕ))) (file : ℕ) (name : List ℕ) (old new : Reader) (verdict : Verdict) (why : ReadStop) (before last : Option Head) (early late : ℕ) → told_now ≡ told → old.name ≡ name → why ≡ stop.Refused verdict
+    → IfTold told name (HeadsSoFar file old before last) → NextSays told_now old new early late (Err why) → IfTold told name (HeadsRead file false before last)
+heads_fault told told_now file name old new verdict why before last early late t n refused h says =
+    told_both told name (Here (HeadsSoFar file old before last)) (Here Broken) (HeadsRead file false before last) by_file (told_here told name (HeadsSoFar file old before last) h)
+    (told_here told name Broken (told_moved told told_now name old.name Broken t n (subst (λ (x : ReadStop). NextSays told_now old new early late (Err x)) refused says)))
+  where
+    Broken : List ℕ → Type 0
+    Broken = IsRefused (λ _. IsFaulty old verdict) (refusal_of verdict.refusal)
+
+    by_file : (bytes : List ℕ) → Here (HeadsSoFar file old before last) bytes → Here Broken bytes → HeadsRead file false before last bytes
+    by_file bytes (h, front) (broken, broken_front) =
+        let ending : reading.Ending = Faulty (verdict_meant verdict) in
+        let ends : (reads file (take limit bytes)).end ≡ ending = ap (λ (r : Reading). r.end) (read_to file old before last (take limit bytes) ending front broken_front.0) in
+        record { items = h.items; ending = ending; read = read_to file old before last bytes ending h broken.0; end_is = (verdict_meant verdict, refl); writable = h.writable; last = h.last; fits = fault_fits file bytes (verdict_meant verdict) broken.1 ends }
+
+-- The file could not be read on.
+pub heads_stop : (told told_now : Option (List (List ℕ × List ℕ))) (file : ℕ) (name : List ℕ) (old new : Reader) (why : ReadStop) (outcome : Outcome) (before last : Option Head) (early late : ℕ) → told_now ≡ told → old.name ≡ name → ((verdict : Verdict) → why ≡ stop.Refused verdict → ⊥) → outcome ≡ outcome_at file why
+    → IfTold told name (HeadsSoFar file old before last) → NextSays told_now old new early late (Err why) → IfTold told name (HeadsStop file outcome)
+heads_stop told told_now file name old new why outcome before last early late t n other is h says = subst (λ (x : Outcome). IfTold told name (HeadsStop file x)) (sym is) (by_why why other says)
+  where
+    by_file : (bytes : List ℕ) → Here (HeadsSoFar file old before last) bytes → IsLongAt old.offset (OnlyEnds old) bytes → HeadsStop file (ended_by.InputTooLong file) bytes
+    by_file bytes (h, front) long =
+        let l = long h.within in
+        (refl, long_is file bytes l.0 (ap (λ (r : Reading). only_ends r.end) front.read ∙ l.1.1))
+
+    by_why : (x : ReadStop) → ((verdict : Verdict) → x ≡ stop.Refused verdict → ⊥) → NextSays told_now old new early late (Err x) → IfTold told name (HeadsStop file (outcome_at file x))
+    by_why (stop.Refused verdict) other says = absurd (other verdict refl)
+    by_why stop.NoMemory other says = told_always told name (HeadsStop file ended_by.NoMemory) (λ bytes. tt)
+    by_why stop.InputFault other says = told_always told name (HeadsStop file ended_by.InputFault) (λ bytes. tt)
+    by_why stop.InputTooLong other says =
+        told_both told name (Here (HeadsSoFar file old before last)) (IsLongAt old.offset (OnlyEnds old)) (HeadsStop file (ended_by.InputTooLong file)) by_file (told_here told name (HeadsSoFar file old before last) h)
+        (told_moved told told_now name old.name (IsLongAt old.offset (OnlyEnds old)) t n says)
 
 -- ---- the commands of files
 
--- These commands of the files up to one with this number were read, with their last head.
+-- These commands of the files up to one with this number were read, with their last head, and none of these files is too long.
 pub record FilesSoFar (number : ℕ) (last : Option Head) (files : List (List ℕ)) : Type 0 where
   pub items : List Item
   pub ahead : IsAhead files items ended number (drop number files)
+  pub long : LongAhead files number (drop number files)
   pub writable : AllCanWrite items
   pub last_is : last ≡ last_head (heads items)
 
@@ -125,7 +176,7 @@ pub record FilesSoFar (number : ℕ) (last : Option Head) (files : List (List �
 pub files_start : (told : Option (List (List ℕ × List ℕ))) (names : List (List ℕ)) → IfAllTold told names (FilesSoFar 0 None)
 unfolding heads_of
 files_start None names = tt
-files_start (Some table) names = record { items = []; ahead = ahead_start (contents table names); writable = tt; last_is = refl }
+files_start (Some table) names = record { items = []; ahead = ahead_start (contents table names); long = long_start (contents table names); writable = tt; last_is = refl }
 
 ahead_both : (files : List (List ℕ)) (number : ℕ) (bytes : List ℕ) (whole : Bool) (last now : Option Head) (s : FilesSoFar number last files) (h : HeadsRead (number + 1) whole last now bytes) → drop number files ≡ bytes ∷ drop (number + 1) files
     → IsAhead files (s.items ++ h.items) (record { items = []; end = h.ending }) (number + 1) (drop (number + 1) files)
@@ -140,14 +191,16 @@ next_of_files : (files : List (List ℕ)) (number : ℕ) (bytes : List ℕ) (las
 next_of_files files number bytes last now here s h = record {
   items = s.items ++ h.items;
   ahead = subst (λ (e : reading.Ending). IsAhead files (s.items ++ h.items) (record { items = []; end = e }) (number + 1) (drop (number + 1) files)) h.end_is (ahead_both files number bytes true last now s h here);
+  long = long_next files number bytes (drop (number + 1) files) here s.long h.fits (ap (λ (r : Reading). r.end) h.read ∙ h.end_is);
   writable = writable_both s.items h.items s.writable h.writable;
   last_is = last_is_both files number bytes true last now s h;
 }
 
-all_read : (files : List (List ℕ)) (items : List Item) (ending : reading.Ending) (last : Option Head) → input files ≡ record { items = items; end = ending } → AllCanWrite items → last ≡ last_head (heads items) → LastRead last files
-all_read files items ending last is writable last_is = record {
+all_read : (files : List (List ℕ)) (items : List Item) (ending : reading.Ending) (last : Option Head) → input files ≡ record { items = items; end = ending } → AllCanWrite items → last ≡ last_head (heads items) → too_long files ≡ None → LastRead last files
+all_read files items ending last is writable last_is fits = record {
   last_is = last_is ∙ sym (last_of_all files items ending is);
   writable = subst AllCanWrite (ap (λ (r : Reading). r.items) (sym is)) writable;
+  fits = fits;
 }
 
 fault_of_files : (files : List (List ℕ)) (number : ℕ) (bytes : List ℕ) (last now : Option Head) → drop number files ≡ bytes ∷ drop (number + 1) files → FilesSoFar number last files → HeadsRead (number + 1) false last now bytes → LastRead now files
@@ -155,10 +208,12 @@ fault_of_files files number bytes last now here s h =
     let items : List Item = s.items ++ h.items in
     let all = ahead_fault files items (record { items = []; end = h.ending }) h.end_is.0 (number + 1) (drop (number + 1) files) (ahead_both files number bytes false last now s h here) (ap (λ (e : reading.Ending). record { items = []; end = e }) h.end_is.1) in
     all_read files items (Faulty h.end_is.0) now all (writable_both s.items h.items s.writable h.writable) (last_is_both files number bytes false last now s h)
+    (long_fault files number bytes (drop (number + 1) files) h.end_is.0 here s.long h.fits (ap (λ (r : Reading). r.end) h.read ∙ h.end_is.1))
 
 end_of_files : (files : List (List ℕ)) (number : ℕ) (last : Option Head) → drop number files ≡ [] → FilesSoFar number last files → LastRead last files
 end_of_files files number last past s =
     all_read files s.items Whole last (ahead_whole files s.items ended number (subst (λ (after : List (List ℕ)). IsAhead files s.items ended number after) past s.ahead) refl) s.writable s.last_is
+    (long_end files number past s.long)
 
 -- The name at a number, and that the inputs tell the same at it.
 pub record NextName {Z : Type 0} (told told_now : Option (List (List ℕ × List ℕ))) (names : List (String Z)) (number : ℕ) (name : String Z) (spelled : List ℕ) : Type 0 where
@@ -171,7 +226,8 @@ pub record NextName {Z : Type 0} (told told_now : Option (List (List ℕ × List
 next_read : {Z : Type 0} (table : List (List ℕ × List ℕ)) (told_now : Option (List (List ℕ × List ℕ))) (names : List (String Z)) (number : ℕ) (name : String Z) (spelled : List ℕ) (last now : Option Head) (result said : Result Bool Outcome)
     → NextName (Some table) told_now names number name spelled → result ≡ said → IfTold told_now spelled (HeadsEnd (number + 1) last now result) → HeadsEnd (number + 1) last now said (file_at table (string_bytes name))
 next_read table told_now names number name spelled last now result said n r h =
-    told_as (Some table) told_now (string_bytes name) spelled (HeadsEnd (number + 1) last now said) n.same n.spelling (subst (λ (x : Result Bool Outcome). IfTold told_now spelled (HeadsEnd (number + 1) last now x)) r h)
+    told_moved (Some table) told_now (string_bytes name) spelled (HeadsEnd (number + 1) last now said) n.same n.spelling (subst (λ (x : Result Bool Outcome). IfTold told_now spelled (HeadsEnd (number + 1) last now x)) r h)
+    (file_at table (string_bytes name)) refl
 
 -- The next file was read to its end.
 pub files_next : {Z : Type 0} (told told_now : Option (List (List ℕ × List ℕ))) (names : List (String Z)) (number : ℕ) (name : String Z) (spelled : List ℕ) (last now : Option Head) (result : Result Bool Outcome)
@@ -189,18 +245,18 @@ files_fault (Some table) told_now names number name spelled last now result n r 
     fault_of_files (contents table (map string_bytes names)) number (file_at table (string_bytes name)) last now (file_there table names number name n.less n.is) s
     (next_read table told_now names number name spelled last now result (Ok false) n r h)
 
-stop_of_files : (files : List (List ℕ)) (number : ℕ) (bytes : List ℕ) (outcome : Outcome) → (limit ≤ length bytes → IsLongFile files (number + 1)) → HeadsStop (number + 1) outcome bytes → LastStop outcome files
-stop_of_files files number bytes ended_by.NoMemory long h = tt
-stop_of_files files number bytes ended_by.InputFault long h = tt
-stop_of_files files number bytes (ended_by.InputTooLong file) long h = subst (IsLongFile files) (sym h.0) (long h.1)
-stop_of_files files number bytes outcome long h = elim h [ ]
+stop_of_files : (files : List (List ℕ)) (number : ℕ) (bytes : List ℕ) (last : Option Head) (outcome : Outcome) → drop number files ≡ bytes ∷ drop (number + 1) files → FilesSoFar number last files → HeadsStop (number + 1) outcome bytes → LastStop outcome files
+stop_of_files files number bytes last ended_by.NoMemory here s h = tt
+stop_of_files files number bytes last ended_by.InputFault here s h = tt
+stop_of_files files number bytes last (ended_by.InputTooLong file) here s h = long_here files number bytes (drop (number + 1) files) here s.long h.1 ∙ ap (λ (n : ℕ). Some n) (sym h.0)
+stop_of_files files number bytes last outcome here s h = elim h [ ]
 
 -- The next file could not be read.
 pub files_stop : {Z : Type 0} (told told_now : Option (List (List ℕ × List ℕ))) (names : List (String Z)) (number : ℕ) (name : String Z) (spelled : List ℕ) (last now : Option Head) (result : Result Bool Outcome) (outcome : Outcome)
-    → NextName told told_now names number name spelled → result ≡ Err outcome → IfTold told_now spelled (HeadsEnd (number + 1) last now result) → IfAllTold told (map string_bytes names) (LastEnd (Err outcome))
-files_stop None told_now names number name spelled last now result outcome n r h = tt
-files_stop (Some table) told_now names number name spelled last now result outcome n r h =
-    stop_of_files (contents table (map string_bytes names)) number (file_at table (string_bytes name)) outcome (long_file table names number name n.less n.is)
+    → NextName told told_now names number name spelled → result ≡ Err outcome → IfAllTold told (map string_bytes names) (FilesSoFar number last) → IfTold told_now spelled (HeadsEnd (number + 1) last now result) → IfAllTold told (map string_bytes names) (LastEnd (Err outcome))
+files_stop None told_now names number name spelled last now result outcome n r s h = tt
+files_stop (Some table) told_now names number name spelled last now result outcome n r s h =
+    stop_of_files (contents table (map string_bytes names)) number (file_at table (string_bytes name)) last outcome (file_there table names number name n.less n.is) s
     (next_read table told_now names number name spelled last now result (Err outcome) n r h)
 
 -- After the last file.

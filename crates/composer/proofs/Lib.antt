@@ -4,6 +4,7 @@ pub mod Loops
 pub mod Advancing
 pub mod Takes
 pub mod Folds
+pub mod TooLong
 pub mod FilesAhead
 pub mod FileWriting
 pub mod FilesWriting

@@ -1,5 +1,5 @@
 -- What is said of whole files: the files of names, what composing one file and all files ends with, and why it stops.
-use Rattle.std.specs.Prelude.{◌≡◌, ◌⊎◌, ⊤, ℕ, ◌+◌, ◌≤◌, Bool, true, false, List, [], ◌∷◌, ◌++◌, map, length, Option, None, Some, Result, Ok, Err}
+use Rattle.std.specs.Prelude.{◌≡◌, ◌⊎◌, ⊤, ℕ, Bool, true, false, List, [], ◌++◌, map, Option, None, Some, Result, Ok, Err}
 use Rattle.std.specs.Io.KnownBytes.{Appends}
 use Rattle.send_model.specs.Refusal as meant
 use Rattle.send_model.specs.Command.{Command}
@@ -17,7 +17,7 @@ use Rattle.sx_base.specs.Outside.{file_at, AppendsPart}
 use Rattle.sx_base.specs.declared.outcome.Verdict.{Verdict}
 use Rattle.sx_base.specs.declared.outcome.Outcome.{Outcome}
 use Rattle.sx_base.specs.declared.outcome.Outcome.TheVariants as ended
-use Rattle.cmd_reader.specs.Places.{limit}
+use Rattle.send_model.specs.Lengths.{is_too_long, too_long}
 use Rattle.cmd_reader.specs.Next.{verdict_meant}
 use Rattle.composer.specs.declared.places.Place.{Place}
 use Rattle.composer.specs.Advance.{Composing, advance}
@@ -35,15 +35,6 @@ abbrev pub IfAllTold : Option (List (List ℕ × List ℕ)) → List (List ℕ) 
 IfAllTold None names P = ⊤
 IfAllTold (Some table) names P = P (contents table names)
 
--- The file with this number, counted from 1, has as many bytes as are read at the most.
-pub record IsLongFile (files : List (List ℕ)) (number : ℕ) : Type 0 where
-  pub before : List (List ℕ)
-  pub bytes : List ℕ
-  pub after : List (List ℕ)
-  pub there : files ≡ before ++ bytes ∷ after
-  pub number_is : number ≡ length before + 1
-  pub long : limit ≤ length bytes
-
 -- A fault is the outcome only where the count of its object rose.
 abbrev pub Caused : (inputs_before inputs_now out_before out_now : ℕ) → Outcome → Type 0
 Caused inputs_before inputs_now out_before out_now ended.InputFault = Rose inputs_before inputs_now
@@ -59,18 +50,20 @@ ErrCaused inputs_before inputs_now out_before out_now (Err outcome) = Caused inp
 abbrev pub nothing : Store ℕ
 nothing = []
 
--- What was written for files, and with which outcome composing stopped before the stream was whole.
+-- What was written for files, and with which outcome composing stopped before the stream was whole. InputTooLong gives the
+-- first file that is too long, and Refused comes only where none is.
 abbrev pub StopSays : List (List ℕ) → List ℕ → Outcome → Type 0
 StopSays files written ended.Done = ⊥
-StopSays files written (ended.Refused verdict) = IsStopped nothing files written × (judge nothing files ≡ Some (verdict_meant verdict))
-StopSays files written (ended.InputTooLong number) = IsStopped nothing files written × IsLongFile files number
+StopSays files written (ended.Refused verdict) = IsStopped nothing files written × (judge nothing files ≡ Some (verdict_meant verdict)) × (too_long files ≡ None)
+StopSays files written (ended.InputTooLong number) = IsStopped nothing files written × (too_long files ≡ Some number)
 StopSays files written _ = IsStopped nothing files written
 
--- The files are composed: what was written is the composed stream, which the headline holds of.
+-- The files are composed: what was written is the composed stream, which the headline holds of. None of them is too long.
 pub record DoneSays (files : List (List ℕ)) (written : List ℕ) : Type 0 where
   pub composed_is : IsComposed nothing files written
   pub spelled : written ≡ stream_header 1 ++ canonical_all 1 (composed nothing files)
   pub lawful : judge nothing files ≡ None
+  pub fits : too_long files ≡ None
 
 abbrev pub EndSays : List (List ℕ) → List ℕ → Outcome → Type 0
 EndSays files written ended.Done = DoneSays files written
@@ -96,7 +89,7 @@ abbrev pub EndIs : Bool → reading.Ending → Type 0
 EndIs true ending = ending ≡ Whole
 EndIs false ending = (verdict : reading.Verdict) × (ending ≡ Faulty verdict)
 
--- All commands of a file were read, up to its end or to a fault.
+-- All commands of a file were read, up to its end or to a fault, and it is not too long.
 pub record HeadsRead (file : ℕ) (whole : Bool) (old new : Option Head) (bytes : List ℕ) : Type 0 where
   pub items : List Item
   pub ending : reading.Ending
@@ -104,27 +97,29 @@ pub record HeadsRead (file : ℕ) (whole : Bool) (old new : Option Head) (bytes 
   pub end_is : EndIs whole ending
   pub writable : AllCanWrite items
   pub last : new ≡ last_of items old
+  pub fits : is_too_long file bytes ≡ false
 
 -- Why the heads could not be read.
 abbrev pub HeadsStop : ℕ → Outcome → List ℕ → Type 0
 HeadsStop file ended.NoMemory bytes = ⊤
 HeadsStop file ended.InputFault bytes = ⊤
-HeadsStop file (ended.InputTooLong number) bytes = (number ≡ file) × (limit ≤ length bytes)
+HeadsStop file (ended.InputTooLong number) bytes = (number ≡ file) × (is_too_long file bytes ≡ true)
 HeadsStop file outcome bytes = ⊥
 
 abbrev pub HeadsEnd : ℕ → Option Head → Option Head → Result Bool Outcome → List ℕ → Type 0
 HeadsEnd file old new (Ok whole) bytes = HeadsRead file whole old new bytes
 HeadsEnd file old new (Err outcome) bytes = HeadsStop file outcome bytes
 
--- The last head of all that the files are read as.
+-- The last head of all that the files are read as, where none of them is too long.
 pub record LastRead (last : Option Head) (files : List (List ℕ)) : Type 0 where
   pub last_is : last ≡ last_head (heads (input files).items)
   pub writable : AllCanWrite (input files).items
+  pub fits : too_long files ≡ None
 
 abbrev pub LastStop : Outcome → List (List ℕ) → Type 0
 LastStop ended.NoMemory files = ⊤
 LastStop ended.InputFault files = ⊤
-LastStop (ended.InputTooLong number) files = IsLongFile files number
+LastStop (ended.InputTooLong number) files = too_long files ≡ Some number
 LastStop outcome files = ⊥
 
 abbrev pub LastEnd : Result (Option Head) Outcome → List (List ℕ) → Type 0
@@ -189,7 +184,7 @@ abbrev pub IsLastPlace : Place → Place → Option Item → Type 0
 IsLastPlace before place None = place ≡ before
 IsLastPlace before place (Some item) = IsPlace place item
 
--- All commands of a file were taken, and of the bytes that are then to be written some were.
+-- All commands of a file were taken, and of the bytes that are then to be written some were. The file is not too long.
 pub record FileTaken (file : ℕ) (old new : Composing) (out_old out_new : Option (List ℕ)) (before place : Place) (bytes : List ℕ) : Type 0 where
   pub items : List Item
   pub sent : List ℕ
@@ -197,6 +192,7 @@ pub record FileTaken (file : ℕ) (old new : Composing) (out_old out_new : Optio
   pub all : TakesAll old items (unsent sent new)
   pub appends : Appends out_old out_new sent
   pub last : IsLastPlace before place (last_item items)
+  pub fits : is_too_long file bytes ≡ false
 
 -- The next command that is read is refused, with this verdict.
 pub record NextRefused (now : Composing) (rest : Reading) (verdict : Verdict) : Type 0 where
@@ -211,7 +207,7 @@ pub record NextRefused (now : Composing) (rest : Reading) (verdict : Verdict) : 
 -- Why composing a file stopped before what is left of it.
 abbrev pub FileWhy : ℕ → Composing → Reading → Outcome → List ℕ → Type 0
 FileWhy file now rest (ended.Refused verdict) bytes = (rest ≡ record { items = []; end = Faulty (verdict_meant verdict) }) ⊎ NextRefused now rest verdict
-FileWhy file now rest (ended.InputTooLong number) bytes = (number ≡ file) × (limit ≤ length bytes)
+FileWhy file now rest (ended.InputTooLong number) bytes = (number ≡ file) × (is_too_long file bytes ≡ true)
 FileWhy file now rest ended.Done bytes = ⊥
 FileWhy file now rest outcome bytes = ⊤
 

@@ -5,7 +5,7 @@ ghost use Rattle.send_model.specs.Store.{head_of};
 ghost use Rattle.send_model.specs.Receive.{first_of};
 ghost use Rattle.send_commands.specs.Meaning.{meaning_of};
 ghost use Rattle.send_commands.specs.Writing.{IsWritable};
-ghost use Rattle.cmd_reader.specs.Fronts.{IfTold};
+ghost use Rattle.cmd_reader.specs.Places.{IfTold};
 ghost use Rattle.composer.specs.Files.{IfAllTold, HeadsEnd, LastEnd, ErrCaused};
 
 use crate::part_head::PartHead;

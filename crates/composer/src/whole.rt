@@ -6,7 +6,7 @@ ghost use Rattle.send_model.specs.Command.{kind_of};
 ghost use Rattle.send_model.specs.Reading.{is_taken};
 ghost use Rattle.send_commands.specs.Meaning.{meaning_of};
 ghost use Rattle.send_commands.specs.Writing.{IsWritable};
-ghost use Rattle.cmd_reader.specs.Fronts.{IfTold};
+ghost use Rattle.cmd_reader.specs.Places.{IfTold};
 ghost use Rattle.composer.specs.Files.{IfAllTold, Caused, ErrCaused, Wrote, EndSays, FilesEnd, FileEnd, CommandEnd, SendEnd, StopEnd};
 
 use crate::composing::Composer;
@@ -23,7 +23,7 @@ const PIECE: usize = 65_536;
 /// Composes the consecutive parts in the files into one stream and writes it to `out`. The files are read twice, in order
 /// and one command at a time: first for the name and the key of the last part, then to write. `Done` says that `out` took
 /// the composed stream, and `Refused` gives the verdict on the files; then and with every other outcome what `out` took is
-/// no whole stream.
+/// no whole stream. `InputTooLong` gives the first file that is too long, and with `Done` and `Refused` there is none.
 pub fn compose<I: Inputs, O: Sink>(
     alloc: Global,
     inputs: &mut I,

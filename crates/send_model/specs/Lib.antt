@@ -6,6 +6,7 @@ pub mod Attribute
 pub mod Command
 pub mod Spelling
 pub mod Reading
+pub mod Lengths
 pub mod Path
 pub mod Map
 pub mod Subvolume

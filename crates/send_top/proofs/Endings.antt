@@ -46,7 +46,7 @@ module _ (old new : Option (List ℕ)) (files : List (List ℕ)) where
   unfinished_end outcome e w = w
 
   pub right_end : (outcome : Outcome) → Wrote old new (λ written. EndSays files written outcome) → IsRight files (outcome_of outcome)
-  right_end ended.Done w = w.2.lawful
-  right_end (ended.Refused verdict) w = w.2.1
+  right_end ended.Done w = (w.2.lawful, w.2.fits)
+  right_end (ended.Refused verdict) w = (w.2.1, w.2.2)
   right_end (ended.InputTooLong number) w = w.2.1
   right_end outcome w = tt

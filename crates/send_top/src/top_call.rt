@@ -22,10 +22,10 @@ use sx_base::{Inputs, Sink};
 /// the line that says why; a line that fails leaves the status. Words that mean nothing are answered without memory,
 /// and then nothing is asked of `inputs` and `out`.
 ///
-/// With status 0 `out` took the one stream that the files are composed into, and with any other no whole stream,
-/// but a front part of what is to be written for the commands before the first unlawful one. Where
-/// there was memory, no count of faults rose and no file is too long, the status is 0 if all commands of the files are
-/// lawful, and 1 if not; then the note names the first that is unlawful.
+/// With status 0 `out` took the one stream that the files are composed into. With any other it took no whole stream, but
+/// a front part of what the commands before the first unlawful one are composed to. Where there was memory, no count of
+/// faults rose and no file is too long, the status is 0 if all commands of the files are lawful, and 1 if not; then the
+/// note names the first that is unlawful.
 pub fn run<I: Inputs, O: Sink, N: Sink>(
     alloc: Global,
     words: &[String],

@@ -1,9 +1,8 @@
-use Rattle.std.proofs.Common.{◌≡◌, ◌≤◌, Some, None, Ok, sym, ap, subst, ◌∙◌, length, ℕ, ◌+◌, List, arith, ◌^◌}
-use Rattle.send_model.specs.Reading.{data_place, place_of, command_of, frame_header_len}
+use Rattle.std.proofs.Common.{◌≡◌, ◌≤◌, Ok, sym, ap, subst, ◌∙◌, length, ℕ, ◌+◌, arith}
+use Rattle.send_model.specs.Reading.{data_place, command_of, frame_header_len}
 use Rattle.send_model.specs.Receive.{bytes_of}
 use Rattle.send_commands.specs.Meaning.{meaning_of}
 use Rattle.send_model.specs.Attribute.{DATA}
-use Rattle.cmd_reader.specs.Commands.{CommandFits}
 use Rattle.cmd_reader.proofs.CommandFacts.{place_in_body, slice_bytes, read_can_write, data_place_within, data_at_some, data_at_none}
 use Rattle.cmd_reader.proofs.front.command_in.Goals as goal
 use Rattle.cmd_reader.proofs.front.command_in.Goals.{in-Some, in-None}

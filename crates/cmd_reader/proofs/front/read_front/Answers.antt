@@ -1,4 +1,3 @@
-use Rattle.std.proofs.Common.{◌≡◌, sym, subst}
 use Rattle.cmd_reader.proofs.FrontFacts.{head_fault, body_fault_after, body_after, command_fault, front_there}
 use Rattle.cmd_reader.proofs.front.read_front.Goals as goal
 

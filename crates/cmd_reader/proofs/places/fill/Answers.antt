@@ -1,6 +1,6 @@
-use Rattle.std.proofs.Common.{rules, arith, ◌+◌, ◌∙◌}
+use Rattle.std.proofs.Common.{arith, ◌∙◌}
 use Rattle.sx_base.proofs.FilledBuffers.{length_filled}
-use Rattle.cmd_reader.proofs.Fillings.{front_more, front_full}
+use Rattle.cmd_reader.proofs.Fillings.{front_more}
 use Rattle.cmd_reader.proofs.places.fill.Goals as goal
 
 pub loop-done-preserved : goal.loop-done-preserved

@@ -32,7 +32,7 @@ pub returns-in-Err-clause-last : goal.returns-in-Err-clause-last
 returns-in-Err-clause-last g c =
     let kept = c.loop-file.invariant in
     files_stop _ _ c.args.files.now c.loop-file.file c.index-files-file.result c.as_str-name.result.now c.loop-file.last c.heads_of_file.new.last c.heads_of_file.result c.in-Err.outcome
-    (record { same = kept.same; less = c.loop-file-test.true; is = c.index-files-file.is; spelling = c.as_str-name.ensures.value }) c.in-Err.is c.heads_of_file.ensures.heads
+    (record { same = kept.same; less = c.loop-file-test.true; is = c.index-files-file.is; spelling = c.as_str-name.ensures.value }) c.in-Err.is kept.heads c.heads_of_file.ensures.heads
 
 pub returns-clause-last : goal.returns-clause-last
 returns-clause-last g c = files_end _ c.args.files.now c.loop-file.file c.loop-file.last c.loop-file-test.false c.loop-file.invariant.heads

@@ -1,6 +1,6 @@
 use Rattle.std.proofs.Common.{◌≡◌, ◌-◌, ◌≤◌}
-use Rattle.cmd_reader.specs.Places.{limit}
-use Rattle.cmd_reader.specs.Fronts.{IfTold}
+use Rattle.send_model.specs.Lengths.{limit}
+use Rattle.cmd_reader.specs.Places.{IfTold}
 use Rattle.composer.proofs.FileWriting.{Stands}
 use Rattle.composer.proofs.whole.write_file.Given as goal
 

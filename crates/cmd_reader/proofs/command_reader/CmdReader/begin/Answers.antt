@@ -1,6 +1,5 @@
-use Rattle.std.proofs.Common.{◌≡◌, ℕ, Option, None, Some, refl, sym, ap, ◌∙◌, nat_lt}
-use Rattle.send_model.specs.Reading.{Due, HeaderDue}
-use Rattle.cmd_reader.specs.Left.{Reader, due_of, after_header}
+use Rattle.std.proofs.Common.{refl, sym, ap, ◌∙◌, nat_lt}
+use Rattle.cmd_reader.specs.Left.{Reader, after_header}
 use Rattle.cmd_reader.proofs.Goings.{begin_fault, begin_end, begin_some, none_due, header_version}
 use Rattle.cmd_reader.proofs.command_reader.CmdReader.begin.Goals as goal
 

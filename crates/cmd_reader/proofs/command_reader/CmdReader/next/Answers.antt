@@ -1,4 +1,4 @@
-use Rattle.std.proofs.Common.{◌≡◌, sym}
+use Rattle.std.proofs.Common.{sym}
 use Rattle.cmd_reader.proofs.Goings.{begun_version, stopped, passed}
 use Rattle.cmd_reader.proofs.command_reader.CmdReader.next.Goals as goal
 
