@@ -17,10 +17,10 @@ front_says : (kind len : ℕ) (tail : List ℕ) → kind < 2 ^ 16 → len < 2 ^ 
 unfolding number16
 front_says kind len tail k l = (from_le_bytes-to_le_bytes_2 kind k, from_le_bytes-to_le_bytes_2 len l, refl, omega arith)
 
-abbrev NotSeen : List ℕ → List Attribute → Type 0
+abbrev pub NotSeen : List ℕ → List Attribute → Type 0
 NotSeen seen attributes = AllByRecursion (λ a. is_one_of a.kind seen ≡ false) attributes
 
-differ_back : (a b : ℕ) → (a == b) ≡ false → (b == a) ≡ false
+pub differ_back : (a b : ℕ) → (a == b) ≡ false → (b == a) ≡ false
 differ_back a b h = false_from_ne_true (b == a) (λ e. true≢false (sym (eq-eqb a b (sym (eqb-true b a e))) ∙ h))
 
 -- What is not among the rest may be seen first.

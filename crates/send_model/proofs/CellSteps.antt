@@ -64,7 +64,7 @@ module _ {C D : Type 0} (f : C → D) where
       one None = refl
       one (Some s) = refl
 
-  start_cells : (store : Store C) (parent : Option Key) → start_from (recelled_store f store) parent ≡ recelled_result f (start_from store parent)
+  pub start_cells : (store : Store C) (parent : Option Key) → start_from (recelled_store f store) parent ≡ recelled_result f (start_from store parent)
   unfolding root_alone
   start_cells store None = refl
   start_cells store (Some key) = found_cells _ (find store key) NoParent (find-cells store key)
@@ -86,7 +86,7 @@ module _ {C D : Type 0} (f : C → D) where
       ∙ ap (entered (recelled_store f (completed state)) head) (begun-cells (completed state) head)
       ∙ entered-cells (completed state) head (begun (completed state) head)
 
-  edited-cells : (store : Store C) (part : Part C) (r : Result (Subvolume C) Refusal) → edited (recelled_store f store) (recelled_part f part) (recelled_result f r) ≡ recelled_step f (edited store part r)
+  pub edited-cells : (store : Store C) (part : Part C) (r : Result (Subvolume C) Refusal) → edited (recelled_store f store) (recelled_part f part) (recelled_result f r) ≡ recelled_step f (edited store part r)
   edited-cells store part (Ok s) = refl
   edited-cells store part (Err refusal) = refl
 

@@ -54,7 +54,7 @@ names_other : (c : Command) → head_of c ≡ None → (cs : List Command) → N
 unfolding Names heads_of
 names_other c h cs ih state end t = let A : Option Head → Type 0 = λ o. AreNamed (onto_heads o (heads_of cs)) in subst A (sym h) (ih _ end t.1)
 
-by_head : (P : Option Head → Type 0) (o : Option Head) → ((head : Head) → o ≡ Some head → P (Some head)) → (o ≡ None → P None) → P o
+pub by_head : (P : Option Head → Type 0) (o : Option Head) → ((head : Head) → o ≡ Some head → P (Some head)) → (o ≡ None → P None) → P o
 by_head P None s n = n refl
 by_head P (Some head) s n = s head refl
 
@@ -129,14 +129,14 @@ comes (c ∷ cs) = by_sort {P = λ c. Arrives cs → Arrives (c ∷ cs)} (λ c h
 
 -- ---- anywhere
 
-head_of_command : (name : List ℕ) (key : Key) (parent : Option Key) → head_of (head_command name key parent) ≡ Some (record { name = name; key = key; parent = parent })
+pub head_of_command : (name : List ℕ) (key : Key) (parent : Option Key) → head_of (head_command name key parent) ≡ Some (record { name = name; key = key; parent = parent })
 head_of_command name key None = refl
 head_of_command name key (Some k) = refl
 
 -- The composed commands, received into any store that finds the first part's parent.
 pub received_anywhere : (head : Head) (start last : Subvolume ℕ) (edits : List Command) (store : Store ℕ)
     → is_name head.name ≡ true → has_name head.name store ≡ false → has_uuid head.key.uuid store ≡ false → start_from store head.parent ≡ Ok start
-    → ((u : Store ℕ) (new : Key) → Takes (record { store = u; part = Some (record { key = new; subvolume = start }) }) edits (record { store = u; part = Some (record { key = new; subvolume = last }) }))
+    → Takes (record { store = store ++ unfinished head ∷ []; part = Some (record { key = head.key; subvolume = start }) }) edits (record { store = store ++ unfinished head ∷ []; part = Some (record { key = head.key; subvolume = last }) })
     → Takes (record { store = store; part = None }) (head_command head.name head.key head.parent ∷ (edits ++ End ∷ [])) (record { store = store ++ record { name = head.name; key = head.key; parent = head.parent; contents = Some last } ∷ []; part = None })
 unfolding step step_head completed
 received_anywhere head start last edits store named no_name no_uuid from merged =
@@ -147,6 +147,6 @@ received_anywhere head start last edits store named no_name no_uuid from merged 
     let E : Result (Subvolume ℕ) Refusal → Type 0 = λ x. StepsOn (entered store head x) in
     let to_state : Store ℕ → State ℕ = λ u. record { store = u; part = None } in
     let ends = ap to_state (completes_new head last store no_uuid) in
-    let on : E (Ok start) = (refl, Takes-append edits (End ∷ []) _ _ final (merged (store ++ unfinished head ∷ []) head.key) (refl, ends)) in
+    let on : E (Ok start) = (refl, Takes-append edits (End ∷ []) _ _ final merged (refl, ends)) in
     let begun_ok = begins_begun store head start (record { named = named; new_name = no_name; new_uuid = no_uuid; from = from }) in
     subst StepsOn (sym (head_step 0 (bytes_of c) (record { store = store; part = None }) c head (head_of_command head.name head.key head.parent))) (subst E (sym begun_ok) on)

@@ -1,7 +1,7 @@
 -- Worked examples of composing: the commands that stand for consecutive parts, and the blocks of redirected clones that a
 -- subvolume outside the parts carries.
-use Rattle.std.specs.Prelude.{◌≡◌, ℕ, List, [], ◌∷◌, ◌++◌, map, replicate, None, sum, codes, refl}
-use Rattle.std.specs.List.{count_by}
+use Rattle.std.specs.Prelude.{◌≡◌, ℕ, List, [], ◌∷◌, ◌++◌, map, replicate, None, codes, refl}
+use Rattle.std.specs.List.{sum_by, count_by}
 use Rattle.send_model.specs.Command.{Command, Subvol, Snapshot, MkFile, Rename, Unlink, Write, Clone, Truncate, End}
 use Rattle.send_model.specs.Spelling.{stream_header, canonical_all}
 use Rattle.send_model.specs.Reading.{Item, input}
@@ -56,10 +56,10 @@ abbrev pieces : Store ℕ → List Item → List (List Piece)
 pieces store items = map (pieces_of store) (ranges_from (part_uuids items) (start_of (traced_store store)) None items)
 
 abbrev uncarried_items : Store ℕ → List Item → ℕ
-uncarried_items store items = sum (map (λ pieces. sum (map literal_len pieces)) (pieces store items))
+uncarried_items store items = sum_by (λ pieces. sum_by literal_len pieces) (pieces store items)
 
 abbrev runs_items : Store ℕ → List Item → ℕ
-runs_items store items = sum (map (λ pieces. count_by is_run pieces) (pieces store items))
+runs_items store items = sum_by (λ pieces. count_by is_run pieces) (pieces store items)
 
 -- The composed commands of files are those of their items.
 composed_is : (store : Store ℕ) (files : List (List ℕ)) → composed store files ≡ composed_items store (input files).items

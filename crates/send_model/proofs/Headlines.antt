@@ -11,8 +11,8 @@ use Rattle.send_model.specs.Command.{Command, Subvol, Snapshot, Clone, End}
 use Rattle.send_model.specs.Spelling.{stream_header, canonical_all}
 use Rattle.send_model.specs.Reading.{Item, Reading, Ending, Whole, Faulty, reads, input, input_from, joined}
 use Rattle.send_model.specs.Subvolume.{Subvolume}
-use Rattle.send_model.specs.Store.{Key, Head, head_of, Store, Part, State, same_key, find, start_from}
-use Rattle.send_model.specs.Receive.{Run, receive_items, receive, byte_cells, bytes_of, start_of, first_of, with_fault}
+use Rattle.send_model.specs.Store.{Key, Head, head_of, Store, Part, State, same_key, find, start_from, unfinished}
+use Rattle.send_model.specs.Receive.{Run, receive_items, receive, byte_cells, bytes_of, start_of, first_of, with_fault, run_items}
 use Rattle.send_model.specs.Order.{heads, heads_of, commands_of, IsConsecutive}
 use Rattle.send_model.specs.Outside.{IsAmong, is_among, part_uuids, store_without, base, keys_named, all_keys_named, keys_outside, outside, SameOn}
 use Rattle.send_model.specs.Provenance.{Traced, uuid_after, is_redirected, traced_step, traced_store, ranges_from, redirected_ranges, uncarried, runs}
@@ -156,7 +156,7 @@ edits_keys (c ∷ cs) n = keys_append (edit_in (head_of c) c) (edits_of cs) ∙ 
 keys_composed : (name : List ℕ) (key : Key) (parent : Option Key) (cs : List Command) → NoClones cs → all_keys_named (head_command name key parent ∷ (edits_of cs ++ End ∷ [])) ≡ all_keys_named (head_command name key parent ∷ [])
 keys_composed name key parent cs n = ap (λ (ks : List Key). keys_named (head_command name key parent) ++ ks) (keys_append (edits_of cs) (End ∷ []) ∙ ap (λ (ks : List Key). ks ++ []) (edits_keys cs n))
 
-inner_streams : (cs : List Command) → AllByRecursion IsInner cs → streams (cs ++ End ∷ []) ≡ 1
+pub inner_streams : (cs : List Command) → AllByRecursion IsInner cs → streams (cs ++ End ∷ []) ≡ 1
 unfolding streams
 inner_streams [] inner = refl
 inner_streams (c ∷ cs) inner =
@@ -171,18 +171,18 @@ among_more : (b : Bool) (key k : Key) (keys : List Key) → IsAmong key keys →
 among_more true key k keys a = inr a
 among_more false key k keys a = a
 
-among_kept : (p : Key → Bool) (key : Key) (keys : List Key) → p key ≡ true → IsAmong key keys → IsAmong key (filter p keys)
+pub among_kept : (p : Key → Bool) (key : Key) (keys : List Key) → p key ≡ true → IsAmong key keys → IsAmong key (filter p keys)
 among_kept p key [] h a = a
 among_kept p key (k ∷ keys) h (inl e) = let at : p k ≡ true = ap p e ∙ h in rw at (inl e)
 among_kept p key (k ∷ keys) h (inr more) = among_more (p k) key k (filter p keys) (among_kept p key keys h more)
 
-among_all : (P : Key → Type 0) (key : Key) (keys : List Key) → AllByRecursion P keys → IsAmong key keys → P key
+pub among_all : (P : Key → Type 0) (key : Key) (keys : List Key) → AllByRecursion P keys → IsAmong key keys → P key
 among_all P key [] all a = absurd a
 among_all P key (k ∷ keys) all (inl e) = subst P e all.0
 among_all P key (k ∷ keys) all (inr more) = among_all P key keys all.1 more
 
 -- A store without some uuids finds none of them.
-without_finds : (uuids : List (List ℕ)) (store : Store ℕ) (key : Key) → is_among uuids key.uuid ≡ true → find (store_without uuids store) key ≡ None
+pub without_finds : (uuids : List (List ℕ)) (store : Store ℕ) (key : Key) → is_among uuids key.uuid ≡ true → find (store_without uuids store) key ≡ None
 unfolding find
 without_finds uuids [] key h = refl
 without_finds uuids (e ∷ store) key h = one (is_among uuids e.key.uuid) refl (without_finds uuids store key h)
@@ -205,14 +205,18 @@ one_input : (bytes : List ℕ) → (reads 1 bytes).end ≡ Whole → input (byte
 unfolding input input_from
 one_input bytes h = joined_whole (reads 1 bytes).items (reads 1 bytes).end h ∙ (let f : List Item → Reading = λ is. record { items = is; end = Whole } in ap f (append-nil (reads 1 bytes).items))
 
-pub received_one : (store : Store ℕ) (bytes : List ℕ) (cs : List Command) (end : State ℕ) → ReadsAs (reads 1 bytes) cs → Takes (start_of store) cs end → receive store (bytes ∷ []) ≡ record { state = end; refused = None }
+pub received_as : (store : Store ℕ) (bytes : List ℕ) (end : State ℕ) → (reads 1 bytes).end ≡ Whole → run_items 0 byte_cells (start_of store) (reads 1 bytes).items ≡ record { state = end; refused = None }
+    → receive store (bytes ∷ []) ≡ record { state = end; refused = None }
 unfolding receive receive_items
-received_one store bytes cs end r t =
-    let P : List Command → Type 0 = λ ds. Takes (start_of store) ds end in
-    let ran = runs_taken (reads 1 bytes).items (start_of store) end (subst P (sym r.commands) t) in
+received_as store bytes end whole ran =
     let f : Reading → Run ℕ = λ x. receive_items 0 byte_cells store x in
     let g : Run ℕ → Run ℕ = λ x. record { state = x.state; refused = first_of x.refused None } in
-    ap f (one_input bytes r.whole) ∙ ap g ran
+    ap f (one_input bytes whole) ∙ ap g ran
+
+pub received_one : (store : Store ℕ) (bytes : List ℕ) (cs : List Command) (end : State ℕ) → ReadsAs (reads 1 bytes) cs → Takes (start_of store) cs end → receive store (bytes ∷ []) ≡ record { state = end; refused = None }
+received_one store bytes cs end r t =
+    let P : List Command → Type 0 = λ ds. Takes (start_of store) ds end in
+    received_as store bytes end r.whole (runs_taken (reads 1 bytes).items (start_of store) end (subst P (sym r.commands) t))
 
 -- ---- the headline
 
@@ -257,12 +261,12 @@ stands_none : (store : Store ℕ) (part : Option (Part ℕ)) (key : Key) (s : Su
 stands_none store None key s e h = h
 stands_none store (Some part) key s e h = cc
 
-no_part_at_end : (cs : List Command) (state end : State ℕ) → EndsWell cs → heads_of cs ≢ [] → Takes state cs end → end.part ≡ None
+pub no_part_at_end : (cs : List Command) (state end : State ℕ) → EndsWell cs → heads_of cs ≢ [] → Takes state cs end → end.part ≡ None
 unfolding heads_of
 no_part_at_end cs state end (inl none) some t = absurd (some (ap heads_of none))
 no_part_at_end cs state end (inr ends) some t = no_part_left cs state end ends t
 
-received_all : (store : Store ℕ) (files : List (List ℕ)) (end : State ℕ) → (input files).end ≡ Whole → Takes (start_of store) (commands_of (input files).items) end → receive store files ≡ record { state = end; refused = None }
+pub received_all : (store : Store ℕ) (files : List (List ℕ)) (end : State ℕ) → (input files).end ≡ Whole → Takes (start_of store) (commands_of (input files).items) end → receive store files ≡ record { state = end; refused = None }
 unfolding receive receive_items
 received_all store files end whole t =
     let g : Run ℕ → Ending → Run ℕ = λ x e. with_fault x e in
@@ -313,7 +317,7 @@ module _ (store : Store ℕ) (files : List (List ℕ)) (end : State ℕ) (a : Ac
       let found_last : find end.store last.key ≡ Some c.merged.last = ap (find end.store) last'.2 ∙ stands_none end.store end.part (last_key first.key c.rest) c.merged.last none c.merged.stands in
       let parent_out = outside_parent store files first.name last.name first.key last.key first.parent c.start c.from c.first_named in
       let one : (t : Store ℕ) → CanReceive b files last t → receive t (written ∷ []) ≡ record { state = record { store = t ++ last_entry first last c.merged.last ∷ []; part = None }; refused = None } =
-      λ t can. received_one t written list _ ra (received_anywhere new c.start c.merged.last (edits_of ds) t named can.no_name can.no_uuid (same_start b t (outside files) last.name last.key first.parent c.start can.same parent_out c.from) c.merged.merged) in
+      λ t can. received_one t written list _ ra (received_anywhere new c.start c.merged.last (edits_of ds) t named can.no_name can.no_uuid (same_start b t (outside files) last.name last.key first.parent c.start can.same parent_out c.from) (c.merged.merged (t ++ unfinished new ∷ []) new.key)) in
       let keys : List Key → Type 0 = λ ks. AllByRecursion (λ key. IsAmong key (outside files) ⊎ (key ≡ last.key)) ks in
       let no_extra = no_uncarried b files a.no_clones in
       let kept_is : kept files ≡ 0 = no_kept files a.no_clones in

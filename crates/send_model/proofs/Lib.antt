@@ -4,6 +4,7 @@ mod ExampleWords
 mod ReadingExamples
 mod EditExamples
 mod ComposingExamples
+pub mod ElementLaws
 pub mod Sorts
 pub mod Runs
 pub mod Stores
@@ -21,11 +22,26 @@ pub mod CellMaps
 pub mod CellEdits
 pub mod PathLaws
 pub mod CellSteps
+pub mod CellClones
+pub mod Held
+mod Tracing
+mod Counting
+mod CountLaws
+mod PieceRuns
+pub mod Redirected
+pub mod SpelledPieces
+mod Rewriting
+mod Carrying
+mod FirstPaths
+mod LeastPaths
+pub mod LawfulPaths
+pub mod Overwriting
 pub mod Fuel
 pub mod Judging
 pub mod Writing
 pub mod Composed
 pub mod Sound
+pub mod ReadSpelled
 pub mod MapLaws
 pub mod WalkLaws
 pub mod Soundness
@@ -34,3 +50,14 @@ pub mod SoundChanges
 pub mod SoundEdits
 pub mod SoundRenames
 pub mod Fronts
+mod TracedBase
+mod Naming
+mod Elsewhere
+mod MergingClones
+mod ComposingClones
+mod ComposedClones
+mod SpelledRuns
+mod ReadCommands
+mod HeadlineClones
+mod HeadlineLaw
+mod HeadlineExample

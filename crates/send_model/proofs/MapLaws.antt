@@ -20,15 +20,15 @@ named_cmp_total = then_total (on_total (λ (a : ℕ × List ℕ). a.0) nat_cmp_t
 pub named_cmp_exact : CmpEqualImpliesEq named_cmp
 named_cmp_exact = exact_pairs nat_cmp bytes_cmp exact_unsigned exact_bytes
 
-T_left : (a b : Bool) → T (a && b) → T a
+pub T_left : (a b : Bool) → T (a && b) → T a
 T_left true b p = tt
 T_left false b p = absurd p
 
-T_right : (a b : Bool) → T (a && b) → T b
+pub T_right : (a b : Bool) → T (a && b) → T b
 T_right true b p = p
 T_right false b p = absurd p
 
-is_less : (r : Ordering) → T (is_lt r) → r ≡ Less
+pub is_less : (r : Ordering) → T (is_lt r) → r ≡ Less
 is_less Less p = refl
 is_less Equal p = absurd p
 is_less Greater p = absurd p
@@ -82,7 +82,7 @@ module _ {K : Type 0} (R : K → K → Ordering) (o : IsTotalOrder R) (exact : C
     without-other q k m n = without-at q k m ∙ ap (λ (b : Bool). cond (not b) (value_at R q m) None) (apart k q (λ e. n (sym e)))
 
     -- a key that ties with one below each key of a map
-    below_none : (k x : K) (m : Map K X) → R k x ≡ Equal → T (below_all R x m) → value_at R k m ≡ None
+    pub below_none : (k x : K) (m : Map K X) → R k x ≡ Equal → T (below_all R x m) → value_at R k m ≡ None
     below_none k x [] e h = refl
     below_none k x (f ∷ m) e h =
         let less : R k f.0 ≡ Less = o.congr k x f.0 e ∙ is_less _ (T_left _ _ h) in

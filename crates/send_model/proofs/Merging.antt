@@ -41,31 +41,31 @@ last_key key [] = key
 last_key key (head ∷ heads) = last_key head.key heads
 
 -- The part of a key has come to a subvolume: it is still being received, or it is complete and found by its key.
-abbrev pub Stands : Store ℕ → Option (Part ℕ) → Key → Subvolume ℕ → Type 0
+abbrev pub Stands : {C : Type 0} → Store C → Option (Part C) → Key → Subvolume C → Type 0
 Stands store None key s = find store key ≡ Some s
 Stands store (Some part) key s = (part ≡ record { key = key; subvolume = s }) × (key_with key.uuid store ≡ Some key)
 
-pub stands_completed : (store : Store ℕ) (part : Option (Part ℕ)) (key : Key) (s : Subvolume ℕ) → Stands store part key s → find (completed (record { store = store; part = part })) key ≡ Some s
+pub stands_completed : {C : Type 0} (store : Store C) (part : Option (Part C)) (key : Key) (s : Subvolume C) → Stands store part key s → find (completed (record { store = store; part = part })) key ≡ Some s
 unfolding completed
 stands_completed store None key s h = h
-stands_completed store (Some part) key s (e, k) = let P : Part ℕ → Type 0 = λ p. find (with_contents p.key.uuid p.subvolume store) key ≡ Some s in subst P (sym e) (finds_contents key s store k)
+stands_completed {C = C} store (Some part) key s (e, k) = let P : Part C → Type 0 = λ p. find (with_contents p.key.uuid p.subvolume store) key ≡ Some s in subst P (sym e) (finds_contents key s store k)
 
 -- ---- what an accepted head says
 
-pub record Begins (store : Store ℕ) (head : Head) (start : Subvolume ℕ) : Type 0 where
+pub record Begins {C : Type 0} (store : Store C) (head : Head) (start : Subvolume C) : Type 0 where
   pub named : is_name head.name ≡ true
   pub new_name : has_name head.name store ≡ false
   pub new_uuid : has_uuid head.key.uuid store ≡ false
   pub from : start_from store head.parent ≡ Ok start
 
-begins : (store : Store ℕ) (head : Head) (start : Subvolume ℕ) (a b c : Bool) → is_name head.name ≡ a → has_name head.name store ≡ b → has_uuid head.key.uuid store ≡ c
+begins : {C : Type 0} (store : Store C) (head : Head) (start : Subvolume C) (a b c : Bool) → is_name head.name ≡ a → has_name head.name store ≡ b → has_uuid head.key.uuid store ≡ c
     → (require a BadName >> (refuse_if b NameThere >> (refuse_if c UuidThere >> start_from store head.parent))) ≡ Ok start → Begins store head start
 begins store head start true false false a b c e = record { named = a; new_name = b; new_uuid = c; from = e }
 begins store head start true false true a b c e = cc
 begins store head start true true c' a b c e = cc
 begins store head start false b' c' a b c e = cc
 
-pub begun_begins : (store : Store ℕ) (head : Head) (start : Subvolume ℕ) → begun store head ≡ Ok start → Begins store head start
+pub begun_begins : {C : Type 0} (store : Store C) (head : Head) (start : Subvolume C) → begun store head ≡ Ok start → Begins store head start
 unfolding begun
 begun_begins store head start e = begins store head start _ _ _ refl refl refl e
 
@@ -74,18 +74,18 @@ unfolding begun
 begins_begun store head start b = rw (b.named, b.new_name, b.new_uuid) b.from
 
 -- A head that is taken, and what it leaves.
-pub entered_taken : (store : Store ℕ) (head : Head) (r : Result (Subvolume ℕ) Refusal) → (entered store head r).refusal ≡ None → (s : Subvolume ℕ) × (r ≡ Ok s)
+pub entered_taken : {C : Type 0} (store : Store C) (head : Head) (r : Result (Subvolume C) Refusal) → (entered store head r).refusal ≡ None → (s : Subvolume C) × (r ≡ Ok s)
 entered_taken store head (Ok s) e = (s, refl)
 entered_taken store head (Err refusal) e = cc
 
-pub edited_taken : (store : Store ℕ) (part : Part ℕ) (r : Result (Subvolume ℕ) Refusal) → (edited store part r).refusal ≡ None → (s : Subvolume ℕ) × (r ≡ Ok s)
+pub edited_taken : {C : Type 0} (store : Store C) (part : Part C) (r : Result (Subvolume C) Refusal) → (edited store part r).refusal ≡ None → (s : Subvolume C) × (r ≡ Ok s)
 edited_taken store part (Ok s) e = (s, refl)
 edited_taken store part (Err refusal) e = cc
 
-pub from_parent : (store : Store ℕ) (key : Key) (parent : Option Key) (s t : Subvolume ℕ) → parent ≡ Some key → find store key ≡ Some t → start_from store parent ≡ Ok s → s ≡ t
-from_parent store key parent s t p f e =
+pub from_parent : {C : Type 0} (store : Store C) (key : Key) (parent : Option Key) (s t : Subvolume C) → parent ≡ Some key → find store key ≡ Some t → start_from store parent ≡ Ok s → s ≡ t
+from_parent {C = C} store key parent s t p f e =
     let at : start_from store (Some key) ≡ Ok s = subst (λ (q : Option Key). start_from store q ≡ Ok s) p e in
-    let found_t : found (Some t) NoParent ≡ Ok s = subst (λ (q : Option (Subvolume ℕ)). found q NoParent ≡ Ok s) f at in
+    let found_t : found (Some t) NoParent ≡ Ok s = subst (λ (q : Option (Subvolume C)). found q NoParent ≡ Ok s) f at in
     cc
 
 -- ---- the induction
@@ -156,7 +156,7 @@ plain_on c h store key s cs end t =
     let E : Result (Subvolume ℕ) Refusal → Type 0 = λ x. Takes (edited store part x).state cs end in
     (ok.0, ok.1, subst E ok.1 on.1)
 
-plain_taken : (c : Command) → is_plain c ≡ true → (store : Store ℕ) (key : Key) (s next : Subvolume ℕ) (cs : List Command) (end : State ℕ) → edit 0 (bytes_of c) c s ≡ Ok next
+pub plain_taken : (c : Command) → is_plain c ≡ true → (store : Store ℕ) (key : Key) (s next : Subvolume ℕ) (cs : List Command) (end : State ℕ) → edit 0 (bytes_of c) c s ≡ Ok next
     → Takes (record { store = store; part = Some (record { key = key; subvolume = next }) }) cs end → Takes (record { store = store; part = Some (record { key = key; subvolume = s }) }) (c ∷ cs) end
 plain_taken c h store key s next cs end e t =
     let part : Part ℕ = record { key = key; subvolume = s } in

@@ -41,7 +41,7 @@ none_not_some names e = cc e
 some_same : (names others : List (List ℕ)) → Some names ≡ Some others → names ≡ others
 some_same names others e = cc e
 
-none_left : (names : List (List ℕ)) → path_names [] ≡ Some names → names ≡ []
+pub none_left : (names : List (List ℕ)) → path_names [] ≡ Some names → names ≡ []
 unfolding path_names
 none_left names found = some_same names [] (sym found)
 

@@ -37,7 +37,7 @@ small64 bytes b =
 -- ---- attributes
 
 -- The bytes of an attribute that was read.
-abbrev IsShort : List ℕ → Type 0
+abbrev pub IsShort : List ℕ → Type 0
 IsShort bytes = (length bytes < 2 ^ 16) × IsBytes bytes
 
 abbrev pub AreShort : List Attribute → Type 0
@@ -46,7 +46,7 @@ AreShort attributes = AllByRecursion (λ (a : Attribute). IsShort a.bytes) attri
 Short : ℕ → Type 0
 Short n = (version : ℕ) (seen body : List ℕ) (attributes : List Attribute) → IsBytes body → attributes_from n version seen body ≡ Ok attributes → AreShort attributes
 
-first_short : (body : List ℕ) → IsBytes body → IsShort (take (attribute_len body) (drop 4 body))
+pub first_short : (body : List ℕ) → IsBytes body → IsShort (take (attribute_len body) (drop 4 body))
 unfolding number16
 first_short body b =
     let len : attribute_len body < 2 ^ 16 = small16 (take 2 (drop 2 body)) (bytes_take 2 (drop 2 body) (bytes_drop 2 body b)) in
@@ -55,7 +55,7 @@ first_short body b =
     shorter : (n m k : ℕ) → n ≡ min m k → m < 2 ^ 16 → n < 2 ^ 16
     shorter n m k e h = omega (arith, e, h)
 
-if_ok : {A : Type 0} (b : Bool) (x : Result A Refusal) (refusal : Refusal) (y : A) → (if b then x else Err refusal) ≡ Ok y → x ≡ Ok y
+pub if_ok : {A : Type 0} (b : Bool) (x : Result A Refusal) (refusal : Refusal) (y : A) → (if b then x else Err refusal) ≡ Ok y → x ≡ Ok y
 if_ok true x refusal y e = e
 if_ok false x refusal y e = cc
 
@@ -90,11 +90,11 @@ found_short [] kind bytes are e = cc
 found_short (a ∷ rest) kind bytes are e = found_on (a.kind == kind) a.bytes bytes (value_of kind rest) are.0 (λ q. found_short rest kind bytes are.1 q) e
 
 -- An attribute that is wanted has bytes of its form.
-record Good (attributes : List Attribute) (kind : ℕ) : Type 0 where
-  short : IsShort (bytes_at attributes kind)
-  fits : form_fits (form_of kind) (bytes_at attributes kind) ≡ true
+pub record Good (attributes : List Attribute) (kind : ℕ) : Type 0 where
+  pub short : IsShort (bytes_at attributes kind)
+  pub fits : form_fits (form_of kind) (bytes_at attributes kind) ≡ true
 
-abbrev AreGood : List Attribute → List ℕ → Type 0
+abbrev pub AreGood : List Attribute → List ℕ → Type 0
 AreGood attributes kinds = AllByRecursion (λ kind. Good attributes kind) kinds
 
 good_one : (attributes : List Attribute) (kind : ℕ) (bytes : List ℕ) → AreShort attributes → value_of kind attributes ≡ Some bytes → form_fits (form_of kind) bytes ≡ true → Good attributes kind
@@ -106,7 +106,7 @@ pub found_is : {A : Type 0} (o : Option A) (refusal : Refusal) (x : A) → found
 found_is None refusal x e = cc
 found_is (Some y) refusal x e = ap Some (ok_same e)
 
-good : (attributes : List Attribute) (kinds : List ℕ) → AreShort attributes → wanted_there kinds attributes ≡ Ok tt → AreGood attributes kinds
+pub good : (attributes : List Attribute) (kinds : List ℕ) → AreShort attributes → wanted_there kinds attributes ≡ Ok tt → AreGood attributes kinds
 unfolding wanted_there
 good attributes [] are e = tt
 good attributes (kind ∷ kinds) are e =
@@ -126,7 +126,7 @@ text_fits attributes kind g = g.short
 moment_fits : (attributes : List Attribute) (kind : ℕ) → form_of kind ≡ AMoment → Good attributes kind → moment_lawful attributes kind ≡ true → FieldFits (Moment (time_in (bytes_at attributes kind)))
 moment_fits attributes kind f g lawful = (small64 (take 8 (bytes_at attributes kind)) (bytes_take 8 (bytes_at attributes kind) g.short.1), ltb-true _ _ (ap (λ form. nanos_lawful form (bytes_at attributes kind)) (sym f) ∙ lawful))
 
-and_both : (a b : Bool) → a && b ≡ true → (a ≡ true) × (b ≡ true)
+pub and_both : (a b : Bool) → a && b ≡ true → (a ≡ true) × (b ≡ true)
 and_both true b e = (refl, e)
 and_both false b e = cc
 

@@ -1,6 +1,6 @@
 -- What a store finds once a part is complete.
-use Rattle.std.specs.Prelude.{◌≡◌, ℕ, Bool, true, false, ◌&&◌, ◌||◌, List, [], ◌∷◌, ◌++◌, Option, None, Some, ◌==◌, if◌then◌else◌}
-use Rattle.std.proofs.Common.{refl, ap, ◌∙◌, eqb-true, eq-eqb}
+use Rattle.std.specs.Prelude.{◌≡◌, ◌⊎◌, ℕ, Bool, true, false, ◌&&◌, ◌||◌, List, [], ◌∷◌, ◌++◌, Option, None, Some, ◌==◌, if◌then◌else◌}
+use Rattle.std.proofs.Common.{refl, sym, ap, ◌∙◌, eqb-true, eq-eqb, inl, inr}
 use Rattle.std.specs.Str.{bytes_eq}
 use Rattle.std.proofs.lemmas.Slice.Eq.{bytes_eq-Decides}
 use Rattle.std.proofs.lemmas.Bool.{false≢true, true≢false}
@@ -60,3 +60,47 @@ module _ {C : Type 0} where
   unfolding with_contents
   completes_new head s [] h = rw (bytes_eq_same head.key.uuid) refl
   completes_new head s (e ∷ store) h = let p = or_parts (bytes_eq e.key.uuid head.key.uuid) (has_uuid head.key.uuid store) h in rw p.0 (ap (λ (r : Store C). e ∷ r) (completes_new head s store p.1))
+
+  -- ---- what is found under any key
+
+  replaced : (b c : Bool) (s : Subvolume C) (here : Option (Subvolume C)) (rest rest' : Option (Subvolume C)) (t : Subvolume C)
+      → (rest' ≡ Some t → (t ≡ s) ⊎ (rest ≡ Some t)) → (if c then (if b then Some s else rest) else (if b then (elim here as (λ x. Option (Subvolume C)) [ None ↦ rest' | Some x ↦ Some x ]) else rest')) ≡ Some t
+      → (t ≡ s) ⊎ ((if b then (elim here as (λ x. Option (Subvolume C)) [ None ↦ rest | Some x ↦ Some x ]) else rest) ≡ Some t)
+  replaced true true s here rest rest' t more e = inl (sym (same_inside e))
+  replaced false true s here rest rest' t more e = inr e
+  replaced true false s None rest rest' t more e = more e
+  replaced true false s (Some x) rest rest' t more e = inr e
+  replaced false false s here rest rest' t more e = more e
+
+  -- After a part is complete, a key finds the part's subvolume, or what it found before.
+  pub finds_one_of : (uuid : List ℕ) (s : Subvolume C) (store : Store C) (key : Key) (t : Subvolume C) → find (with_contents uuid s store) key ≡ Some t → (t ≡ s) ⊎ (find store key ≡ Some t)
+  unfolding find with_contents
+  finds_one_of uuid s [] key t e = cc
+  finds_one_of uuid s (entry ∷ store) key t e = one (bytes_eq entry.key.uuid uuid) e (finds_one_of uuid s store key t)
+    where
+      one : (c : Bool) → find (if c then record entry { contents = Some s } ∷ store else entry ∷ with_contents uuid s store) key ≡ Some t
+          → (find (with_contents uuid s store) key ≡ Some t → (t ≡ s) ⊎ (find store key ≡ Some t)) → (t ≡ s) ⊎ (find (entry ∷ store) key ≡ Some t)
+      one true e more = replaced (same_key entry.key key) true s entry.contents (find store key) (find store key) t (λ x. inr x) e
+      one false e more = replaced (same_key entry.key key) false s entry.contents (find store key) (find (with_contents uuid s store) key) t more e
+
+  -- A key with another uuid finds what it found before.
+  pub finds_other : (uuid : List ℕ) (s : Subvolume C) (store : Store C) (key : Key) → (key.uuid ≡ uuid → ⊥) → find (with_contents uuid s store) key ≡ find store key
+  unfolding find with_contents
+  finds_other uuid s [] key n = refl
+  finds_other uuid s (entry ∷ store) key n = one (bytes_eq entry.key.uuid uuid) refl (same_key entry.key key) refl (finds_other uuid s store key n)
+    where
+      one : (c : Bool) → bytes_eq entry.key.uuid uuid ≡ c → (b : Bool) → same_key entry.key key ≡ b → find (with_contents uuid s store) key ≡ find store key
+          → find (if c then record entry { contents = Some s } ∷ store else entry ∷ with_contents uuid s store) key ≡ find (entry ∷ store) key
+      one true e true k more = absurd (n (ap (λ (q : Key). q.uuid) (sym (same_key_true entry.key key k)) ∙ bytes_eq_true entry.key.uuid uuid e))
+      one true e false k more = rw k refl
+      one false e b k more = ap (λ (rest : Option (Subvolume C)). if same_key entry.key key then (elim entry.contents as (λ x. Option (Subvolume C)) [ None ↦ rest | Some x ↦ Some x ]) else rest) more
+
+  -- An unfinished entry is not found.
+  pub finds_unfinished : (head : Head) (store : Store C) (key : Key) → find (store ++ unfinished head ∷ []) key ≡ find store key
+  unfolding find
+  finds_unfinished head [] key = one (same_key head.key key)
+    where
+      one : (b : Bool) → ◌≡◌ {A = Option (Subvolume C)} (if b then None else None) None
+      one true = refl
+      one false = refl
+  finds_unfinished head (entry ∷ store) key = ap (λ (rest : Option (Subvolume C)). if same_key entry.key key then (elim entry.contents as (λ x. Option (Subvolume C)) [ None ↦ rest | Some x ↦ Some x ]) else rest) (finds_unfinished head store key)

@@ -78,13 +78,16 @@ composed_edits store last items = composed_from store (part_uuids items) last (s
 unfoldable pub composed_with : Store ℕ → Head → Head → List Item → List Command
 composed_with store first last items = head_command last.name last.key first.parent ∷ (composed_edits store last.key items ++ End ∷ [])
 
--- The composed commands of files received into a base; none where they hold no part.
+-- The composed commands of items received into a base, and of files; none where they hold no part.
 abbrev pub composed_for : Store ℕ → Option Head → Option Head → List Item → List Command
 composed_for store (Some first) (Some last) items = composed_with store first last items
 composed_for store _ _ items = []
 
+abbrev pub composed_of : Store ℕ → List Item → List Command
+composed_of store items = composed_for store (first_head (heads items)) (last_head (heads items)) items
+
 unfoldable pub composed : Store ℕ → List (List ℕ) → List Command
-composed store files = let items = (input files).items in composed_for store (first_head (heads items)) (last_head (heads items)) items
+composed store files = composed_of store (input files).items
 
 -- ---- what stands for the commands before the first unlawful one
 

@@ -6,14 +6,14 @@ use Rattle.std.specs.Prelude.{◌≡◌, ◌≢◌, ℕ, ◌+◌, ◌≤◌, Lis
 use Rattle.std.specs.List.{AllByRecursion}
 use Rattle.send_model.specs.Command.{Command}
 use Rattle.send_model.specs.Spelling.{stream_header, canonical_all}
-use Rattle.send_model.specs.Reading.{Verdict, Whole, reads, input}
+use Rattle.send_model.specs.Reading.{Item, Verdict, Whole, reads, input}
 use Rattle.send_model.specs.Subvolume.{Subvolume}
-use Rattle.send_model.specs.Store.{Head, Entry, Store, IsStore, has_name, has_uuid, find}
-use Rattle.send_model.specs.Receive.{IsAccepted, receive}
+use Rattle.send_model.specs.Store.{Head, Entry, Store, IsStore, has_name, has_uuid, find, completed}
+use Rattle.send_model.specs.Receive.{IsAccepted, run_items, byte_cells, start_of, receive}
 use Rattle.send_model.specs.Order.{heads, heads_of, commands_of, IsConsecutive, judge}
-use Rattle.send_model.specs.Outside.{outside, all_keys_named, IsAmong, SameOn}
-use Rattle.send_model.specs.Provenance.{uncarried, runs}
-use Rattle.send_model.specs.Counts.{literal, clones, streams, kept}
+use Rattle.send_model.specs.Outside.{part_uuids, keys_outside, outside, all_keys_named, IsAmong, SameOn}
+use Rattle.send_model.specs.Provenance.{ranges_of, uncarried_in, runs_in, uncarried, runs}
+use Rattle.send_model.specs.Counts.{literal, clones, streams, kept_from, kept}
 use Rattle.send_model.specs.Composed.{first_head, last_head, composed, composed_before}
 
 -- The commands of a stream that was written.
@@ -31,6 +31,31 @@ pub record CanReceive (base : Store ℕ) (files : List (List ℕ)) (last : Head)
 -- The entry that such a store gets: the last part's name, key and subvolume, with the first part's parent.
 abbrev pub last_entry : Head → Head → Subvolume ℕ → Entry ℕ
 last_entry first last subvolume = record { name = last.name; key = last.key; parent = first.parent; contents = Some subvolume }
+
+-- What the composed commands of items promise over a base, which is a store without the items' own parts. Nothing is said here of
+-- how commands stand in streams, so this speaks of all commands, those that no stream is read for among them.
+pub record AreComposed (base : Store ℕ) (items : List Item) (commands : List Command) : Type 0 where
+  -- the first and the last part, and the subvolume that the last one makes
+  pub first : Head
+  pub last : Head
+  pub subvolume : Subvolume ℕ
+  pub first_is : first_head (heads items) ≡ Some first
+  pub last_is : last_head (heads items) ≡ Some last
+  pub subvolume_is : find (completed (run_items 0 byte_cells (start_of base) items).state) last.key ≡ Some subvolume
+  -- one stream with one part
+  pub one_part : length (heads_of commands) ≡ 1
+  pub one_stream : streams commands ≡ 1
+  -- in whatever items they stand, each store that finds the same outside subvolumes, and has neither the last name nor uuid, takes
+  -- them all, keeps what it had, and gets exactly the last part's subvolume
+  pub gets : (store : Store ℕ) → SameOn base store (keys_outside items) → has_name last.name store ≡ false → has_uuid last.key.uuid store ≡ false
+      → (written : List Item) → commands_of written ≡ commands
+      → run_items 0 byte_cells (start_of store) written ≡ record { state = start_of (store ++ last_entry first last subvolume ∷ []); refused = None }
+  -- they name outside subvolumes and their own part alone
+  pub names_only : AllByRecursion (λ key. IsAmong key (keys_outside items) ⊎ (key ≡ last.key)) (all_keys_named commands)
+  -- they carry the items' own bytes and those of cloned blocks that no outside subvolume carries; their clones are those that are
+  -- not redirected, and one for each run of carried blocks
+  pub literal_bytes : literal commands ≡ literal (commands_of items) + uncarried_in base (ranges_of base items)
+  pub clone_count : clones commands ≡ kept_from (part_uuids items) None (commands_of items) + runs_in base (ranges_of base items)
 
 -- What compose promises of what it wrote for files over a base, which is the store without the files' own parts.
 pub record IsComposed (base : Store ℕ) (files : List (List ℕ)) (written : List ℕ) : Type 0 where

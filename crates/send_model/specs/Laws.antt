@@ -1,20 +1,24 @@
 -- What the definitions mean together: laws that every later promise leans on.
-use Rattle.std.specs.Prelude.{◌≡◌, ℕ, ◌<◌, false, List, [], ◌∷◌, ◌++◌, map, length, take, None, Result, Ok}
+use Rattle.std.specs.Prelude.{◌≡◌, ◌≢◌, ℕ, ◌+◌, ◌<◌, false, List, [], ◌∷◌, ◌++◌, map, length, take, Option, None, Some, Result, Ok}
+use Rattle.std.specs.declared.cmp.Ordering.TheVariants.{Greater}
 use Rattle.std.specs.List.{AllByRecursion}
+use Rattle.send_model.specs.Attribute.{IsBytes}
 use Rattle.send_model.specs.Command.{Command, End, row, kind_of}
 use Rattle.send_model.specs.Spelling.{Spells, IsSpellable, stream_header, canonical, canonical_all}
-use Rattle.send_model.specs.Reading.{Whole, reads, input, taken, front_of, data_place}
+use Rattle.send_model.specs.Reading.{Item, Front, Whole, reads, input, taken, front_of, data_place}
 use Rattle.send_model.specs.Refusal.{Refusal}
-use Rattle.send_model.specs.Subvolume.{Subvolume, IsSound}
+use Rattle.send_model.specs.Map.{bytes_cmp}
+use Rattle.send_model.specs.Subvolume.{Subvolume, IsSound, walk, first_path}
 use Rattle.send_model.specs.Edit.{edit}
-use Rattle.send_model.specs.Store.{Store, Part, State, step, edit_part, head_of}
-use Rattle.send_model.specs.Receive.{IsAccepted, receive}
+use Rattle.send_model.specs.Store.{Key, Store, Part, State, step, edit_part, head_of}
+use Rattle.send_model.specs.Receive.{IsAccepted, run_items, byte_cells, start_of, receive}
 use Rattle.send_model.specs.Order.{commands_of, IsConsecutive}
-use Rattle.send_model.specs.Outside.{base}
-use Rattle.send_model.specs.Counts.{is_clone, is_end}
-use Rattle.send_model.specs.Composed.{composed}
+use Rattle.send_model.specs.Outside.{base_of, base, keys_outside, outside, FindsLawful, FindsSayable}
+use Rattle.send_model.specs.Provenance.{Traced, ranges_from, uncarried_in, runs_in}
+use Rattle.send_model.specs.Counts.{literal, clones, is_clone, is_end, kept_from}
+use Rattle.send_model.specs.Composed.{composed_from, composed_of}
 use Rattle.send_model.specs.Cells.{recelled_state, recelled_step}
-use Rattle.send_model.specs.Headline.{IsComposed, IsUnfinished}
+use Rattle.send_model.specs.Headline.{AreComposed, IsComposed, IsUnfinished, output_for}
 
 -- A command that the program takes and can spell.
 pub record CanWrite (c : Command) : Type 0 where
@@ -25,6 +29,18 @@ pub record CanWrite (c : Command) : Type 0 where
 abbrev pub SpelledIsRead : Type 0
 SpelledIsRead = (file version number offset : ℕ) (bytes rest : List ℕ) (c : Command) (s : Spells version bytes c) → taken version (row (kind_of c)).number ≡ Ok tt
     → front_of file version number offset (bytes ++ rest) ≡ Ok (record { item = record { file = file; number = number; offset = offset; version = version; data_at = data_place offset s.attributes; command = c }; rest = rest })
+
+-- What is in front was spelled: one frame for the item's command, which is taken, and then what follows it.
+pub record WasSpelled (file version number offset : ℕ) (bytes : List ℕ) (front : Front) : Type 0 where
+  pub frame : List ℕ
+  pub spells : Spells version frame front.item.command
+  pub taken_kind : taken version (row (kind_of front.item.command)).number ≡ Ok tt
+  pub whole : bytes ≡ frame ++ front.rest
+  pub item_is : front.item ≡ record { file = file; number = number; offset = offset; version = version; data_at = data_place offset spells.attributes; command = front.item.command }
+
+-- Where bytes are read as a command, they spell it.
+abbrev pub ReadWasSpelled : Type 0
+ReadWasSpelled = (file version number offset : ℕ) (bytes : List ℕ) (front : Front) → IsBytes bytes → front_of file version number offset bytes ≡ Ok front → WasSpelled file version number offset bytes front
 
 -- A frame has one reading: bytes that spell a command spell no other.
 abbrev pub FrameHasOneReading : Type 0
@@ -59,12 +75,53 @@ EditLooksAtItsPart = (put : List ℕ) (store : Store ℕ) (part : Part ℕ) (c :
 abbrev pub StepKeepsCells : Type 0
 StepKeepsCells = (f : ℕ → ℕ) (put : List ℕ) (state : State ℕ) (c : Command) → is_clone c ≡ false → step (f 0) (map f put) (recelled_state f state) c ≡ recelled_step f (step 0 put state c)
 
--- Files without clones that a store takes in order are composed as the headline says, by the one list of commands.
-abbrev pub ComposedHolds : Type 0
-ComposedHolds = (store : Store ℕ) (files : List (List ℕ)) (cs : List Command) → (input files).end ≡ Whole → AllByRecursion (λ c. is_clone c ≡ false) (commands_of (input files).items)
-    → IsConsecutive (input files).items → IsAccepted (receive (base store files) files) → composed (base store files) files ≡ cs ++ End ∷ [] → AreInner cs
-    → IsComposed (base store files) files (stream_of cs)
+-- Items that a base takes in order, all commands among them and whatever of them can be read: their composed commands do what the
+-- headline says, where each subvolume of the base that they name is lawful.
+abbrev pub ItemsHold : Type 0
+ItemsHold = (store : Store ℕ) (items : List Item) → IsConsecutive items → IsAccepted (run_items 0 byte_cells (start_of (base_of store items)) items)
+    → FindsLawful (base_of store items) (keys_outside items) → AreComposed (base_of store items) items (composed_of (base_of store items) items)
+
+-- Where the items' own commands can be spelled, and each subvolume of the base that they name can be said, the composed ones can
+-- be spelled too.
+abbrev pub ItemsSpelled : Type 0
+ItemsSpelled = (store : Store ℕ) (items : List Item) → IsConsecutive items → IsAccepted (run_items 0 byte_cells (start_of (base_of store items)) items)
+    → FindsSayable (base_of store items) (keys_outside items) → AllByRecursion IsSpellable (commands_of items) → AllByRecursion IsSpellable (composed_of (base_of store items) items)
+
+-- Files of bytes that a base takes in order: the stream of their composed commands is what the headline says, where each subvolume
+-- of the base that they name can be said.
+abbrev pub FilesHold : Type 0
+FilesHold = (store : Store ℕ) (files : List (List ℕ)) → AllByRecursion IsBytes files → (input files).end ≡ Whole
+    → IsConsecutive (input files).items → IsAccepted (receive (base store files) files) → FindsSayable (base store files) (outside files)
+    → IsComposed (base store files) files (output_for None (base store files) files)
+
+-- Where they have no clones, the base may find subvolumes of any kind.
+abbrev pub PlainFilesHold : Type 0
+PlainFilesHold = (store : Store ℕ) (files : List (List ℕ)) → AllByRecursion IsBytes files → (input files).end ≡ Whole
+    → IsConsecutive (input files).items → IsAccepted (receive (base store files) files) → AllByRecursion (λ c. is_clone c ≡ false) (commands_of (input files).items)
+    → IsComposed (base store files) files (output_for None (base store files) files)
 
 -- A change that may be refused makes a sound subvolume of each sound one that it takes.
 abbrev pub KeepsSoundness : (Subvolume ℕ → Result (Subvolume ℕ) Refusal) → Type 0
 KeepsSoundness change = (s after : Subvolume ℕ) → IsSound s → change s ≡ Ok after → IsSound after
+
+-- ---- paths
+
+-- A path leads to an inode, and is not after any other path that does, by bytes. No path of more than 4,095 bytes leads anywhere.
+pub record IsLeastPath {C : Type 0} (s : Subvolume C) (ino : ℕ) (path : List ℕ) : Type 0 where
+  pub leads : walk s path ≡ Ok ino
+  pub least : (other : List ℕ) → walk s other ≡ Ok ino → bytes_cmp path other ≢ Greater
+
+-- The first path of an inode is the least of all that lead to it, and there is none exactly where none does.
+pub record FirstPathsAreLeast {C : Type 0} (s : Subvolume C) : Type 0 where
+  pub some : (ino : ℕ) (path : List ℕ) → first_path s ino ≡ Some path → IsLeastPath s ino path
+  pub only : (ino : ℕ) (path : List ℕ) → IsLeastPath s ino path → first_path s ino ≡ Some path
+  pub none : (ino : ℕ) → first_path s ino ≡ None → (path : List ℕ) → walk s path ≢ Ok ino
+  pub nowhere : (ino : ℕ) → ((path : List ℕ) → walk s path ≢ Ok ino) → first_path s ino ≡ None
+
+-- ---- counts
+
+-- From every state, the commands that stand for items carry the items' own bytes and the uncarried cells of the redirected
+-- ranges, and have the clones that are not redirected and one for each run of carried blocks.
+pub record AreCounted (store : Store ℕ) (parts : List (List ℕ)) (last : Key) (state : State Traced) (current : Option (List ℕ)) (items : List Item) : Type 0 where
+  pub bytes : literal (composed_from store parts last state current items) ≡ literal (commands_of items) + uncarried_in store (ranges_from parts state current items)
+  pub clone_count : clones (composed_from store parts last state current items) ≡ kept_from parts current (commands_of items) + runs_in store (ranges_from parts state current items)

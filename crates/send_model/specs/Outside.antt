@@ -1,9 +1,13 @@
 -- What files need of a store beside their own parts: the subvolumes that they name as parents and as sources of clones.
-use Rattle.std.specs.Prelude.{◌≡◌, ◌⊎◌, ℕ, Bool, not, List, [], ◌∷◌, map}
+use Rattle.std.specs.Prelude.{◌≡◌, ◌⊎◌, ℕ, Bool, ◌≤◌, not, List, [], ◌∷◌, map, length, Some}
 use Rattle.std.specs.List.{list_any, filter, flat_map, AllByRecursion}
 use Rattle.std.specs.Str.{bytes_eq}
+use Rattle.send_model.specs.Attribute.{IsBytes}
 use Rattle.send_model.specs.Command.{Command, Snapshot, Clone}
 use Rattle.send_model.specs.Reading.{Item, input}
+use Rattle.send_model.specs.Subvolume.{Subvolume, IsLawful}
+use Rattle.send_model.specs.Edit.{greatest_end}
+use Rattle.send_model.specs.Clone.{cells_of}
 use Rattle.send_model.specs.Store.{Key, Store, find}
 use Rattle.send_model.specs.Order.{heads, commands_of}
 
@@ -18,9 +22,13 @@ is_among uuids uuid = list_any (λ u. bytes_eq u uuid) uuids
 abbrev pub store_without : {C : Type 0} → List (List ℕ) → Store C → Store C
 store_without uuids store = filter (λ e. not (is_among uuids e.key.uuid)) store
 
--- The base: the store without the files' own parts, which it may have already.
+-- The base of items: the store without their own parts, which it may have already.
+abbrev pub base_of : {C : Type 0} → Store C → List Item → Store C
+base_of store items = store_without (part_uuids items) store
+
+-- The base of files.
 unfoldable pub base : {C : Type 0} → Store C → List (List ℕ) → Store C
-base store files = store_without (part_uuids (input files).items) store
+base store files = base_of store (input files).items
 
 -- The key that a command names beside its own: a parent or the source of a clone.
 abbrev pub keys_named : Command → List Key
@@ -46,3 +54,17 @@ IsAmong key (k ∷ keys) = (k ≡ key) ⊎ IsAmong key keys
 -- Two stores find the same under each of the keys.
 abbrev pub SameOn : {C : Type 0} → Store C → Store C → List Key → Type 0
 SameOn s t keys = AllByRecursion (λ key. find s key ≡ find t key) keys
+
+-- Each complete subvolume that a store finds under one of the keys is lawful.
+abbrev pub FindsLawful : Store ℕ → List Key → Type 0
+FindsLawful store keys = (key : Key) (s : Subvolume ℕ) → IsAmong key keys → find store key ≡ Some s → IsLawful s
+
+-- What the format can say of a subvolume: it is lawful, its names and its contents are bytes, and no file is too big.
+pub record IsSayable (s : Subvolume ℕ) : Type 0 where
+  pub lawful : IsLawful s
+  pub byte_names : AllByRecursion (λ e. IsBytes e.0.1) s.names
+  pub byte_cells : AllByRecursion (λ e. IsBytes e.1.cells) s.inodes
+  pub sizes : (ino : ℕ) → length (cells_of s ino) ≤ greatest_end
+
+abbrev pub FindsSayable : Store ℕ → List Key → Type 0
+FindsSayable store keys = (key : Key) (s : Subvolume ℕ) → IsAmong key keys → find store key ≡ Some s → IsSayable s

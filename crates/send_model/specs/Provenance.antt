@@ -1,12 +1,12 @@
 -- Where the cells of cloned ranges come from: a byte of a subvolume outside the files stands at a place there, and edits
 -- carry this with the byte. Bytes that commands write, and zero bytes that they make, come from nowhere outside.
 -- Which blocks of a redirected clone are carried by an outside subvolume is decided by these places alone.
-use Rattle.std.specs.Prelude.{ℕ, zero, suc, ◌+◌, ◌%◌, ◌==◌, Bool, true, false, not, ◌&&◌, ◌||◌, List, [], ◌∷◌, ◌++◌, map, length, take, drop, Option, None, Some, Ok, Err, if◌then◌else◌, sum}
-use Rattle.std.specs.List.{count_by}
+use Rattle.std.specs.Prelude.{ℕ, zero, suc, ◌+◌, ◌%◌, ◌==◌, Bool, true, false, not, ◌&&◌, ◌||◌, List, [], ◌∷◌, ◌++◌, map, length, take, drop, Option, None, Some, Ok, Err, if◌then◌else◌}
+use Rattle.std.specs.List.{sum_by, count_by}
 use Rattle.std.specs.Str.{bytes_eq}
 use Rattle.send_model.specs.Command.{Command, Clone, End}
 use Rattle.send_model.specs.Reading.{Item, input}
-use Rattle.send_model.specs.Subvolume.{Inode, Subvolume, is_nameable}
+use Rattle.send_model.specs.Subvolume.{Inode, Subvolume, is_file, is_nameable}
 use Rattle.send_model.specs.Clone.{block_len, cells_of, cloned}
 use Rattle.send_model.specs.Store.{Key, same_key, head_of, Entry, Store, State, Stepped, step, find, clone_source}
 use Rattle.send_model.specs.Receive.{bytes_of, start_of}
@@ -92,9 +92,12 @@ ranges_from parts state current (item ∷ items) =
     let others = ranges_from parts (traced_step state item).state (uuid_after current item.command) items in
     if is_redirected parts current item.command then clone_range state item.command ∷ others else others
 
--- The ranges of all redirected clones of files, received into a base.
+-- The ranges of all redirected clones of items, received into a base, and of files.
+abbrev pub ranges_of : Store ℕ → List Item → List (List Traced)
+ranges_of store items = ranges_from (part_uuids items) (start_of (traced_store store)) None items
+
 unfoldable pub redirected_ranges : Store ℕ → List (List ℕ) → List (List Traced)
-redirected_ranges store files = let items = (input files).items in ranges_from (part_uuids items) (start_of (traced_store store)) None items
+redirected_ranges store files = ranges_of store (input files).items
 
 -- ---- blocks
 
@@ -127,7 +130,7 @@ come_from place (c ∷ cells) = is_at c.place place && come_from (next_place pla
 abbrev pub can_serve : Option (Subvolume ℕ) → Place → ℕ → Bool
 can_serve None place len = false
 can_serve (Some s) place len =
-    (place.offset % block_len == 0) && is_nameable s place.ino
+    (place.offset % block_len == 0) && (is_file s place.ino && is_nameable s place.ino)
     && ((len == block_len) || (place.offset + len == length (cells_of s place.ino)))
 
 -- The outside place from which a block is carried, if it is.
@@ -176,12 +179,16 @@ abbrev pub is_run : Piece → Bool
 is_run (Carried at place len) = true
 is_run (Literal at bytes) = false
 
-abbrev pub all_pieces : Store ℕ → List (List ℕ) → List (List Piece)
-all_pieces store files = map (pieces_of store) (redirected_ranges store files)
+-- How many cells of some ranges stand in no carried block, and how many runs of carried blocks there are.
+abbrev pub uncarried_in : Store ℕ → List (List Traced) → ℕ
+uncarried_in store ranges = sum_by (λ pieces. sum_by literal_len pieces) (map (pieces_of store) ranges)
 
--- How many cells of redirected ranges stand in no carried block, and how many runs of carried blocks there are.
+abbrev pub runs_in : Store ℕ → List (List Traced) → ℕ
+runs_in store ranges = sum_by (λ pieces. count_by is_run pieces) (map (pieces_of store) ranges)
+
+-- The same of the redirected ranges of files.
 unfoldable pub uncarried : Store ℕ → List (List ℕ) → ℕ
-uncarried store files = sum (map (λ pieces. sum (map literal_len pieces)) (all_pieces store files))
+uncarried store files = uncarried_in store (redirected_ranges store files)
 
 unfoldable pub runs : Store ℕ → List (List ℕ) → ℕ
-runs store files = sum (map (λ pieces. count_by is_run pieces) (all_pieces store files))
+runs store files = runs_in store (redirected_ranges store files)

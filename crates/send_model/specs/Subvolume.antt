@@ -3,11 +3,11 @@
 use Rattle.std.specs.Prelude.{◌≡◌, ◌≢◌, ℕ, zero, suc, ◌+◌, ◌<◌, ◌≤◌, ◌==◌, Bool, true, false, List, [], ◌∷◌, ◌++◌, length, Option, None, Some, Result, Ok, nat_le, IsTrue, is_some, if◌then◌else◌}
 use Rattle.std.specs.declared.cmp.Ordering.TheVariants.{Greater}
 use Rattle.std.specs.Ordering.{nat_cmp}
-use Rattle.std.specs.List.{filter}
+use Rattle.std.specs.List.{AllByRecursion, filter}
 use Rattle.send_model.specs.Refusal.{Refusal, BadPath, NoEntry, NotDirectory, IsRoot}
 use Rattle.send_model.specs.Chain.{◌>>=◌, ◌>>◌, require, found}
 use Rattle.send_model.specs.Attribute.{Time}
-use Rattle.send_model.specs.Path.{slash, path_names, longest_path}
+use Rattle.send_model.specs.Path.{slash, is_name, path_names, longest_path}
 use Rattle.send_model.specs.Map.{Map, IsMap, bytes_cmp, named_cmp, value_at}
 
 pub data NodeKind : Type 0 where
@@ -203,3 +203,12 @@ pub record IsSound {C : Type 0} (s : Subvolume C) : Type 0 where
   pub from_root : (directory : ℕ) → IsTrue (is_directory s directory) → (names : List (List ℕ)) × (walk_names s root names ≡ Ok directory)
   -- all numbers are below the next
   pub below_next : (ino : ℕ) → IsTrue (is_some (inode_at s ino)) → ino < s.next
+
+-- All names of a subvolume are names that a path can have.
+abbrev pub HasLawfulNames : {C : Type 0} → Subvolume C → Type 0
+HasLawfulNames s = AllByRecursion (λ e. is_name e.0.1 ≡ true) s.names
+
+-- A lawful subvolume: a sound one with lawful names.
+pub record IsLawful {C : Type 0} (s : Subvolume C) : Type 0 where
+  pub sound : IsSound s
+  pub lawful_names : HasLawfulNames s

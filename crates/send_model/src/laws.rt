@@ -1,16 +1,20 @@
 // Laws that tie the definitions to what they mean. Each is the contract of a function that does nothing.
 ghost use Rattle.std.specs.Prelude.{ℕ, Bool, List, Option};
 ghost use Rattle.send_model.specs.Command.{Command};
-ghost use Rattle.send_model.specs.Subvolume.{Subvolume, IsSound, root_alone};
+ghost use Rattle.send_model.specs.Reading.{Item};
+ghost use Rattle.send_model.specs.Subvolume.{Subvolume, IsSound, IsLawful, root_alone};
 ghost use Rattle.send_model.specs.Edit.{edit};
 ghost use Rattle.send_model.specs.Clone.{clone};
-ghost use Rattle.send_model.specs.Laws.{SpelledIsRead, FrameHasOneReading, CanonicalSpells, AreInner, StreamIsRead, CutIsUnfinished, EditLooksAtItsPart, StepKeepsCells, KeepsSoundness, ComposedHolds};
+ghost use Rattle.send_model.specs.Store.{Key, Store, State};
+ghost use Rattle.send_model.specs.Provenance.{Traced};
+ghost use Rattle.send_model.specs.Laws.{SpelledIsRead, FrameHasOneReading, ReadWasSpelled, CanonicalSpells, AreInner, StreamIsRead, CutIsUnfinished, EditLooksAtItsPart, StepKeepsCells, KeepsSoundness, FirstPathsAreLeast, AreCounted, ItemsHold, ItemsSpelled, FilesHold, PlainFilesHold};
 
-/// Whatever spells a command is read as that command, whatever follows it, and spells no other; and the canonical spelling
-/// spells it.
+/// Whatever spells a command is read as that command, whatever follows it, and spells no other; what is read was spelled; and
+/// the canonical spelling spells its command.
 pub fn spelling_is_read_back()
     ensures spelled { SpelledIsRead }
     ensures once { FrameHasOneReading }
+    ensures read { ReadWasSpelled }
     ensures canonical { CanonicalSpells }
 {}
 
@@ -34,8 +38,25 @@ pub fn edits_keep_soundness()
     ensures clones { (zero_cell : ℕ) (source : Option (Subvolume ℕ)) (is_own : Bool) (path : List ℕ) (offset : ℕ) (clone_path : List ℕ) (from len : ℕ) → KeepsSoundness (λ part. clone zero_cell part source is_own path offset clone_path from len) }
 {}
 
-/// The headline, for files without clones: the composed stream names only outside subvolumes, and every store that
-/// holds these, and neither the last name nor uuid, accepts it and gets exactly the last part's subvolume.
+/// In a lawful subvolume, the first path of an inode is the least of all that lead to it, and there is none
+/// exactly where none does.
+pub fn first_paths_are_least()
+    ensures least { (s : Subvolume ℕ) → IsLawful s → FirstPathsAreLeast s }
+{}
+
+/// The composed commands, from every state, carry the bytes of the commands themselves and the cells of redirected clones
+/// that no outside subvolume carries; their clones are those that are not redirected, and one for each run of carried blocks.
+pub fn composed_commands_are_counted()
+    ensures counted { (store : Store ℕ) (parts : List (List ℕ)) (last : Key) (state : State Traced) (current : Option (List ℕ)) (items : List Item) → AreCounted store parts last state current items }
+{}
+
+/// The headline, for all commands: the composed ones name only outside subvolumes, and every store that holds these, and neither
+/// the last name nor uuid, accepts them and gets exactly the last part's subvolume. So it is for items, whatever of them can be
+/// read, where the subvolumes outside are lawful; and for files of bytes, in terms of the stream that is written, where the
+/// format can say the subvolumes outside. For files without clones these may be of any kind.
 pub fn composed_streams_are_accepted()
-    ensures composed { ComposedHolds }
+    ensures items { ItemsHold }
+    ensures spelled { ItemsSpelled }
+    ensures files { FilesHold }
+    ensures plain { PlainFilesHold }
 {}

@@ -1,5 +1,14 @@
-use Rattle.send_model.proofs.Composed.{composed_holds}
+use Rattle.send_model.proofs.HeadlineLaw.{items_hold, items_spelled, files_hold, plain_files_hold}
 use Rattle.send_model.proofs.laws.composed_streams_are_accepted.Goals as goal
 
-pub returns : goal.returns
-returns c = record { composed = composed_holds }
+pub returns-clause-items : goal.returns-clause-items
+returns-clause-items c = items_hold
+
+pub returns-clause-spelled : goal.returns-clause-spelled
+returns-clause-spelled c = items_spelled
+
+pub returns-clause-files : goal.returns-clause-files
+returns-clause-files c = files_hold
+
+pub returns-clause-plain : goal.returns-clause-plain
+returns-clause-plain c = plain_files_hold
