@@ -5,7 +5,7 @@ here=$(CDPATH='' cd -- "$(dirname -- "$0")" && pwd) || exit 2
 parts=${1:-200}
 files=${2:-2000}
 "$here/../btrsend" --version >/dev/null || exit 2
-program=$here/../crates/send_top/out/send_top
+program=$here/../crates/btrsend/out/btrsend
 folder=$(mktemp -d) || exit 2
 trap 'rm -rf -- "$folder"' EXIT
 trap 'exit 2' HUP INT TERM

@@ -196,7 +196,7 @@ file_stops told inputs file name c0 out0 old new now out_now out_next before pla
           read = s.read;
           all = s.all;
           front = front_after out0 out_now out_next s.sent now.pending s.appends stopped.front;
-          why = ⊎_elim (λ (same, all). subst F (sym (same ∙ outcome_is)) (u s.reached (ap (λ (r : Reading). r.end) front.read) next)) (λ (failed, rose). subst F (sym failed) tt) stopped.outcome_is;
+          why = ⊎_elim (λ same. subst F (sym (same ∙ outcome_is)) (u s.reached (ap (λ (r : Reading). r.end) front.read) next)) (λ failed. subst F (sym failed.0) tt) stopped.outcome_is;
         }
 
 -- Composing stops at the next command, which is not taken.

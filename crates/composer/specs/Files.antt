@@ -1,5 +1,5 @@
 -- What is said of whole files: the files of names, what composing one file and all files ends with, and why it stops.
-use Rattle.std.specs.Prelude.{◌≡◌, ◌⊎◌, ⊤, ℕ, Bool, true, false, List, [], ◌++◌, map, Option, None, Some, Result, Ok, Err}
+use Rattle.std.specs.Prelude.{◌≡◌, ◌≢◌, ◌⊎◌, ⊤, ℕ, Bool, true, false, List, [], ◌++◌, map, Option, None, Some, Result, Ok, Err}
 use Rattle.std.specs.Io.KnownBytes.{Appends}
 use Rattle.send_model.specs.Refusal as meant
 use Rattle.send_model.specs.Command.{Command}
@@ -134,9 +134,10 @@ SendEnd old new out_old out_new before now (Ok done) = (new ≡ record old { pen
 SendEnd old new out_old out_new before now (Err ended.OutputFault) = Rose before now × AppendsPart out_old out_new old.pending
 SendEnd old new out_old out_new before now (Err outcome) = ⊥
 
--- All that was pending was written and the outcome stays, or the output failed after a front part of it.
+-- The outcome stays, or what is pending was to be written first and the output failed; but where the inputs have failed, or
+-- there is no memory, nothing was. A front part of what is pending was written.
 pub record StopEnd (pending : List ℕ) (out_old out_new : Option (List ℕ)) (before now : ℕ) (outcome result : Outcome) : Type 0 where
-  pub outcome_is : ((result ≡ outcome) × Appends out_old out_new pending) ⊎ ((result ≡ ended.OutputFault) × Rose before now)
+  pub outcome_is : (result ≡ outcome) ⊎ ((result ≡ ended.OutputFault) × (outcome ≢ ended.InputFault) × (outcome ≢ ended.NoMemory) × Rose before now)
   pub front : AppendsFront out_old out_new pending
 
 -- ---- one command

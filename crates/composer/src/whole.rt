@@ -150,11 +150,15 @@ fn write_command<O: Sink>(
     }
 }
 
-// The outcome of a run that ends here, once what is pending is written.
+// The outcome of a run that ends here. What is pending is written first, so a fault of the output is answered in place of a
+// refusal; but where the inputs have failed, or there is no memory, nothing more is asked of the output.
 fn stopped<O: Sink>(out: &mut O, composer: &mut Composer, outcome: Outcome) -> Outcome
     ensures later { O.faults out.old ≤ O.faults out.new }
     ensures stopped { StopEnd composer.old.pending (O.taken out.old) (O.taken out.new) (O.faults out.old) (O.faults out.new) outcome result }
 {
+    if let Outcome::InputFault | Outcome::NoMemory = outcome {
+        return outcome;
+    }
     match send(composer, out) {
         Ok(()) => outcome,
         Err(fault) => fault,

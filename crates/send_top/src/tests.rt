@@ -1,47 +1,8 @@
-// What no clause says: that the objects of the system read and write, and what stands in a note.
+// What no clause says: what stands in a note.
 use crate::noting::{Answer, write_note};
-use crate::out_sink::OutSink;
-use crate::path_inputs::PathInputs;
-use std::fs;
 use std::process::Abort;
 use std::test::Fail;
-use sx_base::{Failed, Inputs, MemSink, Outcome, Refusal, Sink, Verdict};
-
-#[test]
-fn files_are_read_in_any_order(rt: HostRuntime) -> Result<(), Fail> {
-    fs::write(&rt, "send_top.one", "0123456789")?;
-    fs::write(&rt, "send_top.two", "other")?;
-    let mut inputs = PathInputs::new(&rt, rt.alloc());
-    let mut buf = [0; 4];
-    let table: [(&str, u64, &[u8]); 7] = [
-        ("send_top.one", 0, b"0123"),
-        ("send_top.one", 4, b"4567"),
-        ("send_top.one", 8, b"89"),
-        ("send_top.one", 10, b""),
-        ("send_top.one", 3, b"3456"),
-        ("send_top.two", 1, b"ther"),
-        ("send_top.one", 0, b"0123"),
-    ];
-    for (name, at, want) in table {
-        let count = inputs.read_at(name, at, &mut buf)?;
-        assert_eq!(rt; &buf[..count], want);
-    }
-    fs::remove_file(&rt, "send_top.one")?;
-    fs::remove_file(&rt, "send_top.two")?;
-    assert_eq!(rt; inputs.read_at("send_top.two", 0, &mut buf), Err(Failed));
-    Ok(())
-}
-
-#[test]
-fn streams_take_what_they_have_room_for(rt: HostRuntime) -> Result<(), Fail> {
-    let mut room = [0; 3];
-    let mut sink = OutSink::new(&mut room[..]);
-    assert_eq!(rt; sink.write(b"ab"), Ok(2));
-    assert_eq!(rt; sink.write(b""), Ok(0));
-    assert_eq!(rt; sink.write(b"cd"), Ok(1));
-    assert_eq!(rt; sink.write(b"d"), Err(Failed));
-    Ok(())
-}
+use sx_base::{MemSink, Outcome, Refusal, Verdict};
 
 #[test]
 fn notes_are_lines(rt: HostRuntime) -> Result<(), Fail> {

@@ -1,0 +1,43 @@
+// What no clause says: that the objects of the system read and write.
+use crate::out_sink::OutSink;
+use crate::path_inputs::PathInputs;
+use std::fs;
+use std::process::Abort;
+use std::test::Fail;
+use sx_base::{Failed, Inputs, Sink};
+
+#[test]
+fn files_are_read_in_any_order(rt: HostRuntime) -> Result<(), Fail> {
+    fs::write(&rt, "host_io.one", "0123456789")?;
+    fs::write(&rt, "host_io.two", "other")?;
+    let mut inputs = PathInputs::new(&rt, rt.alloc());
+    let mut buf = [0; 4];
+    let table: [(&str, u64, &[u8]); 7] = [
+        ("host_io.one", 0, b"0123"),
+        ("host_io.one", 4, b"4567"),
+        ("host_io.one", 8, b"89"),
+        ("host_io.one", 10, b""),
+        ("host_io.one", 3, b"3456"),
+        ("host_io.two", 1, b"ther"),
+        ("host_io.one", 0, b"0123"),
+    ];
+    for (name, at, want) in table {
+        let count = inputs.read_at(name, at, &mut buf)?;
+        assert_eq!(rt; &buf[..count], want);
+    }
+    fs::remove_file(&rt, "host_io.one")?;
+    fs::remove_file(&rt, "host_io.two")?;
+    assert_eq!(rt; inputs.read_at("host_io.two", 0, &mut buf), Err(Failed));
+    Ok(())
+}
+
+#[test]
+fn streams_take_what_they_have_room_for(rt: HostRuntime) -> Result<(), Fail> {
+    let mut room = [0; 3];
+    let mut sink = OutSink::new(&mut room[..]);
+    assert_eq!(rt; sink.write(b"ab"), Ok(2));
+    assert_eq!(rt; sink.write(b""), Ok(0));
+    assert_eq!(rt; sink.write(b"cd"), Ok(1));
+    assert_eq!(rt; sink.write(b"d"), Err(Failed));
+    Ok(())
+}
