@@ -1,5 +1,7 @@
 #![tactic(auto)]
 
+#[cfg(test)]
+mod client;
 mod filling;
 mod journal;
 mod stops;
