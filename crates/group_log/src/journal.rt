@@ -126,6 +126,7 @@ impl Log {
         ensures format { IfOk result (λ log. (log.format ≡ 1) ⊎ (log.format ≡ 2)) }
         ensures limit { IfOk result (λ log. log.limit < 2 ^ 63) }
         ensures opened { D.tells → IfOk result (IsOpened (D.seen disk.new) (D.pending disk.new)) }
+        ensures durable { D.tells → OnOk result (D.pending disk.new ≡ settled (D.seen disk.new)) }
         ensures not_store { D.tells → IsErrOf result (NotStore 0) → HasFault (D.seen disk.old) 0 }
         ensures stops { IfErr result
             (IsFaultOr (Rose (D.faults disk.old) (D.faults disk.new)) (NotStore 0)) }

@@ -1,3 +1,4 @@
+//! The journal of a store: groups behind gates, which a loss of power leaves whole or not there at all.
 #![tactic(auto)]
 
 #[cfg(test)]

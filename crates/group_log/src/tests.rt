@@ -206,6 +206,23 @@ fn a_new_store_takes_a_group(rt: HostRuntime) -> Result<(), Fail> {
 }
 
 #[test]
+fn a_store_is_not_made_over_another(rt: HostRuntime) -> Result<(), Fail> {
+    let alloc = rt.alloc();
+    // Where even the size is not told, the store must stay.
+    for calls in 0..5 {
+        let mut fuse = FuseDisk::new(MemDisk::new(alloc, &FIRST)?, calls);
+        assert!(rt; Log::create(&mut fuse).is_err());
+        let disk = fuse.into_inner();
+        for choice in 0..4 {
+            let mut image = [0; 32];
+            assert_eq!(rt; disk.crash(alloc, choice)?.read(0, &mut image)?, 32);
+            assert_eq!(rt; image, FIRST);
+        }
+    }
+    Ok(())
+}
+
+#[test]
 fn a_store_of_the_first_format_takes_a_group(rt: HostRuntime) -> Result<(), Fail> {
     let mut disk = MemDisk::new(rt.alloc(), &FIRST)?;
     let mut back = [0; 7];
