@@ -1,6 +1,6 @@
 -- How the clock of a disk in memory goes on.
-use Rattle.std.proofs.Common.{◌≡◌, ◌⊎◌, inl, inr, ⊎_elim, ℕ, zero, suc, ◌+◌, ◌-◌, ◌^◌, ◌≤◌, min, Option, Some, None, List, [], ◌∷◌, ◌++◌, length, map, take, refl, sym, ◌∙◌, ap, subst, arith}
-use Rattle.sx_base.specs.Disk.{Pending, IsImage, Agrees, Elapses, forget, written, shortened}
+use Rattle.std.proofs.Common.{◌≡◌, ◌⊎◌, inl, inr, ⊎_elim, ℕ, zero, suc, ◌+◌, ◌-◌, ◌^◌, ◌≤◌, min, Option, Some, None, List, [], ◌∷◌, ◌++◌, length, map, take, refl, sym, ◌∙◌, ap, subst, arith, length-append}
+use Rattle.sx_base.specs.Disk.{Pending, IsImage, Agrees, Rises, Elapses, forget, written, shortened}
 use Rattle.disk_model.specs.declared.stretch.Stretch.{Stretch}
 use Rattle.disk_model.specs.History.{Ended, time, Left}
 
@@ -72,6 +72,12 @@ ends view past later last calls old new is same le = record {
     kept : (t : ℕ) (image : List ℕ) → t ≤ time (length (map view past)) calls → Left 0 (map view past) t image ⊎ IsImage old image → Left 0 (map view past ++ view last ∷ []) t image
     kept t image before (inl had) = keeps_ended 0 (map view past) (view last) t image had
     kept t image before (inr now) = adds_end 0 (map view past) (view last) t image (omega (arith, before, le)) (subst (λ (p : Pending). IsImage p image) (sym same) now)
+
+-- and the clock goes on with it
+pub clock_ends : (view : Stretch → Ended) (past later : List Stretch) (last : Stretch) (calls now : ℕ) → later ≡ past ++ last ∷ [] → Rises (time (length (map view past)) calls) (time (length (map view later)) now)
+clock_ends view past later last calls now is =
+    let more : length (map view later) ≡ length (map view past) + 1 = ap (λ (l : List Stretch). length (map view l)) is ∙ ap length (map-push view past last) ∙ length-append (map view past) (view last ∷ []) in
+    record { later = omega (arith, more); rose = omega (arith, more) }
 
 pub goes_on_written : (before at count : ℕ) (ended : List Ended) (old middle new : Pending) → new ≡ written at count middle → middle ≡ old
     → Elapses before (λ t image. Left 0 ended t image ⊎ IsImage old image) (λ t image. Left 0 ended t image ⊎ IsImage new image) new

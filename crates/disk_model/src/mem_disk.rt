@@ -1,8 +1,7 @@
 // A disk in memory that may crash.
 ghost use Rattle.std.specs.Prelude.{◌≡◌, ◌+◌, ◌-◌, ◌^◌, ◌<◌, ◌≤◌, ◌++◌, [], ◌∷◌, length, take, min, max, IfOk, OnOk, OnErr, IsOk, is_ok, if◌then◌else◌};
 ghost use Rattle.std.proofs.Common.{inr, refl};
-ghost use Rattle.sx_base.specs.Causes.{HasCause};
-ghost use Rattle.sx_base.specs.Disk.{IsAsBefore, IsReadAt, Rises, Elapses, written, shortened, settled, overwritten};
+ghost use Rattle.sx_base.specs.Disk.{IsAsBefore, IsReadAt, Passes, written, shortened, settled, overwritten};
 ghost use Rattle.disk_model.specs.Stretch.{pending_in};
 ghost use Rattle.disk_model.specs.History.{only_this, bytes_are_image};
 ghost use Rattle.disk_model.specs.MemDisk.{seen_of, pending_of, refused_of, moment_of, left_of, past_of};
@@ -49,7 +48,8 @@ impl MemDisk {
     pub fn crash(&self, alloc: Global, choice: u64) -> Result<MemDisk, AllocError>
         ensures image { IfOk result (λ disk. IsImage (pending_of self.now) (seen_of disk)) }
         ensures seen { choice ≡ 0 → IfOk result (λ disk. seen_of disk ≡ seen_of self.now) }
-        ensures stable { choice ≡ 1 → IfOk result (λ disk. seen_of disk ≡ stable_of (pending_of self.now)) }
+        ensures stable { choice ≡ 1 →
+            IfOk result (λ disk. seen_of disk ≡ stable_of (pending_of self.now)) }
         ensures settled { IfOk result (λ disk. pending_of disk ≡ settled (seen_of disk)) }
         ensures refused { IfOk result (λ disk. refused_of disk ≡ 0) }
     {
@@ -102,19 +102,20 @@ impl Disk for MemDisk {
 
     ghost sized = { λ disk tells. refl };
 
-    ghost seen_is_image = { λ disk tells. bytes_are_image disk.current.touched.items disk.current.bytes.items disk.current.greatest };
+    ghost seen_is_image = { λ disk tells.
+        bytes_are_image disk.current.touched.items disk.current.bytes.items disk.current.greatest };
 
     ghost counts_now = { λ disk t image tells le now. inr now };
 
-    ghost only_now = { λ disk image tells left. only_this (past_of disk) disk.current.calls (pending_of disk) image left };
+    ghost only_now = { λ disk image tells left.
+        only_this (past_of disk) disk.current.calls (pending_of disk) image left };
 
     fn size(&mut self) -> Result<u64, Failed>
         ensures size { IfOk result (λ size. size ≡ length (seen_of self.old)) }
         ensures len { length (seen_of self.new) ≡ length (seen_of self.old) }
-        ensures same { IsAsBefore (seen_of self.old) (seen_of self.new) (pending_of self.old) (pending_of self.new) }
-        ensures clock { Rises (moment_of self.old) (moment_of self.new) }
-        ensures time { Elapses (moment_of self.old) (left_of self.old) (left_of self.new) (pending_of self.new) }
-        ensures cause { HasCause (refused_of self.old) (refused_of self.new) result }
+        ensures same { IsAsBefore seen_of pending_of self.old self.new }
+        ensures passes { Passes (Unit {0}) moment_of left_of pending_of refused_of
+            self.old self.new result }
         ensures succeeds { IsOk result }
         ensures refused { refused_of self.new ≡ refused_of self.old }
     {
@@ -124,13 +125,13 @@ impl Disk for MemDisk {
 
     fn read(&mut self, at: u64, buf: &mut [u8]) -> Result<usize, Failed>
         ensures bound { IfOk result (λ count. count ≤ length buf.new) }
-        ensures progress { IfOk result (λ count. count ≡ 0 → 0 < length buf.new → length (seen_of self.old) ≤ at) }
+        ensures progress { IfOk result
+            (λ count. count ≡ 0 → 0 < length buf.new → length (seen_of self.old) ≤ at) }
         ensures bytes { IfOk result (IsReadAt (seen_of self.old) at buf.new) }
         ensures len { length (seen_of self.new) ≡ length (seen_of self.old) }
-        ensures same { IsAsBefore (seen_of self.old) (seen_of self.new) (pending_of self.old) (pending_of self.new) }
-        ensures clock { Rises (moment_of self.old) (moment_of self.new) }
-        ensures time { Elapses (moment_of self.old) (left_of self.old) (left_of self.new) (pending_of self.new) }
-        ensures cause { HasCause (refused_of self.old) (refused_of self.new) result }
+        ensures same { IsAsBefore seen_of pending_of self.old self.new }
+        ensures passes { Passes (Unit {0}) moment_of left_of pending_of refused_of
+            self.old self.new result }
         ensures succeeds { IsOk result }
         ensures refused { refused_of self.new ≡ refused_of self.old }
     {
@@ -145,14 +146,20 @@ impl Disk for MemDisk {
     fn write_at(&mut self, at: u64, piece: &[u8]) -> Result<(), Failed>
         requires place { at ≤ length (seen_of self.old) }
         requires room { at + length piece.now < 2 ^ 63 }
-        ensures len { OnOk result (length (seen_of self.new) ≡ max (length (seen_of self.old)) (at + length piece.now)) }
-        ensures len_err { OnErr result ((length (seen_of self.old) ≤ length (seen_of self.new)) × (length (seen_of self.new) ≤ max (length (seen_of self.old)) (at + length piece.now))) }
-        ensures seen { OnOk result (seen_of self.new ≡ overwritten at piece.now (seen_of self.old)) }
-        ensures pending { pending_of self.new ≡ written at (length piece.now) (pending_of self.old) }
-        ensures clock { Rises (moment_of self.old) (moment_of self.new) }
-        ensures time { Elapses (moment_of self.old) (left_of self.old) (left_of self.new) (pending_of self.new) }
-        ensures cause { HasCause (refused_of self.old) (refused_of self.new) result }
-        ensures refused { refused_of self.new ≡ (if is_ok result then refused_of self.old else min (refused_of self.old + 1) (2 ^ 64 - 1)) }
+        ensures len { OnOk result (length (seen_of self.new)
+            ≡ max (length (seen_of self.old)) (at + length piece.now)) }
+        ensures len_err { OnErr result ((length (seen_of self.old) ≤ length (seen_of self.new))
+            × (length (seen_of self.new) ≤ max (length (seen_of self.old))
+            (at + length piece.now))) }
+        ensures seen { OnOk result
+            (seen_of self.new ≡ overwritten at piece.now (seen_of self.old)) }
+        ensures pending { pending_of self.new
+            ≡ written at (length piece.now) (pending_of self.old) }
+        ensures passes { Passes (Unit {0}) moment_of left_of pending_of refused_of
+            self.old self.new result }
+        ensures refused { refused_of self.new
+            ≡ (if is_ok result then refused_of self.old else min (refused_of self.old + 1)
+            (2 ^ 64 - 1)) }
         ensures seen_err { OnErr result (seen_of self.new ≡ seen_of self.old) }
     {
         self.current.tick();
@@ -168,12 +175,12 @@ impl Disk for MemDisk {
     fn cut(&mut self, size: u64) -> Result<(), Failed>
         requires { size ≤ length (seen_of self.old) }
         ensures len { OnOk result (length (seen_of self.new) ≡ size) }
-        ensures len_err { OnErr result ((size ≤ length (seen_of self.new)) × (length (seen_of self.new) ≤ length (seen_of self.old))) }
+        ensures len_err { OnErr result ((size ≤ length (seen_of self.new))
+            × (length (seen_of self.new) ≤ length (seen_of self.old))) }
         ensures seen { OnOk result (seen_of self.new ≡ take size (seen_of self.old)) }
         ensures pending { pending_of self.new ≡ shortened size (pending_of self.old) }
-        ensures clock { Rises (moment_of self.old) (moment_of self.new) }
-        ensures time { Elapses (moment_of self.old) (left_of self.old) (left_of self.new) (pending_of self.new) }
-        ensures cause { HasCause (refused_of self.old) (refused_of self.new) result }
+        ensures passes { Passes (Unit {0}) moment_of left_of pending_of refused_of
+            self.old self.new result }
         ensures succeeds { IsOk result }
         ensures refused { refused_of self.new ≡ refused_of self.old }
     {
@@ -187,10 +194,11 @@ impl Disk for MemDisk {
         ensures seen { seen_of self.new ≡ seen_of self.old }
         ensures pending { OnOk result (pending_of self.new ≡ settled (seen_of self.old)) }
         ensures pending_err { OnErr result (pending_of self.new ≡ pending_of self.old) }
-        ensures clock { Rises (moment_of self.old) (moment_of self.new) }
-        ensures time { Elapses (moment_of self.old) (left_of self.old) (left_of self.new) (pending_of self.new) }
-        ensures cause { HasCause (refused_of self.old) (refused_of self.new) result }
-        ensures refused { refused_of self.new ≡ (if is_ok result then refused_of self.old else min (refused_of self.old + 1) (2 ^ 64 - 1)) }
+        ensures passes { Passes (Unit {0}) moment_of left_of pending_of refused_of
+            self.old self.new result }
+        ensures refused { refused_of self.new
+            ≡ (if is_ok result then refused_of self.old else min (refused_of self.old + 1)
+            (2 ^ 64 - 1)) }
     {
         self.current.tick();
         match settle(self.alloc, &mut self.current, &mut self.past) {

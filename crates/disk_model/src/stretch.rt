@@ -43,9 +43,11 @@ impl Stretch {
     pub(crate) fn write(&mut self, at: usize, piece: &[u8]) -> Result<(), AllocError>
         requires place { at ≤ length self.old.bytes.items }
         requires room { at + length piece.now < 2 ^ 63 }
-        ensures bytes { OnOk result (self.new.bytes.items ≡ overwritten at piece.now self.old.bytes.items) }
+        ensures bytes { OnOk result
+            (self.new.bytes.items ≡ overwritten at piece.now self.old.bytes.items) }
         ensures kept { OnErr result (self.new.bytes.items ≡ self.old.bytes.items) }
-        ensures pending { pending_in self.new ≡ written at (length piece.now) (pending_in self.old) }
+        ensures pending { pending_in self.new
+            ≡ written at (length piece.now) (pending_in self.old) }
         ensures calls { self.new.calls ≡ self.old.calls }
     {
         let end = at + piece.len();
@@ -81,7 +83,8 @@ impl Stretch {
 fn mark(touched: &mut Vec<bool>, from: usize, to: usize)
     requires order { from ≤ to }
     requires within { to ≤ length touched.old.items }
-    ensures { touched.new.items ≡ take from touched.old.items ++ replicate (to - from) true ++ drop to touched.old.items }
+    ensures { touched.new.items ≡ take from touched.old.items ++ replicate (to - from) true
+        ++ drop to touched.old.items }
 {
     touched[from..to].fill(true);
 }

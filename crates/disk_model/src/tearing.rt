@@ -10,7 +10,8 @@ use std::alloc::{AllocError, Global};
 /// An image that a crash now may leave: with choice 1 what is stable, and otherwise one drawn from the number.
 pub(crate) fn torn(alloc: Global, stretch: &Stretch, choice: u64) -> Result<Vec<u8>, AllocError>
     ensures image { IfOk result (λ image. IsImage (pending_in stretch.now) image.items) }
-    ensures stable { choice ≡ 1 → IfOk result (λ image. image.items ≡ stable_of (pending_in stretch.now)) }
+    ensures stable { choice ≡ 1 →
+        IfOk result (λ image. image.items ≡ stable_of (pending_in stretch.now)) }
 {
     let touched = stretch.touched.as_slice();
     let bytes = stretch.bytes.as_slice();

@@ -1,13 +1,13 @@
 -- What stands behind the groups that were read.
-use Rattle.std.proofs.Common.{◌≡◌, ◌≢◌, ℕ, suc, ◌+◌, ◌-◌, ◌^◌, ◌<◌, ◌≤◌, List, [], ◌∷◌, ◌++◌, length, get_or, take, drop, refl, sym, ◌∙◌, ap, subst, arith, length-append, length-drop, append_assoc, take-append-drop}
+use Rattle.std.proofs.Common.{◌≡◌, ◌≢◌, ◌⊎◌, min, ℕ, suc, ◌+◌, ◌-◌, ◌^◌, ◌<◌, ◌≤◌, List, [], ◌∷◌, ◌++◌, length, get_or, take, drop, refl, sym, ◌∙◌, ap, subst, arith, length-append, length-drop, append_assoc, take-append-drop}
 use Rattle.std.specs.Int.{w64, to_le_bytes, from_le_bytes}
 use Rattle.std.proofs.lemmas.Nat.{le_bytes_8}
 use Rattle.std.proofs.lemmas.List.{drop_at, drop-drop, length-take-le}
 use Rattle.sx_base.specs.Disk.{Pending, IsImage, settled}
 use Rattle.sx_base.specs.Crash.{IsStableFront}
 use Rattle.sx_base.proofs.DiskImages.{settled_front, only_settled}
-use Rattle.send_model.specs.Image.{HasFault, IsCutShort, front_of, group_of, limit_of}
-use Rattle.group_log.specs.declared.journal.Log.{Log}
+use Rattle.send_model.specs.Image.{Header, HasFault, IsCutShort, start_of, front_of, group_of}
+use Rattle.group_log.specs.State.{LogState}
 use Rattle.group_log.specs.declared.journal.GroupPlace.{GroupPlace}
 use Rattle.group_log.specs.declared.journal.Stage.TheVariants.{Reading}
 use Rattle.group_log.specs.Journal.{Reads, Rests, IsNext, IsOpened}
@@ -29,16 +29,25 @@ head_is (b ∷ rest) buffer some one is =
     let whole : buffer ≡ b ∷ [] = is ∙ ap (λ (n : ℕ). take n (b ∷ rest)) one in
     ap (λ (l : List ℕ). get_or l 0 0 ∷ rest) (sym whole)
 
-module _ (number : ℕ) (bodies : List (List ℕ)) (log : Log) (seen : List ℕ) (pending : Pending) (reads : Reads number bodies log seen pending) (size : log.size ≡ length seen) where
+module _ (header : Header) (bodies : List (List ℕ)) (log : LogState) (seen : List ℕ) (pending : Pending) (reads : Reads header bodies log seen pending) (size : log.size ≡ length seen) where
   pub rest_is : drop log.gate seen ≡ reads.rest
-  rest_is = ap (λ (l : List ℕ). drop log.gate l) reads.bytes ∙ drop_at (front_of number bodies) reads.rest log.gate (sym reads.behind.place)
+  rest_is = ap (λ (l : List ℕ). drop log.gate l) reads.bytes ∙ drop_at (front_of header bodies) reads.rest log.gate (sym reads.behind.place)
 
   length-rest : log.size ≡ log.gate + length reads.rest
-  length-rest = omega (arith, size, ap length reads.bytes, length-append (front_of number bodies) reads.rest, reads.behind.place)
+  length-rest = omega (arith, size, ap length reads.bytes, length-append (front_of header bodies) reads.rest, reads.behind.place)
 
   fault : IsCutShort reads.rest → HasFault seen (log.groups + 1)
   fault torn =
-      let at : HasFault seen (suc log.groups) = record { number = number; bodies = bodies; rest = reads.rest; bytes = reads.bytes; count = sym reads.behind.count; torn = torn } in
+      let at : HasFault seen (suc log.groups) = record {
+        header = header;
+        bodies = bodies;
+        rest = reads.rest;
+        bytes = reads.bytes;
+        count = sym reads.behind.count;
+        torn = torn;
+        lawful = reads.behind.lawful;
+        lengths_fit = reads.behind.lengths_fit;
+      } in
       subst (λ (n : ℕ). HasFault seen n) (let e : suc log.groups ≡ log.groups + 1 = omega arith in e) at
 
   -- no byte is left for a gate
@@ -53,13 +62,13 @@ module _ (number : ℕ) (bodies : List (List ℕ)) (log : Log) (seen : List ℕ)
     gate_is = head_is reads.rest buffer (omega (arith, some, length-rest)) one (is ∙ ap (λ (l : List ℕ). take (length buffer) l) rest_is)
 
     -- the gate is closed
-    pub closed_rests : (new : Log) (now : List ℕ) (known : Pending) → new.gate ≡ log.gate → new.groups ≡ log.groups → new.limit ≡ log.limit → now ≡ seen → known ≡ pending → get_or buffer 0 0 ≢ 1 → Rests number bodies new now known
-    closed_rests new now known gate groups limit same stable closed =
+    pub closed_rests : (new : LogState) (now : List ℕ) (known : Pending) → new.gate ≡ log.gate → new.groups ≡ log.groups → new.format ≡ log.format → new.limit ≡ log.limit → now ≡ seen → known ≡ pending → get_or buffer 0 0 ≢ 1 → Rests header bodies new now known
+    closed_rests new now known gate groups format limit same stable closed =
         let g = get_or buffer 0 0 in
-        let front = front_of number bodies in
+        let front = front_of header bodies in
         let bytes : now ≡ front ++ g ∷ tail = same ∙ reads.bytes ∙ ap (λ (l : List ℕ). front ++ l) gate_is in
         record {
-          behind = behind_same number bodies log new gate groups limit reads.behind;
+          behind = behind_same header bodies log new gate groups format limit reads.behind;
           gate = g;
           closed = closed;
           rest = tail;
@@ -91,10 +100,10 @@ module _ (number : ℕ) (bodies : List (List ℕ)) (log : Log) (seen : List ℕ)
           cut_short len open_gate (omega (arith, short, length-tail, same_len))
 
       -- the group is whole
-      pub whole_group : (are_bytes : (i : ℕ) → get_or digits i 0 < 256) → len < 2 ^ 64 → 9 ≤ log.size - log.gate → len ≤ log.size - log.gate - 9 → (new : Log) (now : List ℕ) (known : Pending) (place : GroupPlace)
-          → new.gate ≡ log.gate + 9 + len → new.groups ≡ log.groups + 1 → new.limit ≡ log.limit → new.stage ≡ Reading → now ≡ seen → known ≡ pending → place.number ≡ log.groups + 1 → place.at ≡ log.gate + 9 → place.len ≡ len → IsNext number bodies new now known place
-      whole_group are_bytes fits long within new now known place gate groups limit stage unchanged stable p_number p_at p_len =
-          let front = front_of number bodies in
+      pub whole_group : (are_bytes : (i : ℕ) → get_or digits i 0 < 256) → len < 2 ^ 64 → 9 ≤ log.size - log.gate → len ≤ log.size - log.gate - 9 → (new : LogState) (now : List ℕ) (known : Pending) (place : GroupPlace)
+          → new.gate ≡ log.gate + 9 + len → new.groups ≡ log.groups + 1 → new.format ≡ log.format → new.limit ≡ log.limit → new.stage ≡ Reading → now ≡ seen → known ≡ pending → place.number ≡ log.groups + 1 → place.at ≡ log.gate + 9 → place.len ≡ len → IsNext header bodies new now known place
+      whole_group are_bytes fits long within new now known place gate groups format limit stage unchanged stable p_number p_at p_len =
+          let front = front_of header bodies in
           let behind_length = drop 8 tail in
           let body = take len behind_length in
           let others = drop len behind_length in
@@ -104,18 +113,19 @@ module _ (number : ℕ) (bodies : List (List ℕ)) (log : Log) (seen : List ℕ)
           sym (take-append-drop 8 tail) ∙ ap (λ (l : List ℕ). l ++ behind_length) (sym first_eight ∙ written) ∙ ap (λ (l : List ℕ). to_le_bytes w64 (length body) ++ l) (sym (take-append-drop len behind_length)) in
           let rest_split : reads.rest ≡ group_of body ++ others =
           gate_is ∙ ap (λ (g : ℕ). g ∷ tail) open_gate ∙ ap (λ (l : List ℕ). 1 ∷ l) tail_split ∙ sym (append_assoc (1 ∷ to_le_bytes w64 (length body)) body others) in
-          let bytes : now ≡ front_of number (bodies ++ body ∷ []) ++ others =
-          unchanged ∙ reads.bytes ∙ ap (λ (l : List ℕ). front ++ l) rest_split ∙ sym (append_assoc front (group_of body) others) ∙ ap (λ (l : List ℕ). l ++ others) (sym (front_push number bodies body)) in
-          let front_size : length (front_of number (bodies ++ body ∷ [])) ≡ length front + (9 + length body) =
-          ap length (front_push number bodies body) ∙ length-append front (group_of body) ∙ ap (λ (n : ℕ). length front + n) (length-group body) in
+          let bytes : now ≡ front_of header (bodies ++ body ∷ []) ++ others =
+          unchanged ∙ reads.bytes ∙ ap (λ (l : List ℕ). front ++ l) rest_split ∙ sym (append_assoc front (group_of body) others) ∙ ap (λ (l : List ℕ). l ++ others) (sym (front_push header bodies body)) in
+          let front_size : length (front_of header (bodies ++ body ∷ [])) ≡ length front + (9 + length body) =
+          ap length (front_push header bodies body) ∙ length-append front (group_of body) ∙ ap (λ (n : ℕ). length front + n) (length-group body) in
           record {
             body = body;
             reads = record {
               behind = record {
                 place = omega (arith, gate, reads.behind.place, front_size, size_of);
                 count = omega (arith, groups, reads.behind.count, length-bodies bodies body);
+                format = format ∙ reads.behind.format;
                 limit = limit ∙ reads.behind.limit;
-                number_fits = reads.behind.number_fits;
+                lawful = reads.behind.lawful;
                 lengths_fit = fits_push bodies body reads.behind.lengths_fit (omega (arith, size_of, fits));
               };
               stage = stage;
@@ -128,26 +138,30 @@ module _ (number : ℕ) (bodies : List (List ℕ)) (log : Log) (seen : List ℕ)
             len = p_len ∙ sym size_of;
           }
 
--- the text of the header, and the number of the format
-abbrev pub start_of : List ℕ
-start_of = 0x73 ∷ 0x6e ∷ 0x64 ∷ 0x73 ∷ 0x74 ∷ 0x6f ∷ 0x72 ∷ 0x65 ∷ 1 ∷ 0 ∷ 0 ∷ 0 ∷ []
-
 -- a header that was read
-pub header_opened : (log : Log) (seen middle now : List ℕ) (known : Pending) (start digits : List ℕ) → start ≡ start_of → start ≡ take (length start) (drop 0 seen) → length digits ≡ 8 → ((i : ℕ) → get_or digits i 0 < 256) → middle ≡ seen → digits ≡ take (length digits) (drop 12 middle)
-    → from_le_bytes w64 digits < 2 ^ 64 → log.limit ≡ limit_of (from_le_bytes w64 digits) → log.gate ≡ 20 → log.groups ≡ 0 → log.stage ≡ Reading → now ≡ seen → known ≡ settled now → IsOpened log now known
-header_opened log seen middle now known start digits text read_start eight are_bytes same read_digits fits limit gate groups stage unchanged stable =
+pub header_opened : (log : LogState) (format : ℕ) (seen middle now : List ℕ) (known : Pending) (start digits : List ℕ) → (format ≡ 1) ⊎ (format ≡ 2) → start ≡ start_of format → start ≡ take (length start) (drop 0 seen) → length digits ≡ 8 → ((i : ℕ) → get_or digits i 0 < 256) → middle ≡ seen → digits ≡ take (length digits) (drop 12 middle)
+    → from_le_bytes w64 digits < 2 ^ 64 → log.format ≡ format → log.limit ≡ min (from_le_bytes w64 digits) (2 ^ 63 - 1) → log.gate ≡ 20 → log.groups ≡ 0 → log.stage ≡ Reading → now ≡ seen → known ≡ settled now → IsOpened now known log
+header_opened log format seen middle now known start digits lawful text read_start eight are_bytes same read_digits fits is_format limit gate groups stage unchanged stable =
     let number = from_le_bytes w64 digits in
-    let twelve : take 12 seen ≡ start_of = sym (read_start ∙ ap (λ (l : List ℕ). take (length l) seen) text) ∙ text in
+    let twelve : take 12 seen ≡ start_of format = sym (read_start ∙ ap (λ (l : List ℕ). take (length l) seen) text) ∙ text in
     let next_eight : take 8 (drop 12 seen) ≡ to_le_bytes w64 number =
     sym (read_digits ∙ ap (λ (n : ℕ). take n (drop 12 middle)) eight ∙ ap (λ (l : List ℕ). take 8 (drop 12 l)) same) ∙ sym (le_bytes_8 digits number eight are_bytes refl) in
-    let split : seen ≡ start_of ++ (to_le_bytes w64 number ++ drop 8 (drop 12 seen)) =
-    sym (take-append-drop 12 seen) ∙ ap (λ (l : List ℕ). l ++ drop 12 seen) twelve ∙ ap (λ (l : List ℕ). start_of ++ l) (sym (take-append-drop 8 (drop 12 seen)))
-    ∙ ap (λ (l : List ℕ). start_of ++ (l ++ drop 8 (drop 12 seen))) next_eight in
-    let bytes : now ≡ front_of number [] ++ drop 8 (drop 12 seen) = unchanged ∙ split in
+    let split : seen ≡ start_of format ++ (to_le_bytes w64 number ++ drop 8 (drop 12 seen)) =
+    sym (take-append-drop 12 seen) ∙ ap (λ (l : List ℕ). l ++ drop 12 seen) twelve ∙ ap (λ (l : List ℕ). start_of format ++ l) (sym (take-append-drop 8 (drop 12 seen)))
+    ∙ ap (λ (l : List ℕ). start_of format ++ (l ++ drop 8 (drop 12 seen))) next_eight in
+    let header : Header = record { format = format; number = number } in
+    let bytes : now ≡ front_of header [] ++ drop 8 (drop 12 seen) = unchanged ∙ split in
     record {
-      number = number;
+      header = header;
       reads = record {
-        behind = record { place = gate; count = groups; limit = limit; number_fits = fits; lengths_fit = tt };
+        behind = record {
+          place = gate;
+          count = groups;
+          format = is_format;
+          limit = limit;
+          lawful = record { format = lawful; number_fits = fits };
+          lengths_fit = tt;
+        };
         stage = stage;
         rest = drop 8 (drop 12 seen);
         bytes = bytes;

@@ -1,4 +1,5 @@
-mod GatedGroups
+pub mod GatedGroups
 mod GroupReads
 mod GroupWrites
 pub mod OneJournal
+pub mod Publishing

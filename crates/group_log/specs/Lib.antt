@@ -1,2 +1,5 @@
 pub mod Journal
+pub mod Published
+pub mod Shown
+pub mod State
 pub mod Stopping

@@ -1,7 +1,7 @@
 -- What a disk holds, and what a crash may leave of it. A crash is a loss of power: what was stable stays, and of
 -- what was written since the last successful sync any part may have reached the disk.
-use Rattle.std.specs.Prelude.{◌≡◌, ◌⊎◌, ℕ, zero, suc, ◌+◌, ◌-◌, ◌≤◌, max, Option, Some, None, List, [], ◌∷◌, ◌++◌, length, take, drop, map}
-use Rattle.sx_base.specs.Causes.{Rose}
+use Rattle.std.specs.Prelude.{◌≡◌, ◌⊎◌, ℕ, zero, suc, ◌+◌, ◌-◌, ◌≤◌, max, Option, Some, None, Result, List, [], ◌∷◌, ◌++◌, length, take, drop, map}
+use Rattle.sx_base.specs.Causes.{HasCause, Rose}
 
 -- What is known of the disk since its last successful sync. For each place below the least size since then, `known`
 -- has the byte that is stable there, or None where a range written since then holds the place; `greatest` is the
@@ -47,9 +47,9 @@ abbrev pub overwritten : ℕ → List ℕ → List ℕ → List ℕ
 overwritten at piece bytes = take at bytes ++ piece ++ drop (at + length piece) bytes
 
 -- What is read and what a crash may leave are as before.
-pub record IsAsBefore (seen_old seen_new : List ℕ) (pending_old pending_new : Pending) : Type 0 where
-  pub seen : seen_new ≡ seen_old
-  pub pending : pending_new ≡ pending_old
+pub record IsAsBefore {D : Type 0} (seen_of : D → List ℕ) (pending_of : D → Pending) (old new : D) : Type 0 where
+  pub seen : seen_of new ≡ seen_of old
+  pub pending : pending_of new ≡ pending_of old
 
 -- The first `count` bytes of the buffer are those of the bytes from `at` on.
 pub record IsReadAt (bytes : List ℕ) (at : ℕ) (buffer : List ℕ) (count : ℕ) : Type 0 where
@@ -66,3 +66,10 @@ pub record Rises (before now : ℕ) : Type 0 where
 pub record Elapses (before : ℕ) (past since : ℕ → List ℕ → Type 0) (pending : Pending) : Type 0 where
   pub nothing_else : (t : ℕ) (image : List ℕ) → t ≤ before → since t image → past t image ⊎ IsImage pending image
   pub keeps : (t : ℕ) (image : List ℕ) → t ≤ before → past t image → since t image
+
+-- What holds of every call to a disk, whatever it answers: the clock rose; where the disk tells, time went on; the count of
+-- faults did not fall, and a failure has its cause in it.
+pub record Passes {D T E : Type 0} (tells : Type 0) (moment : D → ℕ) (left_since : D → ℕ → List ℕ → Type 0) (pending : D → Pending) (faults : D → ℕ) (old new : D) (result : Result T E) : Type 0 where
+  pub clock : Rises (moment old) (moment new)
+  pub time : tells → Elapses (moment old) (left_since old) (left_since new) (pending new)
+  pub cause : HasCause (faults old) (faults new) result

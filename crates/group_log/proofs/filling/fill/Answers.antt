@@ -11,7 +11,7 @@ loop-done-init g c = record {
   len = search rules;
   bytes = λ tells. search rules;
   same = λ tells. search rules;
-  any_moment = λ tells. begins (g.D.Disk.moment c.args.disk.now) (g.D.Disk.left_since c.args.disk.now) (g.D.Disk.pending c.args.disk.now) (IsImage (g.D.Disk.pending c.args.disk.now)) (λ image left. g.met.D.Disk.only_now c.args.disk.now image tells left) (λ image is. is);
+  any_moment = λ tells. begins c.args.disk.now (λ image left. g.met.D.Disk.only_now c.args.disk.now image tells left) (λ image is. is);
   faults = search rules;
 }
 
@@ -26,7 +26,7 @@ loop-done-preserved g c =
       bytes = λ tells. filled_more c.args.at c.loop-done.done c.in_ok-done.field-0 c.loop-done.buf c.read.new.buf _ (g.D.Disk.seen c.args.disk.now) i.within r.bound (i.bytes tells)
           ((r.bytes tells).same ∙ ap (λ (l : List ℕ). take c.in_ok-done.field-0 (drop (c.args.at + c.loop-done.done) l)) (i.same tells).seen);
       same = λ tells. record { seen = (c.read.ensures.same tells).seen ∙ (i.same tells).seen; pending = (c.read.ensures.same tells).pending ∙ (i.same tells).pending };
-      any_moment = λ tells. goes_on _ _ _ _ _ _ _ _ (i.any_moment tells) c.read.ensures.clock (c.read.ensures.time tells)
+      any_moment = λ tells. goes_on (i.any_moment tells) c.read.ensures.passes tells
           (λ image is. subst (λ (p : Pending). IsImage p image) ((c.read.ensures.same tells).pending ∙ (i.same tells).pending) is);
       faults = search rules;
     }

@@ -11,8 +11,8 @@ invariant-loop-done g l =
       within : l.done ≤ length l.buf;
       len : D.len l.disk ≡ D.len l.fn.disk;
       bytes : D.tells → take l.done l.buf ≡ take l.done (drop l.at (D.seen l.fn.disk));
-      same : D.tells → IsAsBefore (D.seen l.fn.disk) (D.seen l.disk) (D.pending l.fn.disk) (D.pending l.disk);
-      any_moment : D.tells → LeavesOnly (D.moment l.fn.disk) (D.moment l.disk) (D.left_since l.fn.disk) (D.left_since l.disk) (IsImage (D.pending l.fn.disk));
+      same : D.tells → IsAsBefore D.seen D.pending l.fn.disk l.disk;
+      any_moment : D.tells → LeavesOnly D.moment D.left_since l.fn.disk l.disk (IsImage (D.pending l.fn.disk));
       faults : D.faults l.fn.disk ≤ D.faults l.disk;
     }
 

@@ -1,5 +1,10 @@
+use Rattle.std.proofs.Common.{rules}
 use Rattle.disk_model.proofs.Stopped.{stopped_cause}
 use Rattle.disk_model.proofs.fuse_disk.FuseDiskDisk.cut.Goals as goal
 
-pub returns-else-passes-clause-cause : goal.returns-else-passes-clause-cause
-returns-else-passes-clause-cause g c = stopped_cause c.passes-passes.result _ _ _ _ _ c.if-passes.false c.passes-passes.ensures.grows c.passes-passes.ensures.failed c.cut-outcome.ensures.cause.later
+pub returns-then-not-passes-clause-passes : goal.returns-then-not-passes-clause-passes
+returns-then-not-passes-clause-passes g c = record {
+  clock = search rules;
+  time = λ tells. search rules;
+  cause = stopped_cause g.D.Disk.faults _ _ (record { disk = c.cut-outcome.new.self; left = c.passes-passes.new.left; stopped = c.passes-passes.new.stopped }) c.passes-passes.result _ c.self.view_is c.if-not-passes.true c.passes-passes.ensures.grows c.passes-passes.ensures.stopped c.cut-outcome.ensures.passes.cause.later;
+}

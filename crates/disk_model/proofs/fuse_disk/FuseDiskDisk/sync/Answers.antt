@@ -1,5 +1,10 @@
+use Rattle.std.proofs.Common.{rules}
 use Rattle.disk_model.proofs.Stopped.{stopped_cause}
 use Rattle.disk_model.proofs.fuse_disk.FuseDiskDisk.sync.Goals as goal
 
-pub returns-clause-cause : goal.returns-clause-cause
-returns-clause-cause g c = stopped_cause c.passes-passes.result _ _ _ _ _ c.if-passes.false c.passes-passes.ensures.grows c.passes-passes.ensures.failed c.size.ensures.cause.later
+pub returns-clause-passes : goal.returns-clause-passes
+returns-clause-passes g c = record {
+  clock = search rules;
+  time = λ tells. search rules;
+  cause = stopped_cause g.D.Disk.faults _ _ (record { disk = c.size.new.self; left = c.passes-passes.new.left; stopped = c.passes-passes.new.stopped }) c.passes-passes.result _ c.self.view_is c.if-passes.false c.passes-passes.ensures.grows c.passes-passes.ensures.stopped c.size.ensures.passes.cause.later;
+}

@@ -1,44 +1,55 @@
-use Rattle.std.proofs.Common.{◌≡◌, ◌+◌, ◌≤◌, length, refl, sym, ◌∙◌, arith}
-use Rattle.send_model.specs.Image.{front_of}
+use Rattle.std.proofs.Common.{◌≡◌, ℕ, ◌+◌, ◌≤◌, length, refl, sym, ◌∙◌, ap, subst, arith}
 use Rattle.sx_base.proofs.DiskMoments.{begins, goes_on}
-use Rattle.group_log.proofs.GatedGroups.{stable_has}
+use Rattle.send_model.specs.Checksum.{crc_of}
+use Rattle.send_model.specs.Image.{front_of}
+use Rattle.send_model.proofs.ChecksumLaws.{crc_of-append}
+use Rattle.group_log.specs.State.{LogState}
+use Rattle.group_log.specs.Shown.{shown}
+use Rattle.group_log.specs.Journal.{IsInProgress, Grows}
+use Rattle.group_log.proofs.GatedGroups.{stable_has, grows_has}
 use Rattle.group_log.proofs.GroupWrites.{behind_same, keeps_written, added_is}
 use Rattle.group_log.proofs.journal.Log.append.Goals as goal
 
-pub returns-then-saturating_sub-wanted-clause-any_moment : goal.returns-then-saturating_sub-wanted-clause-any_moment
-returns-then-saturating_sub-wanted-clause-any_moment g c tells number bodies body grows =
-    begins (g.D.Disk.moment c.args.disk.now) (g.D.Disk.left_since c.args.disk.now) _ _ (λ image. g.met.D.Disk.only_now c.args.disk.now image tells)
-    (λ image. stable_has number bodies c.args.self.now grows.gate _ image grows.behind grows.closed grows.stable)
+pub returns-then-self-at-clause-any_moment : goal.returns-then-self-at-clause-any_moment
+returns-then-self-at-clause-any_moment g c tells header bodies body grows =
+    let log = shown c.self.inside in
+    let grew = subst (λ (l : LogState). Grows header bodies body l (g.D.Disk.seen c.args.disk.now) (g.D.Disk.pending c.args.disk.now)) (sym c.self.view_is) grows in
+    begins c.args.disk.now (λ image. g.met.D.Disk.only_now c.args.disk.now image tells) (grows_has header bodies body log _ _ grew)
 
 pub returns-in_err-write_at-clause-any_moment : goal.returns-in_err-write_at-clause-any_moment
-returns-in_err-write_at-clause-any_moment g c tells number bodies body grows =
-    let log = c.args.self.now in
-    let past : log.gate + 1 ≤ log.size = omega (arith, c.requires.begun) in
-    let start = begins (g.D.Disk.moment c.args.disk.now) (g.D.Disk.left_since c.args.disk.now) _ _ (λ image. g.met.D.Disk.only_now c.args.disk.now image tells)
-    (λ image. stable_has number bodies log grows.gate _ image grows.behind grows.closed grows.stable) in
-    let stable = keeps_written number bodies log grows.gate log.size _ _ _ grows.behind past (c.write_at.ensures.pending tells) grows.stable in
-    goes_on _ _ _ _ _ _ _ _ start c.write_at.ensures.clock (c.write_at.ensures.time tells) (λ image. stable_has number bodies log grows.gate _ image grows.behind grows.closed stable)
+returns-in_err-write_at-clause-any_moment g c tells header bodies body grows =
+    let log = shown c.self.inside in
+    let grew = subst (λ (l : LogState). Grows header bodies body l (g.D.Disk.seen c.args.disk.now) (g.D.Disk.pending c.args.disk.now)) (sym c.self.view_is) grows in
+    let fits = subst (λ (l : LogState). IsInProgress (g.D.Disk.len c.args.disk.now) l) (sym c.self.view_is) c.requires in
+    let past : log.gate + 1 ≤ log.size = omega (arith, fits.begun) in
+    let start = begins c.args.disk.now (λ image. g.met.D.Disk.only_now c.args.disk.now image tells) (grows_has header bodies body log _ _ grew) in
+    let stable = keeps_written header bodies log grew.gate log.size _ _ _ grew.behind past (c.write_at.ensures.pending tells) grew.stable in
+    goes_on start c.write_at.ensures.passes tells (λ image. stable_has header bodies log grew.gate _ image grew.behind grew.closed stable)
 
 pub returns-clause-any_moment : goal.returns-clause-any_moment
-returns-clause-any_moment g c tells number bodies body grows =
-    let log = c.args.self.now in
-    let past : log.gate + 1 ≤ log.size = omega (arith, c.requires.begun) in
-    let start = begins (g.D.Disk.moment c.args.disk.now) (g.D.Disk.left_since c.args.disk.now) _ _ (λ image. g.met.D.Disk.only_now c.args.disk.now image tells)
-    (λ image. stable_has number bodies log grows.gate _ image grows.behind grows.closed grows.stable) in
-    let stable = keeps_written number bodies log grows.gate log.size _ _ _ grows.behind past (c.write_at.ensures.pending tells) grows.stable in
-    goes_on _ _ _ _ _ _ _ _ start c.write_at.ensures.clock (c.write_at.ensures.time tells) (λ image. stable_has number bodies log grows.gate _ image grows.behind grows.closed stable)
+returns-clause-any_moment g c tells header bodies body grows =
+    let log = shown c.self.inside in
+    let grew = subst (λ (l : LogState). Grows header bodies body l (g.D.Disk.seen c.args.disk.now) (g.D.Disk.pending c.args.disk.now)) (sym c.self.view_is) grows in
+    let fits = subst (λ (l : LogState). IsInProgress (g.D.Disk.len c.args.disk.now) l) (sym c.self.view_is) c.requires in
+    let past : log.gate + 1 ≤ log.size = omega (arith, fits.begun) in
+    let start = begins c.args.disk.now (λ image. g.met.D.Disk.only_now c.args.disk.now image tells) (grows_has header bodies body log _ _ grew) in
+    let stable = keeps_written header bodies log grew.gate log.size _ _ _ grew.behind past (c.write_at.ensures.pending tells) grew.stable in
+    goes_on start c.write_at.ensures.passes tells (λ image. stable_has header bodies log grew.gate _ image grew.behind grew.closed stable)
 
-pub returns-clause-added : goal.returns-clause-added
-returns-clause-added g c tells number bodies body grows =
-    let log = c.args.self.now in
-    let past : log.gate + 1 ≤ log.size = omega (arith, c.requires.begun) in
-    let end : log.size ≡ length (g.D.Disk.seen c.args.disk.now) = sym c.requires.size ∙ g.met.D.Disk.sized c.args.disk.now tells in
+pub returns-clause-grows : goal.returns-clause-grows
+returns-clause-grows g c tells header bodies body grows =
+    let log = shown c.self.inside in
+    let grew = subst (λ (l : LogState). Grows header bodies body l (g.D.Disk.seen c.args.disk.now) (g.D.Disk.pending c.args.disk.now)) (sym c.self.view_is) grows in
+    let fits = subst (λ (l : LogState). IsInProgress (g.D.Disk.len c.args.disk.now) l) (sym c.self.view_is) c.requires in
+    let past : log.gate + 1 ≤ log.size = omega (arith, fits.begun) in
+    let end : log.size ≡ length (g.D.Disk.seen c.args.disk.now) = sym fits.size ∙ g.met.D.Disk.sized c.args.disk.now tells in
     record {
-      behind = behind_same number bodies log _ refl refl refl grows.behind;
-      gate = grows.gate;
-      closed = grows.closed;
-      space = grows.space;
-      eight = grows.eight;
-      bytes = added_is (front_of number bodies) grows.gate log.size grows.space body c.args.bytes.now _ _ grows.bytes end (c.in_ok-write_at.ensures.seen tells);
-      stable = keeps_written number bodies log grows.gate log.size _ _ _ grows.behind past (c.write_at.ensures.pending tells) grows.stable;
+      behind = behind_same header bodies log _ refl refl refl refl grew.behind;
+      sum = c.update-self-inside.ensures ∙ ap (λ (n : ℕ). crc_of n c.args.bytes.now) grew.sum ∙ sym (crc_of-append 0 body c.args.bytes.now);
+      gate = grew.gate;
+      closed = grew.closed;
+      space = grew.space;
+      eight = grew.eight;
+      bytes = added_is (front_of header bodies) grew.gate log.size grew.space body c.args.bytes.now _ _ grew.bytes end (c.in_ok-write_at.ensures.seen tells);
+      stable = keeps_written header bodies log grew.gate log.size _ _ _ grew.behind past (c.write_at.ensures.pending tells) grew.stable;
     }

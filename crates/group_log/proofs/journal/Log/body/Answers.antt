@@ -1,53 +1,61 @@
-use Rattle.std.proofs.Common.{◌+◌, [], ◌∷◌, refl, arith}
+use Rattle.std.proofs.Common.{◌+◌, ◌≤◌, [], ◌∷◌, refl, sym, subst, arith}
 use Rattle.sx_base.proofs.DiskMoments.{begins, goes_on}
-use Rattle.group_log.proofs.GatedGroups.{stable_has}
-use Rattle.group_log.proofs.GroupWrites.{behind_same, keeps_written, keeps_shortened, cut_is, begun_is}
+use Rattle.group_log.specs.State.{LogState}
+use Rattle.group_log.specs.Shown.{shown}
+use Rattle.group_log.specs.Journal.{Rests}
+use Rattle.group_log.proofs.GatedGroups.{stable_has, rests_has}
+use Rattle.group_log.proofs.GroupWrites.{behind_same, keeps_written, keeps_shortened, cut_is, begun_is, none_summed}
 use Rattle.group_log.proofs.journal.Log.body.Goals as goal
 
-pub returns-then-saturating_sub-le-GROUP_HEAD-clause-any_moment : goal.returns-then-saturating_sub-le-GROUP_HEAD-clause-any_moment
-returns-then-saturating_sub-le-GROUP_HEAD-clause-any_moment g c tells number bodies rests =
-    begins (g.D.Disk.moment c.args.disk.now) (g.D.Disk.left_since c.args.disk.now) _ _ (λ image. g.met.D.Disk.only_now c.args.disk.now image tells)
-    (λ image. stable_has number bodies c.args.self.now rests.gate _ image rests.behind rests.closed rests.stable)
+pub returns-then-saturating_sub-clause-any_moment : goal.returns-then-saturating_sub-clause-any_moment
+returns-then-saturating_sub-clause-any_moment g c tells header bodies rests =
+    let log = shown c.self.inside in
+    let was = subst (λ (l : LogState). Rests header bodies l (g.D.Disk.seen c.args.disk.now) (g.D.Disk.pending c.args.disk.now)) (sym c.self.view_is) rests in
+    begins c.args.disk.now (λ image. g.met.D.Disk.only_now c.args.disk.now image tells) (rests_has header bodies log _ _ was)
 
 pub returns-in_err-cut-clause-any_moment : goal.returns-in_err-cut-clause-any_moment
-returns-in_err-cut-clause-any_moment g c tells number bodies rests =
-    let log = c.args.self.now in
-    let start = begins (g.D.Disk.moment c.args.disk.now) (g.D.Disk.left_since c.args.disk.now) _ _ (λ image. g.met.D.Disk.only_now c.args.disk.now image tells)
-    (λ image. stable_has number bodies log rests.gate _ image rests.behind rests.closed rests.stable) in
-    let short = keeps_shortened number bodies log rests.gate (log.gate + 1) _ _ rests.behind (omega arith) (c.cut.ensures.pending tells) rests.stable in
-    goes_on _ _ _ _ _ _ _ _ start c.cut.ensures.clock (c.cut.ensures.time tells) (λ image. stable_has number bodies log rests.gate _ image rests.behind rests.closed short)
+returns-in_err-cut-clause-any_moment g c tells header bodies rests =
+    let log = shown c.self.inside in
+    let was = subst (λ (l : LogState). Rests header bodies l (g.D.Disk.seen c.args.disk.now) (g.D.Disk.pending c.args.disk.now)) (sym c.self.view_is) rests in
+    let at_gate : log.gate + 1 ≤ log.gate + 1 = omega arith in
+    let start = begins c.args.disk.now (λ image. g.met.D.Disk.only_now c.args.disk.now image tells) (rests_has header bodies log _ _ was) in
+    let short = keeps_shortened header bodies log was.gate (log.gate + 1) _ _ was.behind at_gate (c.cut.ensures.pending tells) was.stable in
+    goes_on start c.cut.ensures.passes tells (λ image. stable_has header bodies log was.gate _ image was.behind was.closed short)
 
 pub returns-in_err-write_at-clause-any_moment : goal.returns-in_err-write_at-clause-any_moment
-returns-in_err-write_at-clause-any_moment g c tells number bodies rests =
-    let log = c.args.self.now in
-    let start = begins (g.D.Disk.moment c.args.disk.now) (g.D.Disk.left_since c.args.disk.now) _ _ (λ image. g.met.D.Disk.only_now c.args.disk.now image tells)
-    (λ image. stable_has number bodies log rests.gate _ image rests.behind rests.closed rests.stable) in
-    let short = keeps_shortened number bodies log rests.gate (log.gate + 1) _ _ rests.behind (omega arith) (c.cut.ensures.pending tells) rests.stable in
-    let cut = goes_on _ _ _ _ _ _ _ _ start c.cut.ensures.clock (c.cut.ensures.time tells) (λ image. stable_has number bodies log rests.gate _ image rests.behind rests.closed short) in
-    let stable = keeps_written number bodies log rests.gate (log.gate + 1) _ _ _ rests.behind (omega arith) (c.write_at.ensures.pending tells) short in
-    goes_on _ _ _ _ _ _ _ _ cut c.write_at.ensures.clock (c.write_at.ensures.time tells) (λ image. stable_has number bodies log rests.gate _ image rests.behind rests.closed stable)
+returns-in_err-write_at-clause-any_moment g c tells header bodies rests =
+    let log = shown c.self.inside in
+    let was = subst (λ (l : LogState). Rests header bodies l (g.D.Disk.seen c.args.disk.now) (g.D.Disk.pending c.args.disk.now)) (sym c.self.view_is) rests in
+    let at_gate : log.gate + 1 ≤ log.gate + 1 = omega arith in
+    let start = begins c.args.disk.now (λ image. g.met.D.Disk.only_now c.args.disk.now image tells) (rests_has header bodies log _ _ was) in
+    let short = keeps_shortened header bodies log was.gate (log.gate + 1) _ _ was.behind at_gate (c.cut.ensures.pending tells) was.stable in
+    let stable = keeps_written header bodies log was.gate (log.gate + 1) _ _ _ was.behind at_gate (c.write_at.ensures.pending tells) short in
+    goes_on (goes_on start c.cut.ensures.passes tells (λ image. stable_has header bodies log was.gate _ image was.behind was.closed short)) c.write_at.ensures.passes tells (λ image. stable_has header bodies log was.gate _ image was.behind was.closed stable)
 
 pub returns-clause-any_moment : goal.returns-clause-any_moment
-returns-clause-any_moment g c tells number bodies rests =
-    let log = c.args.self.now in
-    let start = begins (g.D.Disk.moment c.args.disk.now) (g.D.Disk.left_since c.args.disk.now) _ _ (λ image. g.met.D.Disk.only_now c.args.disk.now image tells)
-    (λ image. stable_has number bodies log rests.gate _ image rests.behind rests.closed rests.stable) in
-    let short = keeps_shortened number bodies log rests.gate (log.gate + 1) _ _ rests.behind (omega arith) (c.cut.ensures.pending tells) rests.stable in
-    let cut = goes_on _ _ _ _ _ _ _ _ start c.cut.ensures.clock (c.cut.ensures.time tells) (λ image. stable_has number bodies log rests.gate _ image rests.behind rests.closed short) in
-    let stable = keeps_written number bodies log rests.gate (log.gate + 1) _ _ _ rests.behind (omega arith) (c.write_at.ensures.pending tells) short in
-    goes_on _ _ _ _ _ _ _ _ cut c.write_at.ensures.clock (c.write_at.ensures.time tells) (λ image. stable_has number bodies log rests.gate _ image rests.behind rests.closed stable)
+returns-clause-any_moment g c tells header bodies rests =
+    let log = shown c.self.inside in
+    let was = subst (λ (l : LogState). Rests header bodies l (g.D.Disk.seen c.args.disk.now) (g.D.Disk.pending c.args.disk.now)) (sym c.self.view_is) rests in
+    let at_gate : log.gate + 1 ≤ log.gate + 1 = omega arith in
+    let start = begins c.args.disk.now (λ image. g.met.D.Disk.only_now c.args.disk.now image tells) (rests_has header bodies log _ _ was) in
+    let short = keeps_shortened header bodies log was.gate (log.gate + 1) _ _ was.behind at_gate (c.cut.ensures.pending tells) was.stable in
+    let stable = keeps_written header bodies log was.gate (log.gate + 1) _ _ _ was.behind at_gate (c.write_at.ensures.pending tells) short in
+    goes_on (goes_on start c.cut.ensures.passes tells (λ image. stable_has header bodies log was.gate _ image was.behind was.closed short)) c.write_at.ensures.passes tells (λ image. stable_has header bodies log was.gate _ image was.behind was.closed stable)
 
-pub returns-clause-begun : goal.returns-clause-begun
-returns-clause-begun g c tells number bodies rests =
-    let log = c.args.self.now in
-    let short = keeps_shortened number bodies log rests.gate (log.gate + 1) _ _ rests.behind (omega arith) (c.cut.ensures.pending tells) rests.stable in
-    let cut = cut_is number bodies log rests.gate rests.rest _ _ rests.behind rests.bytes (c.in_ok-cut.ensures.seen tells) in
+pub returns-clause-grows : goal.returns-clause-grows
+returns-clause-grows g c tells header bodies rests =
+    let log = shown c.self.inside in
+    let was = subst (λ (l : LogState). Rests header bodies l (g.D.Disk.seen c.args.disk.now) (g.D.Disk.pending c.args.disk.now)) (sym c.self.view_is) rests in
+    let at_gate : log.gate + 1 ≤ log.gate + 1 = omega arith in
+    let short = keeps_shortened header bodies log was.gate (log.gate + 1) _ _ was.behind at_gate (c.cut.ensures.pending tells) was.stable in
+    let cut = cut_is header bodies log was.gate was.rest _ _ was.behind was.bytes (c.in_ok-cut.ensures.seen tells) in
     record {
-      behind = behind_same number bodies log _ refl refl refl rests.behind;
-      gate = rests.gate;
-      closed = rests.closed;
+      behind = behind_same header bodies log _ refl refl refl refl was.behind;
+      sum = none_summed;
+      gate = was.gate;
+      closed = was.closed;
       space = 0 ∷ 0 ∷ 0 ∷ 0 ∷ 0 ∷ 0 ∷ 0 ∷ 0 ∷ [];
       eight = refl;
-      bytes = begun_is number bodies log rests.gate (0 ∷ 0 ∷ 0 ∷ 0 ∷ 0 ∷ 0 ∷ 0 ∷ 0 ∷ []) _ _ rests.behind cut (c.in_ok-write_at.ensures.seen tells);
-      stable = keeps_written number bodies log rests.gate (log.gate + 1) _ _ _ rests.behind (omega arith) (c.write_at.ensures.pending tells) short;
+      bytes = begun_is header bodies log was.gate (0 ∷ 0 ∷ 0 ∷ 0 ∷ 0 ∷ 0 ∷ 0 ∷ 0 ∷ []) _ _ was.behind cut (c.in_ok-write_at.ensures.seen tells);
+      stable = keeps_written header bodies log was.gate (log.gate + 1) _ _ _ was.behind at_gate (c.write_at.ensures.pending tells) short;
     }

@@ -1,72 +1,87 @@
-use Rattle.std.proofs.Common.{◌≡◌, ◌+◌, ◌-◌, ◌≤◌, length, refl, sym, ◌∙◌, ap, subst, arith}
+use Rattle.std.proofs.Common.{◌≡◌, ℕ, ◌+◌, ◌-◌, ◌≤◌, [], ◌∷◌, List, get_or, length, refl, sym, ◌∙◌, ap, subst, arith}
 use Rattle.sx_base.specs.Disk.{settled}
 use Rattle.sx_base.specs.Crash.{IsStableFront}
 use Rattle.sx_base.proofs.DiskMoments.{begins, goes_on}
-use Rattle.group_log.proofs.GatedGroups.{stable_has}
-use Rattle.group_log.proofs.GroupWrites.{behind_same, keeps_written, length-grows, sealed_is, sealed_has}
+use Rattle.group_log.specs.State.{LogState}
+use Rattle.group_log.specs.Shown.{shown}
+use Rattle.group_log.specs.Journal.{IsInProgress, Grows}
+use Rattle.group_log.proofs.GatedGroups.{stable_has, grows_has}
+use Rattle.group_log.proofs.GroupWrites.{behind_same, keeps_written, length-grows, length-sealed, sealed_is, sealed_has}
 use Rattle.group_log.proofs.journal.Log.prepare.Goals as goal
 
 pub returns-in_err-write_at-clause-any_moment : goal.returns-in_err-write_at-clause-any_moment
-returns-in_err-write_at-clause-any_moment g c tells number bodies body grows =
-    let log = c.args.self.now in
-    let start = begins (g.D.Disk.moment c.args.disk.now) (g.D.Disk.left_since c.args.disk.now) _ _ (λ image. g.met.D.Disk.only_now c.args.disk.now image tells)
-    (λ image. stable_has number bodies log grows.gate _ image grows.behind grows.closed grows.stable) in
-    let first = keeps_written number bodies log grows.gate (log.gate + 1) _ _ _ grows.behind (omega arith) (c.write_at.ensures.pending tells) grows.stable in
-    goes_on _ _ _ _ _ _ _ _ start c.write_at.ensures.clock (c.write_at.ensures.time tells) (λ image. stable_has number bodies log grows.gate _ image grows.behind grows.closed first)
+returns-in_err-write_at-clause-any_moment g c tells header bodies body grows =
+    let log = shown c.self.inside in
+    let grew = subst (λ (l : LogState). Grows header bodies body l (g.D.Disk.seen c.args.disk.now) (g.D.Disk.pending c.args.disk.now)) (sym c.self.view_is) grows in
+    let at_gate : log.gate + 1 ≤ log.gate + 1 = omega arith in
+    let start = begins c.args.disk.now (λ image. g.met.D.Disk.only_now c.args.disk.now image tells) (grows_has header bodies body log _ _ grew) in
+    let first = keeps_written header bodies log grew.gate (log.gate + 1) _ _ _ grew.behind at_gate (c.write_at.ensures.pending tells) grew.stable in
+    let sized = goes_on start c.write_at.ensures.passes tells (λ image. stable_has header bodies log grew.gate _ image grew.behind grew.closed first) in
+    sized
 
 pub returns-in_err-write_at-2-clause-any_moment : goal.returns-in_err-write_at-2-clause-any_moment
-returns-in_err-write_at-2-clause-any_moment g c tells number bodies body grows =
-    let log = c.args.self.now in
-    let past : log.gate + 1 ≤ log.size = omega (arith, c.requires.begun) in
-    let start = begins (g.D.Disk.moment c.args.disk.now) (g.D.Disk.left_since c.args.disk.now) _ _ (λ image. g.met.D.Disk.only_now c.args.disk.now image tells)
-    (λ image. stable_has number bodies log grows.gate _ image grows.behind grows.closed grows.stable) in
-    let first = keeps_written number bodies log grows.gate (log.gate + 1) _ _ _ grows.behind (omega arith) (c.write_at.ensures.pending tells) grows.stable in
-    let behind = goes_on _ _ _ _ _ _ _ _ start c.write_at.ensures.clock (c.write_at.ensures.time tells) (λ image. stable_has number bodies log grows.gate _ image grows.behind grows.closed first) in
-    let second = keeps_written number bodies log grows.gate log.size _ _ _ grows.behind past (c.write_at-2.ensures.pending tells) first in
-    goes_on _ _ _ _ _ _ _ _ behind c.write_at-2.ensures.clock (c.write_at-2.ensures.time tells) (λ image. stable_has number bodies log grows.gate _ image grows.behind grows.closed second)
+returns-in_err-write_at-2-clause-any_moment g c tells header bodies body grows =
+    let log = shown c.self.inside in
+    let grew = subst (λ (l : LogState). Grows header bodies body l (g.D.Disk.seen c.args.disk.now) (g.D.Disk.pending c.args.disk.now)) (sym c.self.view_is) grows in
+    let fits = subst (λ (l : LogState). IsInProgress (g.D.Disk.len c.args.disk.now) l) (sym c.self.view_is) c.requires in
+    let at_gate : log.gate + 1 ≤ log.gate + 1 = omega arith in
+    let start = begins c.args.disk.now (λ image. g.met.D.Disk.only_now c.args.disk.now image tells) (grows_has header bodies body log _ _ grew) in
+    let first = keeps_written header bodies log grew.gate (log.gate + 1) _ _ _ grew.behind at_gate (c.write_at.ensures.pending tells) grew.stable in
+    let sized = goes_on start c.write_at.ensures.passes tells (λ image. stable_has header bodies log grew.gate _ image grew.behind grew.closed first) in
+    let past : log.gate + 1 ≤ log.size = omega (arith, fits.begun) in
+    let second = keeps_written header bodies log grew.gate log.size _ _ _ grew.behind past (c.write_at-2.ensures.pending tells) first in
+    let sealed = goes_on sized c.write_at-2.ensures.passes tells (λ image. stable_has header bodies log grew.gate _ image grew.behind grew.closed second) in
+    sealed
 
 pub returns-in_err-sync-clause-any_moment : goal.returns-in_err-sync-clause-any_moment
-returns-in_err-sync-clause-any_moment g c tells number bodies body grows =
-    let log = c.args.self.now in
-    let past : log.gate + 1 ≤ log.size = omega (arith, c.requires.begun) in
-    let start = begins (g.D.Disk.moment c.args.disk.now) (g.D.Disk.left_since c.args.disk.now) _ _ (λ image. g.met.D.Disk.only_now c.args.disk.now image tells)
-    (λ image. stable_has number bodies log grows.gate _ image grows.behind grows.closed grows.stable) in
-    let first = keeps_written number bodies log grows.gate (log.gate + 1) _ _ _ grows.behind (omega arith) (c.write_at.ensures.pending tells) grows.stable in
-    let behind = goes_on _ _ _ _ _ _ _ _ start c.write_at.ensures.clock (c.write_at.ensures.time tells) (λ image. stable_has number bodies log grows.gate _ image grows.behind grows.closed first) in
-    let second = keeps_written number bodies log grows.gate log.size _ _ _ grows.behind past (c.write_at-2.ensures.pending tells) first in
-    let gated = goes_on _ _ _ _ _ _ _ _ behind c.write_at-2.ensures.clock (c.write_at-2.ensures.time tells) (λ image. stable_has number bodies log grows.gate _ image grows.behind grows.closed second) in
+returns-in_err-sync-clause-any_moment g c tells header bodies body grows =
+    let log = shown c.self.inside in
+    let grew = subst (λ (l : LogState). Grows header bodies body l (g.D.Disk.seen c.args.disk.now) (g.D.Disk.pending c.args.disk.now)) (sym c.self.view_is) grows in
+    let fits = subst (λ (l : LogState). IsInProgress (g.D.Disk.len c.args.disk.now) l) (sym c.self.view_is) c.requires in
+    let at_gate : log.gate + 1 ≤ log.gate + 1 = omega arith in
+    let start = begins c.args.disk.now (λ image. g.met.D.Disk.only_now c.args.disk.now image tells) (grows_has header bodies body log _ _ grew) in
+    let first = keeps_written header bodies log grew.gate (log.gate + 1) _ _ _ grew.behind at_gate (c.write_at.ensures.pending tells) grew.stable in
+    let sized = goes_on start c.write_at.ensures.passes tells (λ image. stable_has header bodies log grew.gate _ image grew.behind grew.closed first) in
+    let past : log.gate + 1 ≤ log.size = omega (arith, fits.begun) in
+    let second = keeps_written header bodies log grew.gate log.size _ _ _ grew.behind past (c.write_at-2.ensures.pending tells) first in
+    let sealed = goes_on sized c.write_at-2.ensures.passes tells (λ image. stable_has header bodies log grew.gate _ image grew.behind grew.closed second) in
     let same = subst (IsStableFront _) (sym (c.in_err-sync.ensures.pending_err tells)) second in
-    goes_on _ _ _ _ _ _ _ _ gated c.sync.ensures.clock (c.sync.ensures.time tells) (λ image. stable_has number bodies log grows.gate _ image grows.behind grows.closed same)
+    goes_on sealed c.sync.ensures.passes tells (λ image. stable_has header bodies log grew.gate _ image grew.behind grew.closed same)
 
 -- what stands there when all is done
-pub returns-clause-prepared : goal.returns-clause-prepared
-returns-clause-prepared g c tells number bodies body grows =
-    let log = c.args.self.now in
+pub returns-clause-ready : goal.returns-clause-ready
+returns-clause-ready g c tells header bodies body grows =
+    let log = shown c.self.inside in
+    let grew = subst (λ (l : LogState). Grows header bodies body l (g.D.Disk.seen c.args.disk.now) (g.D.Disk.pending c.args.disk.now)) (sym c.self.view_is) grows in
+    let fits = subst (λ (l : LogState). IsInProgress (g.D.Disk.len c.args.disk.now) l) (sym c.self.view_is) c.requires in
     let sized = g.met.D.Disk.sized c.args.disk.now tells in
-    let long = length-grows number bodies body log _ _ grows in
-    let same : log.size - log.gate - 9 ≡ length body = omega (arith, c.requires.size, sized, long) in
-    let end : log.size ≡ length (g.D.Disk.seen c.args.disk.now) = sym c.requires.size ∙ sized in
-    let bytes = sealed_is number bodies body log _ _ grows log.size (log.size - log.gate - 9) c.to_le_bytes.result _ (g.D.Disk.seen c.write_at-2.new.self) c.to_le_bytes.ensures same (c.in_ok-write_at.ensures.seen tells) end (c.in_ok-write_at-2.ensures.seen tells) in
+    let long = length-grows header bodies body log _ _ grew in
+    let same : log.size + 4 - log.gate - 9 ≡ 4 + length body = omega (arith, fits.size, sized, long) in
+    let end : log.size ≡ length (g.D.Disk.seen c.args.disk.now) = sym fits.size ∙ sized in
+    let tail = ap (λ (l : List ℕ). get_or l 0 0 ∷ get_or l 1 0 ∷ get_or l 2 0 ∷ get_or l 3 0 ∷ 0 ∷ []) c.to_le_bytes-sum.ensures in
+    let bytes = sealed_is header bodies body log _ _ grew log.size (log.size + 4 - log.gate - 9) log.sum c.to_le_bytes.result _ _ (g.D.Disk.seen c.write_at-2.new.self) c.to_le_bytes.ensures same refl tail (c.in_ok-write_at.ensures.seen tells) end (c.in_ok-write_at-2.ensures.seen tells) in
     record {
-      behind = behind_same number bodies log _ refl refl refl grows.behind;
-      gate = grows.gate;
-      closed = grows.closed;
-      short = omega (arith, same, c.fits-self);
+      behind = behind_same header bodies log _ refl refl refl refl grew.behind;
+      gate = grew.gate;
+      closed = grew.closed;
+      short = omega (arith, long, length-sealed body, sized, fits.size, fits.room, c.self.invariant.bounded);
       bytes = c.sync.ensures.seen tells ∙ bytes;
       stable = c.in_ok-sync.ensures.pending tells ∙ ap settled (sym (c.sync.ensures.seen tells));
     }
 
 pub returns-clause-any_moment : goal.returns-clause-any_moment
-unfolding returns-clause-prepared
-returns-clause-any_moment g c tells number bodies body grows =
-    let log = c.args.self.now in
-    let past : log.gate + 1 ≤ log.size = omega (arith, c.requires.begun) in
-    let ready = returns-clause-prepared g c tells number bodies body grows in
-    let start = begins (g.D.Disk.moment c.args.disk.now) (g.D.Disk.left_since c.args.disk.now) _ _ (λ image. g.met.D.Disk.only_now c.args.disk.now image tells)
-    (λ image. stable_has number bodies log grows.gate _ image grows.behind grows.closed grows.stable) in
-    let first = keeps_written number bodies log grows.gate (log.gate + 1) _ _ _ grows.behind (omega arith) (c.write_at.ensures.pending tells) grows.stable in
-    let behind = goes_on _ _ _ _ _ _ _ _ start c.write_at.ensures.clock (c.write_at.ensures.time tells) (λ image. stable_has number bodies log grows.gate _ image grows.behind grows.closed first) in
-    let second = keeps_written number bodies log grows.gate log.size _ _ _ grows.behind past (c.write_at-2.ensures.pending tells) first in
-    let gated = goes_on _ _ _ _ _ _ _ _ behind c.write_at-2.ensures.clock (c.write_at-2.ensures.time tells) (λ image. stable_has number bodies log grows.gate _ image grows.behind grows.closed second) in
-    goes_on _ _ _ _ _ _ _ _ gated c.sync.ensures.clock (c.sync.ensures.time tells)
-    (λ image. sealed_has number bodies body log _ _ grows (g.D.Disk.seen c.sync.new.self) (g.D.Disk.pending c.sync.new.self) _ ready.bytes ready.stable image)
+unfolding returns-clause-ready
+returns-clause-any_moment g c tells header bodies body grows =
+    let log = shown c.self.inside in
+    let grew = subst (λ (l : LogState). Grows header bodies body l (g.D.Disk.seen c.args.disk.now) (g.D.Disk.pending c.args.disk.now)) (sym c.self.view_is) grows in
+    let fits = subst (λ (l : LogState). IsInProgress (g.D.Disk.len c.args.disk.now) l) (sym c.self.view_is) c.requires in
+    let ready = returns-clause-ready g c tells header bodies body grows in
+    let at_gate : log.gate + 1 ≤ log.gate + 1 = omega arith in
+    let start = begins c.args.disk.now (λ image. g.met.D.Disk.only_now c.args.disk.now image tells) (grows_has header bodies body log _ _ grew) in
+    let first = keeps_written header bodies log grew.gate (log.gate + 1) _ _ _ grew.behind at_gate (c.write_at.ensures.pending tells) grew.stable in
+    let sized = goes_on start c.write_at.ensures.passes tells (λ image. stable_has header bodies log grew.gate _ image grew.behind grew.closed first) in
+    let past : log.gate + 1 ≤ log.size = omega (arith, fits.begun) in
+    let second = keeps_written header bodies log grew.gate log.size _ _ _ grew.behind past (c.write_at-2.ensures.pending tells) first in
+    let sealed = goes_on sized c.write_at-2.ensures.passes tells (λ image. stable_has header bodies log grew.gate _ image grew.behind grew.closed second) in
+    goes_on sealed c.sync.ensures.passes tells
+    (λ image. sealed_has header bodies body log _ _ grew (g.D.Disk.seen c.sync.new.self) (g.D.Disk.pending c.sync.new.self) _ ready.bytes ready.stable image)
