@@ -79,7 +79,7 @@ fn read_in_order(calls: &[Call], files: &[(&str, u64)]) -> bool {
         }
         place = place.saturating_add(call.count as u64);
     }
-    read + 1 == files.len() && files.last().is_some_and(|file| file.1 == place)
+    files.len().checked_sub(1) == Some(read) && files.last().is_some_and(|file| file.1 == place)
 }
 
 #[test]
