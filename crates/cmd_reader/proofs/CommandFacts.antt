@@ -1,40 +1,39 @@
 -- Facts of a command that was read from a body.
-use Rattle.std.specs.Prelude.{◌≡◌, slice_index_or, ℕ, zero, suc, ◌+◌, ◌-◌, ◌≤◌, ◌<◌, Bool, true, false, ◌&&◌, min, ◌==◌, List, [], ◌∷◌, length, take, drop, Option, None, Some, Result, Ok, Err, if◌then◌else◌}
+use Rattle.std.specs.Prelude.{◌≡◌, slice_index_or, ℕ, zero, suc, ◌+◌, ◌-◌, ◌^◌, ◌≤◌, ◌<◌, Bool, true, false, ◌&&◌, min, ◌==◌, List, [], ◌∷◌, ◌++◌, length, take, drop, Option, None, Some, Result, Ok, Err, if◌then◌else◌}
 use Rattle.std.proofs.Common.{w8, Fits}
 use Rattle.std.proofs.Math.Facts.{Fits-lt-pow}
 use Rattle.std.specs.Option.{unwrap_or}
 use Rattle.std.specs.List.{list_all, find}
+use Rattle.std.specs.Int.{w16, w32, to_le_bytes}
 use Rattle.std.proofs.Common.{refl, sym, ap, subst, ◌∙◌, arith, length-take, length-drop, leb-true, zero-le, le_refl, eqb-true}
-use Rattle.send_model.specs.Refusal.{Refusal, BadAttribute, UnknownCommand, BadTime}
+use Rattle.send_model.specs.Refusal.{Refusal, BadAttribute, UnknownCommand, BadTime, Encoded}
 use Rattle.send_model.specs.Chain.{◌>>=◌, ◌>>◌, found, require}
 use Rattle.send_model.specs.Attribute.{DATA, IsBytes}
-use Rattle.send_model.specs.Command.{Kind, SUBVOL, SNAPSHOT, MKFILE, MKDIR, MKNOD, MKFIFO, MKSOCK, SYMLINK, RENAME, LINK, UNLINK, RMDIR, SET_XATTR, REMOVE_XATTR, WRITE, CLONE, TRUNCATE, CHMOD, CHOWN, UTIMES, END, UPDATE_EXTENT, all_kinds, Command, row, kind_of, kind_of_number, command_with}
-use Rattle.send_model.specs.Spelling.{Attribute, value_of}
+use Rattle.send_model.specs.Command.{Kind, SUBVOL, SNAPSHOT, MKFILE, MKDIR, MKNOD, MKFIFO, MKSOCK, SYMLINK, RENAME, LINK, UNLINK, RMDIR, SET_XATTR, REMOVE_XATTR, WRITE, CLONE, TRUNCATE, CHMOD, CHOWN, UTIMES, END, UPDATE_EXTENT, FALLOCATE, FILEATTR, kinds_of, is_encoded, Command, row, kind_of, kind_of_number, command_with}
+use Rattle.send_model.specs.Spelling.{Attribute, value_of, frame_of, frame_checksum, greatest_body}
 use Rattle.send_model.specs.Receive.{bytes_of}
-use Rattle.send_model.specs.Reading.{number16, attribute_len, attribute_lawful, attribute_number, attributes_from, attributes_at, bytes_at, command_of, taken, place_of, data_place, frame_header_len, wanted_there, moment_lawful}
+use Rattle.send_model.specs.Reading.{Frame, number16, attribute_head, attribute_len, attribute_end, attribute_in, attribute_lawful, attribute_number, attributes_from, attributes_at, bytes_at, command_of, taken, place_of, data_place, frame_header_len, wanted_there, moment_lawful}
 use Rattle.send_model.specs.Laws.{CanWrite}
-use Rattle.send_model.proofs.Sound.{found_is, attributes_short, read_spellable}
-use Rattle.send_model.proofs.Fuel.{bound, tested, required, ok_same}
+use Rattle.send_model.proofs.Sound.{found_is}
+use Rattle.send_model.proofs.Canonical.{bytes_append, le2_bytes, le4_bytes, checksum_small, spelled_spellable}
+use Rattle.send_model.proofs.Frames.{frame_read_back}
+use Rattle.send_model.proofs.ReadSpelled.{rules_were_spelled}
+use Rattle.send_model.proofs.Fuel.{bound, tested, required, not_refused, ok_same}
 
 -- How many bytes attributes take.
-abbrev total : List Attribute → ℕ
-total [] = 0
-total (a ∷ rest) = (4 + length a.bytes) + total rest
+abbrev total : ℕ → List Attribute → ℕ
+total version [] = 0
+total version (a ∷ rest) = (attribute_head version a.kind + length a.bytes) + total version rest
 
 Within : ℕ → Type 0
-Within n = (version : ℕ) (seen body : List ℕ) (attributes : List Attribute) → attributes_from n version seen body ≡ Ok attributes → total attributes ≤ length body
+Within n = (version : ℕ) (seen body : List ℕ) (attributes : List Attribute) → attributes_from n version seen body ≡ Ok attributes → total version attributes ≤ length body
 
 and_both : (a b : Bool) → a && b ≡ true → (a ≡ true) × (b ≡ true)
 and_both true b e = (refl, e)
 and_both false b e = cc
 
-lawful_len : (version : ℕ) (seen body : List ℕ) → attribute_lawful version seen body ≡ true → (4 ≤ length body) × (attribute_len body ≤ length body - 4)
-lawful_len version seen body e =
-    let last = and_both _ _ e in
-    let one = and_both _ _ last.0 in
-    let two = and_both _ _ one.0 in
-    let three = and_both _ _ two.0 in
-    (leb-true _ _ three.0, leb-true _ _ last.1)
+lawful_len : (version : ℕ) (seen body : List ℕ) → attribute_lawful version seen body ≡ true → attribute_end version body ≤ length body
+lawful_len version seen body e = leb-true _ _ (and_both _ _ e).1
 
 if_true : {A : Type 0} (b : Bool) (x : Result A Refusal) (refusal : Refusal) (y : A) → (if b then x else Err refusal) ≡ Ok y → (b ≡ true) × (x ≡ Ok y)
 if_true true x refusal y e = (refl, e)
@@ -42,75 +41,81 @@ if_true false x refusal y e = cc
 
 withins : (n : ℕ) → Within n
 unfolding Within attributes_from
-withins zero version seen body attributes e = let T : List Attribute → Type 0 = λ list. total list ≤ length body in subst T (ok_same e) zero-le
-withins (suc n) version seen [] attributes e = let T : List Attribute → Type 0 = λ list. total list ≤ 0 in subst T (ok_same e) zero-le
+withins zero version seen body attributes e = let T : List Attribute → Type 0 = λ list. total version list ≤ length body in subst T (ok_same e) zero-le
+withins (suc n) version seen [] attributes e = let T : List Attribute → Type 0 = λ list. total version list ≤ 0 in subst T (ok_same e) zero-le
 withins (suc n) version seen (x ∷ xs) attributes e =
     let body : List ℕ = x ∷ xs in
-    let one : Attribute = record { kind = number16 body; bytes = take (attribute_len body) (drop 4 body) } in
-    let rest = attributes_from n version (number16 body ∷ seen) (drop (4 + attribute_len body) body) in
+    let head : ℕ = attribute_head version (number16 body) in
+    let len : ℕ = attribute_len version body in
+    let one : Attribute = attribute_in version body in
+    let rest = attributes_from n version (number16 body ∷ seen) (drop (attribute_end version body) body) in
     let k : List Attribute → Result (List Attribute) Refusal = λ more. Ok (one ∷ more) in
     let w = if_true (attribute_lawful version seen body) (rest >>= k) (BadAttribute (attribute_number body)) attributes e in
     let a = bound rest k attributes w.1 in
     let lens = lawful_len version seen body w.0 in
-    let more = withins n version (number16 body ∷ seen) (drop (4 + attribute_len body) body) a.0 a.1 in
-    let size : length one.bytes ≤ attribute_len body = at_most (attribute_len body) (length (drop 4 body)) (length one.bytes) (length-take (attribute_len body) (drop 4 body)) in
-    let T : List Attribute → Type 0 = λ list. total list ≤ length body in
-    subst T (ok_same a.2) (sums (length one.bytes) (attribute_len body) (total a.0) (length (drop (4 + attribute_len body) body)) (length body) size lens.0 lens.1 more (length-drop (4 + attribute_len body) body))
+    let more = withins n version (number16 body ∷ seen) (drop (attribute_end version body) body) a.0 a.1 in
+    let size : length one.bytes ≤ len = at_most len (length (drop head body)) (length one.bytes) (length-take len (drop head body)) in
+    let T : List Attribute → Type 0 = λ list. total version list ≤ length body in
+    subst T (ok_same a.2) (sums head (length one.bytes) len (total version a.0) (length (drop (attribute_end version body) body)) (length body) size lens more (length-drop (attribute_end version body) body))
   where
     at_most : (m k n : ℕ) → n ≡ min m k → n ≤ m
     at_most m k n e = omega (arith, e)
 
-    sums : (b l t d n : ℕ) → b ≤ l → 4 ≤ n → l ≤ n - 4 → t ≤ d → d ≡ n - (4 + l) → (4 + b) + t ≤ n
-    sums b l t d n p q r s u = omega (arith, p, q, r, s, u)
+    sums : (h b l t d n : ℕ) → b ≤ l → h + l ≤ n → t ≤ d → d ≡ n - (h + l) → (h + b) + t ≤ n
+    sums h b l t d n p q s u = omega (arith, p, q, s, u)
 
 inside : {x y : ℕ} → Some x ≡ Some y → x ≡ y
 inside {x = x} q = ap (λ o. unwrap_or o x) q
 
 -- The place and the bytes of an attribute lie in the body.
-placed : (kind : ℕ) (attributes : List Attribute) (place : ℕ) → place_of kind attributes ≡ Some place → place + length (bytes_at attributes kind) ≤ total attributes
-placed kind [] place e = cc
-placed kind (a ∷ rest) place e = placed_on (a.kind == kind) a.bytes (value_of kind rest) (place_of kind rest) (total rest) place (λ p q. placed kind rest p q) e
+placed : (version kind : ℕ) (attributes : List Attribute) (place : ℕ) → place_of version kind attributes ≡ Some place → place + length (bytes_at attributes kind) ≤ total version attributes
+placed version kind [] place e = cc
+placed version kind (a ∷ rest) place e =
+    placed_on (a.kind == kind) (attribute_head version kind) (attribute_head version a.kind) (λ same. ap (attribute_head version) (sym (eqb-true a.kind kind same)))
+    a.bytes (value_of kind rest) (place_of version kind rest) (total version rest) place (λ p q. placed version kind rest p q) e
   where
-    placed_on : (b : Bool) (own : List ℕ) (value : Option (List ℕ)) (there : Option ℕ) (t place : ℕ) → ((p : ℕ) → there ≡ Some p → p + length (unwrap_or value []) ≤ t)
-        → (if b then Some 4 else (elim there as (λ x. Option ℕ) [ None ↦ None | Some p ↦ Some (4 + length own + p) ])) ≡ Some place → place + length (unwrap_or (if b then Some own else value) []) ≤ (4 + length own) + t
-    placed_on true own value there t place more q = let is = inside q in omega (arith, is)
-    placed_on false own value None t place more q = cc
-    placed_on false own value (Some p) t place more q = let is = inside q in let m = more p refl in omega (arith, is, m)
+    placed_on : (b : Bool) (own head : ℕ) → (b ≡ true → own ≡ head) → (bytes : List ℕ) (value : Option (List ℕ)) (there : Option ℕ) (t place : ℕ) → ((p : ℕ) → there ≡ Some p → p + length (unwrap_or value []) ≤ t)
+        → (if b then Some own else (elim there as (λ x. Option ℕ) [ None ↦ None | Some p ↦ Some (head + length bytes + p) ])) ≡ Some place → place + length (unwrap_or (if b then Some bytes else value) []) ≤ (head + length bytes) + t
+    placed_on true own head same bytes value there t place more q = let is = inside q in let s = same refl in omega (arith, is, s)
+    placed_on false own head same bytes value None t place more q = cc
+    placed_on false own head same bytes value (Some p) t place more q = let is = inside q in let m = more p refl in omega (arith, is, m)
 
 -- The place of an attribute lies in the body.
-pub place_in_body : (version : ℕ) (body : List ℕ) (attributes : List Attribute) (place : ℕ) → attributes_at version body ≡ Ok attributes → place_of DATA attributes ≡ Some place → place ≤ length body
+pub place_in_body : (version : ℕ) (body : List ℕ) (attributes : List Attribute) (place : ℕ) → attributes_at version body ≡ Ok attributes → place_of version DATA attributes ≡ Some place → place ≤ length body
 unfolding attributes_at Within
-place_in_body version body attributes place read there = let whole = withins (length body) version [] body attributes read in let p = placed DATA attributes place there in omega (arith, whole, p)
+place_in_body version body attributes place read there = let whole = withins (length body) version [] body attributes read in let p = placed version DATA attributes place there in omega (arith, whole, p)
 
 -- Where there is no such attribute there are no bytes.
-unplaced : (kind : ℕ) (attributes : List Attribute) → place_of kind attributes ≡ None → bytes_at attributes kind ≡ []
-unplaced kind [] e = refl
-unplaced kind (a ∷ rest) e = unplaced_on (a.kind == kind) a.bytes (value_of kind rest) (place_of kind rest) (λ q. unplaced kind rest q) e
+unplaced : (version kind : ℕ) (attributes : List Attribute) → place_of version kind attributes ≡ None → bytes_at attributes kind ≡ []
+unplaced version kind [] e = refl
+unplaced version kind (a ∷ rest) e = unplaced_on (a.kind == kind) (attribute_head version kind) (attribute_head version a.kind) a.bytes (value_of kind rest) (place_of version kind rest) (λ q. unplaced version kind rest q) e
   where
-    unplaced_on : (b : Bool) (own : List ℕ) (value : Option (List ℕ)) (there : Option ℕ) → (there ≡ None → unwrap_or value [] ≡ []) → (if b then Some 4 else (elim there as (λ x. Option ℕ) [ None ↦ None | Some p ↦ Some (4 + length own + p) ])) ≡ None → unwrap_or (if b then Some own else value) [] ≡ []
-    unplaced_on true own value there more q = cc
-    unplaced_on false own value None more q = more refl
-    unplaced_on false own value (Some p) more q = cc
+    unplaced_on : (b : Bool) (own head : ℕ) (bytes : List ℕ) (value : Option (List ℕ)) (there : Option ℕ) → (there ≡ None → unwrap_or value [] ≡ [])
+        → (if b then Some own else (elim there as (λ x. Option ℕ) [ None ↦ None | Some p ↦ Some (head + length bytes + p) ])) ≡ None → unwrap_or (if b then Some bytes else value) [] ≡ []
+    unplaced_on true own head bytes value there more q = cc
+    unplaced_on false own head bytes value None more q = more refl
+    unplaced_on false own head bytes value (Some p) more q = cc
 
 data_with : (kind : Kind) (values : ℕ → List ℕ) → length (bytes_of (command_with kind values)) ≤ length (values DATA)
 data_with WRITE values = le_refl _
 data_with SUBVOL values = zero-le
 data_with _ values = zero-le
 
-data_within : (at : ℕ) (attributes : List Attribute) (size payload : ℕ) (o : Option ℕ) → place_of DATA attributes ≡ o → total attributes ≤ size → payload ≤ length (bytes_at attributes DATA) → (elim o as (λ x. ℕ) [ None ↦ 0 | Some place ↦ at + frame_header_len + place ]) + payload ≤ at + frame_header_len + size
-data_within at attributes size payload None e t d = let none = ap (λ (b : List ℕ). length b) (unplaced DATA attributes e) in omega (arith, none, d)
-data_within at attributes size payload (Some place) e t d = let p = placed DATA attributes place e in omega (arith, p, t, d)
+data_within : (version at : ℕ) (attributes : List Attribute) (size payload : ℕ) (o : Option ℕ) → place_of version DATA attributes ≡ o → total version attributes ≤ size → payload ≤ length (bytes_at attributes DATA) → (elim o as (λ x. ℕ) [ None ↦ 0 | Some place ↦ at + frame_header_len + place ]) + payload ≤ at + frame_header_len + size
+data_within version at attributes size payload None e t d = let none = ap (λ (b : List ℕ). length b) (unplaced version DATA attributes e) in omega (arith, none, d)
+data_within version at attributes size payload (Some place) e t d = let p = placed version DATA attributes place e in omega (arith, p, t, d)
 
 -- The data of a command that was read lies in its frame.
-pub data_place_within : (at version number : ℕ) (body : List ℕ) (attributes : List Attribute) (c : Command) → attributes_at version body ≡ Ok attributes → command_of version number attributes ≡ Ok c → data_place at attributes + length (bytes_of c) ≤ at + frame_header_len + length body
+pub data_place_within : (at version number : ℕ) (body : List ℕ) (attributes : List Attribute) (c : Command) → attributes_at version body ≡ Ok attributes → command_of version number attributes ≡ Ok c → data_place version at attributes + length (bytes_of c) ≤ at + frame_header_len + length body
 unfolding attributes_at command_of Within
 data_place_within at version number body attributes c read e =
     let last : Kind → Result Command Refusal = λ kind. require (list_all (moment_lawful attributes) (row kind).wanted) BadTime >> Ok (command_with kind (bytes_at attributes)) in
-    let a = bound (found (kind_of_number version number) (UnknownCommand number)) (λ kind. wanted_there (row kind).wanted attributes >> last kind) c e in
+    let plain = not_refused (is_encoded version number) Encoded (found (kind_of_number version number) (UnknownCommand number) >>= λ kind. wanted_there (row kind).wanted attributes >> last kind) c e in
+    let a = bound (found (kind_of_number version number) (UnknownCommand number)) (λ kind. wanted_there (row kind).wanted attributes >> last kind) c plain.1 in
     let b = tested (wanted_there (row a.0).wanted attributes) (last a.0) c a.2 in
     let d = required (list_all (moment_lawful attributes) (row a.0).wanted) BadTime (Ok (command_with a.0 (bytes_at attributes))) c b.1 in
     let P : Command → Type 0 = λ x. length (bytes_of x) ≤ length (bytes_at attributes DATA) in
-    data_within at attributes (length body) (length (bytes_of c)) (place_of DATA attributes) refl (withins (length body) version [] body attributes read) (subst P (ok_same d.1) (data_with a.0 (bytes_at attributes)))
+    data_within version at attributes (length body) (length (bytes_of c)) (place_of version DATA attributes) refl (withins (length body) version [] body attributes read) (subst P (ok_same d.1) (data_with a.0 (bytes_at attributes)))
 
 -- The kind of a command that was read is the one of its number, so it is taken where that number is.
 kind_with : (kind : Kind) (values : ℕ → List ℕ) → kind_of (command_with kind values) ≡ kind
@@ -136,6 +141,8 @@ kind_with CHOWN values = refl
 kind_with UTIMES values = refl
 kind_with END values = refl
 kind_with UPDATE_EXTENT values = refl
+kind_with FALLOCATE values = refl
+kind_with FILEATTR values = refl
 
 kind_inside : {x y : Kind} → Some x ≡ Some y → x ≡ y
 kind_inside {x = x} q = ap (λ o. unwrap_or o x) q
@@ -150,13 +157,14 @@ found_number number kind (k ∷ kinds) q = numbered_on number kind k ((row k).nu
 
 numbered : (version number : ℕ) (kind : Kind) → kind_of_number version number ≡ Some kind → (row kind).number ≡ number
 unfolding kind_of_number
-numbered version number kind e = found_number number kind all_kinds e
+numbered version number kind e = found_number number kind (kinds_of version) e
 
 pub kind_is : (version number : ℕ) (attributes : List Attribute) (c : Command) → command_of version number attributes ≡ Ok c → (row (kind_of c)).number ≡ number
 unfolding command_of
 kind_is version number attributes c e =
     let last : Kind → Result Command Refusal = λ kind. require (list_all (moment_lawful attributes) (row kind).wanted) BadTime >> Ok (command_with kind (bytes_at attributes)) in
-    let a = bound (found (kind_of_number version number) (UnknownCommand number)) (λ kind. wanted_there (row kind).wanted attributes >> last kind) c e in
+    let plain = not_refused (is_encoded version number) Encoded (found (kind_of_number version number) (UnknownCommand number) >>= λ kind. wanted_there (row kind).wanted attributes >> last kind) c e in
+    let a = bound (found (kind_of_number version number) (UnknownCommand number)) (λ kind. wanted_there (row kind).wanted attributes >> last kind) c plain.1 in
     let b = tested (wanted_there (row a.0).wanted attributes) (last a.0) c a.2 in
     let d = required (list_all (moment_lawful attributes) (row a.0).wanted) BadTime (Ok (command_with a.0 (bytes_at attributes))) c b.1 in
     let kind : kind_of c ≡ a.0 = ap kind_of (sym (ok_same d.1)) ∙ kind_with a.0 (bytes_at attributes) in
@@ -170,20 +178,32 @@ slice_bytes (b ∷ bytes) f = (fits_byte b (f 0), slice_bytes bytes (λ i. f (su
     fits_byte : (b : ℕ) → Fits w8 b → b < 256
     fits_byte b q = Fits-lt-pow q
 
--- A command that was read can be written.
-pub read_can_write : (version number : ℕ) (body : List ℕ) (attributes : List Attribute) (c : Command) → IsBytes body → attributes_at version body ≡ Ok attributes → taken version number ≡ Ok tt → command_of version number attributes ≡ Ok c → CanWrite c
-unfolding taken kind_of_number
-read_can_write version number body attributes c bytes read is_taken e = record {
-  spellable = read_spellable version number attributes c (attributes_short version body attributes bytes read) e;
-  taken_kind = ap (λ (n : ℕ). taken 1 n) (kind_is version number attributes c e) ∙ is_taken;
-}
+frame_bytes : (number : ℕ) (body : List ℕ) → IsBytes body → IsBytes (frame_of number body)
+unfolding frame_of
+frame_bytes number body are =
+    let len : List ℕ = to_le_bytes w32 (length body) in
+    let cmd : List ℕ = to_le_bytes w16 number in
+    let sum : List ℕ = to_le_bytes w32 (frame_checksum (length body) number body) in
+    bytes_append len (cmd ++ sum ++ body) (le4_bytes (length body)) (bytes_append cmd (sum ++ body) (le2_bytes number) (bytes_append sum body (le4_bytes (frame_checksum (length body) number body)) are))
+
+-- A command that was read can be written in the version that it was read in.
+pub read_can_write : (version number : ℕ) (body : List ℕ) (attributes : List Attribute) (c : Command) → number < 2 ^ 16 → length body ≤ greatest_body → IsBytes body → attributes_at version body ≡ Ok attributes → taken version number ≡ Ok tt
+    → command_of version number attributes ≡ Ok c → CanWrite version c
+read_can_write version number body attributes c small short are read is_taken e =
+    let back = frame_read_back body [] number small short (checksum_small number body are) in
+    let frame : Frame = record { number = number; body = body; rest = [] } in
+    let spelled = rules_were_spelled version (frame_of number body ++ []) frame attributes c (bytes_append (frame_of number body) [] (frame_bytes number body are) tt) back read e in
+    record {
+      spellable = spelled_spellable version spelled.0 c spelled.1;
+      taken_kind = ap (λ (n : ℕ). taken version n) (kind_is version number attributes c e) ∙ is_taken;
+    }
 
 abbrev place_after : ℕ → Option ℕ → ℕ
 place_after at there = elim there as (λ x. ℕ) [ None ↦ 0 | Some place ↦ at + frame_header_len + place ]
 
 -- The place of a command's data, by the place of the attribute.
-pub data_at_some : (at : ℕ) (attributes : List Attribute) (place : ℕ) → place_of DATA attributes ≡ Some place → data_place at attributes ≡ at + frame_header_len + place
-data_at_some at attributes place e = ap (place_after at) e
+pub data_at_some : (version at : ℕ) (attributes : List Attribute) (place : ℕ) → place_of version DATA attributes ≡ Some place → data_place version at attributes ≡ at + frame_header_len + place
+data_at_some version at attributes place e = ap (place_after at) e
 
-pub data_at_none : (at : ℕ) (attributes : List Attribute) → place_of DATA attributes ≡ None → data_place at attributes ≡ 0
-data_at_none at attributes e = ap (place_after at) e
+pub data_at_none : (version at : ℕ) (attributes : List Attribute) → place_of version DATA attributes ≡ None → data_place version at attributes ≡ 0
+data_at_none version at attributes e = ap (place_after at) e

@@ -36,7 +36,7 @@ unfolding front_of
 no_frame k version number at bytes refusal e = rw e refl
 
 abbrev item_with : ℕ → ℕ → ℕ → ℕ → Frame → List Attribute → model.Command → reading.Front
-item_with k version number at frame attributes command = record { item = record { file = k; number = number; offset = at; version = version; data_at = data_place at attributes; command = command }; rest = frame.rest }
+item_with k version number at frame attributes command = record { item = record { file = k; number = number; offset = at; version = version; data_at = data_place version at attributes; command = command }; rest = frame.rest }
 
 no_command_in : (k version number at : ℕ) (bytes : List ℕ) (frame : Frame) (refusal : meant.Refusal) → frame_at bytes ≡ Ok frame → body_read version frame.number frame.body ≡ Err refusal → front_of k version number at bytes ≡ Err refusal
 unfolding front_of

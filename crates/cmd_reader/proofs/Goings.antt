@@ -125,7 +125,7 @@ item_at r version front = record { file = r.file; number = r.number; offset = r.
 abbrev PassedAt : Reader → Reader → ℕ → Front → List ℕ → Type 0
 PassedAt old mid version front file = (left old file ≡ with_item (item_at mid version front) (left (after_command mid version (meaning_of front.command) front.next) file)) × (front.next ≤ length file)
 
-passed_at : (told : Option (List (List ℕ × List ℕ))) (old mid : Reader) (version : ℕ) (front : Front) → HasBegun old mid version → 1 ≤ mid.number → IfTold told old.name (BeginsAt old mid) → FrontFits mid.offset front → IfTold told old.name (FrontIs mid.offset version front)
+passed_at : (told : Option (List (List ℕ × List ℕ))) (old mid : Reader) (version : ℕ) (front : Front) → HasBegun old mid version → 1 ≤ mid.number → IfTold told old.name (BeginsAt old mid) → FrontFits mid.offset version front → IfTold told old.name (FrontIs mid.offset version front)
     → IfTold told old.name (PassedAt old mid version front)
 passed_at told old mid version front b first at fits p =
     told_both told old.name (BeginsAt old mid) (FrontIs mid.offset version front) (PassedAt old mid version front)
@@ -144,7 +144,7 @@ is_next told old mid new version front item b new_is item_is p = told_map told o
       reached = λ q. subst (λ (n : ℕ). n ≤ length file) (sym (ap (λ (r : Reader). r.offset) new_is)) within;
     }
 
-pub passed : (told after : Option (List (List ℕ × List ℕ))) (old mid new : Reader) (name : List ℕ) (version : ℕ) (front : Front) (item : Item) → after ≡ told → mid.name ≡ name → HasBegun old mid version → 1 ≤ mid.number → IfTold told old.name (BeginsAt old mid) → FrontFits mid.offset front → IfTold after name (FrontIs mid.offset version front)
+pub passed : (told after : Option (List (List ℕ × List ℕ))) (old mid new : Reader) (name : List ℕ) (version : ℕ) (front : Front) (item : Item) → after ≡ told → mid.name ≡ name → HasBegun old mid version → 1 ≤ mid.number → IfTold told old.name (BeginsAt old mid) → FrontFits mid.offset version front → IfTold after name (FrontIs mid.offset version front)
     → new ≡ after_command mid version (meaning_of front.command) front.next → item_of mid.file item ≡ item_at mid version front → IfTold told old.name (IsNext old new item)
 passed told after old mid new name version front item same n b first at fits p new_is item_is =
     let named : name ≡ old.name = sym n ∙ b.name in

@@ -3,11 +3,11 @@ use Rattle.std.specs.Prelude.{◌≡◌, ℕ, zero, suc, ◌+◌, ◌≤◌, Boo
 use Rattle.std.specs.List.{list_all}
 use Rattle.std.specs.Str.{bytes_eq}
 use Rattle.std.proofs.Common.{refl, sym, subst, le-leb}
-use Rattle.send_model.specs.Refusal.{Refusal, BadMagic, BadVersion, Truncated, UnknownCommand, BadAttribute, MissingAttribute, BadTime, NotBuilt}
+use Rattle.send_model.specs.Refusal.{Refusal, BadMagic, BadVersion, Truncated, UnknownCommand, BadAttribute, MissingAttribute, BadTime, Encoded, NotBuilt}
 use Rattle.send_model.specs.Chain.{◌>>=◌, ◌>>◌, require, refuse_if, found}
-use Rattle.send_model.specs.Command.{Kind, row, kind_of_number, command_with}
+use Rattle.send_model.specs.Command.{Kind, row, is_encoded, kind_of_number, command_with}
 use Rattle.send_model.specs.Spelling.{Attribute, magic, value_of}
-use Rattle.send_model.specs.Reading.{stream_version, header_len, attributes_from, attributes_at, attribute_len, attribute_lawful, attribute_number, number16, number32, is_version, bytes_at, form_fits, wanted_there, moment_lawful, is_taken, taken, command_of}
+use Rattle.send_model.specs.Reading.{stream_version, header_len, attributes_from, attributes_at, attribute_end, attribute_in, attribute_lawful, attribute_number, number16, number32, is_version, bytes_at, form_fits, wanted_there, moment_lawful, is_taken, taken, command_of}
 use Rattle.send_model.specs.Attribute.{form_of}
 use Rattle.send_model.specs.Lengths.{is_truncated}
 use Rattle.tlv_frame.specs.Frame.{Head, head_at, checksum_holds}
@@ -86,9 +86,9 @@ attributes_uncut zero version seen body = uncut_ok []
 attributes_uncut (suc n) version seen [] = uncut_ok []
 attributes_uncut (suc n) version seen (b ∷ bs) =
     let body : List ℕ = b ∷ bs in
-    by_lawful (attribute_lawful version seen body) (attributes_from n version (number16 body ∷ seen) (drop (4 + attribute_len body) body)) (attribute_number body)
-    (λ rest. Ok (record { kind = number16 body; bytes = take (attribute_len body) (drop 4 body) } ∷ rest))
-    (attributes_uncut n version (number16 body ∷ seen) (drop (4 + attribute_len body) body)) (λ rest. uncut_ok _)
+    by_lawful (attribute_lawful version seen body) (attributes_from n version (number16 body ∷ seen) (drop (attribute_end version body) body)) (attribute_number body)
+    (λ rest. Ok (attribute_in version body ∷ rest))
+    (attributes_uncut n version (number16 body ∷ seen) (drop (attribute_end version body) body)) (λ rest. uncut_ok _)
   where
     by_lawful : (b : Bool) (r : Result (List Attribute) Refusal) (number : ℕ) (k : List Attribute → Result (List Attribute) Refusal) → IsUncut r → ((rest : List Attribute) → IsUncut (k rest)) → IsUncut (if b then (r >>= k) else Err (BadAttribute number))
     by_lawful true r number k u v = uncut_bind r k u v
@@ -109,8 +109,8 @@ taken_uncut version number = by_kind (kind_of_number version number)
 
 command_uncut : (version number : ℕ) (attributes : List Attribute) → IsUncut (command_of version number attributes)
 unfolding command_of
-command_uncut version number attributes = uncut_bind _ _ (uncut_found (kind_of_number version number) (UnknownCommand number) refl)
-    (λ kind. uncut_then _ _ (wanted_uncut (row kind).wanted attributes) (uncut_then _ _ (uncut_require (list_all (moment_lawful attributes) (row kind).wanted) BadTime refl) (uncut_ok (command_with kind (bytes_at attributes)))))
+command_uncut version number attributes = uncut_then _ _ (uncut_refuse (is_encoded version number) Encoded refl) (uncut_bind _ _ (uncut_found (kind_of_number version number) (UnknownCommand number) refl)
+    (λ kind. uncut_then _ _ (wanted_uncut (row kind).wanted attributes) (uncut_then _ _ (uncut_require (list_all (moment_lawful attributes) (row kind).wanted) BadTime refl) (uncut_ok (command_with kind (bytes_at attributes))))))
 
 -- The attributes and the command.
 pub body_uncut : (version number : ℕ) (body : List ℕ) (refusal : Refusal) → body_read version number body ≡ Err refusal → is_truncated refusal ≡ false

@@ -24,7 +24,7 @@ pub record CommandIs (at version number : ℕ) (body : List ℕ) (command : Comm
   pub read : attributes_at version body ≡ Ok attributes
   pub taken_kind : taken version number ≡ Ok tt
   pub command_is : command_of version number attributes ≡ Ok (meaning_of command)
-  pub place : data_at ≡ data_place at attributes
+  pub place : data_at ≡ data_place version at attributes
 
 abbrev pub ReadsCommand : ℕ → ℕ → ℕ → List ℕ → Result (Command × ℕ) Fault → Type 0
 ReadsCommand at version number body (Ok x) = CommandIs at version number body x.0 x.1
@@ -34,7 +34,7 @@ ReadsCommand at version number body (Err InputFault) = ⊥
 ReadsCommand at version number body (Err InputTooLong) = ⊥
 
 -- What holds of the command by itself.
-pub record CommandFits (at : ℕ) (body : List ℕ) (x : Command × ℕ) : Type 0 where
-  pub writable : IsWritable (meaning_of x.0)
-  pub can_write : CanWrite (meaning_of x.0)
+pub record CommandFits (at version : ℕ) (body : List ℕ) (x : Command × ℕ) : Type 0 where
+  pub writable : IsWritable version (meaning_of x.0)
+  pub can_write : CanWrite version (meaning_of x.0)
   pub payload : x.1 + length (bytes_of (meaning_of x.0)) ≤ at + frame_header_len + length body

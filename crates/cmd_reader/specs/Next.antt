@@ -45,11 +45,11 @@ abbrev pub ReadsFront : Option (List (List ℕ × List ℕ)) → List ℕ → �
 ReadsFront told name at version before now result = Says (FrontIs at version) (NoFront at version) (NoFront at version meant.Truncated) told name at before now result
 
 -- What holds of a command that was read, whether or not the inputs tell.
-pub record FrontFits (at : ℕ) (front : Front) : Type 0 where
+pub record FrontFits (at version : ℕ) (front : Front) : Type 0 where
   pub further : at + frame_header_len ≤ front.next
   pub within : front.next ≤ limit
-  pub writable : IsWritable (meaning_of front.command)
-  pub can_write : CanWrite (meaning_of front.command)
+  pub writable : IsWritable version (meaning_of front.command)
+  pub can_write : CanWrite version (meaning_of front.command)
   pub payload : front.data_at + length (bytes_of (meaning_of front.command)) ≤ limit
 
 -- ---- the header, where one is due
@@ -117,8 +117,8 @@ pub record ItemFits (old new : Reader) (item : Item) : Type 0 where
   pub further : old.offset < new.offset
   pub within : new.offset ≤ limit
   pub version : is_version item.version ≡ true
-  pub writable : IsWritable (meaning_of item.command)
-  pub can_write : CanWrite (meaning_of item.command)
+  pub writable : IsWritable item.version (meaning_of item.command)
+  pub can_write : CanWrite item.version (meaning_of item.command)
   pub payload : item.data_at + length (bytes_of (meaning_of item.command)) ≤ limit
 
 -- The same where an item was read.

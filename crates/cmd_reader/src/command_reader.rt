@@ -113,7 +113,7 @@ impl CmdReader {
     // Goes past a command.
     fn pass(&mut self, front: Front, version: u32) -> Item
         requires due { self.old.due ≡ CommandDue version }
-        requires fits { FrontFits self.old.offset front }
+        requires fits { FrontFits self.old.offset version front }
         ensures passed { self.new ≡ after_command self.old version (meaning_of front.command) front.next }
         ensures item { item_of self.old.file result ≡ record { file = self.old.file; number = self.old.number; offset = self.old.offset; version = version; data_at = front.data_at; command = meaning_of front.command } }
     {

@@ -1,6 +1,7 @@
 // The command at a place of a file.
 ghost use Rattle.std.specs.Prelude.{◌≡◌, ◌≤◌, true, length, IfOk};
 ghost use Rattle.send_model.specs.Attribute.{IsBytes};
+ghost use Rattle.send_model.specs.Spelling.{greatest_body};
 ghost use Rattle.send_model.specs.Reading.{is_version};
 ghost use Rattle.send_model.specs.Lengths.{limit};
 ghost use Rattle.cmd_reader.specs.Commands.{ReadsCommand, CommandFits};
@@ -38,7 +39,7 @@ pub(crate) fn read_front<I: Inputs>(
     requires version { is_version version ≡ true }
     ensures same { I.told inputs.new ≡ I.told inputs.old }
     ensures later { I.faults inputs.old ≤ I.faults inputs.new }
-    ensures fits { IfOk result (FrontFits at) }
+    ensures fits { IfOk result (FrontFits at version) }
     ensures read { ReadsFront (I.told inputs.old) name.now at version (I.faults inputs.old) (I.faults inputs.new) result }
 {
     let head = match frame_head(inputs, name, at) {
@@ -74,9 +75,9 @@ fn command_in(
     body: &[u8],
 ) -> Result<(Command, u64), Fault>
     requires place { at ≤ limit }
-    requires short { length body.now ≤ limit }
+    requires short { length body.now ≤ greatest_body }
     requires version { is_version version ≡ true }
-    ensures fits { IfOk result (λ x. CommandFits at body.now x) }
+    ensures fits { IfOk result (λ x. CommandFits at version body.now x) }
     ensures read { ReadsCommand at version cmd body.now result }
 {
     let table = match attrs(body, version) {

@@ -23,6 +23,7 @@ use Rattle.cmd_reader.specs.Fronts.{IsRefused, IsLongAt}
 use Rattle.cmd_reader.specs.Left.{Reader, left}
 use Rattle.cmd_reader.specs.Next.{item_of, HasEnded, IsFaulty, OnlyEnds, IsNext, NextSays, ItemFits, IfItem}
 use Rattle.cmd_reader.proofs.Told.{Here, told_map, told_both, told_always, told_here, told_moved}
+use Rattle.composer.proofs.Takes.{item_can_write}
 use Rattle.composer.specs.declared.places.Place.{Place}
 use Rattle.composer.specs.Advance.{Composing, advance}
 use Rattle.composer.specs.Ahead.{then_reading}
@@ -71,7 +72,7 @@ then_item : (items : List Item) (item : Item) (r : Reading) → then_reading ite
 then_item items item r = ap (λ (is : List Item). record { items = is; end = r.end }) (sym (append_assoc items (item ∷ []) r.items))
 
 -- The commands so far and one more.
-one_more : (items : List Item) (item : Item) (old now next new : Composing) (sent more : List ℕ) → TakesAll old items (unsent sent now) → advance now item.command ≡ Ok next → CanWrite item.command → next ≡ unsent more new
+one_more : (items : List Item) (item : Item) (old now next new : Composing) (sent more : List ℕ) → TakesAll old items (unsent sent now) → advance now item.command ≡ Ok next → CanWrite 1 item.command → next ≡ unsent more new
     → TakesAll old (items ++ item ∷ []) (unsent (sent ++ more) new)
 one_more items item old now next new sent more all taken w rest =
     let T : Composing → Type 0 = λ x. TakesAll old (items ++ item ∷ []) x in
@@ -114,7 +115,7 @@ stands_after told inputs file name c0 out0 old new now next out_now out_next bef
       items = s.items ++ meant_item ∷ [];
       sent = s.sent ++ taken.sent;
       read = s.read ∙ ap (then_reading s.items) n.left_is ∙ then_item s.items meant_item (left new bytes);
-      all = one_more s.items meant_item c0 now taken.next next s.sent taken.sent s.all taken.taken fit.can_write taken.rest;
+      all = one_more s.items meant_item c0 now taken.next next s.sent taken.sent s.all taken.taken (item_can_write o item old new e fits) taken.rest;
       appends = Appends-trans out0 out_now out_next s.sent taken.sent s.appends taken.appends;
       last = last_place s.items meant_item before after is_place;
       reached = n.reached s.reached;
@@ -214,7 +215,7 @@ stops_at file c0 out0 old now out_now out_next before place outcome bytes s fron
 
 -- Composing stops after the next command, which was taken.
 stops_after : (file : ℕ) (c0 : Composing) (out0 : Option (List ℕ)) (old new : Reader) (now next : Composing) (out_now out_next : Option (List ℕ)) (before place : Place) (item : Item) (bytes : List ℕ)
-    → Stands file c0 out0 old now out_now before place bytes → left old bytes ≡ with_item item (left new bytes) → CanWrite item.command → advance now item.command ≡ Ok next → AppendsFront out_now out_next next.pending
+    → Stands file c0 out0 old now out_now before place bytes → left old bytes ≡ with_item item (left new bytes) → CanWrite 1 item.command → advance now item.command ≡ Ok next → AppendsFront out_now out_next next.pending
     → FileStops file c0 out0 out_next over.OutputFault bytes
 stops_after file c0 out0 old new now next out_now out_next before place item bytes s n w taken front = record {
   items = s.items ++ item ∷ [];
@@ -235,8 +236,8 @@ command_stops told inputs file name c0 out0 old new now out_now out_next before 
     told_both told name (IsNext old new item) (Stands file c0 out0 old now out_now before place) (FileStops file c0 out0 out_next outcome) (λ bytes n s. by_outcome bytes n s outcome stops.next stops.why stops.front)
     (told_moved told inputs name old.name (IsNext old new item) same name_is (next_item inputs old new f0 f1 o item e says)) stands
   where
-    w : CanWrite (meaning_of item.command)
-    w = (item_fits o item old new e fits).can_write
+    w : CanWrite 1 (meaning_of item.command)
+    w = item_can_write o item old new e fits
 
     same_front : (next : Composing) → next ≡ now → AppendsFront out_now out_next next.pending → AppendsFront out_now out_next now.pending
     same_front next is front = let A : Composing → Type 0 = λ x. AppendsFront out_now out_next x.pending in subst A is front

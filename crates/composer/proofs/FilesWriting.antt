@@ -8,12 +8,13 @@ use Rattle.std.proofs.Math.Seq.{take-append-add, take-append_seam}
 use Rattle.std.proofs.lemmas.List.{drop_all, length-append, length-map}
 use Rattle.send_model.specs.Refusal.{NotConsecutive}
 use Rattle.send_model.specs.Command.{End}
-use Rattle.send_model.specs.Spelling.{canonical}
+use Rattle.send_model.specs.Spelling.{stream_header, canonical, canonical_all}
 use Rattle.send_model.specs.Reading as read
 use Rattle.send_model.specs.Reading.{Item, Reading, Whole, ended, joined, reads, input_from, input}
 use Rattle.send_model.specs.Store.{Head}
 use Rattle.send_model.specs.Order.{heads, last_item, judge}
-use Rattle.send_model.specs.Composed.{first_head, last_head}
+use Rattle.send_model.specs.Composed.{first_head, last_head, composed}
+use Rattle.composer.proofs.Versions.{output_is_first}
 use Rattle.send_model.specs.Headline.{whole_output, IsUnfinished, IsFrontOf, IsStopped}
 use Rattle.send_model.specs.Lengths.{too_long}
 use Rattle.send_model.proofs.Fronts.{whole_lawful, nothing_front, so_far_front}
@@ -160,7 +161,7 @@ front_stopped files items left number after total count ahead p last_is within =
     by_last None l = let F : List ℕ → Type 0 = λ bytes. IsFrontOf (whole_output nothing files) (take count bytes) in subst F (sym (p.quiet_yet l).0) (nothing_front (whole_output nothing files) count)
     by_last (Some last) l =
         let F : List ℕ → Type 0 = λ bytes. count ≤ length bytes → IsFrontOf (whole_output nothing files) (take count bytes) in
-        subst F (sym (p.bytes last l)) (so_far_front files items more p.state last (first_head (heads items)) count all p.taken p.ordered p.no_clones refl (sym last_is ∙ l)) within
+        subst F (sym (p.bytes last l)) (so_far_front 1 files items more p.state last (first_head (heads items)) count (output_is_first files) all p.taken p.ordered p.no_clones refl (sym last_is ∙ l)) within
 
 -- The same of what was sent.
 sent_stopped : (files : List (List ℕ)) (items : List Item) (left : Reading) (number : ℕ) (after : List (List ℕ)) (now : Composing) (sent : List ℕ) → IsAhead files items left number after → Progress items (unsent sent now) [] → now.last ≡ last_head (heads (input files).items)
@@ -324,7 +325,7 @@ end_unsent last old out0 now out_now out_next before place files begun e (count,
     let same : take (length e.sent + count) ((e.sent ++ now.pending) ++ canonical 1 End) ≡ e.sent ++ take count all = ap (take (length e.sent + count)) (append_assoc e.sent now.pending (canonical 1 End)) ∙ take-append-add e.sent all count in
     let within : length e.sent + count < length ((e.sent ++ now.pending) ++ canonical 1 End) = omega (arith, short, length-append e.sent all, ap length (append_assoc e.sent now.pending (canonical 1 End))) in
     let lawful = (composed_ahead files e.items ended e.number total [] e.ahead refl e.so_far e.last_is begun).1 in
-    let whole : (e.sent ++ now.pending) ++ canonical 1 End ≡ whole_output nothing files = spelled_ahead files e.items ended e.number total [] e.ahead refl e.so_far e.last_is begun ∙ sym (whole_lawful files lawful) in
+    let whole : (e.sent ++ now.pending) ++ canonical 1 End ≡ whole_output nothing files = spelled_ahead files e.items ended e.number total [] e.ahead refl e.so_far e.last_is begun ∙ sym (ap (λ (v : ℕ). stream_header v ++ canonical_all v (composed nothing files)) (output_is_first files)) ∙ sym (whole_lawful files lawful) in
     let F : List ℕ → Type 0 = λ bytes. IsFrontOf bytes (e.sent ++ take count all) in
     let says : IsStopped nothing files (e.sent ++ take count all) = record {
       unfinished = subst IsUnfinished same (unfinished_ahead files e.items ended e.number total [] (length e.sent + count) e.ahead refl e.so_far e.last_is begun within);

@@ -4,7 +4,7 @@ use Rattle.std.specs.Prelude.{◌≡◌, ◌≢◌, ℕ, ◌<◌, ◌≤◌, fal
 use Rattle.std.specs.List.{AllByRecursion}
 use Rattle.std.proofs.Common.{refl, sym, ap, subst, ◌∙◌}
 use Rattle.send_model.specs.Refusal.{Refusal, NotConsecutive}
-use Rattle.send_model.specs.Attribute.{Identifier, Number, FieldFits}
+use Rattle.send_model.specs.Attribute.{Identifier, Number, FieldFits, UUID, CTRANSID}
 use Rattle.send_model.specs.Command.{Command, Subvol, Snapshot, End, row, kind_of_number}
 use Rattle.send_model.specs.Spelling.{stream_header, IsSpellable, canonical, canonical_all}
 use Rattle.send_model.specs.Reading.{Item, Verdict, Ending, Whole, Faulty, Reading, input, is_taken, taken}
@@ -20,6 +20,7 @@ use Rattle.send_model.proofs.Sorts.{same_inside}
 use Rattle.send_model.proofs.Runs.{Takes}
 use Rattle.send_model.proofs.Merging.{NoClones, edit_in, edits_of}
 use Rattle.send_model.proofs.Streams.{IsInner}
+use Rattle.send_model.proofs.Canonical.{spellable_first}
 use Rattle.send_model.proofs.Writing.{written_so_far, whole_parts, nothing_unfinished, unfinished_part, unfinished_so_far}
 use Rattle.send_model.proofs.Headlines.{written_for, headline}
 use Rattle.send_model.proofs.Composed.{first_there, last_there}
@@ -31,18 +32,18 @@ use Rattle.composer.proofs.Progress.{HeadFits, Progress, advance_err}
 
 -- The values of a part's parent fit the format.
 abbrev ParentFits : Head → Type 0
-ParentFits head = (parent : Key) → head.parent ≡ Some parent → FieldFits (Identifier parent.uuid) × FieldFits (Number parent.ctransid)
+ParentFits head = (parent : Key) → head.parent ≡ Some parent → FieldFits 1 UUID (Identifier parent.uuid) × FieldFits 1 CTRANSID (Number parent.ctransid)
 
-head_parent : (c : Command) (head : Head) → head_of c ≡ Some head → CanWrite c → ParentFits head
-unfolding IsSpellable
+head_parent : (c : Command) (head : Head) → head_of c ≡ Some head → CanWrite 1 c → ParentFits head
+unfolding row
 head_parent (Subvol uuid ctransid path) head e w parent p = absurd (let none : None ≡ Some parent = ap (λ (h : Head). h.parent) (same_inside e) ∙ p in cc)
 head_parent (Snapshot uuid ctransid path clone_uuid clone_ctransid) head e w parent p =
     let same = same_inside (ap (λ (h : Head). h.parent) (same_inside e) ∙ p) in
-    let F : Key → Type 0 = λ k. FieldFits (Identifier k.uuid) × FieldFits (Number k.ctransid) in
-    subst F same (w.spellable.1.1.1.0, w.spellable.1.1.1.1.0)
+    let F : Key → Type 0 = λ k. FieldFits 1 UUID (Identifier k.uuid) × FieldFits 1 CTRANSID (Number k.ctransid) in
+    subst F same (w.spellable.values.1.1.1.0, w.spellable.values.1.1.1.1.0)
 head_parent c head e w parent p = cc
 
-first_parent : (cs : List Command) (first : Head) → AllByRecursion CanWrite cs → first_head (heads_of cs) ≡ Some first → ParentFits first
+first_parent : (cs : List Command) (first : Head) → AllByRecursion (CanWrite 1) cs → first_head (heads_of cs) ≡ Some first → ParentFits first
 unfolding heads_of
 first_parent [] first w e = cc
 first_parent (c ∷ cs) first w e = by_head (head_of c) refl (first_parent cs first w.1) e
@@ -51,24 +52,27 @@ first_parent (c ∷ cs) first w e = by_head (head_of c) refl (first_parent cs fi
     by_head None o later e = later e
     by_head (Some head) o later e = head_parent c first (o ∙ e) w.0
 
-head_inner : (last : Head) (parent : Option Key) → HeadFits last → ((k : Key) → parent ≡ Some k → FieldFits (Identifier k.uuid) × FieldFits (Number k.ctransid)) → IsInner (head_command last.name last.key parent)
-unfolding IsSpellable taken is_taken kind_of_number row
-head_inner last None fits parent_fits = (record { spellable = (fits.uuid, (fits.ctransid, (fits.name, tt))); taken_kind = refl }, refl)
-head_inner last (Some k) fits parent_fits = let p = parent_fits k refl in (record { spellable = (fits.uuid, (fits.ctransid, (fits.name, (p.0, (p.1, tt))))); taken_kind = refl }, refl)
+head_inner : (last : Head) (parent : Option Key) → HeadFits last → ((k : Key) → parent ≡ Some k → FieldFits 1 UUID (Identifier k.uuid) × FieldFits 1 CTRANSID (Number k.ctransid)) → IsInner 1 (head_command last.name last.key parent)
+unfolding taken is_taken kind_of_number row
+head_inner last None fits parent_fits =
+    (record { spellable = spellable_first 1 (head_command last.name last.key None) refl (fits.uuid, (fits.ctransid, (fits.name, tt))); taken_kind = refl }, refl)
+head_inner last (Some k) fits parent_fits =
+    let p = parent_fits k refl in
+    (record { spellable = spellable_first 1 (head_command last.name last.key (Some k)) refl (fits.uuid, (fits.ctransid, (fits.name, (p.0, (p.1, tt))))); taken_kind = refl }, refl)
 
-edit_inner : (c : Command) (rest : List Command) → CanWrite c → AllByRecursion IsInner rest → AllByRecursion IsInner (edit_in (head_of c) c ++ rest)
+edit_inner : (c : Command) (rest : List Command) → CanWrite 1 c → AllByRecursion (IsInner 1) rest → AllByRecursion (IsInner 1) (edit_in (head_of c) c ++ rest)
 edit_inner (Subvol uuid ctransid path) rest w more = more
 edit_inner (Snapshot uuid ctransid path clone_uuid clone_ctransid) rest w more = more
 edit_inner End rest w more = more
 edit_inner c rest w more = ((w, refl), more)
 
-edits_inner : (cs : List Command) → AllByRecursion CanWrite cs → AllByRecursion IsInner (edits_of cs)
+edits_inner : (cs : List Command) → AllByRecursion (CanWrite 1) cs → AllByRecursion (IsInner 1) (edits_of cs)
 edits_inner [] w = tt
 edits_inner (c ∷ cs) w = edit_inner c (edits_of cs) w.0 (edits_inner cs w.1)
 
 -- The commands that are written can be written, and none of them is END.
 pub inner : (items : List Item) (now : Composing) (sent : List ℕ) (first last : Head) → Progress items now sent → first_head (heads items) ≡ Some first → now.last ≡ Some last
-    → AllByRecursion IsInner (head_command last.name last.key first.parent ∷ edits_of (commands_of items))
+    → AllByRecursion (IsInner 1) (head_command last.name last.key first.parent ∷ edits_of (commands_of items))
 inner items now sent first last p f l =
     (head_inner last first.parent (p.last_fits last l) (first_parent (commands_of items) first p.writable f), edits_inner (commands_of items) p.writable)
 
@@ -82,13 +86,13 @@ unfinished items now sent k p h = by_last now.last refl
     by_last None l = let U : List ℕ → Type 0 = λ b. IsUnfinished (take k b) in subst U (sym (p.quiet_yet l).0) (nothing_unfinished k)
     by_last (Some last) l =
         let U : List ℕ → Type 0 = λ b. k ≤ length b → IsUnfinished (take k b) in
-        subst U (sym (p.bytes last l)) (unfinished_so_far last (first_head (heads items)) (commands_of items) k (λ first f. inner items now sent first last p f l)) h
+        subst U (sym (p.bytes last l)) (unfinished_so_far 1 last (first_head (heads items)) (commands_of items) k refl (λ first f. inner items now sent first last p f l)) h
 
 -- The bytes after the first head.
 pub begun_bytes : (items : List Item) (now : Composing) (sent : List ℕ) (first last : Head) → Progress items now sent → first_head (heads items) ≡ Some first → now.last ≡ Some last
     → sent ++ now.pending ≡ stream_header 1 ++ canonical_all 1 (head_command last.name last.key first.parent ∷ edits_of (commands_of items))
 unfolding written_so_far
-begun_bytes items now sent first last p f l = p.bytes last l ∙ ap (λ (o : Option Head). written_so_far last o (commands_of items)) f
+begun_bytes items now sent first last p f l = p.bytes last l ∙ ap (λ (o : Option Head). written_so_far 1 last o (commands_of items)) f
 
 -- No proper front part of all that is written, with END, is read as whole.
 pub unfinished_end : (items : List Item) (now : Composing) (sent : List ℕ) (first last : Head) (k : ℕ) → Progress items now sent → first_head (heads items) ≡ Some first → now.last ≡ Some last
@@ -96,7 +100,7 @@ pub unfinished_end : (items : List Item) (now : Composing) (sent : List ℕ) (fi
 unfinished_end items now sent first last k p f l h =
     let U : List ℕ → Type 0 = λ b. k < length (b ++ canonical 1 End) → IsUnfinished (take k (b ++ canonical 1 End)) in
     subst U (sym (begun_bytes items now sent first last p f l))
-    (unfinished_part (head_command last.name last.key first.parent ∷ edits_of (commands_of items)) k (inner items now sent first last p f l)) h
+    (unfinished_part 1 (head_command last.name last.key first.parent ∷ edits_of (commands_of items)) k refl (inner items now sent first last p f l)) h
 
 -- ---- the composed stream
 
@@ -111,14 +115,14 @@ composed files items now sent last is p last_is l =
     let some : heads items ≢ [] = some_heads (heads items) last last_is in
     let first = first_there (heads items) some in
     let cs : List Command = head_command last.name last.key first.0.parent ∷ edits_of (commands_of items) in
-    let InnerOf : List Item → Type 0 = λ xs. AllByRecursion IsInner (head_command last.name last.key first.0.parent ∷ edits_of (commands_of xs)) in
+    let InnerOf : List Item → Type 0 = λ xs. AllByRecursion (IsInner 1) (head_command last.name last.key first.0.parent ∷ edits_of (commands_of xs)) in
     let TakesAll : List Item → Type 0 = λ xs. Takes (start_of empty_store) (commands_of xs) p.state in
     let PlainAll : List Item → Type 0 = λ xs. NoClones (commands_of xs) in
     let InOrder : List Item → Type 0 = λ xs. IsConsecutive xs in
     let same : items ≡ (input files).items = ap (λ (r : Reading). r.items) (sym is) in
-    let bytes : (sent ++ now.pending) ++ canonical 1 End ≡ written_for first.0 last (commands_of items) =
-    ap (λ (b : List ℕ). b ++ canonical 1 End) (begun_bytes items now sent first.0 last p first.1 l) ∙ sym (whole_parts (stream_header 1) cs) in
-    headline empty_store files p.state ((sent ++ now.pending) ++ canonical 1 End) first.0 last
+    let bytes : (sent ++ now.pending) ++ canonical 1 End ≡ written_for 1 first.0 last (commands_of items) =
+    ap (λ (b : List ℕ). b ++ canonical 1 End) (begun_bytes items now sent first.0 last p first.1 l) ∙ sym (whole_parts 1 (stream_header 1) cs) in
+    headline 1 empty_store files p.state ((sent ++ now.pending) ++ canonical 1 End) first.0 last refl
     (record {
       whole = ap (λ (r : Reading). r.end) is;
       no_clones = subst PlainAll same p.no_clones;
@@ -126,7 +130,7 @@ composed files items now sent last is p last_is l =
       taken = subst TakesAll same p.taken;
     })
     (ap (λ (xs : List Item). first_head (heads xs)) (sym same) ∙ first.1) (ap (λ (xs : List Item). last_head (heads xs)) (sym same) ∙ last_is)
-    (subst InnerOf same (inner items now sent first.0 last p first.1 l)) (bytes ∙ ap (λ (xs : List Item). written_for first.0 last (commands_of xs)) same)
+    (subst InnerOf same (inner items now sent first.0 last p first.1 l)) (bytes ∙ ap (λ (xs : List Item). written_for 1 first.0 last (commands_of xs)) same)
 
 -- ---- the verdict
 

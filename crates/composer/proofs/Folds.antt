@@ -113,7 +113,7 @@ pub takes_none : (now : Composing) → TakesAll now [] now
 unfolding advance_all
 takes_none now = record { taken = refl; writable = tt }
 
-pub takes_one : (old new : Composing) (item : Item) → advance old item.command ≡ Ok new → CanWrite item.command → TakesAll old (item ∷ []) new
+pub takes_one : (old new : Composing) (item : Item) → advance old item.command ≡ Ok new → CanWrite 1 item.command → TakesAll old (item ∷ []) new
 unfolding advance_all
 takes_one old new item e w = record { taken = ap (λ (r : Result Composing Refusal). r >>= λ (m : Composing). Ok m) e; writable = (w, tt) }
 
@@ -134,7 +134,7 @@ not_built : {r : Refusal} → ◌≡◌ {A = Result (Unit {0}) Refusal} (Err r) 
 not_built e = cc
 
 -- A command that can be written is no clone.
-pub no_clone : (c : Command) → CanWrite c → is_clone c ≡ false
+pub no_clone : (c : Command) → CanWrite 1 c → is_clone c ≡ false
 unfolding taken kind_of_number is_taken row
 no_clone (Clone path offset clone_uuid clone_ctransid clone_path clone_offset clone_len) w = absurd (not_built w.taken_kind)
 no_clone c w = refl
@@ -159,7 +159,7 @@ progress_from_start items last new fits t = progress_all [] items (fresh last) n
 
 -- ---- the last head fits
 
-heads_fit : (cs : List Command) → AllByRecursion CanWrite cs → AllByRecursion HeadFits (heads_of cs)
+heads_fit : (cs : List Command) → AllByRecursion (CanWrite 1) cs → AllByRecursion HeadFits (heads_of cs)
 unfolding heads_of
 heads_fit [] w = tt
 heads_fit (c ∷ cs) w = by_head (head_of c) refl (heads_fit cs w.1)

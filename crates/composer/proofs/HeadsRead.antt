@@ -28,6 +28,7 @@ use Rattle.cmd_reader.specs.Next.{item_of, verdict_meant, HasEnded, IsFaulty, On
 use Rattle.cmd_reader.proofs.Told.{Here, told_both, told_always, told_here, told_moved}
 use Rattle.composer.specs.Ahead.{IsAhead, then_reading}
 use Rattle.composer.specs.Folding.{AllCanWrite}
+use Rattle.composer.proofs.Takes.{item_can_write}
 use Rattle.composer.specs.Stopping.{outcome_at}
 use Rattle.composer.specs.Files.{contents, IfAllTold, last_of, HeadsRead, HeadsStop, HeadsEnd, LastRead, LastStop, LastEnd}
 use Rattle.composer.proofs.Loops.{ahead_start, ahead_whole, ahead_fault, last_of_all}
@@ -93,7 +94,7 @@ heads_start told file name reader last is =
     let fresh : Reader = record { file = file; name = name; due = HeaderDue; number = 1; offset = 0 } in
     subst S (sym is) (told_always told name (HeadsSoFar file fresh last last) (λ bytes. start_of_file file name last bytes))
 
-next_of_file : (file : ℕ) (old new : Reader) (item : read.Item) (before last now : Option Head) (bytes : List ℕ) → old.file ≡ file → CanWrite (meaning_of item.command) → now ≡ first_of (head_of (meaning_of item.command)) last
+next_of_file : (file : ℕ) (old new : Reader) (item : read.Item) (before last now : Option Head) (bytes : List ℕ) → old.file ≡ file → CanWrite 1 (meaning_of item.command) → now ≡ first_of (head_of (meaning_of item.command)) last
     → HeadsSoFar file old before last bytes → IsNext old new item bytes → HeadsSoFar file new before now bytes
 next_of_file file old new item before last now bytes f can head h n =
     let one : Item = item_of file item in
@@ -112,8 +113,8 @@ heads_next told told_now file name old new o item before last now early late t f
     told_both told name (HeadsSoFar file old before last) (IsNext old new item) (HeadsSoFar file new before now) (λ bytes so_far next. next_of_file file old new item before last now bytes f can head so_far next) h
     (told_moved told told_now name old.name (IsNext old new item) t n (subst (λ (x : Option read.Item). NextSays told_now old new early late (Ok x)) is next))
   where
-    can : CanWrite (meaning_of item.command)
-    can = (subst (λ (x : Option read.Item). IfItem (Ok x) (ItemFits old new)) is fits).can_write
+    can : CanWrite 1 (meaning_of item.command)
+    can = item_can_write o item old new is fits
 
 read_to : (file : ℕ) (reader : Reader) (before last : Option Head) (bytes : List ℕ) (ending : reading.Ending) (h : HeadsSoFar file reader before last bytes) → left reader bytes ≡ record { items = []; end = ending } → reads file bytes ≡ record { items = h.items; end = ending }
 read_to file reader before last bytes ending h is = h.read ∙ ap (then_reading h.items) is ∙ ap (λ (is : List Item). record { items = is; end = ending }) (append-nil h.items)

@@ -9,3 +9,4 @@ pub mod FilesAhead
 pub mod FileWriting
 pub mod FilesWriting
 pub mod HeadsRead
+pub mod Versions

@@ -4,7 +4,7 @@ use Rattle.std.specs.Prelude.{◌≡◌, ◌≢◌, ℕ, zero, suc, ◌+◌, ◌
 use Rattle.std.proofs.Common.{refl, sym, ap, subst, ◌∙◌, append_assoc, append-nil}
 use Rattle.std.proofs.lemmas.Bool.{false≢true}
 use Rattle.send_model.specs.Refusal.{Refusal, NotConsecutive}
-use Rattle.send_model.specs.Command.{Command, Subvol, Snapshot, End}
+use Rattle.send_model.specs.Command.{Command, Subvol, Snapshot, End, row}
 use Rattle.send_model.specs.Spelling.{IsSpellable, stream_header, canonical, canonical_all}
 use Rattle.send_model.specs.Reading.{Item, Verdict, Ending, Whole, Faulty, Reading, CommandDue, Front, header_len, with_item, ended, faulty, go_on, stream_version, front_of, reads_from, reads, joined, input_from, input}
 use Rattle.send_model.specs.Store.{Head, head_of, State}
@@ -108,10 +108,10 @@ not_begun items now sent p b = by_heads (heads items) (sym p.begun ∙ b)
 -- ---- the values of a head
 
 -- A head that can be written has values that fit.
-pub head_fits : (c : Command) (head : Head) → head_of c ≡ Some head → CanWrite c → HeadFits head
-unfolding IsSpellable
-head_fits (Subvol uuid ctransid path) head e w = subst HeadFits (same_inside e) (record { uuid = w.spellable.0; ctransid = w.spellable.1.0; name = w.spellable.1.1.0 })
-head_fits (Snapshot uuid ctransid path clone_uuid clone_ctransid) head e w = subst HeadFits (same_inside e) (record { uuid = w.spellable.0; ctransid = w.spellable.1.0; name = w.spellable.1.1.0 })
+pub head_fits : (c : Command) (head : Head) → head_of c ≡ Some head → CanWrite 1 c → HeadFits head
+unfolding row
+head_fits (Subvol uuid ctransid path) head e w = subst HeadFits (same_inside e) (record { uuid = w.spellable.values.0; ctransid = w.spellable.values.1.0; name = w.spellable.values.1.1.0 })
+head_fits (Snapshot uuid ctransid path clone_uuid clone_ctransid) head e w = subst HeadFits (same_inside e) (record { uuid = w.spellable.values.0; ctransid = w.spellable.values.1.0; name = w.spellable.values.1.1.0 })
 head_fits c head e w = cc
 
 -- No head at all.
@@ -119,7 +119,7 @@ pub no_last_fits : LastFits None
 no_last_fits l e = cc
 
 -- The last head so far fits after one more command.
-pub last_fits_after : (c : Command) (last : Option Head) → LastFits last → CanWrite c → LastFits (first_of (head_of c) last)
+pub last_fits_after : (c : Command) (last : Option Head) → LastFits last → CanWrite 1 c → LastFits (first_of (head_of c) last)
 last_fits_after c last fits w = by_head (head_of c) refl
   where
     by_head : (o : Option Head) → head_of c ≡ o → LastFits (first_of o last)
@@ -277,7 +277,7 @@ spelled_ahead files items left number now sent is e p last_is b =
     let lasts : last_head (heads (input files).items) ≡ Some h.last = ap (λ (xs : List Item). last_head (heads xs)) (sym same) ∙ h.last_is in
     let list : composed empty_store files ≡ cs ++ End ∷ [] =
     composed_list empty_store files h.first h.last firsts lasts plain ∙ ap (λ (xs : List Item). head_command h.last.name h.last.key h.first.parent ∷ (edits_of (commands_of xs) ++ End ∷ [])) (sym same) in
-    ap (λ (bytes : List ℕ). bytes ++ canonical 1 End) (begun_bytes items now sent h.first h.last p h.first_is h.told) ∙ sym (whole_parts (stream_header 1) cs)
+    ap (λ (bytes : List ℕ). bytes ++ canonical 1 End) (begun_bytes items now sent h.first h.last p h.first_is h.told) ∙ sym (whole_parts 1 (stream_header 1) cs)
     ∙ ap (λ (list : List Command). stream_header 1 ++ canonical_all 1 list) (sym list)
 
 -- And none of its proper front parts is read as whole.

@@ -5,7 +5,7 @@ use Rattle.std.proofs.Common.{refl, sym, ap, ap₂, subst, ◌∙◌, append_ass
 use Rattle.std.proofs.lemmas.Bool.{true≢false}
 use Rattle.send_model.specs.Refusal.{Refusal, NotConsecutive, NoSubvolume}
 use Rattle.send_model.specs.Chain.{◌>>=◌, ◌>>◌, refuse_if}
-use Rattle.send_model.specs.Attribute.{Identifier, Number, Bytes, FieldFits}
+use Rattle.send_model.specs.Attribute.{Identifier, Number, Bytes, FieldFits, UUID, CTRANSID, PATH}
 use Rattle.send_model.specs.Command.{Command, End}
 use Rattle.send_model.specs.Spelling.{stream_header, canonical, canonical_all}
 use Rattle.send_model.specs.Reading.{Item}
@@ -27,9 +27,9 @@ use Rattle.composer.specs.Advance.{Composing, blank_step, accepted, with_head, w
 
 -- The values of a head fit the format.
 pub record HeadFits (head : Head) : Type 0 where
-  pub uuid : FieldFits (Identifier head.key.uuid)
-  pub ctransid : FieldFits (Number head.key.ctransid)
-  pub name : FieldFits (Bytes head.name)
+  pub uuid : FieldFits 1 UUID (Identifier head.key.uuid)
+  pub ctransid : FieldFits 1 CTRANSID (Number head.key.ctransid)
+  pub name : FieldFits 1 PATH (Bytes head.name)
 
 -- The commands so far were taken in order, and what was sent with what is pending is what they give.
 pub record Progress (items : List Item) (now : Composing) (sent : List ℕ) : Type 0 where
@@ -40,9 +40,9 @@ pub record Progress (items : List Item) (now : Composing) (sent : List ℕ) : Ty
   pub previous : now.previous ≡ previous_after None items
   pub begun : now.begun ≡ is_some (first_head (heads items))
   pub no_clones : NoClones (commands_of items)
-  pub writable : AllByRecursion CanWrite (commands_of items)
+  pub writable : AllByRecursion (CanWrite 1) (commands_of items)
   pub last_fits : (last : Head) → now.last ≡ Some last → HeadFits last
-  pub bytes : (last : Head) → now.last ≡ Some last → sent ++ now.pending ≡ written_so_far last (first_head (heads items)) (commands_of items)
+  pub bytes : (last : Head) → now.last ≡ Some last → sent ++ now.pending ≡ written_so_far 1 last (first_head (heads items)) (commands_of items)
   pub quiet_yet : now.last ≡ None → (sent ++ now.pending ≡ []) × (heads items ≡ [])
 
 -- The step over cells that carry nothing is the step of the bytes.
@@ -108,7 +108,7 @@ abbrev pub added_by : Bool → Head → Command → Option Head → List ℕ
 added_by begun last c (Some head) = if begun then [] else stream_header 1 ++ canonical 1 (head_command last.name last.key head.parent)
 added_by begun last c None = canonical_all 1 (edit_in None c)
 
-nothing_written : (last : Head) (cs : List Command) → written_so_far last None cs ≡ []
+nothing_written : (last : Head) (cs : List Command) → written_so_far 1 last None cs ≡ []
 unfolding written_so_far
 nothing_written last cs = refl
 
@@ -122,25 +122,25 @@ only_end c = by_sort {P = λ c. head_of c ≡ None → is_clone c ≡ false → 
 
 -- Before the first head nothing is written, and the first head begins the stream.
 bytes_first : (items : List Item) (item : Item) (state : State ℕ) (last : Head) (o : Option Head) → NoClones (commands_of items) → Takes (start_of empty_store) (commands_of items) state → heads items ≡ [] → (step_of state item.command).refusal ≡ None → is_clone item.command ≡ false → head_of item.command ≡ o
-    → written_so_far last o (commands_of items ++ item.command ∷ []) ≡ added_by false last item.command o
+    → written_so_far 1 last o (commands_of items ++ item.command ∷ []) ≡ added_by false last item.command o
 unfolding canonical_all
 bytes_first items item state last (Some head) n t none h no_clone e =
     let q = quiet (commands_of items) empty_store state n none t in
     let edits : edits_of (commands_of items ++ item.command ∷ []) ≡ [] = edits_of-append (commands_of items) (item.command ∷ []) ∙ ap₂ (λ (a b : List Command). a ++ b) q.0 (append-nil (edit_in (head_of item.command) item.command) ∙ ap (λ (x : Option Head). edit_in x item.command) e) in
-    written-first last head (commands_of items ++ item.command ∷ []) edits
+    written-first 1 last head (commands_of items ++ item.command ∷ []) edits
 bytes_first items item state last None n t none h no_clone e =
     let q = quiet (commands_of items) empty_store state n none t in
     let R : State ℕ → Type 0 = λ s. (step_of s item.command).refusal ≡ None in
     let is_end = only_end item.command e no_clone (subst R q.1 h) in
-    let W : Command → Type 0 = λ c. written_so_far last None (commands_of items ++ c ∷ []) ≡ canonical_all 1 (edit_in None c) in
+    let W : Command → Type 0 = λ c. written_so_far 1 last None (commands_of items ++ c ∷ []) ≡ canonical_all 1 (edit_in None c) in
     subst W (sym is_end) (nothing_written last (commands_of items ++ End ∷ []))
 
 -- After the first head.
 bytes_on : (items : List Item) (item : Item) (last first : Head) (o : Option Head) → head_of item.command ≡ o
-    → written_so_far last (Some first) (commands_of items ++ item.command ∷ []) ≡ written_so_far last (Some first) (commands_of items) ++ added_by true last item.command o
+    → written_so_far 1 last (Some first) (commands_of items ++ item.command ∷ []) ≡ written_so_far 1 last (Some first) (commands_of items) ++ added_by true last item.command o
 unfolding canonical_all
 bytes_on items item last first o e =
-    written-more last first (commands_of items) item.command ∙ ap (λ (x : List ℕ). written_so_far last (Some first) (commands_of items) ++ x) (ap (λ (x : Option Head). canonical_all 1 (edit_in x item.command)) e ∙ by_head o)
+    written-more 1 last first (commands_of items) item.command ∙ ap (λ (x : List ℕ). written_so_far 1 last (Some first) (commands_of items) ++ x) (ap (λ (x : Option Head). canonical_all 1 (edit_in x item.command)) e ∙ by_head o)
   where
     by_head : (x : Option Head) → canonical_all 1 (edit_in x item.command) ≡ added_by true last item.command x
     by_head None = refl
@@ -153,7 +153,7 @@ no_heads (h ∷ hs) e = cc
 -- What the command adds to the bytes is what the commands with it give.
 added_bytes : (items : List Item) (item : Item) (state : State ℕ) (sent pending : List ℕ) (last : Head) (o : Option Head) (first : Option Head) → first_head (heads items) ≡ first
     → NoClones (commands_of items) → Takes (start_of empty_store) (commands_of items) state → (step_of state item.command).refusal ≡ None → is_clone item.command ≡ false → head_of item.command ≡ o
-    → sent ++ pending ≡ written_so_far last first (commands_of items) → sent ++ (pending ++ added_by (is_some first) last item.command o) ≡ written_so_far last (first_of first o) (commands_of items ++ item.command ∷ [])
+    → sent ++ pending ≡ written_so_far 1 last first (commands_of items) → sent ++ (pending ++ added_by (is_some first) last item.command o) ≡ written_so_far 1 last (first_of first o) (commands_of items ++ item.command ∷ [])
 added_bytes items item state sent pending last o (Some f) there n t h no_clone e bytes =
     sym (append_assoc sent pending (added_by true last item.command o)) ∙ ap (λ (x : List ℕ). x ++ added_by true last item.command o) bytes ∙ sym (bytes_on items item last f o e)
 added_bytes items item state sent pending last o None there n t h no_clone e bytes =
@@ -250,7 +250,7 @@ begun_more None None = refl
 begun_more None (Some h) = refl
 begun_more (Some f) o = refl
 
-writable_more : (cs : List Command) (c : Command) → AllByRecursion CanWrite cs → CanWrite c → AllByRecursion CanWrite (cs ++ c ∷ [])
+writable_more : (cs : List Command) (c : Command) → AllByRecursion (CanWrite 1) cs → CanWrite 1 c → AllByRecursion (CanWrite 1) (cs ++ c ∷ [])
 writable_more [] c w can = (can, tt)
 writable_more (d ∷ cs) c w can = (w.0, writable_more cs c w.1 can)
 
@@ -274,7 +274,7 @@ still_quiet items item state now new sent c is t n h no_clone a quiet_now none e
     )
 
 -- A command that was taken makes progress.
-pub advance_ok : (items : List Item) (item : Item) (now new : Composing) (sent : List ℕ) → Progress items now sent → is_clone item.command ≡ false → CanWrite item.command → advance now item.command ≡ Ok new → Progress (items ++ item ∷ []) new sent
+pub advance_ok : (items : List Item) (item : Item) (now new : Composing) (sent : List ℕ) → Progress items now sent → is_clone item.command ≡ false → CanWrite 1 item.command → advance now item.command ≡ Ok new → Progress (items ++ item ∷ []) new sent
 advance_ok items item now new sent p no_clone can e =
     let c : Command = item.command in
     let st = step_of p.state c in
@@ -288,14 +288,14 @@ advance_ok items item now new sent p no_clone can e =
       previous = a.previous_is ∙ ap (λ (k : Option Key). part_after k (head_of c)) p.previous ∙ sym (previous_after-append None items (item ∷ []));
       begun = a.begun_is ∙ ap (λ (b : Bool). b || is_some (head_of c)) p.begun ∙ begun_more (first_head (heads items)) (head_of c) ∙ ap is_some (sym (first_after items item));
       no_clones = let N : List Command → Type 0 = λ cs. NoClones cs in subst N (sym (commands_more items item)) (clones_more (commands_of items) c p.no_clones no_clone);
-      writable = let W : List Command → Type 0 = λ cs. AllByRecursion CanWrite cs in subst W (sym (commands_more items item)) (writable_more (commands_of items) c p.writable can);
+      writable = let W : List Command → Type 0 = λ cs. AllByRecursion (CanWrite 1) cs in subst W (sym (commands_more items item)) (writable_more (commands_of items) c p.writable can);
       last_fits = λ last l. p.last_fits last (sym a.last_is ∙ l);
       quiet_yet = λ none. still_quiet items item p.state now new sent c refl p.taken p.no_clones ok.0 no_clone a (p.quiet_yet (sym a.last_is ∙ none)) (sym a.last_is ∙ none) ok.1;
       bytes = λ last l.
           let l' : now.last ≡ Some last = sym a.last_is ∙ l in
           ap (λ (x : List ℕ). sent ++ x) (a.pending_is last l' ∙ ap (λ (b : Bool). now.pending ++ added_by b last c (head_of c)) p.begun)
           ∙ added_bytes items item p.state sent now.pending last (head_of c) (first_head (heads items)) refl p.no_clones p.taken ok.0 no_clone refl (p.bytes last l')
-          ∙ ap₂ (written_so_far last) (sym (first_after items item)) (sym (commands_more items item));
+          ∙ ap₂ (written_so_far 1 last) (sym (first_after items item)) (sym (commands_more items item));
     }
 
 refused_by : (b : Bool) (refusal : Refusal) (rest : Result Composing Refusal) → (refuse_if b NotConsecutive >> rest) ≡ Err refusal → ((b ≡ true) × (NotConsecutive ≡ refusal)) ⊎ (rest ≡ Err refusal)

@@ -200,7 +200,7 @@ pub record NextRefused (now : Composing) (rest : Reading) (verdict : Verdict) : 
   pub item : Item
   pub more : Reading
   pub front : rest ≡ with_item item more
-  pub writable : CanWrite item.command
+  pub writable : CanWrite 1 item.command
   pub refusal : meant.Refusal
   pub refused : advance now item.command ≡ Err refusal
   pub verdict_is : verdict_meant verdict ≡ verdict_of item refusal

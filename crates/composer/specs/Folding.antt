@@ -16,7 +16,7 @@ advance_all now [] = Ok now
 advance_all now (c ∷ cs) = advance now c >>= λ next. advance_all next cs
 
 abbrev pub AllCanWrite : List Item → Type 0
-AllCanWrite items = AllByRecursion CanWrite (commands_of items)
+AllCanWrite items = AllByRecursion (CanWrite 1) (commands_of items)
 
 -- All of these commands are taken, and each of them can be written.
 pub record TakesAll (old : Composing) (items : List Item) (new : Composing) : Type 0 where

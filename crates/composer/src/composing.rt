@@ -71,7 +71,7 @@ impl Composer {
     /// or where no last head was given.
     pub fn take(&mut self, c: &Command) -> Result<(), Stop>
         requires taken { IsTrue (is_taken (kind_of (meaning_of c.now))) }
-        requires writable { IsWritable (meaning_of c.now) }
+        requires writable { IsWritable 1 (meaning_of c.now) }
         ensures taken { Takes result self.old self.new (advance self.old (meaning_of c.now)) }
     {
         self.core.step(&mut self.part, c)?;
@@ -148,6 +148,7 @@ impl Composer {
     ///
     /// # Errors
     /// There is no memory; then nothing is changed.
+    #[tactic(auto, unfolding(send_commands::specs::Writing::IsWritable, send_model::specs::Command::row))]
     pub fn end(&mut self) -> Result<(), AllocError>
         ensures ended { OnOk result (self.new ≡ record self.old { pending = self.old.pending ++ canonical 1 End }) }
         ensures same { OnErr result (self.new ≡ self.old) }

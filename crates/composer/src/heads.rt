@@ -73,7 +73,7 @@ fn heads_of_file<I: Inputs>(
 
 // Keeps the head that a command is, if it is one.
 fn keep_head(alloc: Global, item: Item, last: &mut Option<PartHead>) -> Result<(), AllocError>
-    requires writable { IsWritable (meaning_of item.command) }
+    requires writable { IsWritable 1 (meaning_of item.command) }
     ensures kept { OnOk result (last.new ≡ first_of (head_of (meaning_of item.command)) last.old) }
 {
     if let Some(head) = PartHead::of(alloc, &item.command)? {

@@ -1,6 +1,8 @@
 //! Composing consecutive parts into one stream.
 #![tactic(auto)]
 
+#[cfg(test)]
+mod call_tests;
 mod composing;
 mod heads;
 mod part_head;

@@ -42,8 +42,9 @@ impl PartHead {
     ///
     /// # Errors
     /// There is no memory.
+    #[tactic(auto, unfolding(send_commands::specs::Writing::IsWritable, send_model::specs::Command::row))]
     pub fn of(alloc: Global, c: &Command) -> Result<Option<PartHead>, AllocError>
-        requires writable { IsWritable (meaning_of c.now) }
+        requires writable { IsWritable 1 (meaning_of c.now) }
         ensures head { IfOk result (λ h. h ≡ head_of (meaning_of c.now)) }
     {
         match c {
@@ -90,9 +91,10 @@ impl PartHead {
     }
 
     // The command that begins a part of this name and key and of the given parent.
+    #[tactic(auto, unfolding(send_commands::specs::Writing::IsWritable, send_model::specs::Command::row))]
     fn command(&self, parent: Option<Key>) -> Result<Command, AllocError>
         ensures command { IfOk result (λ c. meaning_of c ≡ head_command self.now.name self.now.key (option_map key_of parent)) }
-        ensures writable { IfOk result (λ c. IsWritable (meaning_of c)) }
+        ensures writable { IfOk result (λ c. IsWritable 1 (meaning_of c)) }
     {
         let path = self.name.copy()?;
         let uuid = self.key.uuid;

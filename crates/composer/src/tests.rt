@@ -35,7 +35,7 @@ fn blob(alloc: Global, byte: u8) -> Result<Blob, AllocError>
 #[tactic(auto, unfolding(send_model::specs::Reading::is_taken))]
 fn command(alloc: Global, row: Row) -> Result<Command, AllocError>
     ensures taken { IfOk result (λ c. IsTrue (is_taken (kind_of (meaning_of c)))) }
-    ensures writable { IfOk result (λ c. IsWritable (meaning_of c)) }
+    ensures writable { IfOk result (λ c. IsWritable 1 (meaning_of c)) }
 {
     match row {
         Row::Subvol(uuid, ctransid, name) => Ok(Command::Subvol {

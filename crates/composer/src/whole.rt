@@ -131,7 +131,7 @@ fn write_command<O: Sink>(
     place: Place,
 ) -> Result<(), Outcome>
     requires taken { IsTrue (is_taken (kind_of (meaning_of command.now))) }
-    requires writable { IsWritable (meaning_of command.now) }
+    requires writable { IsWritable 1 (meaning_of command.now) }
     ensures later { O.faults out.old ≤ O.faults out.new }
     ensures cause { ErrCaused 0 0 (O.faults out.old) (O.faults out.new) result }
     ensures composed { CommandEnd composer.old composer.new (meaning_of command.now) place (O.taken out.old) (O.taken out.new) result }

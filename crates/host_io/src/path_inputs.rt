@@ -1,26 +1,32 @@
 // Files of the system, named by their paths.
 ghost use Rattle.std.specs.Prelude.{◌≡◌, ◌≤◌, length, IfOk, None};
+ghost use Rattle.sx_base.specs.Causes.{Rose};
 
 use std::alloc::Global;
 use std::io::{BufReader, Read, Seek, SeekFrom};
 use std::rt::Files;
 use std::{fs, io};
-use sx_base::{Failed, Inputs};
+use sx_base::{Failed, Inputs, Lost};
 
-/// Files of the system, named by their paths. They tell nothing of their bytes. Each `Failed` raises the count of faults,
-/// which ends at the greatest u64.
+// How many files are open at the most.
+const OPEN_FILES: usize = 16;
+
+/// Files of the system, named by their paths. They tell nothing of their bytes. Each `Failed` raises the count of faults, and
+/// each `Ended` that of ends; both end at the greatest u64.
 ///
-/// One file is open at a time, and it is moved only where the place that is asked for is not the one at which it stands.
-/// So a pipe can be read in order, and only once: a file that is opened again is always moved, which a pipe answers
-/// with a fault.
+/// The 16 files that were asked for last stay open, each with its place, and one is moved only where the place that is asked
+/// for is not the one at which it stands. So a pipe can be read in order, and only once: a file that is opened again is
+/// always moved, which a pipe answers with a fault.
 #[derive(Drop)]
 pub struct PathInputs<'a, R: Files> {
     files: &'a R,
     alloc: Global,
     // The names of all files that were opened so far.
     names: Vec<String>,
-    open: Option<OpenInput<R::File>>,
+    // The file that was asked for last stands first.
+    open: Vec<OpenInput<R::File>>,
     faults: u64,
+    ends: u64,
 }
 
 #[derive(Drop)]
@@ -39,28 +45,54 @@ impl<'a, R: Files> PathInputs<'a, R> {
             files,
             alloc,
             names: Vec::new(alloc),
-            open: None,
+            open: Vec::new(alloc),
             faults: 0,
+            ends: 0,
         }
+    }
+
+    // Fills the buffer from the place on, as far as the file goes, and gives how many bytes there were.
+    fn fill(&mut self, name: &str, at: u64, buf: &mut [u8]) -> io::Result<usize>
+        ensures bound { IfOk result (λ count. count ≤ length buf.new) }
+        ensures faults { self.new.faults ≡ self.old.faults }
+        ensures ends { self.new.ends ≡ self.old.ends }
+    {
+        let mut done = 0;
+        while done < buf.len() {
+            let Some(place) = at.checked_add(done as u64) else {
+                return Ok(done);
+            };
+            let count = self.read_file(name, place, &mut buf[done..])?;
+            if count == 0 {
+                return Ok(done);
+            }
+            done += count;
+        }
+        Ok(done)
     }
 
     fn read_file(&mut self, name: &str, at: u64, buf: &mut [u8]) -> io::Result<usize>
         ensures bound { IfOk result (λ count. count ≤ length buf.new) }
         ensures faults { self.new.faults ≡ self.old.faults }
+        ensures ends { self.new.ends ≡ self.old.ends }
     {
-        if let Some(input) = &mut self.open {
-            if input.name.as_str() == name {
-                return input.read_at(at, buf);
-            }
-        }
-        let mut input = self.open_file(name)?;
+        let known = self
+            .open
+            .iter()
+            .position(|input| input.name.as_str() == name);
+        let mut input = match known {
+            Some(place) => self.open.remove(place),
+            None => self.open_file(name)?,
+        };
         let answer = input.read_at(at, buf);
-        self.open = Some(input);
+        self.open.truncate(OPEN_FILES - 1);
+        self.open.insert(0, input)?;
         answer
     }
 
     fn open_file(&mut self, name: &str) -> io::Result<OpenInput<R::File>>
-        ensures { self.new.faults ≡ self.old.faults }
+        ensures faults { self.new.faults ≡ self.old.faults }
+        ensures ends { self.new.ends ≡ self.old.ends }
     {
         let again = self.names.iter().any(|known| known.as_str() == name);
         if !again {
@@ -71,6 +103,15 @@ impl<'a, R: Files> PathInputs<'a, R> {
             reader: BufReader::new(self.alloc, fs::open(self.files, name)?)?,
             place: if again { None } else { Some(0) },
         })
+    }
+
+    // Counts a fault.
+    fn count_fault(&mut self)
+        ensures later { self.old.faults ≤ self.new.faults }
+        ensures rose { Rose self.old.faults self.new.faults }
+        ensures ends { self.new.ends ≡ self.old.ends }
+    {
+        self.faults = self.faults.saturating_add(1);
     }
 }
 
@@ -93,12 +134,27 @@ impl<'a, R: Files> Inputs for PathInputs<'a, R> {
 
     ghost faults = { λ s. s.faults };
 
+    ghost ends = { λ s. s.ends };
+
     fn read_at(&mut self, name: &str, at: u64, buf: &mut [u8]) -> Result<usize, Failed> {
         let answer = self.read_file(name, at, buf);
         if let Ok(count) = answer {
             return Ok(count);
         }
-        self.faults = self.faults.saturating_add(1);
+        self.count_fault();
         Err(Failed)
+    }
+
+    fn read_again(&mut self, name: &str, at: u64, buf: &mut [u8]) -> Result<(), Lost> {
+        let Ok(count) = self.fill(name, at, buf) else {
+            self.count_fault();
+            return Err(Lost::Failed);
+        };
+        if count == buf.len() {
+            return Ok(());
+        }
+        self.ends = self.ends.saturating_add(1);
+        let place = at.saturating_add(count as u64);
+        Err(Lost::Ended { place })
     }
 }

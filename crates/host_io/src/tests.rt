@@ -4,7 +4,7 @@ use crate::path_inputs::PathInputs;
 use std::fs;
 use std::process::Abort;
 use std::test::Fail;
-use sx_base::{Failed, Inputs, Sink};
+use sx_base::{Failed, Inputs, Lost, Sink};
 
 #[test]
 fn files_are_read_in_any_order(rt: HostRuntime) -> Result<(), Fail> {
@@ -25,9 +25,41 @@ fn files_are_read_in_any_order(rt: HostRuntime) -> Result<(), Fail> {
         let count = inputs.read_at(name, at, &mut buf)?;
         assert_eq!(rt; &buf[..count], want);
     }
+    assert_eq!(rt; inputs.read_again("host_io.one", 5, &mut buf), Ok(()));
+    assert_eq!(rt; &buf, b"5678");
+    assert_eq!(rt;
+        inputs.read_again("host_io.two", 3, &mut buf),
+        Err(Lost::Ended { place: 5 })
+    );
+    assert_eq!(rt;
+        inputs.read_again("host_io.two", u64::MAX, &mut buf[..2]),
+        Err(Lost::Failed)
+    );
     fs::remove_file(&rt, "host_io.one")?;
     fs::remove_file(&rt, "host_io.two")?;
-    assert_eq!(rt; inputs.read_at("host_io.two", 0, &mut buf), Err(Failed));
+    assert_eq!(rt; inputs.read_at("host_io.none", 0, &mut buf), Err(Failed));
+    Ok(())
+}
+
+#[test]
+fn more_files_are_read_than_stay_open(rt: HostRuntime) -> Result<(), Fail> {
+    let mut inputs = PathInputs::new(&rt, rt.alloc());
+    let mut buf = [0; 2];
+    for pass in 0..2 {
+        for number in 0..20 {
+            let name = format!(in rt.alloc(); "host_io.many.{number}")?;
+            let text = format!(in rt.alloc(); "{number:02}{number:02}")?;
+            if pass == 0 {
+                fs::write(&rt, &name, &text)?;
+            }
+            assert_eq!(rt; inputs.read_at(&name, 2 * pass, &mut buf), Ok(2));
+            assert_eq!(rt; text.as_bytes().starts_with(&buf), true);
+        }
+    }
+    for number in 0..20 {
+        let name = format!(in rt.alloc(); "host_io.many.{number}")?;
+        fs::remove_file(&rt, &name)?;
+    }
     Ok(())
 }
 

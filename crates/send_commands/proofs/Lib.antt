@@ -1,3 +1,4 @@
 mod Rows
 mod Spelled
 pub mod Writable
+pub mod Numbers

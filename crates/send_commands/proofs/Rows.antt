@@ -2,14 +2,14 @@
 use Rattle.std.specs.Prelude.{◌≡◌, ℕ, Bool, true, false, ◌&&◌, List, [], ◌∷◌, map, Option, None, Some, Result, Ok, Err, nat_lt}
 use Rattle.std.specs.List.{list_all}
 use Rattle.std.proofs.Common.{refl, sym, ap, ◌∙◌, get_or}
-use Rattle.send_model.specs.Refusal.{Refusal, BadTime, UnknownCommand}
+use Rattle.send_model.specs.Refusal.{Refusal, BadTime, UnknownCommand, Encoded}
 use Rattle.send_model.specs.Chain.{◌>>=◌, ◌>>◌, require}
-use Rattle.send_model.specs.Attribute.{AnIdentifier, ANumber, AMoment, AnyBytes, form_of, Time, second, UUID, CTRANSID, SIZE, MODE, UID, GID, RDEV, MTIME, ATIME, PATH, FILE_OFFSET, DATA, CLONE_UUID, CLONE_CTRANSID, CLONE_PATH, CLONE_OFFSET, CLONE_LEN}
-use Rattle.send_model.specs.Command.{Kind, SUBVOL, SNAPSHOT, MKFILE, MKDIR, MKNOD, MKFIFO, MKSOCK, SYMLINK, RENAME, LINK, UNLINK, RMDIR, SET_XATTR, REMOVE_XATTR, WRITE, CLONE, TRUNCATE, CHMOD, CHOWN, UTIMES, END, UPDATE_EXTENT, Command, Subvol, Snapshot, MkFile, MkDir, MkNod, MkFifo, MkSock, Symlink, Rename, Link, Unlink, Rmdir, SetXattr, RemoveXattr, Write, Clone, Truncate, Chmod, Chown, Utimes, End, UpdateExtent, row, kind_of_number, command_with, number_in, time_in}
+use Rattle.send_model.specs.Attribute.{AnIdentifier, ANumber, AShortNumber, AMoment, AnyBytes, form_of, Time, second, UUID, CTRANSID, SIZE, MODE, UID, GID, RDEV, MTIME, ATIME, PATH, FILE_OFFSET, DATA, CLONE_UUID, CLONE_CTRANSID, CLONE_PATH, CLONE_OFFSET, CLONE_LEN, FALLOCATE_MODE, FILE_FLAGS}
+use Rattle.send_model.specs.Command.{Kind, SUBVOL, SNAPSHOT, MKFILE, MKDIR, MKNOD, MKFIFO, MKSOCK, SYMLINK, RENAME, LINK, UNLINK, RMDIR, SET_XATTR, REMOVE_XATTR, WRITE, CLONE, TRUNCATE, CHMOD, CHOWN, UTIMES, END, UPDATE_EXTENT, FALLOCATE, FILEATTR, Command, Subvol, Snapshot, MkFile, MkDir, MkNod, MkFifo, MkSock, Symlink, Rename, Link, Unlink, Rmdir, SetXattr, RemoveXattr, Write, Clone, Truncate, Chmod, Chown, Utimes, End, UpdateExtent, Fallocate, FileAttr, row, is_encoded, kind_of_number, command_with, number_in, short_number_in, time_in}
 use Rattle.send_model.specs.Spelling.{Attribute, value_of}
 use Rattle.send_model.specs.Reading.{form_fits, wanted_there, bytes_at, moment_lawful, command_of}
 use Rattle.tlv_frame.specs.Table.{Table, value_at, StandsFor}
-use Rattle.send_commands.specs.Values.{Values, field_at, number_at, moment_at, command_at}
+use Rattle.send_commands.specs.Values.{Values, field_at, number_at, short_at, moment_at, command_at}
 
 -- A number's bytes first, and then what they say.
 number_step : (v : Values) (kind : ℕ) (after : ℕ → Result Command Refusal) → (number_at v kind >>= after) ≡ (field_at ANumber v kind >>= λ b. after (number_in b))
@@ -17,6 +17,14 @@ unfolding number_at
 number_step v kind after = go (field_at ANumber v kind)
   where
     go : (r : Result (List ℕ) Refusal) → ((r >>= λ b. Ok (number_in b)) >>= after) ≡ (r >>= λ b. after (number_in b))
+    go (Ok b) = refl
+    go (Err e) = refl
+
+short_step : (v : Values) (kind : ℕ) (after : ℕ → Result Command Refusal) → (short_at v kind >>= after) ≡ (field_at AShortNumber v kind >>= λ b. after (short_number_in b))
+unfolding short_at
+short_step v kind after = go (field_at AShortNumber v kind)
+  where
+    go : (r : Result (List ℕ) Refusal) → ((r >>= λ b. Ok (short_number_in b)) >>= after) ≡ (r >>= λ b. after (short_number_in b))
     go (Ok b) = refl
     go (Err e) = refl
 
@@ -75,6 +83,8 @@ ends CHOWN bs = Ok (Chown (number_in (nth bs 0)) (number_in (nth bs 1)) (nth bs 
 ends UTIMES bs = require (nat_lt (time_in (nth bs 0)).nanos second && (nat_lt (time_in (nth bs 1)).nanos second && true)) BadTime >> Ok (Utimes (time_in (nth bs 0)) (time_in (nth bs 1)) (nth bs 2))
 ends END bs = Ok End
 ends UPDATE_EXTENT bs = Ok (UpdateExtent (number_in (nth bs 0)) (nth bs 1) (number_in (nth bs 2)))
+ends FALLOCATE bs = Ok (Fallocate (number_in (nth bs 0)) (nth bs 1) (number_in (nth bs 2)) (short_number_in (nth bs 3)))
+ends FILEATTR bs = Ok (FileAttr (nth bs 0) (number_in (nth bs 1)))
 
 gathered : (kind : Kind) (v : Values) → command_at kind v ≡ gather (row kind).wanted v (ends kind)
 unfolding command_at gather row ends form_of
@@ -100,6 +110,8 @@ gathered CHOWN v = λ i. (number_step v UID (λ uid. (number_step v GID (λ gid.
 gathered UTIMES v = λ i. (moment_step v MTIME (λ mtime. (moment_step v ATIME (λ atime. (field_at AnyBytes v PATH >>= λ path. (require (nat_lt mtime.nanos second && (nat_lt atime.nanos second && true)) BadTime >> Ok (Utimes mtime atime path)))) i)) i)
 gathered END v = refl
 gathered UPDATE_EXTENT v = λ i. (number_step v SIZE (λ size. (field_at AnyBytes v PATH >>= λ path. (number_step v FILE_OFFSET (λ offset. Ok (UpdateExtent size path offset)) i))) i)
+gathered FALLOCATE v = λ i. (number_step v SIZE (λ size. (field_at AnyBytes v PATH >>= λ path. (number_step v FILE_OFFSET (λ offset. (short_step v FALLOCATE_MODE (λ mode. Ok (Fallocate size path offset mode)) i)) i))) i)
+gathered FILEATTR v = λ i. (field_at AnyBytes v PATH >>= λ path. (number_step v FILE_FLAGS (λ flags. Ok (FileAttr path flags)) i))
 
 abbrev after_wanted : Kind → List Attribute → Result Command Refusal
 after_wanted kind list = require (list_all (moment_lawful list) (row kind).wanted) BadTime >> Ok (command_with kind (bytes_at list))
@@ -128,22 +140,28 @@ ended CHOWN list = refl
 ended UTIMES list = refl
 ended END list = refl
 ended UPDATE_EXTENT list = refl
+ended FALLOCATE list = refl
+ended FILEATTR list = refl
 
 -- The rules of one command are those of reading.
 pub command_at_is : (kind : Kind) (list : List Attribute) → command_at kind (λ k. value_of k list) ≡ (wanted_there (row kind).wanted list >> after_wanted kind list)
 command_at_is kind list = gathered kind (λ k. value_of k list) ∙ gather_there (row kind).wanted list (ends kind) ∙ ap (λ r. wanted_there (row kind).wanted list >> r) (ended kind list)
 
-command_known : (version number : ℕ) (kind : Kind) (list : List Attribute) → kind_of_number version number ≡ Some kind
+command_known : (version number : ℕ) (kind : Kind) (list : List Attribute) → is_encoded version number ≡ false → kind_of_number version number ≡ Some kind
     → command_of version number list ≡ (wanted_there (row kind).wanted list >> after_wanted kind list)
 unfolding command_of
-command_known version number kind list e = rw e refl
+command_known version number kind list plain e = rw (plain, e) refl
 
-pub command_unknown : (version number : ℕ) (list : List Attribute) → kind_of_number version number ≡ None → command_of version number list ≡ Err (UnknownCommand number)
+pub command_unknown : (version number : ℕ) (list : List Attribute) → is_encoded version number ≡ false → kind_of_number version number ≡ None → command_of version number list ≡ Err (UnknownCommand number)
 unfolding command_of
-command_unknown version number list e = rw e refl
+command_unknown version number list plain e = rw (plain, e) refl
+
+pub command_encoded : (version number : ℕ) (list : List Attribute) → is_encoded version number ≡ true → command_of version number list ≡ Err Encoded
+unfolding command_of
+command_encoded version number list e = rw e refl
 
 -- What is read from a table is what is read from the attributes that it stands for.
-pub read_by_table : (table : Table) (list : List Attribute) (version number : ℕ) (kind : Kind) → StandsFor table list → kind_of_number version number ≡ Some kind
+pub read_by_table : (table : Table) (list : List Attribute) (version number : ℕ) (kind : Kind) → StandsFor table list → is_encoded version number ≡ false → kind_of_number version number ≡ Some kind
     → command_at kind (value_at table) ≡ command_of version number list
-read_by_table table list version number kind stands e =
-    ap (command_at kind) (λ i k. stands.values k i) ∙ command_at_is kind list ∙ sym (command_known version number kind list e)
+read_by_table table list version number kind stands plain e =
+    ap (command_at kind) (λ i k. stands.values k i) ∙ command_at_is kind list ∙ sym (command_known version number kind list plain e)

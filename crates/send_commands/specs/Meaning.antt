@@ -34,6 +34,8 @@ meaning_of (made.Chown uid gid path) = meant.Chown uid gid path
 meaning_of (made.Utimes mtime atime path) = meant.Utimes (time_of mtime) (time_of atime) path
 meaning_of made.End = meant.End
 meaning_of (made.UpdateExtent size path offset) = meant.UpdateExtent size path offset
+meaning_of (made.Fallocate size path offset mode) = meant.Fallocate size path offset mode
+meaning_of (made.FileAttr path flags) = meant.FileAttr path flags
 
 -- A command's name.
 abbrev pub kind_meant : Kind → meant.Kind
@@ -59,3 +61,5 @@ kind_meant named.Chown = meant.CHOWN
 kind_meant named.Utimes = meant.UTIMES
 kind_meant named.End = meant.END
 kind_meant named.UpdateExtent = meant.UPDATE_EXTENT
+kind_meant named.Fallocate = meant.FALLOCATE
+kind_meant named.FileAttr = meant.FILEATTR

@@ -3,8 +3,8 @@
 use Rattle.std.specs.Prelude.{ℕ, true, ◌&&◌, List, Option, Result, Ok, nat_lt}
 use Rattle.send_model.specs.Refusal.{Refusal, MissingAttribute, BadAttribute, BadTime}
 use Rattle.send_model.specs.Chain.{◌>>=◌, ◌>>◌, require, found}
-use Rattle.send_model.specs.Attribute.{Form, AnIdentifier, ANumber, AMoment, AnyBytes, Time, second, UUID, CTRANSID, SIZE, MODE, UID, GID, RDEV, MTIME, ATIME, XATTR_NAME, XATTR_DATA, PATH, PATH_TO, PATH_LINK, FILE_OFFSET, DATA, CLONE_UUID, CLONE_CTRANSID, CLONE_PATH, CLONE_OFFSET, CLONE_LEN}
-use Rattle.send_model.specs.Command.{Kind, SUBVOL, SNAPSHOT, MKFILE, MKDIR, MKNOD, MKFIFO, MKSOCK, SYMLINK, RENAME, LINK, UNLINK, RMDIR, SET_XATTR, REMOVE_XATTR, WRITE, CLONE, TRUNCATE, CHMOD, CHOWN, UTIMES, END, UPDATE_EXTENT, Command, Subvol, Snapshot, MkFile, MkDir, MkNod, MkFifo, MkSock, Symlink, Rename, Link, Unlink, Rmdir, SetXattr, RemoveXattr, Write, Clone, Truncate, Chmod, Chown, Utimes, End, UpdateExtent, number_in, time_in}
+use Rattle.send_model.specs.Attribute.{Form, AnIdentifier, ANumber, AShortNumber, AMoment, AnyBytes, Time, second, UUID, CTRANSID, SIZE, MODE, UID, GID, RDEV, MTIME, ATIME, XATTR_NAME, XATTR_DATA, PATH, PATH_TO, PATH_LINK, FILE_OFFSET, DATA, CLONE_UUID, CLONE_CTRANSID, CLONE_PATH, CLONE_OFFSET, CLONE_LEN, FALLOCATE_MODE, FILE_FLAGS}
+use Rattle.send_model.specs.Command.{Kind, SUBVOL, SNAPSHOT, MKFILE, MKDIR, MKNOD, MKFIFO, MKSOCK, SYMLINK, RENAME, LINK, UNLINK, RMDIR, SET_XATTR, REMOVE_XATTR, WRITE, CLONE, TRUNCATE, CHMOD, CHOWN, UTIMES, END, UPDATE_EXTENT, FALLOCATE, FILEATTR, Command, Subvol, Snapshot, MkFile, MkDir, MkNod, MkFifo, MkSock, Symlink, Rename, Link, Unlink, Rmdir, SetXattr, RemoveXattr, Write, Clone, Truncate, Chmod, Chown, Utimes, End, UpdateExtent, Fallocate, FileAttr, number_in, short_number_in, time_in}
 use Rattle.send_model.specs.Reading.{form_fits}
 
 abbrev pub Values : Type 0
@@ -21,6 +21,11 @@ unfoldable pub number_at : Values → ℕ → Result ℕ Refusal
 number_at values kind = do
   bytes ← field_at ANumber values kind
   Ok (number_in bytes)
+
+unfoldable pub short_at : Values → ℕ → Result ℕ Refusal
+short_at values kind = do
+  bytes ← field_at AShortNumber values kind
+  Ok (short_number_in bytes)
 
 unfoldable pub moment_at : Values → ℕ → Result Time Refusal
 moment_at values kind = do
@@ -123,3 +128,13 @@ command_at UPDATE_EXTENT values = do
   path ← field_at AnyBytes values PATH
   offset ← number_at values FILE_OFFSET
   Ok (UpdateExtent size path offset)
+command_at FALLOCATE values = do
+  size ← number_at values SIZE
+  path ← field_at AnyBytes values PATH
+  offset ← number_at values FILE_OFFSET
+  mode ← short_at values FALLOCATE_MODE
+  Ok (Fallocate size path offset mode)
+command_at FILEATTR values = do
+  path ← field_at AnyBytes values PATH
+  flags ← number_at values FILE_FLAGS
+  Ok (FileAttr path flags)

@@ -40,3 +40,7 @@ pub(crate) const CLONE_PATH: u16 = 22;
 pub(crate) const CLONE_OFFSET: u16 = 23;
 
 pub(crate) const CLONE_LEN: u16 = 24;
+
+pub(crate) const FALLOCATE_MODE: u16 = 25;
+
+pub(crate) const FILE_FLAGS: u16 = 26;

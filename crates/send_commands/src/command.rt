@@ -131,4 +131,16 @@ pub enum Command {
         path: Blob,
         offset: u64,
     },
+    /// Reserves or frees a range of a file, as `fallocate` does in this mode. Of version 2.
+    Fallocate {
+        size: u64,
+        path: Blob,
+        offset: u64,
+        mode: u32,
+    },
+    /// Sets the flags of an inode. Of version 2.
+    FileAttr {
+        path: Blob,
+        flags: u64,
+    },
 }

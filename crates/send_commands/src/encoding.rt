@@ -1,16 +1,13 @@
 // Commands that are written as frames.
-ghost use Rattle.std.specs.Prelude.{◌≡◌, true, ◌+◌, ◌<◌, ◌^◌, ◌++◌, map, length, OnOk, OnErr};
-ghost use Rattle.std.specs.List.{AllByRecursion};
+ghost use Rattle.std.specs.Prelude.{◌≡◌, ◌==◌, false, ◌+◌, ◌<◌, ◌≤◌, ◌++◌, map, length, OnOk, OnErr};
 ghost use Rattle.std.specs.Int.{w32, w64, to_le_bytes};
 ghost use Rattle.send_model.specs.Attribute.{field_bytes};
 ghost use Rattle.send_model.specs.Command.{row};
-ghost use Rattle.send_model.specs.Spelling.{attribute_bytes, body_of, with_fields, frame_of, canonical};
-ghost use Rattle.send_model.specs.Reading.{is_version};
+ghost use Rattle.send_model.specs.Spelling.{attribute_bytes, body_of, with_fields, frame_of, canonical, greatest_body};
 ghost use Rattle.sx_base.specs.Bytes.{IsFront};
 ghost use Rattle.send_commands.specs.Meaning.{meaning_of, kind_meant, time_of};
-ghost use Rattle.send_commands.specs.Writing.{FieldShort, IsWritable, field_of, data_at};
+ghost use Rattle.send_commands.specs.Writing.{FieldShort, FieldsShort, IsWritable, IsShortEnough, IfSecond, field_of, data_at};
 
-use crate::attribute_numbers::DATA;
 use crate::command::{Command, Time};
 use crate::kind::Kind;
 use std::alloc::AllocError;
@@ -23,6 +20,7 @@ use uuid::Uuid;
 enum Field<'a> {
     Identifier(Uuid),
     Number(u64),
+    ShortNumber(u32),
     Moment(Time),
     Bytes(&'a [u8]),
 }
@@ -30,8 +28,8 @@ enum Field<'a> {
 /// Appends the canonical spelling of the command, a frame with the wanted attributes alone in rising order of their
 /// numbers, or changes nothing where there is no memory.
 pub fn encode(c: &Command, version: u32, to: &mut Blob) -> Result<(), AllocError>
-    requires version { is_version version ≡ true }
-    requires writable { IsWritable (meaning_of c.now) }
+    requires writable { IsWritable version (meaning_of c.now) }
+    requires short { IsShortEnough version (meaning_of c.now) }
     ensures appended { OnOk result (to.new ≡ to.old ++ canonical version (meaning_of c.now)) }
     ensures same { OnErr result (to.new ≡ to.old) }
 {
@@ -44,22 +42,24 @@ pub fn encode(c: &Command, version: u32, to: &mut Blob) -> Result<(), AllocError
 }
 
 /// The place in the canonical spelling of the command where the bytes of a write begin, None for other commands.
-#[tactic(auto, unfolding(crate::specs::Writing::data_at, send_model::specs::Spelling::attributes_of, send_model::specs::Command::row))]
+#[tactic(auto, unfolding(crate::specs::Writing::data_at, crate::specs::Writing::IsWritable, send_model::specs::Spelling::attributes_of, send_model::specs::Command::row))]
 pub fn data_place(c: &Command, version: u32) -> Option<u64>
-    requires version { is_version version ≡ true }
-    requires writable { IsWritable (meaning_of c.now) }
+    requires writable { IsWritable version (meaning_of c.now) }
     ensures place { result ≡ data_at version (meaning_of c.now) }
 {
     match c {
-        Command::Write { path, .. } => Some(30 + path.as_slice().len() as u64),
+        Command::Write { path, .. } => {
+            let head = if version == 2 { 28 } else { 30 };
+            Some(head + path.as_slice().len() as u64)
+        }
         _ => None,
     }
 }
 
-#[tactic(auto, unfolding(send_model::specs::Spelling::canonical, send_model::specs::Spelling::attributes_of, send_model::specs::Command::row))]
+#[tactic(auto, unfolding(send_model::specs::Spelling::canonical, send_model::specs::Spelling::attributes_of, send_model::specs::Command::row, crate::specs::Writing::IsWritable))]
 fn put_command(c: &Command, version: u32, to: &mut Blob) -> Result<(), AllocError>
-    requires version { is_version version ≡ true }
-    requires writable { IsWritable (meaning_of c.now) }
+    requires writable { IsWritable version (meaning_of c.now) }
+    requires short { IsShortEnough version (meaning_of c.now) }
     ensures appended { OnOk result (to.new ≡ to.old ++ canonical version (meaning_of c.now)) }
     ensures front { IsFront to.old to.new }
 {
@@ -254,16 +254,38 @@ fn put_command(c: &Command, version: u32, to: &mut Blob) -> Result<(), AllocErro
             ],
             to,
         ),
+        Command::Fallocate {
+            size,
+            path,
+            offset,
+            mode,
+        } => put(
+            Kind::Fallocate,
+            version,
+            &[
+                Field::Number(*size),
+                Field::Bytes(path.as_slice()),
+                Field::Number(*offset),
+                Field::ShortNumber(*mode),
+            ],
+            to,
+        ),
+        Command::FileAttr { path, flags } => put(
+            Kind::FileAttr,
+            version,
+            &[Field::Bytes(path.as_slice()), Field::Number(*flags)],
+            to,
+        ),
     }
 }
 
 // Appends a frame of the command with these values of its wanted attributes. Without memory the blob begins with the
 // bytes that it had.
 fn put(kind: Kind, version: u32, fields: &[Field<'_>], to: &mut Blob) -> Result<(), AllocError>
-    requires version { is_version version ≡ true }
-    requires short { AllByRecursion FieldShort (map field_of fields.now) }
+    requires values { FieldsShort version (row (kind_meant kind)).wanted (map field_of fields.now) }
+    requires short { IfSecond (version == 2) (length (body_of version (with_fields (row (kind_meant kind)).wanted (map field_of fields.now))) ≤ greatest_body) }
     requires count { length fields.now ≡ length (row (kind_meant kind)).wanted }
-    ensures appended { OnOk result (to.new ≡ to.old ++ frame_of (row (kind_meant kind)).number (body_of (with_fields (row (kind_meant kind)).wanted (map field_of fields.now)))) }
+    ensures appended { OnOk result (to.new ≡ to.old ++ frame_of (row (kind_meant kind)).number (body_of version (with_fields (row (kind_meant kind)).wanted (map field_of fields.now)))) }
     ensures front { IsFront to.old to.new }
 {
     let wanted = kind.wanted();
@@ -282,23 +304,18 @@ fn put_field(
     kind: u16,
     field: &Field<'_>,
 ) -> Result<(), AllocError>
-    requires short { FieldShort (field_of field.now) }
-    ensures appended { OnOk result (to.new ≡ to.old ++ attribute_bytes (record { kind = kind; bytes = field_bytes (field_of field.now) })) }
+    requires short { FieldShort writer.old.version kind (field_of field.now) }
+    ensures appended { OnOk result (to.new ≡ to.old ++ attribute_bytes writer.old.version (record { kind = kind; bytes = field_bytes (field_of field.now) })) }
     ensures front { IsFront to.old to.new }
-    ensures short { OnOk result (length to.new < length to.old + 65_540) }
+    ensures short { OnOk result ((writer.old.version == 2) ≡ false → length to.new < length to.old + 65_540) }
     ensures writer { writer.new ≡ writer.old }
 {
     match field {
         Field::Identifier(uuid) => writer.attr_bytes(to, kind, uuid.as_bytes()),
         Field::Number(n) => writer.attr_u64(to, kind, *n),
+        Field::ShortNumber(n) => writer.attr_bytes(to, kind, &n.to_le_bytes()),
         Field::Moment(time) => writer.attr_bytes(to, kind, &moment_bytes(*time)),
-        Field::Bytes(bytes) => {
-            if kind == DATA {
-                writer.attr_data(to, bytes)
-            } else {
-                writer.attr_bytes(to, kind, bytes)
-            }
-        }
+        Field::Bytes(bytes) => writer.attr_bytes(to, kind, bytes),
     }
 }
 

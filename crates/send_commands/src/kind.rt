@@ -1,7 +1,8 @@
 // The commands by name, with their numbers and the attributes that they want.
-ghost use Rattle.std.specs.Prelude.{◌≡◌, true, ◌≤◌, length, option_map};
-ghost use Rattle.send_model.specs.Command.{row, kind_of_number};
-ghost use Rattle.send_model.specs.Reading.{is_version, is_taken, taken};
+ghost use Rattle.std.specs.Prelude.{◌≡◌, ◌==◌, ◌≤◌, length, option_map};
+ghost use Rattle.std.specs.List.{find};
+ghost use Rattle.send_model.specs.Command.{row, first_kinds, kind_of_number};
+ghost use Rattle.send_model.specs.Reading.{is_taken, taken};
 ghost use Rattle.tlv_frame.specs.Answers.{Reads};
 ghost use Rattle.send_commands.specs.Meaning.{kind_meant};
 
@@ -55,14 +56,33 @@ pub enum Kind {
     End,
     /// UPDATE_EXTENT.
     UpdateExtent,
+    /// FALLOCATE, of version 2.
+    Fallocate,
+    /// FILEATTR, of version 2.
+    FileAttr,
 }
 
 impl Kind {
-    /// The command of this number in a stream of this version, None where there is none.
-    #[tactic(auto, unfolding(send_model::specs::Command::kind_of_number, send_model::specs::Command::row))]
+    /// The command of this number in a stream of this version, None where there is none. Version 2 has two more than version 1.
+    #[tactic(auto, unfolding(send_model::specs::Command::kind_of_number, send_model::specs::Command::row), using(crate::proofs::Numbers::second_kinds))]
     pub fn from_number(version: u32, number: u16) -> Option<Kind>
-        requires version { is_version version ≡ true }
         ensures kind { option_map kind_meant result ≡ kind_of_number version number }
+    {
+        match version {
+            1 => Kind::of_first_version(number),
+            2 => match number {
+                23 => Some(Kind::Fallocate),
+                24 => Some(Kind::FileAttr),
+                _ => Kind::of_first_version(number),
+            },
+            _ => None,
+        }
+    }
+
+    // The command of this number in version 1.
+    #[tactic(auto, unfolding(send_model::specs::Command::row))]
+    fn of_first_version(number: u16) -> Option<Kind>
+        ensures kind { option_map kind_meant result ≡ find (λ kind. (row kind).number == number) first_kinds }
     {
         match number {
             1 => Some(Kind::Subvol),
@@ -119,6 +139,8 @@ impl Kind {
             Kind::Utimes => 20,
             Kind::End => 21,
             Kind::UpdateExtent => 22,
+            Kind::Fallocate => 23,
+            Kind::FileAttr => 24,
         }
     }
 
@@ -159,6 +181,8 @@ impl Kind {
             Kind::Utimes => &[MTIME, ATIME, PATH],
             Kind::End => &[],
             Kind::UpdateExtent => &[SIZE, PATH, FILE_OFFSET],
+            Kind::Fallocate => &[SIZE, PATH, FILE_OFFSET, FALLOCATE_MODE],
+            Kind::FileAttr => &[PATH, FILE_FLAGS],
         }
     }
 
@@ -190,6 +214,8 @@ impl Kind {
             Kind::Utimes => false,
             Kind::End => true,
             Kind::UpdateExtent => true,
+            Kind::Fallocate => false,
+            Kind::FileAttr => false,
         }
     }
 }
@@ -198,7 +224,6 @@ impl Kind {
 /// it that is not taken; a number of no command is left to `decode`. Takes no memory.
 #[tactic(auto, unfolding(send_model::specs::Reading::taken))]
 pub fn check_taken(version: u32, number: u16) -> Result<(), Refusal>
-    requires version { is_version version ≡ true }
     ensures exact { Reads (λ _. tt) result (taken version number) }
 {
     match Kind::from_number(version, number) {

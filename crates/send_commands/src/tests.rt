@@ -129,17 +129,52 @@ const REFUSED: [(&str, u16, &[u8], Refusal); 7] = [
     ),
 ];
 
-// The command of a number whose frame has this body.
-fn read(alloc: Global, cmd: u16, body: &[u8]) -> Result<Command, Stop>
-    ensures { IfOk result (λ command. IsWritable (meaning_of command)) }
+// Bodies that break a rule of version 2, with their command's number.
+const REFUSED_IN_SECOND: [(&str, u16, &[u8], Refusal); 6] = [
+    ("a write of compressed bytes", 25, b"", Refusal::Encoded),
+    (
+        "a write of compressed bytes with a bad attribute",
+        25,
+        b"\x20\x00\x00\x00",
+        Refusal::BadAttribute(32),
+    ),
+    (
+        "no command has the number",
+        26,
+        b"\x0f\x00\x01\x00x",
+        Refusal::UnknownCommand(26),
+    ),
+    (
+        "data swallows what follows it",
+        15,
+        b"\x13\x00\x02\x00hi\x0f\x00\x01\x00x\x12\x00\x08\x00\x00\x00\x00\x00\x00\x00\x00\x00",
+        Refusal::MissingAttribute(15),
+    ),
+    (
+        "a mode of eight bytes",
+        23,
+        b"\x04\x00\x08\x00\x01\x00\x00\x00\x00\x00\x00\x00\x0f\x00\x01\x00x\x12\x00\x08\x00\x00\x00\x00\x00\x00\x00\x00\x00\x19\x00\x08\x00\x03\x00\x00\x00\x00\x00\x00\x00",
+        Refusal::BadAttribute(25),
+    ),
+    (
+        "no flags",
+        24,
+        b"\x0f\x00\x01\x00x",
+        Refusal::MissingAttribute(26),
+    ),
+];
+
+// The command of a number whose frame has this body in a version.
+fn read(alloc: Global, version: u32, cmd: u16, body: &[u8]) -> Result<Command, Stop>
+    ensures { IfOk result (λ command. IsWritable version (meaning_of command)) }
 {
-    let table = attrs(body, 1)?;
+    let table = attrs(body, version)?;
     decode(alloc, cmd, &table)
 }
 
-// The refusal of a body.
-fn refusal(alloc: Global, cmd: u16, body: &[u8]) -> Option<Refusal> {
-    match read(alloc, cmd, body) {
+// The refusal of a body in a version.
+fn refusal(alloc: Global, version: u32, cmd: u16, body: &[u8]) -> Option<Refusal> {
+    match read(alloc, version, cmd, body) {
         Err(Stop::Refused(refusal)) => Some(refusal),
         _ => None,
     }
@@ -149,7 +184,7 @@ fn refusal(alloc: Global, cmd: u16, body: &[u8]) -> Option<Refusal> {
 fn each_command_is_read_and_written(rt: HostRuntime) -> Result<(), Fail> {
     for (cmd, frame) in FRAMES {
         let body = frame.get(10..).ok_or("a frame has a header")?;
-        let command = read(rt.alloc(), cmd, body)?;
+        let command = read(rt.alloc(), 1, cmd, body)?;
         let mut to = Blob::new(rt.alloc());
         encode(&command, 1, &mut to)?;
         assert_eq!(rt; to.as_slice(), frame);
@@ -166,7 +201,7 @@ fn attributes_stand_in_any_order(rt: HostRuntime) -> Result<(), Fail> {
         b"\x12\x00\x08\x00\x00\x10\x00\x00\x00\x00\x00\x00\x13\x00\x05\x00hello\x0f\x00\x01\x00x",
     ];
     for body in bodies {
-        let command = read(rt.alloc(), 15, body)?;
+        let command = read(rt.alloc(), 1, 15, body)?;
         let mut to = Blob::new(rt.alloc());
         encode(&command, 1, &mut to)?;
         assert_eq!(rt;
@@ -180,8 +215,65 @@ fn attributes_stand_in_any_order(rt: HostRuntime) -> Result<(), Fail> {
 #[test]
 fn the_first_rule_that_is_broken_refuses(rt: HostRuntime) {
     for (what, cmd, body, want) in REFUSED {
-        assert_eq!(rt; refusal(rt.alloc(), cmd, body), Some(want), "{what}");
+        assert_eq!(rt; refusal(rt.alloc(), 1, cmd, body), Some(want), "{what}");
     }
+    for (what, cmd, body, want) in REFUSED_IN_SECOND {
+        assert_eq!(rt; refusal(rt.alloc(), 2, cmd, body), Some(want), "{what}");
+    }
+    assert_eq!(rt;
+        refusal(rt.alloc(), 1, 25, b""),
+        Some(Refusal::UnknownCommand(25))
+    );
+}
+
+#[test]
+fn commands_of_version_two_are_read(rt: HostRuntime) -> Result<(), Fail> {
+    let write = b"\x0f\x00\x01\x00x\x12\x00\x08\x00\x05\x00\x00\x00\x00\x00\x00\x00\x13\x00hi";
+    let Command::Write { offset, bytes, .. } = read(rt.alloc(), 2, 15, write)? else {
+        return Err(Fail::from("a write is read"));
+    };
+    assert_eq!(rt; offset, 5);
+    assert_eq!(rt; bytes.as_slice(), b"hi".as_slice());
+    let fallocate =
+        b"\x04\x00\x08\x00\x01\x00\x00\x00\x00\x00\x00\x00\x0f\x00\x01\x00x\x12\x00\x08\x00\x02\x00\x00\x00\x00\x00\x00\x00\x19\x00\x04\x00\x03\x00\x00\x00";
+    let Command::Fallocate {
+        size,
+        offset,
+        mode,
+        ..
+    } = read(rt.alloc(), 2, 23, fallocate)?
+    else {
+        return Err(Fail::from("a fallocate is read"));
+    };
+    assert_eq!(rt; (size, offset, mode), (1, 2, 3));
+    let fileattr = b"\x0f\x00\x01\x00x\x1a\x00\x08\x00\x10\x00\x00\x00\x00\x00\x00\x00";
+    let Command::FileAttr { flags, .. } = read(rt.alloc(), 2, 24, fileattr)? else {
+        return Err(Fail::from("flags are read"));
+    };
+    assert_eq!(rt; flags, 16);
+    Ok(())
+}
+
+#[test]
+#[tactic(auto, unfolding(crate::specs::Writing::IsWritable, send_model::specs::Command::row, send_model::specs::Spelling::attributes_of, send_model::specs::Spelling::body_of, send_model::specs::Spelling::attribute_bytes))]
+fn commands_of_version_two_are_written(rt: HostRuntime) -> Result<(), Fail> {
+    let mut path = Blob::new(rt.alloc());
+    path.push_all(b"x")?;
+    let mut bytes = Blob::new(rt.alloc());
+    bytes.push_all(b"hi")?;
+    let write = Command::Write {
+        path,
+        offset: 5,
+        bytes,
+    };
+    let mut to = Blob::new(rt.alloc());
+    encode(&write, 2, &mut to)?;
+    assert_eq!(rt;
+        to.as_slice(),
+        b"\x15\x00\x00\x00\x0f\x00\x17\x15h\xc7\x0f\x00\x01\x00x\x12\x00\x08\x00\x05\x00\x00\x00\x00\x00\x00\x00\x13\x00hi".as_slice()
+    );
+    assert_eq!(rt; data_place(&write, 2), Some(29));
+    Ok(())
 }
 
 #[test]

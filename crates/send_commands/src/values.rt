@@ -1,11 +1,11 @@
 // The values of the attributes that a command wants.
-ghost use Rattle.std.specs.Prelude.{◌≡◌, ◌^◌, ◌<◌, ◌≤◌, IfOk, length, take};
+ghost use Rattle.std.specs.Prelude.{◌≡◌, ◌≤◌, IfOk, length, take};
 ghost use Rattle.std.specs.Int.{w64, from_le_bytes};
-ghost use Rattle.send_model.specs.Attribute.{AnIdentifier, AnyBytes};
+ghost use Rattle.send_model.specs.Attribute.{AnIdentifier, AnyBytes, HasRoom};
 ghost use Rattle.tlv_frame.specs.Table.{value_at};
 ghost use Rattle.send_commands.specs.Answers.{Gives};
 ghost use Rattle.send_commands.specs.Meaning.{time_of};
-ghost use Rattle.send_commands.specs.Values.{field_at, number_at, moment_at};
+ghost use Rattle.send_commands.specs.Values.{field_at, number_at, short_at, moment_at};
 
 use crate::command::Time;
 use std::alloc::Global;
@@ -17,7 +17,7 @@ use uuid::Uuid;
 #[tactic(auto, unfolding(crate::specs::Values::field_at))]
 pub(crate) fn bytes<'a>(table: &AttrTable<'a>, kind: u16) -> Result<&'a [u8], Stop>
     ensures exact { Gives (λ bytes. bytes.now) result (field_at AnyBytes (value_at table.now) kind) }
-    ensures short { IfOk result (λ bytes. length bytes.now < 2 ^ 16) }
+    ensures short { IfOk result (λ bytes. HasRoom table.now.version kind (length bytes.now)) }
 {
     match table.get(kind) {
         Some(bytes) => Ok(bytes),
@@ -28,7 +28,7 @@ pub(crate) fn bytes<'a>(table: &AttrTable<'a>, kind: u16) -> Result<&'a [u8], St
 // The bytes of an attribute as a blob.
 pub(crate) fn blob(alloc: Global, table: &AttrTable<'_>, kind: u16) -> Result<Blob, Stop>
     ensures exact { Gives (λ blob. blob) result (field_at AnyBytes (value_at table.now) kind) }
-    ensures short { IfOk result (λ blob. length blob < 2 ^ 16) }
+    ensures short { IfOk result (λ blob. HasRoom table.now.version kind (length blob)) }
 {
     let bytes = bytes(table, kind)?;
     let mut blob = Blob::new(alloc);
@@ -58,6 +58,18 @@ pub(crate) fn number(table: &AttrTable<'_>, kind: u16) -> Result<u64, Stop>
         return Err(Stop::Refused(Refusal::BadAttribute(kind)));
     }
     Ok(number_in(bytes))
+}
+
+// The number of four bytes that an attribute is.
+#[tactic(auto, unfolding(crate::specs::Values::field_at, crate::specs::Values::short_at))]
+pub(crate) fn short_number(table: &AttrTable<'_>, kind: u16) -> Result<u32, Stop>
+    ensures exact { Gives (λ n. n) result (short_at (value_at table.now) kind) }
+{
+    let bytes = bytes(table, kind)?;
+    if bytes.len() != 4 {
+        return Err(Stop::Refused(Refusal::BadAttribute(kind)));
+    }
+    Ok(u32::from_le_bytes([bytes[0], bytes[1], bytes[2], bytes[3]]))
 }
 
 // The moment of twelve bytes that an attribute is. Its nanoseconds may be a second or more.

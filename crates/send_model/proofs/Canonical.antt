@@ -1,19 +1,22 @@
 -- The canonical spelling of a command is one lawful frame, and is read back as that command, whatever follows it.
-use Rattle.std.specs.Prelude.{◌≡◌, ℕ, zero, suc, ◌+◌, ◌%◌, ◌^◌, ◌<◌, ◌≤◌, List, [], ◌∷◌, ◌++◌, length, Some, Ok}
+use Rattle.std.specs.Prelude.{◌≡◌, ℕ, Option, zero, suc, ◌+◌, ◌%◌, ◌^◌, ◌<◌, ◌≤◌, ◌==◌, Bool, true, false, ◌&&◌, ◌||◌, not, nat_lt, nat_le, List, [], ◌∷◌, ◌++◌, length, None, Some, if◌then◌else◌}
 use Rattle.std.specs.List.{AllByRecursion}
+use Rattle.std.specs.Option.{unwrap_or}
 use Rattle.std.specs.Int.{w16, w32, w64, to_le_bytes}
-use Rattle.std.proofs.Common.{refl, sym, ap, ◌∙◌, append-nil, arith, length-append, le_trans, lit<, lit≤, get_or, zero-le}
+use Rattle.std.proofs.Common.{refl, sym, ap, subst, ◌∙◌, eqb-true, arith, length-append, le_trans, lit<, lit≤, get_or, zero-le}
 use Rattle.std.proofs.Math.Nat.{mod-lt}
-use Rattle.send_model.specs.Attribute.{Field, Identifier, Number, Moment, Bytes, field_bytes, FieldFits, IsBytes}
-use Rattle.send_model.specs.Command.{Command, Subvol, Snapshot, MkFile, MkDir, MkNod, MkFifo, MkSock, Symlink, Rename, Link, Unlink, Rmdir, SetXattr, RemoveXattr, Write, Clone, Truncate, Chmod, Chown, Utimes, End, UpdateExtent, row, kind_of, fields_of}
-use Rattle.send_model.specs.Spelling.{Attribute, attribute_bytes, body_of, value_of, IsAttribute, AreAttributes, frame_checksum, greatest_body, with_fields, attributes_of, IsSpellable, Spells, canonical}
-use Rattle.send_model.specs.Reading.{Frame, frame_at, attributes_at, command_of, taken, front_of, data_place}
-use Rattle.send_model.specs.Laws.{FrameHasOneReading}
+use Rattle.std.proofs.lemmas.Bool.{and_parts, leb-true, ltb-true, not-true, true≢false}
+use Rattle.send_model.specs.Attribute.{Field, Identifier, Number, ShortNumber, Moment, Bytes, field_bytes, FieldFits, FieldsFit, HasRoom, IsBytes, is_one_of, last_attribute, takes_rest}
+use Rattle.send_model.specs.Command.{Command, Subvol, Snapshot, MkFile, MkDir, MkNod, MkFifo, MkSock, Symlink, Rename, Link, Unlink, Rmdir, SetXattr, RemoveXattr, Write, Clone, Truncate, Chmod, Chown, Utimes, End, UpdateExtent, Fallocate, FileAttr, row, kind_of, fields_of}
+use Rattle.send_model.specs.Spelling.{Attribute, attribute_bytes, body_of, value_of, AreAttributes, frame_checksum, greatest_body, with_fields, attributes_of, IsKnown, IsSpellable, canonical}
+use Rattle.send_model.specs.Reading.{Frame, frame_at, attributes_at, command_of, front_of}
+use Rattle.send_model.specs.Laws.{SpelledIsRead, SpelledIsFront, FrameHasOneReading, CanonicalSpells, SpelledIsSpellable, SecondSaysMore}
 use Rattle.send_model.proofs.ChecksumLaws.{crc_of-below}
 use Rattle.send_model.proofs.Frames.{frame_read_back}
 use Rattle.send_model.proofs.Fuel.{ok_same}
-use Rattle.send_model.proofs.Attributes.{attributes_read_back}
-use Rattle.send_model.proofs.Commands.{command_read_back, number_small}
+use Rattle.send_model.proofs.Attributes.{differ_back, bytes_by, attributes_read_back}
+use Rattle.send_model.proofs.Commands.{command_read_back, known_second, number_small}
+use Rattle.send_model.proofs.Versions.{is_no_list, are_kinds, wanted_lawful}
 
 -- ---- the wanted attributes are there
 
@@ -41,6 +44,8 @@ wanted_there (Chown uid gid path) = (refl, (refl, (refl, tt)))
 wanted_there (Utimes mtime atime path) = (refl, (refl, (refl, tt)))
 wanted_there End = tt
 wanted_there (UpdateExtent size path offset) = (refl, (refl, (refl, tt)))
+wanted_there (Fallocate size path offset mode) = (refl, (refl, (refl, (refl, tt))))
+wanted_there (FileAttr path flags) = (refl, (refl, tt))
 
 -- ---- bytes
 
@@ -67,76 +72,107 @@ bytes_at (b ∷ bytes) p (suc i) = bytes_at bytes p.1 i
 
 -- ---- fields
 
-field_is_bytes : (field : Field) → FieldFits field → IsBytes (field_bytes field)
-field_is_bytes (Identifier bytes) fits = fits.1
-field_is_bytes (Number n) fits = le8_bytes n
-field_is_bytes (Moment t) fits = bytes_append (to_le_bytes w64 t.secs) (to_le_bytes w32 t.nanos) (le8_bytes t.secs) (le4_bytes t.nanos)
-field_is_bytes (Bytes bytes) fits = fits.1
+field_is_bytes : (version kind : ℕ) (field : Field) → FieldFits version kind field → IsBytes (field_bytes field)
+field_is_bytes version kind (Identifier bytes) fits = fits.1
+field_is_bytes version kind (Number n) fits = le8_bytes n
+field_is_bytes version kind (ShortNumber n) fits = le4_bytes n
+field_is_bytes version kind (Moment t) fits = bytes_append (to_le_bytes w64 t.secs) (to_le_bytes w32 t.nanos) (le8_bytes t.secs) (le4_bytes t.nanos)
+field_is_bytes version kind (Bytes bytes) fits = fits.1
+
+field_short : (version kind : ℕ) (field : Field) → FieldFits version kind field → HasRoom version kind (length (field_bytes field))
+field_short version kind (Identifier bytes) fits rest = omega (arith, fits.0)
+field_short version kind (Number n) fits rest = lit< tt
+field_short version kind (ShortNumber n) fits rest = lit< tt
+field_short version kind (Moment t) fits rest = lit< tt
+field_short version kind (Bytes bytes) fits rest = fits.0 rest
+
+-- ---- the wanted attributes are lawful
+
+none_of : (kind : ℕ) (kinds : List ℕ) (fields : List Field) → is_one_of kind kinds ≡ false → value_of kind (with_fields kinds fields) ≡ None
+none_of kind [] fields e = refl
+none_of kind (k ∷ kinds) [] e = refl
+none_of kind (k ∷ kinds) (field ∷ fields) e = one (λ q. none_of kind kinds fields q) (k == kind) e
+  where
+    one : (is_one_of kind kinds ≡ false → value_of kind (with_fields kinds fields) ≡ None) → (b : Bool) → b || is_one_of kind kinds ≡ false → (if b then Some (field_bytes field) else value_of kind (with_fields kinds fields)) ≡ None
+    one more true q = absurd (true≢false q)
+    one more false q = more q
+
+last_alone : (rest : Bool) (kinds : List ℕ) (fields : List Field) → not rest || is_no_list kinds ≡ true → rest ≡ true → with_fields kinds fields ≡ []
+last_alone true [] fields e r = refl
+last_alone true (kind ∷ kinds) fields e r = absurd (true≢false (sym e))
+last_alone false kinds fields e r = absurd (true≢false (sym r))
+
+are_lawful : (version : ℕ) (kinds : List ℕ) (fields : List Field) → are_kinds version kinds ≡ true → FieldsFit version kinds fields → AreAttributes version (with_fields kinds fields)
+are_lawful version [] fields k fits = tt
+are_lawful version (kind ∷ kinds) [] k fits = tt
+are_lawful version (kind ∷ kinds) (field ∷ fields) k fits =
+    let rest : Bool = not (takes_rest version kind) || is_no_list kinds in
+    let a = and_parts (nat_lt 0 kind && nat_le kind (last_attribute version)) (not (is_one_of kind kinds) && (rest && are_kinds version kinds)) k in
+    let b = and_parts (nat_lt 0 kind) (nat_le kind (last_attribute version)) a.0 in
+    let c = and_parts (not (is_one_of kind kinds)) (rest && are_kinds version kinds) a.1 in
+    let d = and_parts rest (are_kinds version kinds) c.1 in (
+      record { known = (ltb-true 0 kind b.0, leb-true kind (last_attribute version) b.1); short = field_short version kind field fits.0; bytes = field_is_bytes version kind field fits.0 },
+      none_of kind kinds fields (not-true (is_one_of kind kinds) c.0),
+      last_alone (takes_rest version kind) kinds fields d.0,
+      are_lawful version kinds fields d.1 fits.1,
+    )
+
+pub attributes_lawful : (version : ℕ) (c : Command) → IsKnown version (kind_of c) → FieldsFit version (row (kind_of c)).wanted (fields_of c) → AreAttributes version (attributes_of c)
+unfolding attributes_of
+attributes_lawful version c known fits = are_lawful version (row (kind_of c)).wanted (fields_of c) (wanted_lawful version (kind_of c) known) fits
+
+-- ---- what version 1 can say has a short body in either version
 
 -- The greatest length of a field's bytes.
 abbrev room : Field → ℕ
 room (Identifier bytes) = 16
 room (Number n) = 8
+room (ShortNumber n) = 4
 room (Moment t) = 12
 room (Bytes bytes) = 65_535
 
-field_len : (field : Field) → FieldFits field → length (field_bytes field) ≤ room field
-field_len (Identifier bytes) fits = omega (arith, fits.0)
-field_len (Number n) fits = lit≤ tt
-field_len (Moment t) fits = lit≤ tt
-field_len (Bytes bytes) fits = omega (arith, fits.0)
+field_len : (kind : ℕ) (field : Field) → FieldFits 1 kind field → length (field_bytes field) ≤ room field
+field_len kind (Identifier bytes) fits = omega (arith, fits.0)
+field_len kind (Number n) fits = lit≤ tt
+field_len kind (ShortNumber n) fits = lit≤ tt
+field_len kind (Moment t) fits = lit≤ tt
+field_len kind (Bytes bytes) fits = let short = fits.0 refl in omega (arith, short)
 
-field_short : (field : Field) → FieldFits field → length (field_bytes field) < 2 ^ 16
-field_short (Identifier bytes) fits = omega (arith, fits.0)
-field_short (Number n) fits = lit< tt
-field_short (Moment t) fits = lit< tt
-field_short (Bytes bytes) fits = fits.0
+field_later : (version kind : ℕ) (field : Field) → FieldFits 1 kind field → FieldFits version kind field
+field_later version kind (Identifier bytes) fits = fits
+field_later version kind (Number n) fits = fits
+field_later version kind (ShortNumber n) fits = fits
+field_later version kind (Moment t) fits = fits
+field_later version kind (Bytes bytes) fits = (λ e. fits.0 refl, fits.1)
 
-is_attribute : (version kind : ℕ) (field : Field) → (0 < kind) × (kind ≤ 24) → FieldFits field → IsAttribute version (record { kind = kind; bytes = field_bytes field })
-is_attribute version kind field known fits = record { known = known; short = field_short field fits; bytes = field_is_bytes field fits }
+fields_later : (version : ℕ) (kinds : List ℕ) (fields : List Field) → FieldsFit 1 kinds fields → FieldsFit version kinds fields
+fields_later version [] [] fits = tt
+fields_later version [] (field ∷ fields) fits = absurd fits
+fields_later version (kind ∷ kinds) [] fits = absurd fits
+fields_later version (kind ∷ kinds) (field ∷ fields) fits = (field_later version kind field fits.0, fields_later version kinds fields fits.1)
 
-are_attributes : (version : ℕ) (c : Command) → AllByRecursion FieldFits (fields_of c) → AreAttributes version (attributes_of c)
-unfolding attributes_of row
-are_attributes version (Subvol uuid ctransid path) fits = (is_attribute version _ (Identifier uuid) (lit< tt, lit≤ tt) fits.0, refl, (is_attribute version _ (Number ctransid) (lit< tt, lit≤ tt) fits.1.0, refl, (is_attribute version _ (Bytes path) (lit< tt, lit≤ tt) fits.1.1.0, refl, tt)))
-are_attributes version (Snapshot uuid ctransid path clone_uuid clone_ctransid) fits = (is_attribute version _ (Identifier uuid) (lit< tt, lit≤ tt) fits.0, refl, (is_attribute version _ (Number ctransid) (lit< tt, lit≤ tt) fits.1.0, refl, (is_attribute version _ (Bytes path) (lit< tt, lit≤ tt) fits.1.1.0, refl, (is_attribute version _ (Identifier clone_uuid) (lit< tt, lit≤ tt) fits.1.1.1.0, refl, (is_attribute version _ (Number clone_ctransid) (lit< tt, lit≤ tt) fits.1.1.1.1.0, refl, tt)))))
-are_attributes version (MkFile path) fits = (is_attribute version _ (Bytes path) (lit< tt, lit≤ tt) fits.0, refl, tt)
-are_attributes version (MkDir path) fits = (is_attribute version _ (Bytes path) (lit< tt, lit≤ tt) fits.0, refl, tt)
-are_attributes version (MkNod mode rdev path) fits = (is_attribute version _ (Number mode) (lit< tt, lit≤ tt) fits.0, refl, (is_attribute version _ (Number rdev) (lit< tt, lit≤ tt) fits.1.0, refl, (is_attribute version _ (Bytes path) (lit< tt, lit≤ tt) fits.1.1.0, refl, tt)))
-are_attributes version (MkFifo path) fits = (is_attribute version _ (Bytes path) (lit< tt, lit≤ tt) fits.0, refl, tt)
-are_attributes version (MkSock path) fits = (is_attribute version _ (Bytes path) (lit< tt, lit≤ tt) fits.0, refl, tt)
-are_attributes version (Symlink path path_link) fits = (is_attribute version _ (Bytes path) (lit< tt, lit≤ tt) fits.0, refl, (is_attribute version _ (Bytes path_link) (lit< tt, lit≤ tt) fits.1.0, refl, tt))
-are_attributes version (Rename path path_to) fits = (is_attribute version _ (Bytes path) (lit< tt, lit≤ tt) fits.0, refl, (is_attribute version _ (Bytes path_to) (lit< tt, lit≤ tt) fits.1.0, refl, tt))
-are_attributes version (Link path path_link) fits = (is_attribute version _ (Bytes path) (lit< tt, lit≤ tt) fits.0, refl, (is_attribute version _ (Bytes path_link) (lit< tt, lit≤ tt) fits.1.0, refl, tt))
-are_attributes version (Unlink path) fits = (is_attribute version _ (Bytes path) (lit< tt, lit≤ tt) fits.0, refl, tt)
-are_attributes version (Rmdir path) fits = (is_attribute version _ (Bytes path) (lit< tt, lit≤ tt) fits.0, refl, tt)
-are_attributes version (SetXattr name value path) fits = (is_attribute version _ (Bytes name) (lit< tt, lit≤ tt) fits.0, refl, (is_attribute version _ (Bytes value) (lit< tt, lit≤ tt) fits.1.0, refl, (is_attribute version _ (Bytes path) (lit< tt, lit≤ tt) fits.1.1.0, refl, tt)))
-are_attributes version (RemoveXattr name path) fits = (is_attribute version _ (Bytes name) (lit< tt, lit≤ tt) fits.0, refl, (is_attribute version _ (Bytes path) (lit< tt, lit≤ tt) fits.1.0, refl, tt))
-are_attributes version (Write path offset bytes) fits = (is_attribute version _ (Bytes path) (lit< tt, lit≤ tt) fits.0, refl, (is_attribute version _ (Number offset) (lit< tt, lit≤ tt) fits.1.0, refl, (is_attribute version _ (Bytes bytes) (lit< tt, lit≤ tt) fits.1.1.0, refl, tt)))
-are_attributes version (Clone path offset clone_uuid clone_ctransid clone_path clone_offset clone_len) fits = (is_attribute version _ (Bytes path) (lit< tt, lit≤ tt) fits.0, refl, (is_attribute version _ (Number offset) (lit< tt, lit≤ tt) fits.1.0, refl, (is_attribute version _ (Identifier clone_uuid) (lit< tt, lit≤ tt) fits.1.1.0, refl, (is_attribute version _ (Number clone_ctransid) (lit< tt, lit≤ tt) fits.1.1.1.0, refl, (is_attribute version _ (Bytes clone_path) (lit< tt, lit≤ tt) fits.1.1.1.1.0, refl, (is_attribute version _ (Number clone_offset) (lit< tt, lit≤ tt) fits.1.1.1.1.1.0, refl, (is_attribute version _ (Number clone_len) (lit< tt, lit≤ tt) fits.1.1.1.1.1.1.0, refl, tt)))))))
-are_attributes version (Truncate size path) fits = (is_attribute version _ (Number size) (lit< tt, lit≤ tt) fits.0, refl, (is_attribute version _ (Bytes path) (lit< tt, lit≤ tt) fits.1.0, refl, tt))
-are_attributes version (Chmod mode path) fits = (is_attribute version _ (Number mode) (lit< tt, lit≤ tt) fits.0, refl, (is_attribute version _ (Bytes path) (lit< tt, lit≤ tt) fits.1.0, refl, tt))
-are_attributes version (Chown uid gid path) fits = (is_attribute version _ (Number uid) (lit< tt, lit≤ tt) fits.0, refl, (is_attribute version _ (Number gid) (lit< tt, lit≤ tt) fits.1.0, refl, (is_attribute version _ (Bytes path) (lit< tt, lit≤ tt) fits.1.1.0, refl, tt)))
-are_attributes version (Utimes mtime atime path) fits = (is_attribute version _ (Moment mtime) (lit< tt, lit≤ tt) fits.0, refl, (is_attribute version _ (Moment atime) (lit< tt, lit≤ tt) fits.1.0, refl, (is_attribute version _ (Bytes path) (lit< tt, lit≤ tt) fits.1.1.0, refl, tt)))
-are_attributes version End fits = tt
-are_attributes version (UpdateExtent size path offset) fits = (is_attribute version _ (Number size) (lit< tt, lit≤ tt) fits.0, refl, (is_attribute version _ (Bytes path) (lit< tt, lit≤ tt) fits.1.0, refl, (is_attribute version _ (Number offset) (lit< tt, lit≤ tt) fits.1.1.0, refl, tt)))
-
--- ---- the body is short
+-- An attribute that does not take the rest says its length, and so has it in version 1 too.
+pub first_fits : (version kind : ℕ) (bytes : List ℕ) → takes_rest version kind ≡ false → FieldFits version kind (Bytes bytes) → FieldFits 1 kind (Bytes bytes)
+first_fits version kind bytes own fits = (λ e. fits.0 own, fits.1)
 
 abbrev rooms : List Field → ℕ
 rooms [] = 0
 rooms (field ∷ fields) = (4 + room field) + rooms fields
 
-attribute_len : (a : Attribute) → length (attribute_bytes a) ≡ 4 + length a.bytes
-unfolding attribute_bytes
-attribute_len a = omega arith
+attribute_len : (version : ℕ) (a : Attribute) → length (attribute_bytes version a) ≤ 4 + length a.bytes
+attribute_len version a = one (takes_rest version a.kind) refl
+  where
+    one : (b : Bool) → takes_rest version a.kind ≡ b → length (attribute_bytes version a) ≤ 4 + length a.bytes
+    one true e = let l = ap length (bytes_by version a true e) in omega (arith, l)
+    one false e = let l = ap length (bytes_by version a false e) in omega (arith, l)
 
-body_len : (kinds : List ℕ) (fields : List Field) → AllByRecursion FieldFits fields → length (body_of (with_fields kinds fields)) ≤ rooms fields
+body_len : (version : ℕ) (kinds : List ℕ) (fields : List Field) → FieldsFit 1 kinds fields → length (body_of version (with_fields kinds fields)) ≤ rooms fields
 unfolding body_of
-body_len [] fields fits = zero-le
-body_len (kind ∷ kinds) [] fits = zero-le
-body_len (kind ∷ kinds) (field ∷ fields) fits =
+body_len version [] fields fits = zero-le
+body_len version (kind ∷ kinds) [] fits = zero-le
+body_len version (kind ∷ kinds) (field ∷ fields) fits =
     let a : Attribute = record { kind = kind; bytes = field_bytes field } in
-    omega (arith, length-append (attribute_bytes a) (body_of (with_fields kinds fields)), attribute_len a, field_len field fits.0, body_len kinds fields fits.1)
+    omega (arith, length-append (attribute_bytes version a) (body_of version (with_fields kinds fields)), attribute_len version a, field_len kind field fits.0, body_len version kinds fields fits.1)
 
 rooms_short : (c : Command) → rooms (fields_of c) ≤ greatest_body
 rooms_short (Subvol uuid ctransid path) = lit≤ tt
@@ -161,18 +197,35 @@ rooms_short (Chown uid gid path) = lit≤ tt
 rooms_short (Utimes mtime atime path) = lit≤ tt
 rooms_short End = lit≤ tt
 rooms_short (UpdateExtent size path offset) = lit≤ tt
+rooms_short (Fallocate size path offset mode) = lit≤ tt
+rooms_short (FileAttr path flags) = lit≤ tt
 
-pub body_short : (c : Command) → IsSpellable c → length (body_of (attributes_of c)) ≤ greatest_body
-unfolding IsSpellable attributes_of
-body_short c fits = le_trans (body_len (row (kind_of c)).wanted (fields_of c) fits) (rooms_short c)
+-- What version 1 can say of a command that a version has, that version can say.
+pub spellable_first : (version : ℕ) (c : Command) → IsKnown version (kind_of c) → FieldsFit 1 (row (kind_of c)).wanted (fields_of c) → IsSpellable version c
+unfolding attributes_of
+spellable_first version c known fits = record {
+  known = known;
+  values = fields_later version (row (kind_of c)).wanted (fields_of c) fits;
+  short = le_trans (body_len version (row (kind_of c)).wanted (fields_of c) fits) (rooms_short c);
+}
 
-pub body_is_bytes : (version : ℕ) (attributes : List Attribute) → AreAttributes version attributes → IsBytes (body_of attributes)
-unfolding body_of attribute_bytes
+pub second_says_more : SecondSaysMore
+second_says_more c s = spellable_first 2 c (known_second (kind_of c)) s.values
+
+-- ---- bodies
+
+attribute_is_bytes : (version : ℕ) (a : Attribute) → IsBytes a.bytes → IsBytes (attribute_bytes version a)
+attribute_is_bytes version a are = one (takes_rest version a.kind) refl
+  where
+    one : (b : Bool) → takes_rest version a.kind ≡ b → IsBytes (attribute_bytes version a)
+    one true e = subst IsBytes (sym (bytes_by version a true e)) (bytes_append (to_le_bytes w16 a.kind) a.bytes (le2_bytes a.kind) are)
+    one false e = subst IsBytes (sym (bytes_by version a false e))
+        (bytes_append (to_le_bytes w16 a.kind) (to_le_bytes w16 (length a.bytes) ++ a.bytes) (le2_bytes a.kind) (bytes_append (to_le_bytes w16 (length a.bytes)) a.bytes (le2_bytes _) are))
+
+pub body_is_bytes : (version : ℕ) (attributes : List Attribute) → AreAttributes version attributes → IsBytes (body_of version attributes)
+unfolding body_of
 body_is_bytes version [] are = tt
-body_is_bytes version (a ∷ rest) are =
-    bytes_append (to_le_bytes w16 a.kind ++ to_le_bytes w16 (length a.bytes) ++ a.bytes) (body_of rest)
-    (bytes_append (to_le_bytes w16 a.kind) (to_le_bytes w16 (length a.bytes) ++ a.bytes) (le2_bytes a.kind) (bytes_append (to_le_bytes w16 (length a.bytes)) a.bytes (le2_bytes _) are.0.bytes))
-    (body_is_bytes version rest are.2)
+body_is_bytes version (a ∷ rest) are = bytes_append (attribute_bytes version a) (body_of version rest) (attribute_is_bytes version a are.0.bytes) (body_is_bytes version rest are.3)
 
 pub checksum_small : (number : ℕ) (body : List ℕ) → IsBytes body → frame_checksum (length body) number body < 2 ^ 32
 unfolding frame_checksum
@@ -184,51 +237,101 @@ checksum_small number body b =
 
 -- ---- the canonical spelling
 
-pub attributes_lawful : (version : ℕ) (c : Command) → IsSpellable c → AreAttributes version (attributes_of c)
-unfolding IsSpellable
-attributes_lawful version c fits = are_attributes version c fits
-
 -- The canonical spelling spells the command.
-pub canonical_spells : (version : ℕ) (c : Command) → IsSpellable c → Spells version (canonical version c) c
+pub canonical_spells : CanonicalSpells
 unfolding canonical
-canonical_spells version c fits = record {
+canonical_spells version c s = record {
+  known = s.known;
   attributes = attributes_of c;
-  lawful = attributes_lawful version c fits;
+  lawful = attributes_lawful version c s.known s.values;
   frame = refl;
-  short = body_short c fits;
+  short = s.short;
   wanted = wanted_there c;
-  values = fits;
+  values = s.values;
 }
 
--- Whatever spells a command is read as that command, whatever follows it, where commands of its kind are taken.
-pub spelled_front : (file version number offset : ℕ) (bytes rest : List ℕ) (c : Command) (s : Spells version bytes c) → taken version (row (kind_of c)).number ≡ Ok tt
-    → front_of file version number offset (bytes ++ rest) ≡ Ok (record { item = record { file = file; number = number; offset = offset; version = version; data_at = data_place offset s.attributes; command = c }; rest = rest })
+-- Whatever spells a command is read as that command, whatever follows it.
+pub spelled_read : SpelledIsRead
+spelled_read version bytes rest c s =
+    let body : List ℕ = body_of version s.attributes in
+    let n : ℕ = (row (kind_of c)).number in
+    record {
+      frame = ap (λ (b : List ℕ). frame_at (b ++ rest)) s.frame ∙ frame_read_back body rest n (number_small (kind_of c)) s.short (checksum_small n body (body_is_bytes version s.attributes s.lawful));
+      body = attributes_read_back version s.attributes s.lawful;
+      command = command_read_back version c s.attributes s.known s.values s.wanted;
+    }
+
+-- So it is the item in front, where commands of its kind are taken.
+pub spelled_front : SpelledIsFront
 unfolding front_of
 spelled_front file version number offset bytes rest c s is_taken =
-    let body : List ℕ = body_of s.attributes in
-    let n : ℕ = (row (kind_of c)).number in
-    let read : frame_at (bytes ++ rest) ≡ Ok (record { number = n; body = body; rest = rest }) =
-    ap (λ (b : List ℕ). frame_at (b ++ rest)) s.frame ∙ frame_read_back body rest n (number_small (kind_of c)) s.short (checksum_small n body (body_is_bytes version s.attributes s.lawful)) in
-    rw (read, attributes_read_back version s.attributes s.lawful, is_taken, command_read_back version c s.attributes s.values s.wanted) refl
+    let read = spelled_read version bytes rest c s in
+    rw (read.frame, read.body, is_taken, read.command) refl
 
 -- ---- one reading
-
-frame_read : (version : ℕ) (bytes : List ℕ) (c : Command) (s : Spells version bytes c) → frame_at bytes ≡ Ok (record { number = (row (kind_of c)).number; body = body_of s.attributes; rest = [] })
-frame_read version bytes c s =
-    let body : List ℕ = body_of s.attributes in
-    let n : ℕ = (row (kind_of c)).number in
-    ap frame_at (sym (append-nil bytes)) ∙ ap (λ (b : List ℕ). frame_at (b ++ [])) s.frame ∙ frame_read_back body [] n (number_small (kind_of c)) s.short (checksum_small n body (body_is_bytes version s.attributes s.lawful))
 
 -- Bytes that spell a command spell no other.
 pub spelled_once : FrameHasOneReading
 spelled_once version bytes c d s t =
-    let frames : record { number = (row (kind_of c)).number; body = body_of s.attributes; rest = [] } ≡ record { number = (row (kind_of d)).number; body = body_of t.attributes; rest = [] } =
-    ok_same (sym (frame_read version bytes c s) ∙ frame_read version bytes d t) in
-    let attributes : s.attributes ≡ t.attributes =
-    ok_same (sym (attributes_read_back version s.attributes s.lawful) ∙ ap (λ (f : Frame). attributes_at version f.body) frames ∙ attributes_read_back version t.attributes t.lawful) in
-    ok_same (
-    sym (command_read_back version c s.attributes s.values s.wanted)
-    ∙ ap (λ (f : Frame). command_of version f.number s.attributes) frames
-    ∙ ap (command_of version (row (kind_of d)).number) attributes
-    ∙ command_read_back version d t.attributes t.values t.wanted
-    )
+    let a = spelled_read version bytes [] c s in
+    let b = spelled_read version bytes [] d t in
+    let frames : record { number = (row (kind_of c)).number; body = body_of version s.attributes; rest = [] } ≡ record { number = (row (kind_of d)).number; body = body_of version t.attributes; rest = [] } =
+    ok_same (sym a.frame ∙ b.frame) in
+    let attributes : s.attributes ≡ t.attributes = ok_same (sym a.body ∙ ap (λ (f : Frame). attributes_at version f.body) frames ∙ b.body) in
+    ok_same (sym a.command ∙ ap (λ (f : Frame). command_of version f.number s.attributes) frames ∙ ap (command_of version (row (kind_of d)).number) attributes ∙ b.command)
+
+-- ---- what is spelled in any way can be spelled canonically
+
+-- The attributes without the first of a number.
+abbrev removed : ℕ → List Attribute → List Attribute
+removed kind [] = []
+removed kind (a ∷ rest) = if a.kind == kind then rest else a ∷ removed kind rest
+
+removed_len : (version : ℕ) (kind : ℕ) (bytes : List ℕ) (attributes : List Attribute) → value_of kind attributes ≡ Some bytes
+    → length (attribute_bytes version (record { kind = kind; bytes = bytes })) + length (body_of version (removed kind attributes)) ≤ length (body_of version attributes)
+unfolding body_of
+removed_len version kind bytes [] e = cc
+removed_len version kind bytes (a ∷ rest) e = one (λ f. removed_len version kind bytes rest f) (a.kind == kind) refl e
+  where
+    one : (value_of kind rest ≡ Some bytes → length (attribute_bytes version (record { kind = kind; bytes = bytes })) + length (body_of version (removed kind rest)) ≤ length (body_of version rest)) → (b : Bool) → (a.kind == kind) ≡ b → (if b then Some a.bytes else value_of kind rest) ≡ Some bytes
+        → length (attribute_bytes version (record { kind = kind; bytes = bytes })) + length (body_of version (if b then rest else a ∷ removed kind rest)) ≤ length (body_of version (a ∷ rest))
+    one more true q f =
+        let same : a ≡ record { kind = kind; bytes = bytes } = λ i. record { kind = eqb-true a.kind kind q i; bytes = ap (λ (o : Option (List ℕ)). unwrap_or o []) f i } in
+        let own = ap (λ (x : Attribute). length (attribute_bytes version x)) same in
+        omega (arith, own, length-append (attribute_bytes version a) (body_of version rest))
+    one more false q f = omega (arith, more f, length-append (attribute_bytes version a) (body_of version rest), length-append (attribute_bytes version a) (body_of version (removed kind rest)))
+
+removed_keeps : (kind k : ℕ) (attributes : List Attribute) → (kind == k) ≡ false → value_of k (removed kind attributes) ≡ value_of k attributes
+removed_keeps kind k [] other = refl
+removed_keeps kind k (a ∷ rest) other = one (removed_keeps kind k rest other) (a.kind == kind) refl
+  where
+    one : value_of k (removed kind rest) ≡ value_of k rest → (b : Bool) → (a.kind == kind) ≡ b → value_of k (if b then rest else a ∷ removed kind rest) ≡ value_of k (a ∷ rest)
+    one more true q = let e : (a.kind == k) ≡ false = ap (λ (n : ℕ). n == k) (eqb-true a.kind kind q) ∙ other in rw e refl
+    one more false q = ap (λ (o : Option (List ℕ)). if a.kind == k then Some a.bytes else o) more
+
+abbrev AreAmong : List Attribute → List Attribute → Type 0
+AreAmong attributes wanted = AllByRecursion (λ (a : Attribute). value_of a.kind attributes ≡ Some a.bytes) wanted
+
+still_among : (kind : ℕ) (wanted attributes : List Attribute) → value_of kind wanted ≡ None → AreAmong attributes wanted → AreAmong (removed kind attributes) wanted
+still_among kind [] attributes none are = tt
+still_among kind (w ∷ wanted) attributes none are = one (λ n. still_among kind wanted attributes n are.1) (w.kind == kind) refl none
+  where
+    one : (value_of kind wanted ≡ None → AreAmong (removed kind attributes) wanted) → (b : Bool) → (w.kind == kind) ≡ b → (if b then Some w.bytes else value_of kind wanted) ≡ None → AreAmong (removed kind attributes) (w ∷ wanted)
+    one more true q n = cc
+    one more false q n = (removed_keeps kind w.kind attributes (differ_back w.kind kind q) ∙ are.0, more n)
+
+-- Wanted attributes that stand among others have no longer a body than these.
+wanted_len : (version : ℕ) (wanted attributes : List Attribute) → AreAttributes version wanted → AreAmong attributes wanted → length (body_of version wanted) ≤ length (body_of version attributes)
+unfolding body_of
+wanted_len version [] attributes lawful are = zero-le
+wanted_len version (w ∷ wanted) attributes lawful are =
+    let more = wanted_len version wanted (removed w.kind attributes) lawful.3 (still_among w.kind wanted attributes lawful.1 are.1) in
+    let own = removed_len version w.kind w.bytes attributes are.0 in
+    omega (arith, more, own, length-append (attribute_bytes version w) (body_of version wanted))
+
+pub spelled_spellable : SpelledIsSpellable
+spelled_spellable version bytes c s = record {
+  known = s.known;
+  values = s.values;
+  short = le_trans (wanted_len version (attributes_of c) s.attributes (attributes_lawful version c s.known s.values) s.wanted) s.short;
+}

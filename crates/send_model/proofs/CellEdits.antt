@@ -6,16 +6,16 @@ use Rattle.std.specs.Option.{option_map}
 use Rattle.std.specs.List.{list_any}
 use Rattle.std.proofs.Common.{refl, sym, ap, ap₂, ◌∙◌}
 use Rattle.std.proofs.lemmas.List.{length-map}
-use Rattle.send_model.specs.Refusal.{Refusal, NotDirectory, NoEntry, BadDevice, IsDirectory, NotEmpty, IntoItself, NoXattr, NotFile}
+use Rattle.send_model.specs.Refusal.{Refusal, NotDirectory, NoEntry, BadDevice, IsDirectory, NotEmpty, IntoItself, NoXattr, NotFile, BadFallocate}
 use Rattle.send_model.specs.Chain.{◌>>=◌, ◌>>◌, require, refuse_if, found}
-use Rattle.send_model.specs.Command.{Command, MkFile, MkDir, MkNod, MkFifo, MkSock, Symlink, Rename, Link, Unlink, Rmdir, SetXattr, RemoveXattr, Write, Truncate, Chmod, Chown, Utimes}
+use Rattle.send_model.specs.Command.{Command, MkFile, MkDir, MkNod, MkFifo, MkSock, Symlink, Rename, Link, Unlink, Rmdir, SetXattr, RemoveXattr, Write, Truncate, Chmod, Chown, Utimes, Fallocate, FileAttr}
 use Rattle.send_model.specs.Path.{path_names}
 use Rattle.send_model.specs.Map.{Map, named_cmp, bytes_cmp, with_value, without, value_at}
 use Rattle.send_model.specs.Subvolume.{File, SymbolicLink, Fifo, Socket, Inode, Subvolume, Spot, new_inode, new_directory, root, inode_at, is_directory, walk, spot, inodes_on_way, all_but_last, name_count, is_empty_directory}
-use Rattle.send_model.specs.Edit.{make, make_device, device_kind, add_inode, take_name, remove_inode, remove_name, link, unlink, rmdir, rename, rename_onto, can_replace, move_name, lies_below, change_at, set_xattr, remove_xattr, has_xattr, change_contents, set_cells, written_at, resized, at_spot, edit}
+use Rattle.send_model.specs.Edit.{make, make_device, device_kind, add_inode, take_name, remove_inode, remove_name, link, unlink, rmdir, rename, rename_onto, can_replace, move_name, lies_below, change_at, set_xattr, remove_xattr, has_xattr, change_contents, set_cells, written_at, resized, allocation_of, fallocated, fallocate, at_spot, edit}
 use Rattle.send_model.specs.Provenance.{inode_with}
 use Rattle.send_model.specs.Cells.{recelled, recelled_result}
-use Rattle.send_model.proofs.CellMaps.{reinode, with_value-map, without-map, inode_at-cells, is_directory-cells, is_file-cells, walk-cells, spot-cells, inodes_on_way-cells, resized-cells, written_at-cells, change_inode-cells}
+use Rattle.send_model.proofs.CellMaps.{reinode, with_value-map, without-map, inode_at-cells, is_directory-cells, is_file-cells, walk-cells, spot-cells, inodes_on_way-cells, resized-cells, written_at-cells, fallocated-cells, change_inode-cells}
 
 module _ {C D : Type 0} (f : C → D) where
   -- ---- chains
@@ -140,6 +140,13 @@ module _ {C D : Type 0} (f : C → D) where
   unfolding change_contents
   change_contents-cells path end change change' s same = bind_cells (walk s path) _ _ _ (walk-cells f s path) (λ ino. then_cells _ _ _ _ (ap (λ (b : Bool). require b NotFile) (is_file-cells f s ino)) (then_cells _ _ _ _ refl (ok_cells _ _ (change_inode-cells f ino _ _ s (set_cells-cells change change' same)))))
 
+  fallocate-cells : (x : C) (path : List ℕ) (offset size mode : ℕ) (s : Subvolume C) → fallocate (f x) path offset size mode (recelled f s) ≡ recelled_result f (fallocate x path offset size mode s)
+  unfolding fallocate
+  fallocate-cells x path offset size mode s =
+      bind_cells (walk s path) _ _ _ (walk-cells f s path) (λ ino. then_cells _ _ _ _ (ap (λ (b : Bool). require b NotFile) (is_file-cells f s ino)) (
+      bind_cells (found (allocation_of mode) (BadFallocate mode)) _ _ _ refl (λ allocation. then_cells _ _ _ _ refl (
+      ok_cells _ _ (change_inode-cells f ino _ _ s (set_cells-cells (fallocated x allocation offset size) (fallocated (f x) allocation offset size) (λ cells. sym (fallocated-cells f x allocation offset size cells))))))))
+
   pub edit-cells : (x : C) (put : List C) (c : Command) (s : Subvolume C) → edit (f x) (map f put) c (recelled f s) ≡ recelled_result f (edit x put c s)
   unfolding edit
   edit-cells x put (MkFile path) s = make-cells (new_inode File 0o600 0 []) path s
@@ -161,4 +168,6 @@ module _ {C D : Type 0} (f : C → D) where
   edit-cells x put (Chmod mode path) s = change_at-cells path _ _ s (λ inode. refl)
   edit-cells x put (Chown uid gid path) s = change_at-cells path _ _ s (λ inode. refl)
   edit-cells x put (Utimes mtime atime path) s = change_at-cells path _ _ s (λ inode. refl)
+  edit-cells x put (Fallocate size path offset mode) s = fallocate-cells x path offset size mode s
+  edit-cells x put (FileAttr path flags) s = change_at-cells path _ _ s (λ inode. refl)
   edit-cells x put c s = refl

@@ -12,7 +12,7 @@ use Rattle.send_model.specs.Chain.{◌>>=◌, ◌>>◌, require, found}
 use Rattle.send_model.specs.Path.{path_names}
 use Rattle.send_model.specs.Map.{Map, value_at, with_value, without}
 use Rattle.send_model.specs.Subvolume.{Inode, Subvolume, root, inode_at, named, passes_inode, is_directory_kind, is_file_kind, is_directory, is_file, walk_names, walk, spot, last_name, all_but_last, inodes_on_way, name_count, is_empty_directory}
-use Rattle.send_model.specs.Edit.{filled, resized, overwritten, written_at, set_inode, change_inode}
+use Rattle.send_model.specs.Edit.{filled, resized, overwritten, written_at, Allocation, Lengthen, KeepSize, PunchHole, ZeroRange, ZeroWithin, zeroed, allocated, fallocated, set_inode, change_inode}
 use Rattle.send_model.specs.Provenance.{inode_with}
 use Rattle.send_model.specs.Cells.{recelled}
 
@@ -134,6 +134,32 @@ module _ {C D : Type 0} (f : C → D) where
   unfolding written_at
   written_at-cells x offset [] cells = refl
   written_at-cells x offset (c ∷ new) cells = overwritten-cells x offset (c ∷ new) cells
+
+  all_same : (x : C) (cells : List C) → map f (map (λ c. x) cells) ≡ map (λ d. f x) (map f cells)
+  all_same x [] = refl
+  all_same x (c ∷ cells) = ap (λ (r : List D). f x ∷ r) (all_same x cells)
+
+  zeroed-cells : (x : C) (offset size : ℕ) (cells : List C) → map f (zeroed x offset size cells) ≡ zeroed (f x) offset size (map f cells)
+  zeroed-cells x offset size cells =
+      let range : List C = take size (drop offset cells) in
+      let zeros : List C = map (λ c. x) range in
+      let range_is : map f range ≡ take size (drop offset (map f cells)) = sym (take-map f size (drop offset cells)) ∙ ap (take size) (sym (drop-map f offset cells)) in
+      map-append f (take offset cells ++ zeros) (drop (offset + size) cells)
+      ∙ ap₂ (λ (a b : List D). a ++ b)
+      (map-append f (take offset cells) zeros ∙ ap₂ (λ (a b : List D). a ++ b) (sym (take-map f offset cells)) (all_same x range ∙ ap (map (λ d. f x)) range_is))
+      (sym (drop-map f (offset + size) cells))
+
+  allocated-cells : (x : C) (allocation : Allocation) (offset size : ℕ) (cells : List C) → map f (allocated x allocation offset size cells) ≡ allocated (f x) allocation offset size (map f cells)
+  allocated-cells x Lengthen offset size cells = filled-cells x (offset + size) cells
+  allocated-cells x KeepSize offset size cells = refl
+  allocated-cells x PunchHole offset size cells = zeroed-cells x offset size cells
+  allocated-cells x ZeroRange offset size cells = written_at-cells x offset (replicate size x) cells ∙ ap (λ (new : List D). written_at (f x) offset new (map f cells)) (map-replicate size x)
+  allocated-cells x ZeroWithin offset size cells = zeroed-cells x offset size cells
+
+  pub fallocated-cells : (x : C) (allocation : Allocation) (offset size : ℕ) (cells : List C) → map f (fallocated x allocation offset size cells) ≡ fallocated (f x) allocation offset size (map f cells)
+  unfolding fallocated
+  fallocated-cells x allocation offset zero cells = refl
+  fallocated-cells x allocation offset (suc size) cells = allocated-cells x allocation offset (suc size) cells
 
   -- ---- changes
 

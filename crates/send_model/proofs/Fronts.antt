@@ -1,6 +1,6 @@
 -- What was written for some first commands is a front part of all that compose may write.
 use Rattle.std.specs.Prelude.{◌≡◌, ℕ, ◌≤◌, Bool, true, false, List, [], ◌∷◌, ◌++◌, length, take, Option, None, Some}
-use Rattle.std.proofs.Common.{refl, sym, ap, ap₂, ◌∙◌, arith, append_assoc, length-append}
+use Rattle.std.proofs.Common.{refl, sym, ap, subst, ap₂, ◌∙◌, arith, append_assoc, length-append}
 use Rattle.std.proofs.Math.Seq.{take-nil}
 use Rattle.std.proofs.lemmas.List.{take-append-le}
 use Rattle.send_model.specs.Refusal.{Refusal}
@@ -13,7 +13,7 @@ use Rattle.send_model.specs.Order.{heads, heads_of, onto_heads, commands_of, bre
 use Rattle.send_model.specs.Provenance.{Traced, traced_store, traced_step, uuid_after}
 use Rattle.send_model.specs.Outside.{part_uuids}
 use Rattle.send_model.specs.Composed.{first_head, last_head, head_command, commands_for, composed_from, composed_edits, composed_with, composed_for, composed, composed_part, composed_before}
-use Rattle.send_model.specs.Headline.{stream_front, output_for, whole_output, IsFrontOf}
+use Rattle.send_model.specs.Headline.{stream_front, output_version, output_for, whole_output, IsFrontOf}
 use Rattle.send_model.proofs.Runs.{step_of, Takes}
 use Rattle.send_model.proofs.Merging.{NoClones, edits_of}
 use Rattle.send_model.proofs.Headlines.{plain_composed}
@@ -61,11 +61,11 @@ first_more [] more first e = cc
 first_more (item ∷ items) more first e = first_stays (head_of item.command) (heads items) (heads (items ++ more)) first e (first_more items more first)
 
 -- The bytes of some first commands, in those of a head and then more.
-bytes_front : (last first : Head) (cs extra : List Command) → stream_header 1 ++ canonical_all 1 (head_command last.name last.key first.parent ∷ (edits_of cs ++ extra)) ≡ written_so_far last (Some first) cs ++ canonical_all 1 extra
+bytes_front : (version : ℕ) (last first : Head) (cs extra : List Command) → stream_header version ++ canonical_all version (head_command last.name last.key first.parent ∷ (edits_of cs ++ extra)) ≡ written_so_far version last (Some first) cs ++ canonical_all version extra
 unfolding written_so_far
-bytes_front last first cs extra =
+bytes_front version last first cs extra =
     let h : Command = head_command last.name last.key first.parent in
-    ap (λ (r : List ℕ). stream_header 1 ++ r) (canonical_all-append (h ∷ edits_of cs) extra) ∙ sym (append_assoc (stream_header 1) (canonical_all 1 (h ∷ edits_of cs)) (canonical_all 1 extra))
+    ap (λ (r : List ℕ). stream_header version ++ r) (canonical_all-append version (h ∷ edits_of cs) extra) ∙ sym (append_assoc (stream_header version) (canonical_all version (h ∷ edits_of cs)) (canonical_all version extra))
 
 -- A front part of a front part.
 front_of_front : (all written extra : List ℕ) (count : ℕ) → all ≡ written ++ extra → count ≤ length written → IsFrontOf all (take count written)
@@ -76,7 +76,7 @@ front_of_front all written extra count is within = record {
 }
 
 whole_front : (files : List (List ℕ)) (items more : List Item) (last first : Head) (count : ℕ) → (input files).items ≡ items ++ more → NoClones (commands_of items) → first_head (heads items) ≡ Some first → last_head (heads (input files).items) ≡ Some last
-    → count ≤ length (written_so_far last (Some first) (commands_of items)) → IsFrontOf (stream_header 1 ++ canonical_all 1 (composed empty_store files)) (take count (written_so_far last (Some first) (commands_of items)))
+    → count ≤ length (written_so_far (output_version files) last (Some first) (commands_of items)) → IsFrontOf (stream_header (output_version files) ++ canonical_all (output_version files) (composed empty_store files)) (take count (written_so_far (output_version files) last (Some first) (commands_of items)))
 unfolding composed composed_with
 whole_front files items more last first count is n f l within =
     let extra = edits_append last.key items more n in
@@ -85,11 +85,11 @@ whole_front files items more last first count is n f l within =
     let list : composed empty_store files ≡ h ∷ (edits_of (commands_of items) ++ (extra.0 ++ End ∷ [])) =
     ap₂ (λ (a b : Option Head). composed_for empty_store a b (input files).items) firsts l ∙ ap (composed_with empty_store first last) is
     ∙ ap (λ (es : List Command). h ∷ (es ++ End ∷ [])) extra.1 ∙ ap (λ (es : List Command). h ∷ es) (append_assoc (edits_of (commands_of items)) extra.0 (End ∷ [])) in
-    front_of_front _ (written_so_far last (Some first) (commands_of items)) (canonical_all 1 (extra.0 ++ End ∷ [])) count
-    (ap (λ (cs : List Command). stream_header 1 ++ canonical_all 1 cs) list ∙ bytes_front last first (commands_of items) (extra.0 ++ End ∷ [])) within
+    front_of_front _ (written_so_far (output_version files) last (Some first) (commands_of items)) (canonical_all (output_version files) (extra.0 ++ End ∷ [])) count
+    (ap (λ (cs : List Command). stream_header (output_version files) ++ canonical_all (output_version files) cs) list ∙ bytes_front (output_version files) last first (commands_of items) (extra.0 ++ End ∷ [])) within
 
 before_front : (files : List (List ℕ)) (items rest : List Item) (last first : Head) (count : ℕ) → lawful empty_store files ≡ items ++ rest → NoClones (commands_of items) → first_head (heads items) ≡ Some first → last_head (heads (input files).items) ≡ Some last
-    → count ≤ length (written_so_far last (Some first) (commands_of items)) → IsFrontOf (stream_front (composed_before empty_store files)) (take count (written_so_far last (Some first) (commands_of items)))
+    → count ≤ length (written_so_far (output_version files) last (Some first) (commands_of items)) → IsFrontOf (stream_front (output_version files) (composed_before empty_store files)) (take count (written_so_far (output_version files) last (Some first) (commands_of items)))
 unfolding composed_before
 before_front files items rest last first count is n f l within =
     let extra = edits_append last.key items rest n in
@@ -97,16 +97,16 @@ before_front files items rest last first count is n f l within =
     let h : Command = head_command last.name last.key first.parent in
     let list : composed_before empty_store files ≡ h ∷ (edits_of (commands_of items) ++ extra.0) =
     ap₂ (λ (a b : Option Head). composed_part empty_store a b (lawful empty_store files)) firsts l ∙ ap (λ (xs : List Item). h ∷ composed_edits empty_store last.key xs) is ∙ ap (λ (es : List Command). h ∷ es) extra.1 in
-    front_of_front _ (written_so_far last (Some first) (commands_of items)) (canonical_all 1 extra.0) count
-    (ap stream_front list ∙ bytes_front last first (commands_of items) extra.0) within
+    front_of_front _ (written_so_far (output_version files) last (Some first) (commands_of items)) (canonical_all (output_version files) extra.0) count
+    (ap (stream_front (output_version files)) list ∙ bytes_front (output_version files) last first (commands_of items) extra.0) within
 
-by_judge : (files : List (List ℕ)) (written : List ℕ) (o : Option Verdict) → IsFrontOf (stream_header 1 ++ canonical_all 1 (composed empty_store files)) written → IsFrontOf (stream_front (composed_before empty_store files)) written
+by_judge : (files : List (List ℕ)) (written : List ℕ) (o : Option Verdict) → IsFrontOf (stream_header (output_version files) ++ canonical_all (output_version files) (composed empty_store files)) written → IsFrontOf (stream_front (output_version files) (composed_before empty_store files)) written
     → IsFrontOf (output_for o empty_store files) written
 by_judge files written None whole before = whole
 by_judge files written (Some verdict) whole before = before
 
 -- Where all commands are lawful, it is all that they are composed to.
-pub whole_lawful : (files : List (List ℕ)) → judge empty_store files ≡ None → whole_output empty_store files ≡ stream_header 1 ++ canonical_all 1 (composed empty_store files)
+pub whole_lawful : (files : List (List ℕ)) → judge empty_store files ≡ None → whole_output empty_store files ≡ stream_header (output_version files) ++ canonical_all (output_version files) (composed empty_store files)
 unfolding whole_output
 whole_lawful files none = ap (λ (o : Option Verdict). output_for o empty_store files) none
 
@@ -118,12 +118,19 @@ lawful_as : (files : List (List ℕ)) (items : List Item) → (input files).item
 unfolding lawful
 lawful_as files items is = ap (lawful_items 0 byte_cells (start_of empty_store) None) is
 
--- What was written for commands that were taken in order is a front part of all that compose may write.
-pub so_far_front : (files : List (List ℕ)) (items more : List Item) (end : State ℕ) (last : Head) (first : Option Head) (count : ℕ) → (input files).items ≡ items ++ more → Takes (start_of empty_store) (commands_of items) end → AreOrdered None items
-    → NoClones (commands_of items) → first_head (heads items) ≡ first → last_head (heads (input files).items) ≡ Some last → count ≤ length (written_so_far last first (commands_of items)) → IsFrontOf (whole_output empty_store files) (take count (written_so_far last first (commands_of items)))
+so_far : (files : List (List ℕ)) (items more : List Item) (end : State ℕ) (last : Head) (first : Option Head) (count : ℕ) → (input files).items ≡ items ++ more → Takes (start_of empty_store) (commands_of items) end → AreOrdered None items
+    → NoClones (commands_of items) → first_head (heads items) ≡ first → last_head (heads (input files).items) ≡ Some last → count ≤ length (written_so_far (output_version files) last first (commands_of items)) → IsFrontOf (whole_output empty_store files) (take count (written_so_far (output_version files) last first (commands_of items)))
 unfolding written_so_far whole_output
-so_far_front files items more end last None count is t o n f l within = nothing_front (whole_output empty_store files) count
-so_far_front files items more end last (Some first) count is t o n f l within =
+so_far files items more end last None count is t o n f l within = nothing_front (whole_output empty_store files) count
+so_far files items more end last (Some first) count is t o n f l within =
     let on = lawful_more items more None (start_of empty_store) end t o in
     let lawful_is : lawful empty_store files ≡ items ++ on.0 = lawful_as files (items ++ more) is ∙ on.1 in
     by_judge files _ (judge empty_store files) (whole_front files items more last first count is n f l within) (before_front files items on.0 last first count lawful_is n f l within)
+
+-- What was written for commands that were taken in order is a front part of all that compose may write.
+pub so_far_front : (version : ℕ) (files : List (List ℕ)) (items more : List Item) (end : State ℕ) (last : Head) (first : Option Head) (count : ℕ) → output_version files ≡ version → (input files).items ≡ items ++ more
+    → Takes (start_of empty_store) (commands_of items) end → AreOrdered None items → NoClones (commands_of items) → first_head (heads items) ≡ first → last_head (heads (input files).items) ≡ Some last
+    → count ≤ length (written_so_far version last first (commands_of items)) → IsFrontOf (whole_output empty_store files) (take count (written_so_far version last first (commands_of items)))
+so_far_front version files items more end last first count v is t o n f l =
+    subst (λ (k : ℕ). count ≤ length (written_so_far k last first (commands_of items)) → IsFrontOf (whole_output empty_store files) (take count (written_so_far k last first (commands_of items)))) v
+    (so_far files items more end last first count is t o n f l)

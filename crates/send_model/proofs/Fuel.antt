@@ -61,7 +61,7 @@ pub front_shorter : (file version number offset : ℕ) (bytes : List ℕ) (front
 unfolding front_of
 front_shorter file version number offset bytes front e =
     let made : Frame → List Attribute → Command → Front = λ frame attributes command. record {
-      item = record { file = file; number = number; offset = offset; version = version; data_at = data_place offset attributes; command = command };
+      item = record { file = file; number = number; offset = offset; version = version; data_at = data_place version offset attributes; command = command };
       rest = frame.rest;
     } in
     let last : Frame → List Attribute → Result Front Refusal = λ frame attributes. command_of version frame.number attributes >>= λ command. Ok (made frame attributes command) in

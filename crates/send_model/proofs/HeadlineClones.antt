@@ -6,7 +6,7 @@ use Rattle.std.proofs.Common.{refl, sym, ap, subst, ◌∙◌, arith}
 use Rattle.std.proofs.lemmas.List.Sums.{sum_by-cons}
 use Rattle.send_model.specs.Command.{Command, Subvol, Snapshot, Clone, End}
 use Rattle.send_model.specs.Spelling.{stream_header, canonical_all}
-use Rattle.send_model.specs.Reading.{Item, Whole, reads, input}
+use Rattle.send_model.specs.Reading.{is_version, Item, Whole, reads, input}
 use Rattle.send_model.specs.Store.{Key, Head, head_of, Store, Part, State, find, with_contents, completed}
 use Rattle.send_model.specs.Receive.{Run, run_items, byte_cells, receive, receive_items, start_of, fault_of, IsAccepted}
 use Rattle.send_model.specs.Order.{onto_heads, heads, heads_of, commands_of, IsConsecutive}
@@ -135,33 +135,34 @@ headline_items store items first last first_is last_is consecutive accepted lawf
     }
 
 -- Everything that is known of files that compose took in order, and of their composed list.
-pub record IsTaken (store : Store ℕ) (files : List (List ℕ)) (first last : Head) : Type 0 where
+pub record IsTaken (version : ℕ) (store : Store ℕ) (files : List (List ℕ)) (first last : Head) : Type 0 where
   pub whole : (input files).end ≡ Whole
   pub consecutive : IsConsecutive (input files).items
   pub accepted : IsAccepted (receive (base store files) files)
   pub first_is : first_head (heads (input files).items) ≡ Some first
   pub last_is : last_head (heads (input files).items) ≡ Some last
   pub lawful : FindsLawful (base store files) (outside files)
-  -- the list can be spelled
-  pub inner : AllByRecursion IsInner (head_command last.name last.key first.parent ∷ composed_edits (base store files) last.key (input files).items)
+  -- the list can be spelled in a version that is read
+  pub read : is_version version ≡ true
+  pub inner : AllByRecursion (IsInner version) (head_command last.name last.key first.parent ∷ composed_edits (base store files) last.key (input files).items)
 
 completed_none : (state : State ℕ) → state.part ≡ None → completed state ≡ state.store
 unfolding completed
 completed_none state e = ap (λ (o : Option (Part ℕ)). elim o as (λ x. Store ℕ) [ None ↦ state.store | Some part ↦ with_contents part.key.uuid part.subvolume state.store ]) e
 
 -- What compose writes for files that were taken in order, clones included.
-pub headline_files : (store : Store ℕ) (files : List (List ℕ)) (first last : Head) (written : List ℕ) → IsTaken store files first last
-    → written ≡ stream_header 1 ++ canonical_all 1 (composed_with (base store files) first last (input files).items)
+pub headline_files : (version : ℕ) (store : Store ℕ) (files : List (List ℕ)) (first last : Head) (written : List ℕ) → IsTaken version store files first last
+    → written ≡ stream_header version ++ canonical_all version (composed_with (base store files) first last (input files).items)
     → IsComposed (base store files) files written
 unfolding headline_items base outside receive receive_items composed_with uncarried runs redirected_ranges kept
-headline_files store files first last written a is =
+headline_files version store files first last written a is =
     let b : Store ℕ = base store files in
     let items : List Item = (input files).items in
     let cs : List Command = commands_of items in
     let es : List Command = composed_edits b last.key items in
     let hc : Command = head_command last.name last.key first.parent in
     let list : List Command = hc ∷ (es ++ End ∷ []) in
-    let ra : ReadsAs (reads 1 written) list = subst (λ (w : List ℕ). ReadsAs (reads 1 w) list) (sym is) (stream_read 1 (hc ∷ es) a.inner) in
+    let ra : ReadsAs (reads 1 written) list = subst (λ (w : List ℕ). ReadsAs (reads 1 w) list) (sym is) (stream_read 1 version (hc ∷ es) a.read a.inner) in
     let ran : Run ℕ = run_items 0 byte_cells (start_of b) items in
     let refused : ran.refused ≡ None = first_none ran.refused (fault_of (input files).end) a.accepted in
     let k = headline_items store items first last a.first_is a.last_is a.consecutive refused a.lawful in

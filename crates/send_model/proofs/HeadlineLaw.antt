@@ -9,14 +9,15 @@ use Rattle.send_model.specs.Store.{Head, head_of, Store}
 use Rattle.send_model.specs.Receive.{Run, run_items, receive, receive_items, byte_cells, start_of, fault_of}
 use Rattle.send_model.specs.Order.{heads, commands_of}
 use Rattle.send_model.specs.Outside.{base_of, base, outside}
-use Rattle.send_model.specs.Headline.{AreComposed, output_for}
+use Rattle.send_model.specs.Composed.{version_of}
+use Rattle.send_model.specs.Headline.{AreComposed, output_version, output_for}
 use Rattle.send_model.specs.Laws.{CanWrite, AreInner, ItemsHold, ItemsSpelled, FilesHold, PlainFilesHold}
 use Rattle.send_model.proofs.Runs.{takes_run}
 use Rattle.send_model.proofs.Merging.{edit_in, edits_of}
 use Rattle.send_model.proofs.Headlines.{first_none, headline}
 use Rattle.send_model.proofs.Composed.{items_with_heads, with_heads, composed_list, first_there, last_of_some}
 use Rattle.send_model.proofs.ElementLaws.{all_both}
-use Rattle.send_model.proofs.ReadCommands.{input_writable}
+use Rattle.send_model.proofs.ReadCommands.{input_writable, is_output, spelled_in_output, writable_in_output, output_is_read}
 use Rattle.send_model.proofs.SpelledRuns.{are_spelled, head_kind, heads_spelled, composed_spelled, composed_inner}
 use Rattle.send_model.proofs.HeadlineClones.{headline_items, headline_files}
 
@@ -31,7 +32,7 @@ pub items_spelled : ItemsSpelled
 items_spelled store items consecutive accepted sayable spelled =
     let first = first_there (heads items) consecutive.0 in
     let last = last_of_some (heads items) consecutive.0 in
-    subst (λ (cs : List Command). AllByRecursion IsSpellable cs) (sym (items_with_heads (base_of store items) items first.0 last.0 first.1 last.1)) (composed_spelled store items first.0 last.0 first.1 last.1 spelled accepted sayable)
+    subst (λ (cs : List Command). AllByRecursion (IsSpellable (version_of items)) cs) (sym (items_with_heads (base_of store items) items first.0 last.0 first.1 last.1)) (composed_spelled (version_of items) (is_output items) store items first.0 last.0 first.1 last.1 (spelled_in_output items spelled) accepted sayable)
 
 pub files_hold : FilesHold
 unfolding base outside receive receive_items
@@ -41,7 +42,9 @@ files_hold store files bytes whole consecutive accepted sayable =
     let first = first_there (heads items) consecutive.0 in
     let last = last_of_some (heads items) consecutive.0 in
     let ran : Run ℕ = run_items 0 byte_cells (start_of b) items in
-    headline_files store files first.0 last.0 (output_for None b files)
+    let version : ℕ = output_version files in
+    let writable = input_writable files bytes in
+    headline_files version store files first.0 last.0 (output_for None b files)
     (record {
       whole = whole;
       consecutive = consecutive;
@@ -49,20 +52,21 @@ files_hold store files bytes whole consecutive accepted sayable =
       first_is = first.1;
       last_is = last.1;
       lawful = λ k s among f. let y = sayable k s among f in y.lawful;
-      inner = composed_inner store items first.0 last.0 first.1 last.1 (input_writable files bytes) (first_none ran.refused (fault_of (input files).end) accepted) sayable;
+      read = output_is_read items writable;
+      inner = composed_inner version (is_output items) store items first.0 last.0 first.1 last.1 (writable_in_output items writable) (first_none ran.refused (fault_of (input files).end) accepted) sayable;
     })
-    (ap (λ (cs : List Command). stream_header 1 ++ canonical_all 1 cs) (with_heads b files first.0 last.0 first.1 last.1))
+    (ap (λ (cs : List Command). stream_header version ++ canonical_all version cs) (with_heads b files first.0 last.0 first.1 last.1))
 
 -- ---- files without clones
 
-edit_inner : (o : Option Head) (c : Command) → CanWrite c → AreInner (edit_in o c)
-edit_inner (Some head) c w = tt
-edit_inner None End w = tt
-edit_inner None c w = ((w, refl), tt)
+edit_inner : (version : ℕ) (o : Option Head) (c : Command) → CanWrite version c → AreInner version (edit_in o c)
+edit_inner version (Some head) c w = tt
+edit_inner version None End w = tt
+edit_inner version None c w = ((w, refl), tt)
 
-edits_inner : (cs : List Command) → AllByRecursion CanWrite cs → AreInner (edits_of cs)
-edits_inner [] w = tt
-edits_inner (c ∷ cs) w = all_both _ (edit_in (head_of c) c) (edits_of cs) (edit_inner (head_of c) c w.0) (edits_inner cs w.1)
+edits_inner : (version : ℕ) (cs : List Command) → AllByRecursion (CanWrite version) cs → AreInner version (edits_of cs)
+edits_inner version [] w = tt
+edits_inner version (c ∷ cs) w = all_both _ (edit_in (head_of c) c) (edits_of cs) (edit_inner version (head_of c) c w.0) (edits_inner version cs w.1)
 
 pub plain_files_hold : PlainFilesHold
 unfolding receive receive_items
@@ -74,8 +78,11 @@ plain_files_hold store files bytes whole consecutive accepted n =
     let refused = first_none ran.refused (fault_of (input files).end) accepted in
     let first = first_there (heads items) consecutive.0 in
     let last = last_of_some (heads items) consecutive.0 in
-    let writable = input_writable files bytes in
-    let kind = head_kind last.0.name last.0.key first.0.parent in
-    headline store files ran.state (output_for None b files) first.0 last.0 (record { whole = whole; no_clones = n; consecutive = consecutive; taken = takes_run items (start_of b) refused }) first.1 last.1
-    ((record { spellable = heads_spelled cs first.0 last.0 first.1 last.1 (are_spelled cs writable); taken_kind = kind.0 }, kind.1), edits_inner cs writable)
-    (ap (λ (ds : List Command). stream_header 1 ++ canonical_all 1 ds) (composed_list b files first.0 last.0 first.1 last.1 n))
+    let version : ℕ = output_version files in
+    let is = is_output items in
+    let readable = input_writable files bytes in
+    let writable = writable_in_output items readable in
+    let kind = head_kind version is last.0.name last.0.key first.0.parent in
+    headline version store files ran.state (output_for None b files) first.0 last.0 (output_is_read items readable) (record { whole = whole; no_clones = n; consecutive = consecutive; taken = takes_run items (start_of b) refused }) first.1 last.1
+    ((record { spellable = heads_spelled version is cs first.0 last.0 first.1 last.1 (are_spelled version cs writable); taken_kind = kind.0 }, kind.1), edits_inner version cs writable)
+    (ap (λ (ds : List Command). stream_header version ++ canonical_all version ds) (composed_list b files first.0 last.0 first.1 last.1 n))

@@ -9,7 +9,7 @@ use Rattle.send_model.specs.Refusal.{NoParent}
 use Rattle.send_model.specs.Chain.{found}
 use Rattle.send_model.specs.Command.{Command, Subvol, Snapshot, Clone, End}
 use Rattle.send_model.specs.Spelling.{stream_header, canonical_all}
-use Rattle.send_model.specs.Reading.{Item, Reading, Ending, Whole, Faulty, reads, input, input_from, joined}
+use Rattle.send_model.specs.Reading.{is_version, Item, Reading, Ending, Whole, Faulty, reads, input, input_from, joined}
 use Rattle.send_model.specs.Subvolume.{Subvolume}
 use Rattle.send_model.specs.Store.{Key, Head, head_of, Store, Part, State, same_key, find, start_from, unfinished}
 use Rattle.send_model.specs.Receive.{Run, receive_items, receive, byte_cells, bytes_of, start_of, first_of, with_fault, run_items}
@@ -17,7 +17,7 @@ use Rattle.send_model.specs.Order.{heads, heads_of, commands_of, IsConsecutive}
 use Rattle.send_model.specs.Outside.{IsAmong, is_among, part_uuids, store_without, base, keys_named, all_keys_named, keys_outside, outside, SameOn}
 use Rattle.send_model.specs.Provenance.{Traced, uuid_after, is_redirected, traced_step, traced_store, ranges_from, redirected_ranges, uncarried, runs}
 use Rattle.send_model.specs.Counts.{literal, clones, streams, is_clone, is_end, kept, kept_from}
-use Rattle.send_model.specs.Composed.{first_head, last_head, head_command, commands_for, composed_from, composed}
+use Rattle.send_model.specs.Composed.{first_head, last_head, head_command, commands_for, composed_from}
 use Rattle.send_model.specs.Headline.{CanReceive, IsComposed, last_entry}
 use Rattle.send_model.proofs.Sorts.{same_inside}
 use Rattle.send_model.proofs.Stores.{same_key_true}
@@ -156,14 +156,14 @@ edits_keys (c ∷ cs) n = keys_append (edit_in (head_of c) c) (edits_of cs) ∙ 
 keys_composed : (name : List ℕ) (key : Key) (parent : Option Key) (cs : List Command) → NoClones cs → all_keys_named (head_command name key parent ∷ (edits_of cs ++ End ∷ [])) ≡ all_keys_named (head_command name key parent ∷ [])
 keys_composed name key parent cs n = ap (λ (ks : List Key). keys_named (head_command name key parent) ++ ks) (keys_append (edits_of cs) (End ∷ []) ∙ ap (λ (ks : List Key). ks ++ []) (edits_keys cs n))
 
-pub inner_streams : (cs : List Command) → AllByRecursion IsInner cs → streams (cs ++ End ∷ []) ≡ 1
+pub inner_streams : (version : ℕ) (cs : List Command) → AllByRecursion (IsInner version) cs → streams (cs ++ End ∷ []) ≡ 1
 unfolding streams
-inner_streams [] inner = refl
-inner_streams (c ∷ cs) inner =
+inner_streams version [] inner = refl
+inner_streams version (c ∷ cs) inner =
     let f : Command → ℕ = λ x. cond (is_end x) 1 0 in
     let a = sum_by-cons f c (cs ++ End ∷ []) in
     let b : one_if (is_end c) ≡ 0 = ap one_if inner.0.1 in
-    omega (arith, a, b, inner_streams cs inner.1)
+    omega (arith, a, b, inner_streams version cs inner.1)
 
 -- ---- keys
 
@@ -231,11 +231,6 @@ pub record Accepts (store : Store ℕ) (files : List (List ℕ)) (end : State �
   pub consecutive : IsConsecutive (input files).items
   pub taken : Takes (start_of (base store files)) (commands_of (input files).items) end
 
--- The head and the edits of the composed list.
-pub record ComposedAs (store : Store ℕ) (files : List (List ℕ)) (head : Command) (edits : List Command) : Type 0 where
-  pub list : composed (base store files) files ≡ head ∷ (edits ++ End ∷ [])
-  pub inner : AllByRecursion IsInner (head ∷ edits)
-
 -- What a part starts from is found outside the files.
 outside_parent : (store : Store ℕ) (files : List (List ℕ)) (name name' : List ℕ) (key key' : Key) (parent : Option Key) (start : Subvolume ℕ) → start_from (base store files) parent ≡ Ok start
     → AllByRecursion (λ k. IsAmong k (all_keys_named (commands_of (input files).items))) (all_keys_named (head_command name key parent ∷ []))
@@ -282,8 +277,8 @@ all_left P Q [] a = tt
 all_left P Q (k ∷ keys) a = (inl a.0, all_left P Q keys a.1)
 
 -- The composed commands of files that were taken in order, for the last of their heads.
-abbrev pub written_for : Head → Head → List Command → List ℕ
-written_for first last cs = stream_header 1 ++ canonical_all 1 (head_command last.name last.key first.parent ∷ (edits_of cs ++ End ∷ []))
+abbrev pub written_for : ℕ → Head → Head → List Command → List ℕ
+written_for version first last cs = stream_header version ++ canonical_all version (head_command last.name last.key first.parent ∷ (edits_of cs ++ End ∷ []))
 
 -- The headline, for files that were taken in order and hold no clone.
 module _ (store : Store ℕ) (files : List (List ℕ)) (end : State ℕ) (a : Accepts store files end) where
@@ -296,10 +291,10 @@ module _ (store : Store ℕ) (files : List (List ℕ)) (end : State ℕ) (a : Ac
   last' : (last : Head) × (last_head (c.first ∷ c.rest) ≡ Some last) × (last.key ≡ last_key c.first.key c.rest)
   last' = last_of c.first c.rest
 
-  composed_written : (written : List ℕ) → AllByRecursion IsInner (head_command last'.0.name last'.0.key c.first.parent ∷ edits_of (commands_of (input files).items)) → written ≡ written_for c.first last'.0 (commands_of (input files).items)
+  composed_written : (version : ℕ) (written : List ℕ) → is_version version ≡ true → AllByRecursion (IsInner version) (head_command last'.0.name last'.0.key c.first.parent ∷ edits_of (commands_of (input files).items)) → written ≡ written_for version c.first last'.0 (commands_of (input files).items)
       → IsComposed (base store files) files written
   unfolding c last'
-  composed_written written inner is =
+  composed_written version written read inner is =
       let b : Store ℕ = base store files in
       let items : List Item = (input files).items in
       let ds : List Command = commands_of items in
@@ -309,7 +304,7 @@ module _ (store : Store ℕ) (files : List (List ℕ)) (end : State ℕ) (a : Ac
       let hc : Command = head_command last.name last.key first.parent in
       let list : List Command = hc ∷ (edits_of ds ++ End ∷ []) in
       let R : List ℕ → Type 0 = λ w. ReadsAs (reads 1 w) list in
-      let ra : ReadsAs (reads 1 written) list = subst R (sym is) (stream_read 1 (hc ∷ edits_of ds) inner) in
+      let ra : ReadsAs (reads 1 written) list = subst R (sym is) (stream_read 1 version (hc ∷ edits_of ds) read inner) in
       let A : List Head → Type 0 = λ hs. AreNamed hs in
       let named = last_named first c.rest (subst A c.heads_are (names ds (start_of b) end a.taken)) last last'.1 in
       let received = received_all b files end a.whole a.taken in
@@ -333,7 +328,7 @@ module _ (store : Store ℕ) (files : List (List ℕ)) (end : State ℕ) (a : Ac
         subvolume_is = ap (λ (r : Run ℕ). find r.state.store last.key) received ∙ found_last;
         whole = ra.whole;
         one_part = ap (λ (es : List Command). length (heads_of es)) ra.commands ∙ head_alone last.name last.key first.parent ds;
-        one_stream = ap streams ra.commands ∙ inner_streams (hc ∷ edits_of ds) inner;
+        one_stream = ap streams ra.commands ∙ inner_streams version (hc ∷ edits_of ds) inner;
         accepted_by = λ t can. ap (λ (r : Run ℕ). r.refused) (one t can);
         gets = λ t can. ap (λ (r : Run ℕ). r.state.store) (one t can);
         names_only = subst keys (sym (ap all_keys_named ra.commands ∙ keys_composed last.name last.key first.parent ds a.no_clones)) (all_left (λ k. IsAmong k (outside files)) (λ k. k ≡ last.key) _ parent_out);
@@ -342,17 +337,17 @@ module _ (store : Store ℕ) (files : List (List ℕ)) (end : State ℕ) (a : Ac
       }
 
 -- What compose writes for files that were taken in order: the stream of its one list of commands.
-pub headline : (store : Store ℕ) (files : List (List ℕ)) (end : State ℕ) (written : List ℕ) (first last : Head) → Accepts store files end
+pub headline : (version : ℕ) (store : Store ℕ) (files : List (List ℕ)) (end : State ℕ) (written : List ℕ) (first last : Head) → is_version version ≡ true → Accepts store files end
     → first_head (heads (input files).items) ≡ Some first → last_head (heads (input files).items) ≡ Some last
-    → AllByRecursion IsInner (head_command last.name last.key first.parent ∷ edits_of (commands_of (input files).items)) → written ≡ written_for first last (commands_of (input files).items)
+    → AllByRecursion (IsInner version) (head_command last.name last.key first.parent ∷ edits_of (commands_of (input files).items)) → written ≡ written_for version first last (commands_of (input files).items)
     → IsComposed (base store files) files written
 unfolding c last'
-headline store files end written first last a first_is last_is inner is =
+headline version store files end written first last read a first_is last_is inner is =
     let ds : List Command = commands_of (input files).items in
     let k = c store files end a in
     let l = last' store files end a in
     let same_first : first ≡ k.first = same_inside (sym first_is ∙ ap first_head k.heads_are) in
     let same_last : last ≡ l.0 = same_inside (sym last_is ∙ ap last_head k.heads_are ∙ l.1) in
-    let Q : Head → Head → Type 0 = λ f g. AllByRecursion IsInner (head_command g.name g.key f.parent ∷ edits_of ds) × (written ≡ written_for f g ds) in
+    let Q : Head → Head → Type 0 = λ f g. AllByRecursion (IsInner version) (head_command g.name g.key f.parent ∷ edits_of ds) × (written ≡ written_for version f g ds) in
     let q = subst₂ Q same_first same_last (inner, is) in
-    composed_written store files end a written q.0 q.1
+    composed_written store files end a version written read q.0 q.1

@@ -13,6 +13,7 @@ pub mod Composing
 pub mod Frames
 pub mod Attributes
 pub mod Commands
+pub mod Versions
 pub mod Canonical
 pub mod Streams
 pub mod Prefixes
@@ -57,7 +58,7 @@ mod MergingClones
 mod ComposingClones
 mod ComposedClones
 mod SpelledRuns
-mod ReadCommands
+pub mod ReadCommands
 mod HeadlineClones
 mod HeadlineLaw
 mod HeadlineExample

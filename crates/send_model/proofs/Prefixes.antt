@@ -9,12 +9,13 @@ use Rattle.std.proofs.lemmas.Bool.{leb-true, leb-false, lt-leb}
 use Rattle.send_model.specs.Refusal.{Refusal, Truncated}
 use Rattle.send_model.specs.Command.{Command, End, row, kind_of}
 use Rattle.send_model.specs.Spelling.{stream_header, attributes_of, body_of, frame_of, frame_checksum, greatest_body, canonical, canonical_all}
-use Rattle.send_model.specs.Reading.{Reading, Whole, HeaderDue, CommandDue, due_after, go_on, faulty, front_of, frame_header_len, header_len, stream_version, frame_at, frame_with, reads_from, reads}
+use Rattle.send_model.specs.Reading.{Reading, Whole, HeaderDue, CommandDue, due_after, go_on, faulty, front_of, frame_header_len, header_len, is_version, stream_version, frame_at, frame_with, reads_from, reads}
 use Rattle.send_model.specs.Laws.{CanWrite}
 use Rattle.send_model.proofs.Frames.{header_says, frame_at_by}
-use Rattle.send_model.proofs.Canonical.{body_short, checksum_small, body_is_bytes, attributes_lawful}
+use Rattle.send_model.proofs.Canonical.{checksum_small, body_is_bytes, attributes_lawful}
 use Rattle.send_model.proofs.Commands.{number_small}
-use Rattle.send_model.proofs.Streams.{IsInner, inner_due, front_item, step_inner, header_step, header_length, end_writable}
+use Rattle.send_model.proofs.Streams.{IsInner, inner_due, front_item, step_inner, header_step, header_length, read_version, end_writable}
+use Rattle.send_model.proofs.Versions.{IsVersion}
 
 abbrev pub IsFaulty : Reading → Type 0
 IsFaulty r = r.end ≢ Whole
@@ -58,77 +59,78 @@ cut_frame number body k small short sum_small h =
     ap frame_at there ∙ cut_body number body j small short sum_small (omega (arith, h, e)))
     (λ below. short_header _ (rw length-take (omega (arith, below)))) (at_least 10 k)
 
-cut_command : (file number offset : ℕ) (c : Command) (k : ℕ) → CanWrite c → k < length (canonical 1 c) → front_of file 1 number offset (take k (canonical 1 c)) ≡ Err Truncated
+cut_command : (file version number offset : ℕ) (c : Command) (k : ℕ) → CanWrite version c → k < length (canonical version c) → front_of file version number offset (take k (canonical version c)) ≡ Err Truncated
 unfolding front_of canonical
-cut_command file number offset c k w h =
-    let body : List ℕ = body_of (attributes_of c) in
-    let short = body_short c w.spellable in
-    let read = cut_frame (row (kind_of c)).number body k (number_small (kind_of c)) short (checksum_small (row (kind_of c)).number body (body_is_bytes 1 (attributes_of c) (attributes_lawful 1 c w.spellable))) h in
+cut_command file version number offset c k w h =
+    let body : List ℕ = body_of version (attributes_of c) in
+    let s = w.spellable in
+    let short = s.short in
+    let read = cut_frame (row (kind_of c)).number body k (number_small (kind_of c)) short (checksum_small (row (kind_of c)).number body (body_is_bytes version (attributes_of c) (attributes_lawful version c s.known s.values))) h in
     rw read refl
 
 -- ---- a stream cut short
 
-stop_at : (n file number offset : ℕ) (bytes : List ℕ) (refusal : Refusal) → front_of file 1 number offset bytes ≡ Err refusal → reads_from (suc n) file (CommandDue 1) number offset bytes ≡ faulty file number offset refusal
+stop_at : (n file version number offset : ℕ) (bytes : List ℕ) (refusal : Refusal) → front_of file version number offset bytes ≡ Err refusal → reads_from (suc n) file (CommandDue version) number offset bytes ≡ faulty file number offset refusal
 unfolding reads_from
-stop_at n file number offset bytes refusal front = ap (go_on _ _) front
+stop_at n file version number offset bytes refusal front = ap (go_on _ _) front
 
 faulty_is : (r : Reading) (file number offset : ℕ) (refusal : Refusal) → r ≡ faulty file number offset refusal → IsFaulty r
 faulty_is r file number offset refusal e = let F : Reading → Type 0 = λ x. IsFaulty x in subst F (sym e) (λ h. cc)
 
-Cut : List Command → Type 0
-Cut cs = (n file number offset k : ℕ) → k < length (canonical_all 1 cs) → IsFaulty (reads_from n file (CommandDue 1) number offset (take k (canonical_all 1 cs)))
+Cut : ℕ → List Command → Type 0
+Cut version cs = (n file number offset k : ℕ) → k < length (canonical_all version cs) → IsFaulty (reads_from n file (CommandDue version) number offset (take k (canonical_all version cs)))
 
-cut_first : (c : Command) → CanWrite c → (rest : List ℕ) (n file number offset k : ℕ) → k < length (canonical 1 c) → IsFaulty (reads_from (suc n) file (CommandDue 1) number offset (take k (canonical 1 c ++ rest)))
-cut_first c w rest n file number offset k h =
-    let here : take k (canonical 1 c ++ rest) ≡ take k (canonical 1 c) = take-append-le k (canonical 1 c) rest (omega (arith, h)) in
-    faulty_is _ file number offset Truncated (ap (reads_from (suc n) file (CommandDue 1) number offset) here ∙ stop_at n file number offset _ Truncated (cut_command file number offset c k w h))
+cut_first : (version : ℕ) (c : Command) → CanWrite version c → (rest : List ℕ) (n file number offset k : ℕ) → k < length (canonical version c) → IsFaulty (reads_from (suc n) file (CommandDue version) number offset (take k (canonical version c ++ rest)))
+cut_first version c w rest n file number offset k h =
+    let here : take k (canonical version c ++ rest) ≡ take k (canonical version c) = take-append-le k (canonical version c) rest (omega (arith, h)) in
+    faulty_is _ file number offset Truncated (ap (reads_from (suc n) file (CommandDue version) number offset) here ∙ stop_at n file version number offset _ Truncated (cut_command file version number offset c k w h))
 
-no_fuel : (file number offset : ℕ) (bytes : List ℕ) → IsFaulty (reads_from 0 file (CommandDue 1) number offset bytes)
+no_fuel : (file version number offset : ℕ) (bytes : List ℕ) → IsFaulty (reads_from 0 file (CommandDue version) number offset bytes)
 unfolding reads_from
-no_fuel file number offset bytes e = cc
+no_fuel file version number offset bytes e = cc
 
-cut_end : Cut (End ∷ [])
+cut_end : (version : ℕ) → IsVersion version → Cut version (End ∷ [])
 unfolding Cut canonical_all
-cut_end zero file number offset k h = no_fuel file number offset _
-cut_end (suc n) file number offset k h = cut_first End end_writable [] n file number offset k (omega (arith, h, length-append (canonical 1 End) []))
+cut_end version is zero file number offset k h = no_fuel file version number offset _
+cut_end version is (suc n) file number offset k h = cut_first version End (end_writable version is) [] n file number offset k (omega (arith, h, length-append (canonical version End) []))
 
-cut_inner : (c : Command) → IsInner c → (cs : List Command) → Cut cs → Cut (c ∷ cs)
+cut_inner : (version : ℕ) (c : Command) → IsInner version c → (cs : List Command) → Cut version cs → Cut version (c ∷ cs)
 unfolding Cut canonical_all
-cut_inner c inner cs ih zero file number offset k h = no_fuel file number offset _
-cut_inner c inner cs ih (suc n) file number offset k h =
-    let rest : List ℕ = canonical_all 1 cs in
+cut_inner version c inner cs ih zero file number offset k h = no_fuel file version number offset _
+cut_inner version c inner cs ih (suc n) file number offset k h =
+    let rest : List ℕ = canonical_all version cs in
     ⊎_elim (λ (j, e).
-    let there : take k (canonical 1 c ++ rest) ≡ canonical 1 c ++ take j rest = ap (λ (m : ℕ). take m (canonical 1 c ++ rest)) e ∙ take-append-add (canonical 1 c) rest j in
-    let front = front_item file number offset c inner.0 (take j rest) in
-    let due : due_after 1 front.0.command ≡ CommandDue 1 = ap (due_after 1) front.1 ∙ inner_due 1 c inner.1 in
-    let o : ℕ = offset + (length (canonical 1 c ++ take j rest) - length (take j rest)) in
-    let step = ap (reads_from (suc n) file (CommandDue 1) number offset) there ∙ step_inner n file number offset _ (take j rest) front.0 front.2 due in
+    let there : take k (canonical version c ++ rest) ≡ canonical version c ++ take j rest = ap (λ (m : ℕ). take m (canonical version c ++ rest)) e ∙ take-append-add (canonical version c) rest j in
+    let front = front_item file version number offset c inner.0 (take j rest) in
+    let due : due_after version front.0.command ≡ CommandDue version = ap (due_after version) front.1 ∙ inner_due version c inner.1 in
+    let o : ℕ = offset + (length (canonical version c ++ take j rest) - length (take j rest)) in
+    let step = ap (reads_from (suc n) file (CommandDue version) number offset) there ∙ step_inner n file version number offset _ (take j rest) front.0 front.2 due in
     let F : Reading → Type 0 = λ x. IsFaulty x in
-    subst F (sym step) (ih n file (number + 1) o j (omega (arith, h, e, length-append (canonical 1 c) rest))))
-    (λ below. cut_first c inner.0 rest n file number offset k below) (at_least (length (canonical 1 c)) k)
+    subst F (sym step) (ih n file (number + 1) o j (omega (arith, h, e, length-append (canonical version c) rest))))
+    (λ below. cut_first version c inner.0 rest n file number offset k below) (at_least (length (canonical version c)) k)
 
-cut_commands : (cs : List Command) → AllByRecursion IsInner cs → Cut (cs ++ End ∷ [])
-cut_commands [] inner = cut_end
-cut_commands (c ∷ cs) inner = cut_inner c inner.0 (cs ++ End ∷ []) (cut_commands cs inner.1)
+cut_commands : (version : ℕ) → IsVersion version → (cs : List Command) → AllByRecursion (IsInner version) cs → Cut version (cs ++ End ∷ [])
+cut_commands version is [] inner = cut_end version is
+cut_commands version is (c ∷ cs) inner = cut_inner version c inner.0 (cs ++ End ∷ []) (cut_commands version is cs inner.1)
 
-cut_header : (n file k : ℕ) (rest : List ℕ) → k < 17 → IsFaulty (reads_from (suc n) file HeaderDue 1 0 (take k (stream_header 1 ++ rest)))
+cut_header : (n file version k : ℕ) (rest : List ℕ) → k < 17 → IsFaulty (reads_from (suc n) file HeaderDue 1 0 (take k (stream_header version ++ rest)))
 unfolding reads_from stream_version
-cut_header n file k rest h =
-    let no : nat_le header_len (length (take k (stream_header 1 ++ rest))) ≡ false = lt-leb _ _ (rw length-take (omega (arith, h))) in
+cut_header n file version k rest h =
+    let no : nat_le header_len (length (take k (stream_header version ++ rest))) ≡ false = lt-leb _ _ (rw length-take (omega (arith, h))) in
     rw no (λ e. cc)
 
-header_split : (rest : List ℕ) (j : ℕ) → take (17 + j) (stream_header 1 ++ rest) ≡ stream_header 1 ++ take j rest
+header_split : (version : ℕ) (rest : List ℕ) (j : ℕ) → take (17 + j) (stream_header version ++ rest) ≡ stream_header version ++ take j rest
 unfolding stream_header
-header_split rest j = take-append-add (stream_header 1) rest j
+header_split version rest j = take-append-add (stream_header version) rest j
 
 -- A proper part of a spelled stream from its front is not read as whole.
-pub stream_cut : (file : ℕ) (cs : List Command) (k : ℕ) → AllByRecursion IsInner cs → k < length (stream_header 1 ++ canonical_all 1 (cs ++ End ∷ [])) → IsFaulty (reads file (take k (stream_header 1 ++ canonical_all 1 (cs ++ End ∷ []))))
+pub stream_cut : (file version : ℕ) (cs : List Command) (k : ℕ) → is_version version ≡ true → AllByRecursion (IsInner version) cs → k < length (stream_header version ++ canonical_all version (cs ++ End ∷ [])) → IsFaulty (reads file (take k (stream_header version ++ canonical_all version (cs ++ End ∷ []))))
 unfolding reads Cut
-stream_cut file cs k inner h =
-    let rest : List ℕ = canonical_all 1 (cs ++ End ∷ []) in
+stream_cut file version cs k is inner h =
+    let rest : List ℕ = canonical_all version (cs ++ End ∷ []) in
     ⊎_elim (λ (j, e).
-    let there : take k (stream_header 1 ++ rest) ≡ stream_header 1 ++ take j rest = ap (λ (m : ℕ). take m (stream_header 1 ++ rest)) e ∙ header_split rest j in
+    let there : take k (stream_header version ++ rest) ≡ stream_header version ++ take j rest = ap (λ (m : ℕ). take m (stream_header version ++ rest)) e ∙ header_split version rest j in
     let F : List ℕ → Type 0 = λ b. IsFaulty (reads_from (suc (length b)) file HeaderDue 1 0 b) in
     let G : Reading → Type 0 = λ x. IsFaulty x in
-    subst F (sym there) (subst G (sym (header_step _ file (take j rest))) (cut_commands cs inner _ file 1 header_len j (omega (arith, h, e, header_length rest)))))
-    (λ below. cut_header _ file k rest below) (at_least 17 k)
+    subst F (sym there) (subst G (sym (header_step _ file version (take j rest) is)) (cut_commands version (read_version version is) cs inner _ file 1 header_len j (omega (arith, h, e, header_length version rest)))))
+    (λ below. cut_header _ file version k rest below) (at_least 17 k)

@@ -1,17 +1,17 @@
 -- Each edit keeps a subvolume sound.
-use Rattle.std.specs.Prelude.{◌≡◌, ℕ, ◌<◌, Bool, true, false, cond, ◌&&◌, List, [], ◌∷◌, Option, None, Some, Result, Ok, IsTrue, is_some, is_none, nat_le, ◌==◌}
+use Rattle.std.specs.Prelude.{◌+◌, ◌≡◌, ℕ, ◌<◌, Bool, true, false, cond, ◌&&◌, List, [], ◌∷◌, Option, None, Some, Result, Ok, IsTrue, is_some, is_none, nat_le, ◌==◌}
 use Rattle.std.specs.Ordering.{nat_cmp, eq_by_cmp}
 use Rattle.std.specs.Cmp.{Equal-is, nat_cmp_total}
 use Rattle.std.specs.List.{filter}
 use Rattle.std.proofs.Common.{refl, sym, ap, subst, ◌∙◌, arith, inl, inr}
 use Rattle.std.proofs.lemmas.Bool.{cases_lt, true≢false, eqb-false}
 use Rattle.std.proofs.lemmas.Map.Lookups.{exact_unsigned}
-use Rattle.send_model.specs.Refusal.{Refusal, BadPath, NoEntry, NotDirectory, EntryThere, IsRoot, NoNumber, BadDevice, IsDirectory, NotEmpty, NotFile, FileTooBig, BadXattr, NoXattr}
+use Rattle.send_model.specs.Refusal.{Refusal, BadPath, NoEntry, NotDirectory, EntryThere, IsRoot, NoNumber, BadDevice, IsDirectory, NotEmpty, NotFile, FileTooBig, BadFallocate, BadXattr, NoXattr}
 use Rattle.send_model.specs.Chain.{found}
 use Rattle.send_model.specs.Path.{path_names}
 use Rattle.send_model.specs.Map.{Map, named_cmp, value_at}
 use Rattle.send_model.specs.Subvolume.{Inode, Subvolume, Spot, root, inode_at, named, is_directory, is_file, walk_names, walk, spot, all_but_last, last_name, name_count, is_empty_directory, IsSound}
-use Rattle.send_model.specs.Edit.{make, make_device, device_kind, add_inode, add_name, at_spot, link, unlink, rmdir, change_at, set_cells, set_xattr, remove_xattr, has_xattr, is_xattr_name, change_contents, greatest_number, greatest_end}
+use Rattle.send_model.specs.Edit.{make, make_device, device_kind, add_inode, add_name, at_spot, link, unlink, rmdir, change_at, set_cells, set_xattr, remove_xattr, has_xattr, is_xattr_name, change_contents, allocation_of, fallocated, fallocate, greatest_number, greatest_end}
 use Rattle.send_model.specs.Clone.{clone, cloned}
 use Rattle.send_model.proofs.Fuel.{required, not_refused, bound, ok_same}
 use Rattle.send_model.proofs.MapLaws.{named_cmp_total, named_cmp_exact, with_value-order, with_value-here, with_value-other, count-key}
@@ -195,6 +195,15 @@ module _ {C : Type 0} where
       let b = required (is_file s a.0) NotFile _ t a.2 in
       let c = required (nat_le end greatest_end) FileTooBig _ t b.1 in
       subst (λ (u : Subvolume C). IsSound u) (ok_same c.1) (changed_is_sound a.0 (set_cells change) s (λ inode. refl) h)
+
+  pub fallocate_is_sound : (zero_cell : C) (path : List ℕ) (offset size mode : ℕ) (s t : Subvolume C) → IsSound s → fallocate zero_cell path offset size mode s ≡ Ok t → IsSound t
+  unfolding fallocate
+  fallocate_is_sound zero_cell path offset size mode s t h e =
+      let a = bound (walk s path) _ t e in
+      let b = required (is_file s a.0) NotFile _ t a.2 in
+      let c = bound (found (allocation_of mode) (BadFallocate mode)) _ t b.1 in
+      let d = required (nat_le (offset + size) greatest_end) FileTooBig _ t c.2 in
+      subst (λ (u : Subvolume C). IsSound u) (ok_same d.1) (changed_is_sound a.0 (set_cells (fallocated zero_cell c.0 offset size)) s (λ inode. refl) h)
 
   -- A clone keeps a part sound, whatever it reads.
   pub clone_keeps_sound : (zero_cell : C) (part : Subvolume C) (source : Option (Subvolume C)) (is_own : Bool) (path : List ℕ) (offset : ℕ) (clone_path : List ℕ) (from len : ℕ) (t : Subvolume C)

@@ -8,7 +8,7 @@ use Rattle.std.proofs.lemmas.Bool.{eqb-false}
 use Rattle.std.proofs.lemmas.Map.Lookups.{exact_unsigned}
 use Rattle.send_model.specs.Refusal.{NoEntry, NotDirectory, IsDirectory, NotEmpty, IntoItself}
 use Rattle.send_model.specs.Chain.{◌>>◌, require, refuse_if, found}
-use Rattle.send_model.specs.Command.{Command, MkFile, MkDir, MkNod, MkFifo, MkSock, Symlink, Rename, Link, Unlink, Rmdir, SetXattr, RemoveXattr, Write, Truncate, Chmod, Chown, Utimes}
+use Rattle.send_model.specs.Command.{Command, MkFile, MkDir, MkNod, MkFifo, MkSock, Symlink, Rename, Link, Unlink, Rmdir, SetXattr, RemoveXattr, Write, Truncate, Chmod, Chown, Utimes, Fallocate, FileAttr}
 use Rattle.send_model.specs.Map.{named_cmp, without}
 use Rattle.send_model.specs.Subvolume.{Subvolume, Spot, root, inode_at, named, is_directory, spot, all_but_last, inodes_on_way, name_count, is_empty_directory, IsSound}
 use Rattle.send_model.specs.Edit.{take_name, remove_inode, remove_name, move_name, at_spot, rename, rename_onto, can_replace, lies_below, edit}
@@ -18,7 +18,7 @@ use Rattle.send_model.proofs.MapLaws.{without-other}
 use Rattle.send_model.proofs.WalkLaws.{Leads, Step, Around, leads-leaf, leads_from_walk, leads-around}
 use Rattle.send_model.proofs.Soundness.{key, other_place, name_gone, name_left, directory_by}
 use Rattle.send_model.proofs.SoundRemovals.{taken_is_sound, moved_is_sound}
-use Rattle.send_model.proofs.SoundEdits.{PlaceOf, place_of, found_is, not_both, file_is_leaf, empty_is_leaf, make_is_sound, make_device_is_sound, link_is_sound, unlink_is_sound, rmdir_is_sound, change_at_is_sound, set_xattr_is_sound, remove_xattr_is_sound, change_contents_is_sound}
+use Rattle.send_model.proofs.SoundEdits.{PlaceOf, place_of, found_is, not_both, file_is_leaf, empty_is_leaf, make_is_sound, make_device_is_sound, link_is_sound, unlink_is_sound, rmdir_is_sound, change_at_is_sound, set_xattr_is_sound, remove_xattr_is_sound, change_contents_is_sound, fallocate_is_sound}
 
 module _ {C : Type 0} where
   -- ---- what a name that goes leaves
@@ -139,4 +139,6 @@ module _ {C : Type 0} where
   edit_keeps_sound zero_cell put (Chmod mode path) s t h e = change_at_is_sound path _ s t (λ inode. refl) h e
   edit_keeps_sound zero_cell put (Chown uid gid path) s t h e = change_at_is_sound path _ s t (λ inode. refl) h e
   edit_keeps_sound zero_cell put (Utimes mtime atime path) s t h e = change_at_is_sound path _ s t (λ inode. refl) h e
+  edit_keeps_sound zero_cell put (Fallocate size path offset mode) s t h e = fallocate_is_sound zero_cell path offset size mode s t h e
+  edit_keeps_sound zero_cell put (FileAttr path flags) s t h e = change_at_is_sound path _ s t (λ inode. refl) h e
   edit_keeps_sound zero_cell put c s t h e = subst (λ (u : Subvolume C). IsSound u) (ok_same e) h

@@ -1,13 +1,13 @@
 -- The commands of the pieces of a redirected clone can be spelled, and are neither heads nor END.
-use Rattle.std.specs.Prelude.{◌≡◌, ℕ, zero, suc, ◌+◌, ◌-◌, ◌^◌, ◌<◌, ◌==◌, Bool, true, false, List, [], ◌∷◌, map, length, take, drop, Option, None, Some, Ok, nat_le, is_some, if◌then◌else◌}
+use Rattle.std.specs.Prelude.{◌≡◌, ℕ, zero, suc, ◌+◌, ◌-◌, ◌^◌, ◌<◌, ◌==◌, ◌&&◌, Bool, true, false, List, [], ◌∷◌, map, length, take, drop, Option, None, Some, Ok, nat_le, is_some, if◌then◌else◌}
 use Rattle.std.specs.List.{AllByRecursion, flat_map}
 use Rattle.std.specs.Option.{unwrap_or}
-use Rattle.std.proofs.Common.{refl, sym, ap, subst, ◌∙◌, arith, length-append}
+use Rattle.std.proofs.Common.{refl, sym, ap, subst, ◌∙◌, arith, length-append, ⊎_elim}
 use Rattle.std.proofs.lemmas.Bool.{leb-true}
 use Rattle.std.proofs.lemmas.List.{length-take, length-drop, length-map}
-use Rattle.send_model.specs.Attribute.{Identifier, Number, Bytes, FieldFits, IsBytes}
-use Rattle.send_model.specs.Command.{Command, Write, Clone}
-use Rattle.send_model.specs.Spelling.{IsSpellable}
+use Rattle.send_model.specs.Attribute.{UUID, CTRANSID, PATH, DATA, Identifier, Number, Bytes, FieldFits, IsBytes}
+use Rattle.send_model.specs.Command.{Command, WRITE, CLONE, Write, Clone, row, kind_of_number}
+use Rattle.send_model.specs.Spelling.{IsKnown, IsSpellable}
 use Rattle.send_model.specs.Map.{Map}
 use Rattle.send_model.specs.Path.{slash, path_names, longest_path}
 use Rattle.send_model.specs.Subvolume.{Subvolume, root, path_below, Reached, one_further, all_further, paths_from, all_paths, first_path, is_nameable, IsLawful}
@@ -20,6 +20,8 @@ use Rattle.send_model.specs.Provenance.{Place, Traced, fresh, Piece, Carried, Li
 use Rattle.send_model.specs.Composed.{write_len, writes_from, path_of, piece_commands, clone_commands}
 use Rattle.send_model.proofs.ElementLaws.{all_both, all_first, all_rest, all_take, all_drop}
 use Rattle.send_model.proofs.Sound.{bytes_take, bytes_drop}
+use Rattle.send_model.proofs.Versions.{IsVersion}
+use Rattle.send_model.proofs.Canonical.{spellable_first}
 use Rattle.send_model.proofs.PathLaws.{path_names_short}
 use Rattle.send_model.proofs.FirstPaths.{least_is}
 use Rattle.send_model.proofs.Held.{Holds, cells_hold}
@@ -74,12 +76,16 @@ path_short path some = one (path_names path) refl some
     one None e q = cc
     one (Some names) e q = let l = path_names_short path names e in omega (arith, l)
 
+-- A path that either version can say.
+abbrev pub PathFits : List ℕ → Type 0
+PathFits path = FieldFits 1 PATH (Bytes path)
+
 -- The path that a carried piece names can be spelled.
-pub path_of_fits : (store : Store ℕ) (place : Place) (s : Subvolume ℕ) → IsLawful s → HasByteNames s → find store place.key ≡ Some s → is_nameable s place.ino ≡ true → FieldFits (Bytes (path_of store place))
+pub path_of_fits : (store : Store ℕ) (place : Place) (s : Subvolume ℕ) → IsLawful s → HasByteNames s → find store place.key ≡ Some s → is_nameable s place.ino ≡ true → PathFits (path_of store place)
 path_of_fits store place s p names f n =
     let at : path_of store place ≡ unwrap_or (first_path s place.ino) [] = ap (λ (o : Option (Subvolume ℕ)). elim o as (λ x. List ℕ) [ None ↦ [] | Some t ↦ unwrap_or (first_path t place.ino) [] ]) f in
     let way = path_leads store place s p f n in
-    (path_short (path_of store place) way.1, subst IsBytes (sym at) (one (first_path s place.ino) refl))
+    (λ e. path_short (path_of store place) way.1, subst IsBytes (sym at) (one (first_path s place.ino) refl))
   where
     one : (o : Option (List ℕ)) → first_path s place.ino ≡ o → IsBytes (unwrap_or o [])
     one None e = tt
@@ -87,11 +93,28 @@ path_of_fits store place s p names f n =
 
 -- ---- pieces
 
--- A command inside a part that can be spelled.
-abbrev pub IsInside : Command → Type 0
-IsInside c = IsSpellable c × (is_end c ≡ false) × (head_of c ≡ None)
+-- A command inside a part that a version can say.
+abbrev pub IsInside : ℕ → Command → Type 0
+IsInside version c = IsSpellable version c × (is_end c ≡ false) × (head_of c ≡ None)
 
-module _ (path : List ℕ) (path_fits : FieldFits (Bytes path)) where
+-- Both versions have WRITE and CLONE.
+write_known : (version : ℕ) → IsVersion version → IsKnown version WRITE
+unfolding kind_of_number row
+write_known version is = ⊎_elim (λ e. subst (λ (v : ℕ). IsKnown v WRITE) (sym e) refl) (λ e. subst (λ (v : ℕ). IsKnown v WRITE) (sym e) refl) is
+
+clone_known : (version : ℕ) → IsVersion version → IsKnown version CLONE
+unfolding kind_of_number row
+clone_known version is = ⊎_elim (λ e. subst (λ (v : ℕ). IsKnown v CLONE) (sym e) refl) (λ e. subst (λ (v : ℕ). IsKnown v CLONE) (sym e) refl) is
+
+-- A path that a version says in an attribute other than DATA.
+pub path_first : (version kind : ℕ) (path : List ℕ) → (kind == DATA) ≡ false → FieldFits version kind (Bytes path) → PathFits path
+path_first version kind path other fits = (λ e. fits.0 (ap (λ (b : Bool). (version == 2) && b) other ∙ never (version == 2)), fits.1)
+  where
+    never : (b : Bool) → b && false ≡ false
+    never true = refl
+    never false = refl
+
+module _ (version : ℕ) (is : IsVersion version) (path : List ℕ) (path_fits : PathFits path) where
   -- WRITE commands of at most so many bytes each.
   abbrev chunks : ℕ → ℕ → ℕ → List ℕ → List Command
   chunks w zero at bytes = []
@@ -117,11 +140,11 @@ module _ (path : List ℕ) (path_fits : FieldFits (Bytes path)) where
       one [] e = tt
       one (x ∷ rest) e = omega (arith, e, l)
 
-  write_inside : (at : ℕ) (bytes : List ℕ) → at < 2 ^ 64 → length bytes < 2 ^ 16 → IsBytes bytes → IsInside (Write path at bytes)
-  unfolding IsSpellable
-  write_inside at bytes a l b = ((path_fits, (a, ((l, b), tt))), refl, refl)
+  write_inside : (at : ℕ) (bytes : List ℕ) → at < 2 ^ 64 → length bytes < 2 ^ 16 → IsBytes bytes → IsInside version (Write path at bytes)
+  unfolding row
+  write_inside at bytes a l b = (spellable_first version (Write path at bytes) (write_known version is) (path_fits, (a, ((λ e. l, b), tt))), refl, refl)
 
-  chunks_inside : (w n at : ℕ) (bytes : List ℕ) → suc w < 2 ^ 16 → IsBytes bytes → EndsBelow at bytes (2 ^ 64) → AllByRecursion IsInside (chunks w n at bytes)
+  chunks_inside : (w n at : ℕ) (bytes : List ℕ) → suc w < 2 ^ 16 → IsBytes bytes → EndsBelow at bytes (2 ^ 64) → AllByRecursion (IsInside version) (chunks w n at bytes)
   chunks_inside w zero at bytes short b e = tt
   chunks_inside w (suc n) at [] short b e = tt
   chunks_inside w (suc n) at (x ∷ bytes) short b e =
@@ -130,8 +153,8 @@ module _ (path : List ℕ) (path_fits : FieldFits (Bytes path)) where
         chunks_inside w n (at + suc w) (drop w bytes) short (bytes_drop w bytes b.1) (ends_rest w at (2 ^ 64) bytes e),
       )
 
-  pub writes_inside : (n at : ℕ) (bytes : List ℕ) → IsBytes bytes → at + length bytes < 2 ^ 64 → AllByRecursion IsInside (writes_from n path at bytes)
-  writes_inside n at bytes b l = subst (λ (cs : List Command). AllByRecursion IsInside cs) (sym (chunked 49151 n at bytes refl)) (chunks_inside 49151 n at bytes (omega arith) b (one bytes l))
+  pub writes_inside : (n at : ℕ) (bytes : List ℕ) → IsBytes bytes → at + length bytes < 2 ^ 64 → AllByRecursion (IsInside version) (writes_from n path at bytes)
+  writes_inside n at bytes b l = subst (λ (cs : List Command). AllByRecursion (IsInside version) cs) (sym (chunked 49151 n at bytes refl)) (chunks_inside 49151 n at bytes (omega arith) b (one bytes l))
     where
       one : (bs : List ℕ) → at + length bs < 2 ^ 64 → EndsBelow at bs (2 ^ 64)
       one [] l = tt
@@ -139,28 +162,32 @@ module _ (path : List ℕ) (path_fits : FieldFits (Bytes path)) where
 
 -- A key that a command can name.
 abbrev pub KeyFits : Key → Type 0
-KeyFits key = FieldFits (Identifier key.uuid) × FieldFits (Number key.ctransid)
+KeyFits key = FieldFits 1 UUID (Identifier key.uuid) × FieldFits 1 CTRANSID (Number key.ctransid)
 
-module _ (store : Store ℕ) (keys : List Key) (key_fits : (key : Key) → IsAmong key keys → KeyFits key)
+module _ (version : ℕ) (is : IsVersion version) (store : Store ℕ) (keys : List Key) (key_fits : (key : Key) → IsAmong key keys → KeyFits key)
     (sayable : FindsSayable store keys)
-    (path : List ℕ) (path_fits : FieldFits (Bytes path)) (offset : ℕ) where
+    (path : List ℕ) (path_fits : PathFits path) (offset : ℕ) where
   carried_inside : (at : ℕ) (place : Place) (len : ℕ) → Serves store keys place len → offset + at < 2 ^ 64
-      → IsInside (Clone path (offset + at) place.key.uuid place.key.ctransid (path_of store place) place.offset len)
-  unfolding IsSpellable
+      → IsInside version (Clone path (offset + at) place.key.uuid place.key.ctransid (path_of store place) place.offset len)
+  unfolding row
   carried_inside at place len h l =
       let s = sayable place.key h.source h.among h.found in
       let key = key_fits place.key h.among in
       let size = s.sizes place.ino in
-      let within = h.within in
-      ((path_fits, (l, (key.0, (key.1, (path_of_fits store place h.source s.lawful s.byte_names h.found h.nameable, (omega (arith, size, within), (omega (arith, size, within), tt))))))), refl, refl)
+      let within = h.within in (
+        spellable_first version (Clone path (offset + at) place.key.uuid place.key.ctransid (path_of store place) place.offset len) (clone_known version is)
+            (path_fits, (l, (key.0, (key.1, (path_of_fits store place h.source s.lawful s.byte_names h.found h.nameable, (omega (arith, size, within), (omega (arith, size, within), tt))))))),
+        refl,
+        refl,
+      )
 
-  pub pieces_inside : (at : ℕ) (ps : List Piece) (bytes : List ℕ) → Covers store keys at ps bytes → IsBytes bytes → offset + at + length bytes < 2 ^ 64 → AllByRecursion IsInside (flat_map (piece_commands store path offset) ps)
+  pub pieces_inside : (at : ℕ) (ps : List Piece) (bytes : List ℕ) → Covers store keys at ps bytes → IsBytes bytes → offset + at + length bytes < 2 ^ 64 → AllByRecursion (IsInside version) (flat_map (piece_commands store path offset) ps)
   pieces_inside at [] bytes c b l = tt
   pieces_inside at (Literal here own ∷ ps) bytes c b l =
       let split = subst IsBytes c.2 b in
       let long = ap length c.2 ∙ length-append own c.1 in
-      all_both IsInside (writes_from (length own) path (offset + here) own) (flat_map (piece_commands store path offset) ps)
-      (writes_inside path path_fits (length own) (offset + here) own (all_first (λ x. x < 256) own c.1 split) (let e = c.0 in omega (arith, e, long, l)))
+      all_both (IsInside version) (writes_from (length own) path (offset + here) own) (flat_map (piece_commands store path offset) ps)
+      (writes_inside version is path path_fits (length own) (offset + here) own (all_first (λ x. x < 256) own c.1 split) (let e = c.0 in omega (arith, e, long, l)))
       (pieces_inside (at + length own) ps c.1 c.3 (all_rest (λ x. x < 256) own c.1 split) (omega (arith, long, l)))
   pieces_inside at (Carried here place len ∷ ps) bytes c b l =
       let own : List ℕ = bytes_at store keys place len c.2 in
@@ -173,7 +200,7 @@ module _ (store : Store ℕ) (keys : List Key) (key_fits : (key : Key) → IsAmo
   -- The commands of a clone's range.
   pub range_inside : (part source : Subvolume Traced) (clone_path : List ℕ) (from len : ℕ) (range : Cloned Traced)
       → cloned part (Some source) false path offset clone_path from len ≡ Ok range → Holds (InPlace store keys) source → Holds (λ c. c.byte < 256) source
-      → AllByRecursion IsInside (flat_map (piece_commands store path offset) (pieces_of store range.cells))
+      → AllByRecursion (IsInside version) (flat_map (piece_commands store path offset) (pieces_of store range.cells))
   range_inside part source clone_path from len range e placed small =
       let facts = cloned_facts part source false path offset clone_path from len range e in
       let covered = range_covered store keys range.cells (range_placed store keys part source path offset clone_path from len range facts placed) in
@@ -189,17 +216,18 @@ module _ (store : Store ℕ) (keys : List Key) (key_fits : (key : Key) → IsAmo
       bytes_small (c ∷ cells) all = (all.0, bytes_small cells all.1)
 
 -- The same of a redirected CLONE command that was taken.
-pub redirected_inside : (base : Store ℕ) (keys : List Key) → ((key : Key) → IsAmong key keys → KeyFits key) → FindsSayable base keys
+pub redirected_inside : (version : ℕ) → IsVersion version → (base : Store ℕ) (keys : List Key) → ((key : Key) → IsAmong key keys → KeyFits key) → FindsSayable base keys
     → (parts : List (List ℕ)) (last : Key) (store : Store Traced) (part : Part Traced) (current : Option (List ℕ)) (put : List Traced)
     (path : List ℕ) (offset : ℕ) (clone_uuid : List ℕ) (clone_ctransid : ℕ) (clone_path : List ℕ) (clone_offset clone_len : ℕ) (after : Subvolume Traced)
     → current ≡ Some part.key.uuid → is_redirected parts current (Clone path offset clone_uuid clone_ctransid clone_path clone_offset clone_len) ≡ true
     → ((s : Subvolume Traced) → find store (record { uuid = clone_uuid; ctransid = clone_ctransid }) ≡ Some s → Holds (InPlace base keys) s × Holds (λ c. c.byte < 256) s)
     → edit_part (fresh 0) put store part (Clone path offset clone_uuid clone_ctransid clone_path clone_offset clone_len) ≡ Ok after
-    → IsSpellable (Clone path offset clone_uuid clone_ctransid clone_path clone_offset clone_len)
-    → AllByRecursion IsInside (clone_commands base parts last (record { store = store; part = Some part }) current (Clone path offset clone_uuid clone_ctransid clone_path clone_offset clone_len))
-unfolding IsSpellable
-redirected_inside base keys key_fits sayable parts last store part current put path offset clone_uuid clone_ctransid clone_path clone_offset clone_len after own redirected holds e spellable =
+    → IsSpellable version (Clone path offset clone_uuid clone_ctransid clone_path clone_offset clone_len)
+    → AllByRecursion (IsInside version) (clone_commands base parts last (record { store = store; part = Some part }) current (Clone path offset clone_uuid clone_ctransid clone_path clone_offset clone_len))
+unfolding row
+redirected_inside version is base keys key_fits sayable parts last store part current put path offset clone_uuid clone_ctransid clone_path clone_offset clone_len after own redirected holds e spellable =
     let r = redirection base parts last store part current put path offset clone_uuid clone_ctransid clone_path clone_offset clone_len after own redirected e in
     let h = holds r.source r.there in
-    subst (λ (cs : List Command). AllByRecursion IsInside cs) (sym r.commands_are)
-    (range_inside base keys key_fits sayable path spellable.0 offset part.subvolume r.source clone_path clone_offset clone_len r.range r.made h.0 h.1)
+    let spelled = spellable.values in
+    subst (λ (cs : List Command). AllByRecursion (IsInside version) cs) (sym r.commands_are)
+    (range_inside version is base keys key_fits sayable path (path_first version PATH path refl spelled.0) offset part.subvolume r.source clone_path clone_offset clone_len r.range r.made h.0 h.1)

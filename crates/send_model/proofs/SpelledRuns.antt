@@ -1,15 +1,15 @@
 -- What is composed from commands that can be spelled can be spelled: what stands for redirected clones too, where what the base
 -- finds under the outside keys can be said.
-use Rattle.std.specs.Prelude.{◌≡◌, ℕ, ◌+◌, ◌<◌, Bool, true, false, not, cond, List, [], ◌∷◌, ◌++◌, map, length, drop, zero, suc, Option, None, Some, Result, Ok, if◌then◌else◌}
+use Rattle.std.specs.Prelude.{◌≡◌, ℕ, ◌+◌, ◌<◌, Bool, true, false, not, cond, List, [], ◌∷◌, ◌++◌, map, length, take, drop, zero, suc, Option, None, Some, Result, Ok, if◌then◌else◌}
 use Rattle.std.specs.List.{AllByRecursion, filter, flat_map}
 use Rattle.std.specs.Option.{option_map}
-use Rattle.std.proofs.Common.{refl, sym, ap, subst, ◌∙◌, arith, inl, inr}
+use Rattle.std.proofs.Common.{refl, sym, ap, subst, ◌∙◌, arith, inl, inr, ⊎_elim}
 use Rattle.std.proofs.lemmas.Bool.{false≢true}
 use Rattle.send_model.specs.Refusal.{Refusal, NoSubvolume, NoParent}
 use Rattle.send_model.specs.Chain.{found}
-use Rattle.send_model.specs.Attribute.{IsBytes, Bytes, FieldFits}
-use Rattle.send_model.specs.Command.{Command, Subvol, Snapshot, Write, Clone, End, row, kind_of, kind_of_number}
-use Rattle.send_model.specs.Spelling.{IsSpellable}
+use Rattle.send_model.specs.Attribute.{IsBytes, PATH, CLONE_PATH}
+use Rattle.send_model.specs.Command.{Command, SUBVOL, SNAPSHOT, Subvol, Snapshot, Write, Clone, End, row, kind_of, kind_of_number}
+use Rattle.send_model.specs.Spelling.{IsKnown, IsSpellable}
 use Rattle.send_model.specs.Reading.{Item, taken, is_taken}
 use Rattle.send_model.specs.Map.{Map}
 use Rattle.send_model.specs.Subvolume.{Inode, Subvolume, root_alone}
@@ -34,7 +34,10 @@ use Rattle.send_model.proofs.Carrying.{InPlace}
 use Rattle.send_model.proofs.Tracing.{byte_of, untraced_store, find_traced, holds_from, TTakes, takes_traced}
 use Rattle.send_model.proofs.TracedBase.{traced_holds}
 use Rattle.send_model.proofs.Redirected.{clone_stepped, clone_command_holds}
-use Rattle.send_model.proofs.SpelledPieces.{IsInside, KeyFits, redirected_inside}
+use Rattle.send_model.proofs.SpelledPieces.{IsInside, PathFits, KeyFits, path_first, redirected_inside}
+use Rattle.send_model.proofs.Versions.{IsVersion}
+use Rattle.send_model.proofs.Canonical.{spellable_first}
+use Rattle.send_model.proofs.Streams.{end_writable}
 use Rattle.send_model.proofs.ElementLaws.{all_both, all_first, all_rest}
 use Rattle.send_model.proofs.MergingClones.{composed_by, composed_items, head_commands, head_uuid, plain_commands, plain_uuid, clone_without}
 use Rattle.send_model.proofs.ComposedClones.{all_outside}
@@ -42,24 +45,31 @@ use Rattle.send_model.proofs.ComposedClones.{all_outside}
 -- ---- kinds
 
 -- A command of a kind that the program takes.
-abbrev pub IsKind : Command → Type 0
-IsKind c = taken 1 (row (kind_of c)).number ≡ Ok tt
+abbrev pub IsKind : ℕ → Command → Type 0
+IsKind version c = taken version (row (kind_of c)).number ≡ Ok tt
 
-writes_kind : (n at : ℕ) (path bytes : List ℕ) → AllByRecursion IsKind (writes_from n path at bytes)
+-- Kinds that are taken in both versions.
+in_both : (version : ℕ) → IsVersion version → (c : Command) → IsKind 1 c → IsKind 2 c → IsKind version c
+in_both version is c one two = ⊎_elim (λ e. subst (λ (v : ℕ). IsKind v c) (sym e) one) (λ e. subst (λ (v : ℕ). IsKind v c) (sym e) two) is
+
+write_kind : (version : ℕ) → IsVersion version → (path : List ℕ) (at : ℕ) (bytes : List ℕ) → IsKind version (Write path at bytes)
 unfolding taken is_taken kind_of_number row
-writes_kind zero at path bytes = tt
-writes_kind (suc n) at path [] = tt
-writes_kind (suc n) at path (b ∷ bytes) = (refl, writes_kind n (at + write_len) path (drop write_len (b ∷ bytes)))
+write_kind version is path at bytes = in_both version is (Write path at bytes) refl refl
 
-module _ (store : Store ℕ) (parts : List (List ℕ)) (last : Key) where
-  pieces_kind : (path : List ℕ) (offset : ℕ) (c : Command) → is_clone c ≡ true → IsKind c → (ps : List Piece) → AllByRecursion IsKind (flat_map (piece_commands store path offset) ps)
+writes_kind : (version : ℕ) → IsVersion version → (n at : ℕ) (path bytes : List ℕ) → AllByRecursion (IsKind version) (writes_from n path at bytes)
+writes_kind version is zero at path bytes = tt
+writes_kind version is (suc n) at path [] = tt
+writes_kind version is (suc n) at path (b ∷ bytes) = (write_kind version is path at (take write_len (b ∷ bytes)), writes_kind version is n (at + write_len) path (drop write_len (b ∷ bytes)))
+
+module _ (version : ℕ) (is : IsVersion version) (store : Store ℕ) (parts : List (List ℕ)) (last : Key) where
+  pieces_kind : (path : List ℕ) (offset : ℕ) (c : Command) → is_clone c ≡ true → IsKind version c → (ps : List Piece) → AllByRecursion (IsKind version) (flat_map (piece_commands store path offset) ps)
   pieces_kind path offset c h k [] = tt
   pieces_kind path offset c h k (Literal at bytes ∷ ps) =
-      all_both IsKind (writes_from (length bytes) path (offset + at) bytes) (flat_map (piece_commands store path offset) ps) (writes_kind (length bytes) (offset + at) path bytes) (pieces_kind path offset c h k ps)
+      all_both (IsKind version) (writes_from (length bytes) path (offset + at) bytes) (flat_map (piece_commands store path offset) ps) (writes_kind version is (length bytes) (offset + at) path bytes) (pieces_kind path offset c h k ps)
   pieces_kind path offset (Clone p o u t q f l) h k (Carried at place len ∷ ps) = (k, pieces_kind path offset (Clone p o u t q f l) h k ps)
   pieces_kind path offset c h k (Carried at place len ∷ ps) = absurd (false≢true h)
 
-  for_kind : (state : State Traced) (current : Option (List ℕ)) (c : Command) → IsKind c → AllByRecursion IsKind (commands_for store parts last state current c)
+  for_kind : (state : State Traced) (current : Option (List ℕ)) (c : Command) → IsKind version c → AllByRecursion (IsKind version) (commands_for store parts last state current c)
   for_kind state current End k = tt
   for_kind state current (Subvol uuid ctransid path) k = tt
   for_kind state current (Snapshot uuid ctransid path clone_uuid clone_ctransid) k = tt
@@ -68,7 +78,7 @@ module _ (store : Store ℕ) (parts : List (List ℕ)) (last : Key) where
       this : Command
       this = Clone path offset clone_uuid clone_ctransid clone_path clone_offset clone_len
 
-      one : (a b : Bool) → AllByRecursion IsKind (if a then Clone path offset last.uuid last.ctransid clone_path clone_offset clone_len ∷ []
+      one : (a b : Bool) → AllByRecursion (IsKind version) (if a then Clone path offset last.uuid last.ctransid clone_path clone_offset clone_len ∷ []
           else (if b then flat_map (piece_commands store path offset) (pieces_of store (clone_range state (Clone path offset clone_uuid clone_ctransid clone_path clone_offset clone_len)))
           else Clone path offset clone_uuid clone_ctransid clone_path clone_offset clone_len ∷ []))
       one true b = (k, tt)
@@ -76,11 +86,11 @@ module _ (store : Store ℕ) (parts : List (List ℕ)) (last : Key) where
       one false false = (k, tt)
   for_kind state current c k = (k, tt)
 
-  all_kinds : (cs : List Command) (state : State Traced) (current : Option (List ℕ)) → AllByRecursion CanWrite cs → AllByRecursion IsKind (composed_by store parts last state current cs)
+  all_kinds : (cs : List Command) (state : State Traced) (current : Option (List ℕ)) → AllByRecursion (CanWrite version) cs → AllByRecursion (IsKind version) (composed_by store parts last state current cs)
   all_kinds [] state current w = tt
   all_kinds (c ∷ cs) state current w =
       let next : State Traced = (step (fresh 0) (map fresh (bytes_of c)) state c).state in
-      all_both IsKind (commands_for store parts last state current c) (composed_by store parts last next (uuid_after current c) cs) (for_kind state current c w.0.taken_kind) (all_kinds cs next (uuid_after current c) w.1)
+      all_both (IsKind version) (commands_for store parts last state current c) (composed_by store parts last next (uuid_after current c) cs) (for_kind state current c w.0.taken_kind) (all_kinds cs next (uuid_after current c) w.1)
 
 -- ---- bytes
 
@@ -91,10 +101,10 @@ fresh_bytes : (bytes : List ℕ) → IsBytes bytes → AllByRecursion IsByte (ma
 fresh_bytes [] b = tt
 fresh_bytes (x ∷ bytes) b = (b.0, fresh_bytes bytes b.1)
 
-written_bytes : (c : Command) → IsSpellable c → IsBytes (bytes_of c)
-unfolding IsSpellable
-written_bytes (Write path offset bytes) s = s.1.1.0.1
-written_bytes c s = tt
+written_bytes : (version : ℕ) (c : Command) → IsSpellable version c → IsBytes (bytes_of c)
+unfolding row
+written_bytes version (Write path offset bytes) s = let v = s.values in v.1.1.0.1
+written_bytes version c s = tt
 
 traced_bytes : (key : Key) (ino offset : ℕ) (bytes : List ℕ) → IsBytes bytes → AllByRecursion IsByte (traced_from key ino offset bytes)
 traced_bytes key ino offset [] b = tt
@@ -111,7 +121,7 @@ traced_holds_bytes key s b = holds_from IsByte (traced_subvolume key s) (traced_
 
 -- ---- the run
 
-module _ (base : Store ℕ) (keys : List Key) (parts : List (List ℕ)) (last : Key) where
+module _ (version : ℕ) (is : IsVersion version) (base : Store ℕ) (keys : List Key) (parts : List (List ℕ)) (last : Key) where
   -- Each cell is a byte, and stands at its place if it has one.
   abbrev AreRight : Subvolume Traced → Type 0
   AreRight s = Holds (InPlace base keys) s × Holds IsByte s
@@ -156,9 +166,9 @@ module _ (base : Store ℕ) (keys : List Key) (parts : List (List ℕ)) (last : 
 
   -- What stands for one command can be spelled, and what it leaves is right.
   abbrev Advances : Command → Type 0
-  Advances c = (store : Store Traced) (part : Option (Part Traced)) (current : Option (List ℕ)) → FindsRight store → PartRight part current → IsSpellable c → AllByRecursion IsListed (keys_named c)
+  Advances c = (store : Store Traced) (part : Option (Part Traced)) (current : Option (List ℕ)) → FindsRight store → PartRight part current → IsSpellable version c → AllByRecursion IsListed (keys_named c)
       → (step (fresh 0) (map fresh (bytes_of c)) (record { store = store; part = part }) c).refusal ≡ None
-      → AllByRecursion IsInside (commands_for base parts last (record { store = store; part = part }) current c) × IsRight (step (fresh 0) (map fresh (bytes_of c)) (record { store = store; part = part }) c).state (uuid_after current c)
+      → AllByRecursion (IsInside version) (commands_for base parts last (record { store = store; part = part }) current c) × IsRight (step (fresh 0) (map fresh (bytes_of c)) (record { store = store; part = part }) c).state (uuid_after current c)
 
   advances_end : Advances End
   unfolding step
@@ -179,7 +189,7 @@ module _ (base : Store ℕ) (keys : List Key) (parts : List (List ℕ)) (last : 
       let after : State Traced = record { store = new; part = Some (record { key = head.key; subvolume = ok.0 }) } in
       let state_is : (step (fresh 0) put σ c).state ≡ after = ap (λ (x : Stepped Traced). x.state) (is_head ∙ ap (entered done head) ok.1) in
       let new_right : FindsRight new = λ k x listed e. right k x listed (sym (finds_unfinished head done k) ∙ e) in (
-        subst (λ (cs : List Command). AllByRecursion IsInside cs) (sym (head_commands base parts last σ current c head h)) tt,
+        subst (λ (cs : List Command). AllByRecursion (IsInside version) cs) (sym (head_commands base parts last σ current c head h)) tt,
         subst (λ (x : State Traced). IsRight x (uuid_after current c)) (sym state_is) (new_right, (start_right, head_uuid current c head h)),
       )
 
@@ -194,9 +204,9 @@ module _ (base : Store ℕ) (keys : List Key) (parts : List (List ℕ)) (last : 
       let state_is : (step (fresh 0) put σ c).state ≡ record { store = store; part = Some (record { key = part.key; subvolume = ok.0 }) } = ap (λ (x : Stepped Traced). x.state) (is_edit ∙ ap (edited store part) ok.1) in
       let next_right : AreRight ok.0 = (
         edit_holds (InPlace base keys) (fresh 0) put c part.subvolume ok.0 tt (placed (bytes_of c)) p.0.0 ok.1,
-        edit_holds IsByte (fresh 0) put c part.subvolume ok.0 (omega arith) (fresh_bytes (bytes_of c) (written_bytes c s)) p.0.1 ok.1,
+        edit_holds IsByte (fresh 0) put c part.subvolume ok.0 (omega arith) (fresh_bytes (bytes_of c) (written_bytes version c s)) p.0.1 ok.1,
       ) in (
-        subst (λ (cs : List Command). AllByRecursion IsInside cs) (sym (plain_commands base parts last σ current c h)) ((s, (quiet c h).0, (quiet c h).1), tt),
+        subst (λ (cs : List Command). AllByRecursion (IsInside version) cs) (sym (plain_commands base parts last σ current c h)) ((s, (quiet c h).0, (quiet c h).1), tt),
         subst (λ (x : State Traced). IsRight x (uuid_after current c)) (sym state_is) (f, (next_right, plain_uuid current c h ∙ p.1)),
       )
     where
@@ -216,25 +226,30 @@ module _ (base : Store ℕ) (keys : List Key) (parts : List (List ℕ)) (last : 
 
   module _ (last_fits : KeyFits last) (key_fits : (key : Key) → IsAmong key keys → KeyFits key) (sayable : FindsSayable base keys) where
     clone_inside : (store : Store Traced) (part : Part Traced) (current : Option (List ℕ)) (path : List ℕ) (offset : ℕ) (uuid : List ℕ) (ctransid : ℕ) (clone_path : List ℕ) (from len : ℕ) (after : Subvolume Traced)
-        → FindsRight store → current ≡ Some part.key.uuid → IsSpellable (Clone path offset uuid ctransid clone_path from len) → IsListed (record { uuid = uuid; ctransid = ctransid })
+        → FindsRight store → current ≡ Some part.key.uuid → IsSpellable version (Clone path offset uuid ctransid clone_path from len) → IsListed (record { uuid = uuid; ctransid = ctransid })
         → edit_part (fresh 0) [] store part (Clone path offset uuid ctransid clone_path from len) ≡ Ok after
-        → AllByRecursion IsInside (commands_for base parts last (record { store = store; part = Some part }) current (Clone path offset uuid ctransid clone_path from len))
-    unfolding IsSpellable
+        → AllByRecursion (IsInside version) (commands_for base parts last (record { store = store; part = Some part }) current (Clone path offset uuid ctransid clone_path from len))
+    unfolding row
     clone_inside store part current path offset uuid ctransid clone_path from len after f now s listed ok = one (is_own current uuid) refl (is_redirected parts current this) refl
       where
         this : Command
         this = Clone path offset uuid ctransid clone_path from len
 
+        -- a clone from its own part, which names the last one
+        own_spelled : IsSpellable version (Clone path offset last.uuid last.ctransid clone_path from len)
+        own_spelled = let v = s.values in spellable_first version (Clone path offset last.uuid last.ctransid clone_path from len) s.known
+            (path_first version PATH path refl v.0, (v.1.0, (last_fits.0, (last_fits.1, (path_first version CLONE_PATH clone_path refl v.1.1.1.1.0, v.1.1.1.1.1)))))
+
         one : (a : Bool) → is_own current uuid ≡ a → (b : Bool) → is_redirected parts current (Clone path offset uuid ctransid clone_path from len) ≡ b
-            → AllByRecursion IsInside (commands_for base parts last (record { store = store; part = Some part }) current (Clone path offset uuid ctransid clone_path from len))
-        one a x true y = redirected_inside base keys key_fits sayable parts last store part current [] path offset uuid ctransid clone_path from len after now y (λ t e. f (record { uuid = uuid; ctransid = ctransid }) t listed e) ok s
-        one true x false y = subst (λ (a : Bool). AllByRecursion IsInside (if a then Clone path offset last.uuid last.ctransid clone_path from len ∷ []
+            → AllByRecursion (IsInside version) (commands_for base parts last (record { store = store; part = Some part }) current (Clone path offset uuid ctransid clone_path from len))
+        one a x true y = redirected_inside version is base keys key_fits sayable parts last store part current [] path offset uuid ctransid clone_path from len after now y (λ t e. f (record { uuid = uuid; ctransid = ctransid }) t listed e) ok s
+        one true x false y = subst (λ (a : Bool). AllByRecursion (IsInside version) (if a then Clone path offset last.uuid last.ctransid clone_path from len ∷ []
             else (if is_redirected parts current (Clone path offset uuid ctransid clone_path from len) then flat_map (piece_commands base path offset) (pieces_of base (clone_range (record { store = store; part = Some part }) (Clone path offset uuid ctransid clone_path from len)))
-            else Clone path offset uuid ctransid clone_path from len ∷ []))) (sym x) (((s.0, (s.1.0, (last_fits.0, (last_fits.1, s.1.1.1.1)))), refl, refl), tt)
-        one false x false y = subst (λ (a : Bool). AllByRecursion IsInside (if a then Clone path offset last.uuid last.ctransid clone_path from len ∷ []
+            else Clone path offset uuid ctransid clone_path from len ∷ []))) (sym x) ((own_spelled, refl, refl), tt)
+        one false x false y = subst (λ (a : Bool). AllByRecursion (IsInside version) (if a then Clone path offset last.uuid last.ctransid clone_path from len ∷ []
             else (if is_redirected parts current (Clone path offset uuid ctransid clone_path from len) then flat_map (piece_commands base path offset) (pieces_of base (clone_range (record { store = store; part = Some part }) (Clone path offset uuid ctransid clone_path from len)))
             else Clone path offset uuid ctransid clone_path from len ∷ []))) (sym x)
-            (subst (λ (b : Bool). AllByRecursion IsInside (if b then flat_map (piece_commands base path offset) (pieces_of base (clone_range (record { store = store; part = Some part }) (Clone path offset uuid ctransid clone_path from len)))
+            (subst (λ (b : Bool). AllByRecursion (IsInside version) (if b then flat_map (piece_commands base path offset) (pieces_of base (clone_range (record { store = store; part = Some part }) (Clone path offset uuid ctransid clone_path from len)))
             else Clone path offset uuid ctransid clone_path from len ∷ [])) (sym y) ((s, refl, refl), tt))
 
     advances_clone : (c : Command) → is_clone c ≡ true → Advances c
@@ -252,15 +267,15 @@ module _ (base : Store ℕ) (keys : List Key) (parts : List (List ℕ)) (last : 
     advances_clone c h store part current f p s l t = absurd (false≢true h)
 
     all_inside : (cs : List Command) (store : Store Traced) (part : Option (Part Traced)) (current : Option (List ℕ)) (end : State Traced) → FindsRight store → PartRight part current
-        → AllByRecursion IsSpellable cs → AllByRecursion IsListed (all_keys_named cs) → TTakes (record { store = store; part = part }) cs end
-        → AllByRecursion IsInside (composed_by base parts last (record { store = store; part = part }) current cs)
+        → AllByRecursion (IsSpellable version) cs → AllByRecursion IsListed (all_keys_named cs) → TTakes (record { store = store; part = part }) cs end
+        → AllByRecursion (IsInside version) (composed_by base parts last (record { store = store; part = part }) current cs)
     all_inside [] store part current end f p w l t = tt
     all_inside (c ∷ cs) store part current end f p w l t =
         let σ : State Traced = record { store = store; part = part } in
         let next : State Traced = (step (fresh 0) (map fresh (bytes_of c)) σ c).state in
         let a = by_sort {P = λ c. Advances c} (λ c head h. advances_head c head h) advances_end (λ c h. advances_clone c h) (λ c h. advances_plain c h) c store part current f p w.0
         (all_first IsListed (keys_named c) (all_keys_named cs) l) t.0 in
-        all_both IsInside (commands_for base parts last σ current c) (composed_by base parts last next (uuid_after current c) cs) a.0
+        all_both (IsInside version) (commands_for base parts last σ current c) (composed_by base parts last next (uuid_after current c) cs) a.0
         (all_inside cs next.store next.part (uuid_after current c) end a.1.0 a.1.1 w.1 (all_rest IsListed (keys_named c) (all_keys_named cs) l) t.1)
 
     base_right : HasNoParts → FindsRight (traced_store base)
@@ -276,8 +291,8 @@ module _ (base : Store ℕ) (keys : List Key) (parts : List (List ℕ)) (last : 
         one true i = absurd (let at : Some t ≡ None = sym e ∙ find_traced base k ∙ ap (option_map (traced_subvolume k)) (no_parts k i) in cc)
         one false i = two (listed i) (find base k) refl (sym (find_traced base k) ∙ e)
 
-    run_inside : HasNoParts → (cs : List Command) (end : State ℕ) → AllByRecursion IsSpellable cs → AllByRecursion IsListed (all_keys_named cs) → Takes (start_of base) cs end
-        → AllByRecursion IsInside (composed_by base parts last (start_of (traced_store base)) None cs)
+    run_inside : HasNoParts → (cs : List Command) (end : State ℕ) → AllByRecursion (IsSpellable version) cs → AllByRecursion IsListed (all_keys_named cs) → Takes (start_of base) cs end
+        → AllByRecursion (IsInside version) (composed_by base parts last (start_of (traced_store base)) None cs)
     run_inside no_parts cs end w l taken =
         let τ : State Traced = start_of (traced_store base) in
         let traced = takes_traced (λ c put state. all_steps-cells byte_of c (fresh 0) put state) cs τ end (subst (λ (st : Store ℕ). Takes (start_of st) cs end) (sym (untraced_store base)) taken) in
@@ -290,21 +305,21 @@ ParentFits None = Unit {0}
 ParentFits (Some k) = KeyFits k
 
 abbrev HeadFits : Head → Type 0
-HeadFits h = FieldFits (Bytes h.name) × KeyFits h.key × ParentFits h.parent
+HeadFits h = PathFits h.name × KeyFits h.key × ParentFits h.parent
 
-heads_fit : (cs : List Command) → AllByRecursion IsSpellable cs → AllByRecursion HeadFits (heads_of cs)
-unfolding heads_of IsSpellable
-heads_fit [] w = tt
-heads_fit (Subvol uuid ctransid path ∷ cs) w = let s = w.0 in ((s.1.1.0, (s.0, s.1.0), tt), heads_fit cs w.1)
-heads_fit (Snapshot uuid ctransid path clone_uuid clone_ctransid ∷ cs) w = let s = w.0 in ((s.1.1.0, (s.0, s.1.0), (s.1.1.1.0, s.1.1.1.1.0)), heads_fit cs w.1)
-heads_fit (c ∷ cs) w = heads_fit cs w.1
+heads_fit : (version : ℕ) (cs : List Command) → AllByRecursion (IsSpellable version) cs → AllByRecursion HeadFits (heads_of cs)
+unfolding heads_of row
+heads_fit version [] w = tt
+heads_fit version (Subvol uuid ctransid path ∷ cs) w = let v = w.0.values in ((path_first version PATH path refl v.1.1.0, (v.0, v.1.0), tt), heads_fit version cs w.1)
+heads_fit version (Snapshot uuid ctransid path clone_uuid clone_ctransid ∷ cs) w = let v = w.0.values in ((path_first version PATH path refl v.1.1.0, (v.0, v.1.0), (v.1.1.1.0, v.1.1.1.1.0)), heads_fit version cs w.1)
+heads_fit version (c ∷ cs) w = heads_fit version cs w.1
 
-keys_fit : (cs : List Command) → AllByRecursion IsSpellable cs → AllByRecursion KeyFits (all_keys_named cs)
-unfolding IsSpellable
-keys_fit [] w = tt
-keys_fit (Snapshot uuid ctransid path clone_uuid clone_ctransid ∷ cs) w = let s = w.0 in ((s.1.1.1.0, s.1.1.1.1.0), keys_fit cs w.1)
-keys_fit (Clone path offset uuid ctransid clone_path from len ∷ cs) w = let s = w.0 in ((s.1.1.0, s.1.1.1.0), keys_fit cs w.1)
-keys_fit (c ∷ cs) w = keys_fit cs w.1
+keys_fit : (version : ℕ) (cs : List Command) → AllByRecursion (IsSpellable version) cs → AllByRecursion KeyFits (all_keys_named cs)
+unfolding row
+keys_fit version [] w = tt
+keys_fit version (Snapshot uuid ctransid path clone_uuid clone_ctransid ∷ cs) w = let v = w.0.values in ((v.1.1.1.0, v.1.1.1.1.0), keys_fit version cs w.1)
+keys_fit version (Clone path offset uuid ctransid clone_path from len ∷ cs) w = let v = w.0.values in ((v.1.1.0, v.1.1.1.0), keys_fit version cs w.1)
+keys_fit version (c ∷ cs) w = keys_fit version cs w.1
 
 kept_fit : (P : Key → Type 0) (p : Key → Bool) (ks : List Key) → AllByRecursion P ks → AllByRecursion P (filter p ks)
 kept_fit P p [] a = tt
@@ -323,76 +338,82 @@ last_fits_of [] h a e = cc
 last_fits_of (x ∷ []) h a e = subst (λ (y : Head). HeadFits y) (same_inside e) a.0
 last_fits_of (x ∷ y ∷ hs) h a e = last_fits_of (y ∷ hs) h a.1 e
 
-head_spelled : (name : List ℕ) (key : Key) (parent : Option Key) → FieldFits (Bytes name) → KeyFits key → ParentFits parent → IsSpellable (head_command name key parent)
-unfolding IsSpellable
-head_spelled name key None n k p = (k.0, (k.1, (n, tt)))
-head_spelled name key (Some parent) n k p = (k.0, (k.1, (n, (p.0, (p.1, tt)))))
+-- Both versions have SUBVOL and SNAPSHOT.
+head_known : (version : ℕ) → IsVersion version → (name : List ℕ) (key : Key) (parent : Option Key) → IsKnown version (kind_of (head_command name key parent))
+unfolding kind_of_number row
+head_known version is name key None = ⊎_elim (λ e. subst (λ (v : ℕ). IsKnown v SUBVOL) (sym e) refl) (λ e. subst (λ (v : ℕ). IsKnown v SUBVOL) (sym e) refl) is
+head_known version is name key (Some parent) = ⊎_elim (λ e. subst (λ (v : ℕ). IsKnown v SNAPSHOT) (sym e) refl) (λ e. subst (λ (v : ℕ). IsKnown v SNAPSHOT) (sym e) refl) is
+
+head_spelled : (version : ℕ) → IsVersion version → (name : List ℕ) (key : Key) (parent : Option Key) → PathFits name → KeyFits key → ParentFits parent → IsSpellable version (head_command name key parent)
+unfolding row
+head_spelled version is name key None n k p = spellable_first version (head_command name key None) (head_known version is name key None) (k.0, (k.1, (n, tt)))
+head_spelled version is name key (Some parent) n k p = spellable_first version (head_command name key (Some parent)) (head_known version is name key (Some parent)) (k.0, (k.1, (n, (p.0, (p.1, tt)))))
 
 -- A head's own kind is taken.
-pub head_kind : (name : List ℕ) (key : Key) (parent : Option Key) → IsKind (head_command name key parent) × (is_end (head_command name key parent) ≡ false)
+pub head_kind : (version : ℕ) → IsVersion version → (name : List ℕ) (key : Key) (parent : Option Key) → IsKind version (head_command name key parent) × (is_end (head_command name key parent) ≡ false)
 unfolding taken is_taken kind_of_number row
-head_kind name key None = (refl, refl)
-head_kind name key (Some parent) = (refl, refl)
+head_kind version is name key None = (in_both version is (head_command name key None) refl refl, refl)
+head_kind version is name key (Some parent) = (in_both version is (head_command name key (Some parent)) refl refl, refl)
 
 -- The head that stands for a first and a last one among commands.
-pub heads_spelled : (cs : List Command) (first last : Head) → first_head (heads_of cs) ≡ Some first → last_head (heads_of cs) ≡ Some last → AllByRecursion IsSpellable cs → IsSpellable (head_command last.name last.key first.parent)
-heads_spelled cs first last first_is last_is w =
-    let fits = heads_fit cs w in
+pub heads_spelled : (version : ℕ) → IsVersion version → (cs : List Command) (first last : Head) → first_head (heads_of cs) ≡ Some first → last_head (heads_of cs) ≡ Some last → AllByRecursion (IsSpellable version) cs → IsSpellable version (head_command last.name last.key first.parent)
+heads_spelled version is cs first last first_is last_is w =
+    let fits = heads_fit version cs w in
     let first_fit = first_fits (heads_of cs) first fits first_is in
     let last_fit = last_fits_of (heads_of cs) last fits last_is in
-    head_spelled last.name last.key first.parent last_fit.0 last_fit.1 first_fit.2
+    head_spelled version is last.name last.key first.parent last_fit.0 last_fit.1 first_fit.2
 
 -- What is composed inside the one part from items whose commands can be spelled.
-edits_inside : (store : Store ℕ) (items : List Item) (last : Head) → last_head (heads items) ≡ Some last
-    → AllByRecursion IsSpellable (commands_of items) → IsAccepted (run_items 0 byte_cells (start_of (base_of store items)) items) → FindsSayable (base_of store items) (keys_outside items)
-    → AllByRecursion IsInside (composed_edits (base_of store items) last.key items)
+edits_inside : (version : ℕ) → IsVersion version → (store : Store ℕ) (items : List Item) (last : Head) → last_head (heads items) ≡ Some last
+    → AllByRecursion (IsSpellable version) (commands_of items) → IsAccepted (run_items 0 byte_cells (start_of (base_of store items)) items) → FindsSayable (base_of store items) (keys_outside items)
+    → AllByRecursion (IsInside version) (composed_edits (base_of store items) last.key items)
 unfolding composed_edits
-edits_inside store items last last_is w accepted sayable =
+edits_inside version is store items last last_is w accepted sayable =
     let b : Store ℕ = base_of store items in
     let parts : List (List ℕ) = part_uuids items in
     let keys : List Key = keys_outside items in
     let cs : List Command = commands_of items in
-    let last_fit = last_fits_of (heads items) last (heads_fit cs w) last_is in
-    let key_fits : (key : Key) → IsAmong key keys → KeyFits key = λ key among. among_all KeyFits key keys (kept_fit KeyFits (λ key. not (is_among parts key.uuid)) (all_keys_named cs) (keys_fit cs w)) among in
-    let inside = run_inside b keys parts last.key last_fit.1 key_fits sayable (λ k i. without_finds parts store k i) cs (run_items 0 byte_cells (start_of b) items).state w (all_outside parts (all_keys_named cs)) (takes_run items (start_of b) accepted) in
-    subst (λ (es : List Command). AllByRecursion IsInside es) (sym (composed_items b parts last.key items (start_of (traced_store b)) None)) inside
+    let last_fit = last_fits_of (heads items) last (heads_fit version cs w) last_is in
+    let key_fits : (key : Key) → IsAmong key keys → KeyFits key = λ key among. among_all KeyFits key keys (kept_fit KeyFits (λ key. not (is_among parts key.uuid)) (all_keys_named cs) (keys_fit version cs w)) among in
+    let inside = run_inside version is b keys parts last.key last_fit.1 key_fits sayable (λ k i. without_finds parts store k i) cs (run_items 0 byte_cells (start_of b) items).state w (all_outside parts (all_keys_named cs)) (takes_run items (start_of b) accepted) in
+    subst (λ (es : List Command). AllByRecursion (IsInside version) es) (sym (composed_items b parts last.key items (start_of (traced_store b)) None)) inside
 
-all_spelled : (cs : List Command) → AllByRecursion IsInside cs → AllByRecursion IsSpellable cs
-all_spelled [] i = tt
-all_spelled (c ∷ cs) i = (i.0.0, all_spelled cs i.1)
+all_spelled : (version : ℕ) (cs : List Command) → AllByRecursion (IsInside version) cs → AllByRecursion (IsSpellable version) cs
+all_spelled version [] i = tt
+all_spelled version (c ∷ cs) i = (i.0.0, all_spelled version cs i.1)
 
 -- The whole list can be spelled.
-pub composed_spelled : (store : Store ℕ) (items : List Item) (first last : Head) → first_head (heads items) ≡ Some first → last_head (heads items) ≡ Some last
-    → AllByRecursion IsSpellable (commands_of items) → IsAccepted (run_items 0 byte_cells (start_of (base_of store items)) items) → FindsSayable (base_of store items) (keys_outside items)
-    → AllByRecursion IsSpellable (composed_with (base_of store items) first last items)
-unfolding composed_with IsSpellable
-composed_spelled store items first last first_is last_is w accepted sayable =
+pub composed_spelled : (version : ℕ) → IsVersion version → (store : Store ℕ) (items : List Item) (first last : Head) → first_head (heads items) ≡ Some first → last_head (heads items) ≡ Some last
+    → AllByRecursion (IsSpellable version) (commands_of items) → IsAccepted (run_items 0 byte_cells (start_of (base_of store items)) items) → FindsSayable (base_of store items) (keys_outside items)
+    → AllByRecursion (IsSpellable version) (composed_with (base_of store items) first last items)
+unfolding composed_with row
+composed_spelled version is store items first last first_is last_is w accepted sayable =
     let es : List Command = composed_edits (base_of store items) last.key items in (
-      heads_spelled (commands_of items) first last first_is last_is w,
-      all_both IsSpellable es (End ∷ []) (all_spelled es (edits_inside store items last last_is w accepted sayable)) (tt, tt),
+      heads_spelled version is (commands_of items) first last first_is last_is w,
+      all_both (IsSpellable version) es (End ∷ []) (all_spelled version es (edits_inside version is store items last last_is w accepted sayable)) ((end_writable version is).spellable, tt),
     )
 
-both_inner : (cs : List Command) → AllByRecursion IsInside cs → AllByRecursion IsKind cs → AreInner cs
-both_inner [] i k = tt
-both_inner (c ∷ cs) i k = ((record { spellable = i.0.0; taken_kind = k.0 }, i.0.1), both_inner cs i.1 k.1)
+both_inner : (version : ℕ) (cs : List Command) → AllByRecursion (IsInside version) cs → AllByRecursion (IsKind version) cs → AreInner version cs
+both_inner version [] i k = tt
+both_inner version (c ∷ cs) i k = ((record { spellable = i.0.0; taken_kind = k.0 }, i.0.1), both_inner version cs i.1 k.1)
 
-pub are_spelled : (cs : List Command) → AllByRecursion CanWrite cs → AllByRecursion IsSpellable cs
-are_spelled [] w = tt
-are_spelled (c ∷ cs) w = (w.0.spellable, are_spelled cs w.1)
+pub are_spelled : (version : ℕ) (cs : List Command) → AllByRecursion (CanWrite version) cs → AllByRecursion (IsSpellable version) cs
+are_spelled version [] w = tt
+are_spelled version (c ∷ cs) w = (w.0.spellable, are_spelled version cs w.1)
 
 -- What is composed from items whose commands can be written can be written.
-pub composed_inner : (store : Store ℕ) (items : List Item) (first last : Head) → first_head (heads items) ≡ Some first → last_head (heads items) ≡ Some last
-    → AllByRecursion CanWrite (commands_of items) → IsAccepted (run_items 0 byte_cells (start_of (base_of store items)) items) → FindsSayable (base_of store items) (keys_outside items)
-    → AreInner (head_command last.name last.key first.parent ∷ composed_edits (base_of store items) last.key items)
+pub composed_inner : (version : ℕ) → IsVersion version → (store : Store ℕ) (items : List Item) (first last : Head) → first_head (heads items) ≡ Some first → last_head (heads items) ≡ Some last
+    → AllByRecursion (CanWrite version) (commands_of items) → IsAccepted (run_items 0 byte_cells (start_of (base_of store items)) items) → FindsSayable (base_of store items) (keys_outside items)
+    → AreInner version (head_command last.name last.key first.parent ∷ composed_edits (base_of store items) last.key items)
 unfolding composed_edits edits_inside
-composed_inner store items first last first_is last_is w accepted sayable =
+composed_inner version is store items first last first_is last_is w accepted sayable =
     let b : Store ℕ = base_of store items in
     let parts : List (List ℕ) = part_uuids items in
     let cs : List Command = commands_of items in
-    let spelled = are_spelled cs w in
+    let spelled = are_spelled version cs w in
     let τ : State Traced = start_of (traced_store b) in
-    let kind = head_kind last.name last.key first.parent in
-    let kinds = subst (λ (es : List Command). AllByRecursion IsKind es) (sym (composed_items b parts last.key items τ None)) (all_kinds b parts last.key cs τ None w) in (
-      (record { spellable = heads_spelled cs first last first_is last_is spelled; taken_kind = kind.0 }, kind.1),
-      both_inner (composed_edits b last.key items) (edits_inside store items last last_is spelled accepted sayable) kinds,
+    let kind = head_kind version is last.name last.key first.parent in
+    let kinds = subst (λ (es : List Command). AllByRecursion (IsKind version) es) (sym (composed_items b parts last.key items τ None)) (all_kinds version is b parts last.key cs τ None w) in (
+      (record { spellable = heads_spelled version is cs first last first_is last_is spelled; taken_kind = kind.0 }, kind.1),
+      both_inner version (composed_edits b last.key items) (edits_inside version is store items last last_is spelled accepted sayable) kinds,
     )

@@ -8,6 +8,7 @@ use Rattle.std.proofs.lemmas.Bool.{true≢false}
 use Rattle.send_model.specs.Refusal.{NoSubvolume}
 use Rattle.send_model.specs.Command.{Command, End}
 use Rattle.send_model.specs.Spelling.{stream_header, canonical, canonical_all}
+use Rattle.send_model.specs.Reading.{is_version}
 use Rattle.send_model.specs.Store.{Head, head_of, Store, State, step, completed}
 use Rattle.send_model.specs.Receive.{bytes_of}
 use Rattle.send_model.specs.Order.{onto_heads, heads_of}
@@ -20,14 +21,14 @@ use Rattle.send_model.proofs.Streams.{IsInner, canonical_long}
 use Rattle.send_model.proofs.Prefixes.{stream_cut}
 
 -- The bytes for the commands so far, where the first head among them is given, as the part of the last head.
-unfoldable pub written_so_far : Head → Option Head → List Command → List ℕ
-written_so_far last None cs = []
-written_so_far last (Some first) cs = stream_header 1 ++ canonical_all 1 (head_command last.name last.key first.parent ∷ edits_of cs)
+unfoldable pub written_so_far : ℕ → Head → Option Head → List Command → List ℕ
+written_so_far version last None cs = []
+written_so_far version last (Some first) cs = stream_header version ++ canonical_all version (head_command last.name last.key first.parent ∷ edits_of cs)
 
-pub canonical_all-append : (cs ds : List Command) → canonical_all 1 (cs ++ ds) ≡ canonical_all 1 cs ++ canonical_all 1 ds
+pub canonical_all-append : (version : ℕ) (cs ds : List Command) → canonical_all version (cs ++ ds) ≡ canonical_all version cs ++ canonical_all version ds
 unfolding canonical_all
-canonical_all-append [] ds = refl
-canonical_all-append (c ∷ cs) ds = ap (λ (r : List ℕ). canonical 1 c ++ r) (canonical_all-append cs ds) ∙ sym (append_assoc (canonical 1 c) (canonical_all 1 cs) (canonical_all 1 ds))
+canonical_all-append version [] ds = refl
+canonical_all-append version (c ∷ cs) ds = ap (λ (r : List ℕ). canonical version c ++ r) (canonical_all-append version cs ds) ∙ sym (append_assoc (canonical version c) (canonical_all version cs) (canonical_all version ds))
 
 pub edits_of-append : (cs ds : List Command) → edits_of (cs ++ ds) ≡ edits_of cs ++ edits_of ds
 edits_of-append [] ds = refl
@@ -43,15 +44,15 @@ heads_of-append (c ∷ cs) ds = one (head_of c) (heads_of-append cs ds)
     one (Some h) more = ap (λ (r : List Head). h ∷ r) more
 
 -- One more command after the first head.
-pub written-more : (last first : Head) (cs : List Command) (c : Command) → written_so_far last (Some first) (cs ++ c ∷ []) ≡ written_so_far last (Some first) cs ++ canonical_all 1 (edit_in (head_of c) c)
+pub written-more : (version : ℕ) (last first : Head) (cs : List Command) (c : Command) → written_so_far version last (Some first) (cs ++ c ∷ []) ≡ written_so_far version last (Some first) cs ++ canonical_all version (edit_in (head_of c) c)
 unfolding written_so_far
-written-more last first cs c =
+written-more version last first cs c =
     let h : Command = head_command last.name last.key first.parent in
     let e : List Command = edit_in (head_of c) c in
     let all : edits_of (cs ++ c ∷ []) ≡ edits_of cs ++ e = edits_of-append cs (c ∷ []) ∙ ap (λ (r : List Command). edits_of cs ++ r) (append-nil e) in
-    ap (λ (r : List Command). stream_header 1 ++ canonical_all 1 (h ∷ r)) all
-    ∙ ap (λ (r : List ℕ). stream_header 1 ++ r) (canonical_all-append (h ∷ edits_of cs) e)
-    ∙ sym (append_assoc (stream_header 1) (canonical_all 1 (h ∷ edits_of cs)) (canonical_all 1 e))
+    ap (λ (r : List Command). stream_header version ++ canonical_all version (h ∷ r)) all
+    ∙ ap (λ (r : List ℕ). stream_header version ++ r) (canonical_all-append version (h ∷ edits_of cs) e)
+    ∙ sym (append_assoc (stream_header version) (canonical_all version (h ∷ edits_of cs)) (canonical_all version e))
 
 -- ---- before the first head
 
@@ -77,15 +78,15 @@ quiet [] = λ store end n none t. (refl, sym t)
 quiet (c ∷ cs) = by_sort {P = λ c. Quiet cs → Quiet (c ∷ cs)} (λ c head h ih. quiet_head c head h cs) (quiet_end cs) (λ c h ih store end n none t. absurd (true≢false (sym h ∙ n.0))) (λ c h ih. quiet_plain c h cs) c (quiet cs)
 
 -- The first head.
-pub written-first : (last first : Head) (cs : List Command) → edits_of cs ≡ [] → written_so_far last (Some first) cs ≡ stream_header 1 ++ canonical 1 (head_command last.name last.key first.parent)
+pub written-first : (version : ℕ) (last first : Head) (cs : List Command) → edits_of cs ≡ [] → written_so_far version last (Some first) cs ≡ stream_header version ++ canonical version (head_command last.name last.key first.parent)
 unfolding written_so_far canonical_all
-written-first last first cs none = ap (λ (r : List Command). stream_header 1 ++ canonical_all 1 (head_command last.name last.key first.parent ∷ r)) none ∙ ap (λ (r : List ℕ). stream_header 1 ++ r) (append-nil (canonical 1 (head_command last.name last.key first.parent)))
+written-first version last first cs none = ap (λ (r : List Command). stream_header version ++ canonical_all version (head_command last.name last.key first.parent ∷ r)) none ∙ ap (λ (r : List ℕ). stream_header version ++ r) (append-nil (canonical version (head_command last.name last.key first.parent)))
 
 -- ---- unfinished
 
-header_long : 1 ≤ length (stream_header 1)
+header_long : (version : ℕ) → 1 ≤ length (stream_header version)
 unfolding stream_header
-header_long = lit≤ tt
+header_long version = lit≤ tt
 
 take_nothing : (k : ℕ) → take {A = ℕ} k [] ≡ []
 take_nothing zero = refl
@@ -95,25 +96,25 @@ take_nothing (suc k) = refl
 pub nothing_unfinished : (k : ℕ) → IsUnfinished (take k [])
 nothing_unfinished k =
     let U : List ℕ → Type 0 = λ b. IsUnfinished b in
-    subst U (sym (take_nothing k)) (stream_cut 1 [] 0 tt (omega (arith, length-append (stream_header 1) (canonical_all 1 (End ∷ [])), header_long)))
+    subst U (sym (take_nothing k)) (stream_cut 1 1 [] 0 refl tt (omega (arith, length-append (stream_header 1) (canonical_all 1 (End ∷ [])), header_long 1)))
 
 -- The whole stream, as what stands before its END and END.
-pub whole_parts : (front : List ℕ) (cs : List Command) → front ++ canonical_all 1 (cs ++ End ∷ []) ≡ (front ++ canonical_all 1 cs) ++ canonical 1 End
+pub whole_parts : (version : ℕ) (front : List ℕ) (cs : List Command) → front ++ canonical_all version (cs ++ End ∷ []) ≡ (front ++ canonical_all version cs) ++ canonical version End
 unfolding canonical_all
-whole_parts front cs = ap (λ (r : List ℕ). front ++ r) (canonical_all-append cs (End ∷ []) ∙ ap (λ (r : List ℕ). canonical_all 1 cs ++ r) (append-nil (canonical 1 End))) ∙ sym (append_assoc front (canonical_all 1 cs) (canonical 1 End))
+whole_parts version front cs = ap (λ (r : List ℕ). front ++ r) (canonical_all-append version cs (End ∷ []) ∙ ap (λ (r : List ℕ). canonical_all version cs ++ r) (append-nil (canonical version End))) ∙ sym (append_assoc front (canonical_all version cs) (canonical version End))
 
 -- No front part of what is written before END is read as whole, and no proper one of the whole.
-pub unfinished_part : (cs : List Command) (k : ℕ) → AllByRecursion IsInner cs → k < length ((stream_header 1 ++ canonical_all 1 cs) ++ canonical 1 End) → IsUnfinished (take k ((stream_header 1 ++ canonical_all 1 cs) ++ canonical 1 End))
-unfinished_part cs k inner h =
-    let whole = whole_parts (stream_header 1) cs in
+pub unfinished_part : (version : ℕ) (cs : List Command) (k : ℕ) → is_version version ≡ true → AllByRecursion (IsInner version) cs → k < length ((stream_header version ++ canonical_all version cs) ++ canonical version End) → IsUnfinished (take k ((stream_header version ++ canonical_all version cs) ++ canonical version End))
+unfinished_part version cs k is inner h =
+    let whole = whole_parts version (stream_header version) cs in
     let U : List ℕ → Type 0 = λ b. k < length b → IsUnfinished (take k b) in
-    subst U whole (stream_cut 1 cs k inner) h
+    subst U whole (stream_cut 1 version cs k is inner) h
 
-pub unfinished_so_far : (last : Head) (first : Option Head) (cs : List Command) (k : ℕ) → ((f : Head) → first ≡ Some f → AllByRecursion IsInner (head_command last.name last.key f.parent ∷ edits_of cs)) → k ≤ length (written_so_far last first cs) → IsUnfinished (take k (written_so_far last first cs))
+pub unfinished_so_far : (version : ℕ) (last : Head) (first : Option Head) (cs : List Command) (k : ℕ) → is_version version ≡ true → ((f : Head) → first ≡ Some f → AllByRecursion (IsInner version) (head_command last.name last.key f.parent ∷ edits_of cs)) → k ≤ length (written_so_far version last first cs) → IsUnfinished (take k (written_so_far version last first cs))
 unfolding written_so_far
-unfinished_so_far last None cs k inner h = nothing_unfinished k
-unfinished_so_far last (Some first) cs k inner h =
+unfinished_so_far version last None cs k is inner h = nothing_unfinished k
+unfinished_so_far version last (Some first) cs k is inner h =
     let es : List Command = head_command last.name last.key first.parent ∷ edits_of cs in
-    let bytes : List ℕ = stream_header 1 ++ canonical_all 1 es in
+    let bytes : List ℕ = stream_header version ++ canonical_all version es in
     let U : List ℕ → Type 0 = λ b. IsUnfinished b in
-    subst U (take-append-le k bytes (canonical 1 End) h) (unfinished_part es k (inner first refl) (omega (arith, h, length-append bytes (canonical 1 End), canonical_long End)))
+    subst U (take-append-le k bytes (canonical version End) h) (unfinished_part version es k is (inner first refl) (omega (arith, h, length-append bytes (canonical version End), canonical_long version End)))

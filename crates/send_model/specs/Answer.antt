@@ -2,7 +2,7 @@
 use Rattle.std.specs.Prelude.{ℕ, ◌-◌, false, ◌&&◌, List, [], ◌∷◌, ◌++◌, length, replicate, Option, None, Some, codes, if◌then◌else◌}
 use Rattle.std.specs.Fmt.{decimal, digits}
 use Rattle.std.specs.Str.{bytes_eq}
-use Rattle.send_model.specs.Refusal.{Refusal, refusal_number, refusal_name, BadVersion, LongCommand, BadChecksum, UnknownCommand, BadAttribute, MissingAttribute, NotBuilt}
+use Rattle.send_model.specs.Refusal.{Refusal, refusal_number, refusal_name, BadMagic, BadVersion, Truncated, LongCommand, BadChecksum, UnknownCommand, BadAttribute, MissingAttribute, NoSubvolume, BadName, NameThere, UuidThere, NoParent, BadPath, NoEntry, NotDirectory, EntryThere, IsDirectory, NotEmpty, IntoItself, NotFile, BadXattr, NoXattr, BadDevice, BadTime, IsRoot, FileTooBig, NoSource, BadRange, Unaligned, Overlap, Encoded, Guarded, BadFallocate, NotConsecutive, NotBuilt, NoNumber}
 use Rattle.send_model.specs.Reading.{Verdict}
 
 -- A request: compose the files from a place in the words on, over the store at another.
@@ -52,7 +52,36 @@ kept_values (UnknownCommand number) = and_number number
 kept_values (BadAttribute kind) = and_number kind
 kept_values (MissingAttribute kind) = and_number kind
 kept_values (NotBuilt number) = and_number number
-kept_values _ = []
+kept_values (Guarded guard used) = and_number guard ++ and_number used
+kept_values (BadFallocate mode) = and_number mode
+kept_values BadMagic = []
+kept_values Truncated = []
+kept_values NoSubvolume = []
+kept_values BadName = []
+kept_values NameThere = []
+kept_values UuidThere = []
+kept_values NoParent = []
+kept_values BadPath = []
+kept_values NoEntry = []
+kept_values NotDirectory = []
+kept_values EntryThere = []
+kept_values IsDirectory = []
+kept_values NotEmpty = []
+kept_values IntoItself = []
+kept_values NotFile = []
+kept_values BadXattr = []
+kept_values NoXattr = []
+kept_values BadDevice = []
+kept_values BadTime = []
+kept_values IsRoot = []
+kept_values FileTooBig = []
+kept_values NoSource = []
+kept_values BadRange = []
+kept_values Unaligned = []
+kept_values Overlap = []
+kept_values Encoded = []
+kept_values NotConsecutive = []
+kept_values NoNumber = []
 
 unfoldable pub verdict_text : Verdict → List ℕ
 verdict_text v = codes "refused" ++ and_number v.file ++ and_number v.command ++ and_number v.offset

@@ -1,9 +1,9 @@
--- The commands of a stream and the one table of them: each command's number, name and wanted attributes.
--- Source: enum btrfs_send_cmd in send.h of btrfs-progs, and process_.. in send-stream.c for the attributes.
-use Rattle.std.specs.Prelude.{ℕ, ◌==◌, List, [], ◌∷◌, take, drop, Option, codes}
+-- The commands of a stream and the one table of them: each command's number, name and wanted attributes. The last three came
+-- with version 2. Source: enum btrfs_send_cmd in send.h of btrfs-progs, and process_.. in send-stream.c for the attributes.
+use Rattle.std.specs.Prelude.{ℕ, ◌==◌, ◌&&◌, Bool, List, [], ◌∷◌, ◌++◌, take, drop, Option, codes, if◌then◌else◌}
 use Rattle.std.specs.List.{find}
 use Rattle.std.specs.Int.{w32, w64, from_le_bytes}
-use Rattle.send_model.specs.Attribute.{Time, Field, Identifier, Number, Moment, Bytes, UUID, CTRANSID, SIZE, MODE, UID, GID, RDEV, MTIME, ATIME, XATTR_NAME, XATTR_DATA, PATH, PATH_TO, PATH_LINK, FILE_OFFSET, DATA, CLONE_UUID, CLONE_CTRANSID, CLONE_PATH, CLONE_OFFSET, CLONE_LEN}
+use Rattle.send_model.specs.Attribute.{Time, Field, Identifier, Number, ShortNumber, Moment, Bytes, UUID, CTRANSID, SIZE, MODE, UID, GID, RDEV, MTIME, ATIME, XATTR_NAME, XATTR_DATA, PATH, PATH_TO, PATH_LINK, FILE_OFFSET, DATA, CLONE_UUID, CLONE_CTRANSID, CLONE_PATH, CLONE_OFFSET, CLONE_LEN, FALLOCATE_MODE, FILE_FLAGS}
 
 -- The commands by name.
 pub data Kind : Type 0 where
@@ -29,6 +29,8 @@ pub data Kind : Type 0 where
   UTIMES : Kind
   END : Kind
   UPDATE_EXTENT : Kind
+  FALLOCATE : Kind
+  FILEATTR : Kind
 
 -- A row of the table. The wanted attributes stand in rising order of their numbers.
 pub record Row : Type 0 where
@@ -59,13 +61,26 @@ row CHOWN = record { number = 19; name = codes "CHOWN"; wanted = UID ∷ GID ∷
 row UTIMES = record { number = 20; name = codes "UTIMES"; wanted = MTIME ∷ ATIME ∷ PATH ∷ [] }
 row END = record { number = 21; name = codes "END"; wanted = [] }
 row UPDATE_EXTENT = record { number = 22; name = codes "UPDATE_EXTENT"; wanted = SIZE ∷ PATH ∷ FILE_OFFSET ∷ [] }
+row FALLOCATE = record { number = 23; name = codes "FALLOCATE"; wanted = SIZE ∷ PATH ∷ FILE_OFFSET ∷ FALLOCATE_MODE ∷ [] }
+row FILEATTR = record { number = 24; name = codes "FILEATTR"; wanted = PATH ∷ FILE_FLAGS ∷ [] }
+
+-- Version 2 has one command more, ENCODED_WRITE, which is never taken: it writes bytes that are still compressed.
+abbrev pub is_encoded : ℕ → ℕ → Bool
+is_encoded version number = (version == 2) && (number == 25)
+
+abbrev pub first_kinds : List Kind
+first_kinds = SUBVOL ∷ SNAPSHOT ∷ MKFILE ∷ MKDIR ∷ MKNOD ∷ MKFIFO ∷ MKSOCK ∷ SYMLINK ∷ RENAME ∷ LINK ∷ UNLINK ∷ RMDIR ∷ SET_XATTR ∷ REMOVE_XATTR ∷ WRITE ∷ CLONE ∷ TRUNCATE ∷ CHMOD ∷ CHOWN ∷ UTIMES ∷ END ∷ UPDATE_EXTENT ∷ []
 
 abbrev pub all_kinds : List Kind
-all_kinds = SUBVOL ∷ SNAPSHOT ∷ MKFILE ∷ MKDIR ∷ MKNOD ∷ MKFIFO ∷ MKSOCK ∷ SYMLINK ∷ RENAME ∷ LINK ∷ UNLINK ∷ RMDIR ∷ SET_XATTR ∷ REMOVE_XATTR ∷ WRITE ∷ CLONE ∷ TRUNCATE ∷ CHMOD ∷ CHOWN ∷ UTIMES ∷ END ∷ UPDATE_EXTENT ∷ []
+all_kinds = first_kinds ++ FALLOCATE ∷ FILEATTR ∷ []
 
--- The command of a number, if the version has one. Version 1 has them all.
+-- The commands of a version.
+abbrev pub kinds_of : ℕ → List Kind
+kinds_of version = if version == 1 then first_kinds else (if version == 2 then all_kinds else [])
+
+-- The command of a number, if the version has one.
 unfoldable pub kind_of_number : ℕ → ℕ → Option Kind
-kind_of_number version number = find (λ kind. (row kind).number == number) all_kinds
+kind_of_number version number = find (λ kind. (row kind).number == number) (kinds_of version)
 
 -- A command with its values, in the order of its wanted attributes. A path, a name and data are bytes;
 -- sizes and offsets count bytes; an identifier is its 16 bytes.
@@ -92,6 +107,8 @@ pub data Command : Type 0 where
   Utimes : (mtime : Time) (atime : Time) (path : List ℕ) → Command
   End : Command
   UpdateExtent : (size : ℕ) (path : List ℕ) (offset : ℕ) → Command
+  Fallocate : (size : ℕ) (path : List ℕ) (offset : ℕ) (mode : ℕ) → Command
+  FileAttr : (path : List ℕ) (flags : ℕ) → Command
 
 abbrev pub kind_of : Command → Kind
 kind_of (Subvol uuid ctransid path) = SUBVOL
@@ -116,6 +133,8 @@ kind_of (Chown uid gid path) = CHOWN
 kind_of (Utimes mtime atime path) = UTIMES
 kind_of End = END
 kind_of (UpdateExtent size path offset) = UPDATE_EXTENT
+kind_of (Fallocate size path offset mode) = FALLOCATE
+kind_of (FileAttr path flags) = FILEATTR
 
 -- Its values, in the order of the wanted attributes.
 abbrev pub fields_of : Command → List Field
@@ -141,10 +160,15 @@ fields_of (Chown uid gid path) = Number uid ∷ Number gid ∷ Bytes path ∷ []
 fields_of (Utimes mtime atime path) = Moment mtime ∷ Moment atime ∷ Bytes path ∷ []
 fields_of End = []
 fields_of (UpdateExtent size path offset) = Number size ∷ Bytes path ∷ Number offset ∷ []
+fields_of (Fallocate size path offset mode) = Number size ∷ Bytes path ∷ Number offset ∷ ShortNumber mode ∷ []
+fields_of (FileAttr path flags) = Bytes path ∷ Number flags ∷ []
 
--- The number and the moment that bytes say.
+-- The number, the short number and the moment that bytes say.
 abbrev pub number_in : List ℕ → ℕ
 number_in bytes = from_le_bytes w64 bytes
+
+abbrev pub short_number_in : List ℕ → ℕ
+short_number_in bytes = from_le_bytes w32 bytes
 
 abbrev pub time_in : List ℕ → Time
 time_in bytes = record { secs = from_le_bytes w64 (take 8 bytes); nanos = from_le_bytes w32 (drop 8 bytes) }
@@ -173,3 +197,5 @@ command_with CHOWN values = Chown (number_in (values UID)) (number_in (values GI
 command_with UTIMES values = Utimes (time_in (values MTIME)) (time_in (values ATIME)) (values PATH)
 command_with END values = End
 command_with UPDATE_EXTENT values = UpdateExtent (number_in (values SIZE)) (values PATH) (number_in (values FILE_OFFSET))
+command_with FALLOCATE values = Fallocate (number_in (values SIZE)) (values PATH) (number_in (values FILE_OFFSET)) (short_number_in (values FALLOCATE_MODE))
+command_with FILEATTR values = FileAttr (values PATH) (number_in (values FILE_FLAGS))

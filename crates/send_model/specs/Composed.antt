@@ -1,8 +1,8 @@
 -- The one list of commands that stands for several parts: the first part's head with the name and the key of the last, the
 -- commands of all parts in order, and END. A clone inside a part names the new part; one from an earlier part gives way to
 -- clones of the outside places that carry its blocks, and to writes of its other bytes.
-use Rattle.std.specs.Prelude.{ℕ, zero, suc, ◌+◌, List, [], ◌∷◌, ◌++◌, take, drop, length, Option, None, Some, if◌then◌else◌}
-use Rattle.std.specs.List.{flat_map}
+use Rattle.std.specs.Prelude.{ℕ, zero, suc, ◌==◌, ◌+◌, List, [], ◌∷◌, ◌++◌, take, drop, length, Option, None, Some, if◌then◌else◌}
+use Rattle.std.specs.List.{flat_map, list_any}
 use Rattle.std.specs.Option.{unwrap_or}
 use Rattle.send_model.specs.Command.{Command, Subvol, Snapshot, Write, Clone, End}
 use Rattle.send_model.specs.Reading.{Item, input}
@@ -49,6 +49,10 @@ piece_commands store path offset (Literal at bytes) = writes_from (length bytes)
 piece_commands store path offset (Carried at place len) = Clone path (offset + at) place.key.uuid place.key.ctransid (path_of store place) place.offset len ∷ []
 
 -- ---- the list
+
+-- The version of the stream that stands for items: 2 where one of them has it, else 1.
+unfoldable pub version_of : List Item → ℕ
+version_of items = if list_any (λ item. item.version == 2) items then 2 else 1
 
 -- What stands for a CLONE: itself, itself with the new part's key, or its pieces.
 abbrev pub clone_commands : Store ℕ → List (List ℕ) → Key → State Traced → Option (List ℕ) → Command → List Command

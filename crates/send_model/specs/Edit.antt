@@ -1,12 +1,13 @@
 -- What each command but CLONE, the heads and END does to a subvolume: the first refusal in its order, or the subvolume
 -- afterwards. It looks at nothing but the subvolume of the part that is being received. Cells are moved and never looked at.
--- Source: process_.. in cmds/receive.c of btrfs-progs and the manual pages of the system calls that it makes.
-use Rattle.std.specs.Prelude.{ℕ, ◌+◌, ◌-◌, ◌^◌, ◌%◌, ◌==◌, Bool, false, not, ◌&&◌, ◌||◌, List, [], ◌∷◌, ◌++◌, length, take, drop, replicate, Option, None, Some, Result, Ok, nat_le, if◌then◌else◌, bit_and, is_some, is_none}
+-- Source: process_.. in cmds/receive.c of btrfs-progs and the manual pages of the system calls that it makes; fallocate(2) for the
+-- modes of FALLOCATE, of which five are taken here.
+use Rattle.std.specs.Prelude.{ℕ, zero, suc, ◌+◌, ◌-◌, ◌^◌, ◌%◌, ◌==◌, Bool, false, not, ◌&&◌, ◌||◌, List, [], ◌∷◌, ◌++◌, length, map, take, drop, replicate, Option, None, Some, Result, Ok, nat_le, if◌then◌else◌, bit_and, is_some, is_none}
 use Rattle.std.specs.List.{list_any}
 use Rattle.std.specs.Ordering.{nat_cmp}
-use Rattle.send_model.specs.Refusal.{Refusal, BadPath, NoEntry, NotDirectory, EntryThere, IsDirectory, NotEmpty, IntoItself, NotFile, BadXattr, NoXattr, BadDevice, FileTooBig, NoNumber}
+use Rattle.send_model.specs.Refusal.{Refusal, BadPath, NoEntry, NotDirectory, EntryThere, IsDirectory, NotEmpty, IntoItself, NotFile, BadXattr, NoXattr, BadDevice, FileTooBig, BadFallocate, NoNumber}
 use Rattle.send_model.specs.Chain.{◌>>=◌, ◌>>◌, require, refuse_if, found}
-use Rattle.send_model.specs.Command.{Command, MkFile, MkDir, MkNod, MkFifo, MkSock, Symlink, Rename, Link, Unlink, Rmdir, SetXattr, RemoveXattr, Write, Truncate, Chmod, Chown, Utimes, UpdateExtent}
+use Rattle.send_model.specs.Command.{Command, Subvol, Snapshot, MkFile, MkDir, MkNod, MkFifo, MkSock, Symlink, Rename, Link, Unlink, Rmdir, SetXattr, RemoveXattr, Write, Clone, Truncate, Chmod, Chown, Utimes, End, UpdateExtent, Fallocate, FileAttr}
 use Rattle.send_model.specs.Path.{path_names}
 use Rattle.send_model.specs.Map.{bytes_cmp, named_cmp, value_at, with_value, without}
 use Rattle.send_model.specs.Subvolume.{NodeKind, File, SymbolicLink, CharacterDevice, BlockDevice, Fifo, Socket, Inode, Subvolume, Spot, new_inode, new_directory, root, inode_at, named, is_directory, is_file, walk, spot, all_but_last, inodes_on_way, name_count, is_empty_directory}
@@ -186,6 +187,48 @@ change_contents path end change s = do
   require (nat_le end greatest_end) FileTooBig
   Ok (change_inode ino (set_cells change) s)
 
+-- What FALLOCATE does, by the bits of its mode: 1 keeps the size, 2 punches a hole, 16 zeroes the range.
+pub data Allocation : Type 0 where
+  Lengthen : Allocation
+  KeepSize : Allocation
+  PunchHole : Allocation
+  ZeroRange : Allocation
+  ZeroWithin : Allocation
+
+-- The five modes; every other one is refused.
+abbrev pub allocation_of : ℕ → Option Allocation
+allocation_of mode =
+    if mode == 0 then Some Lengthen
+    else (if mode == 1 then Some KeepSize
+    else (if mode == 3 then Some PunchHole
+    else (if mode == 16 then Some ZeroRange
+    else (if mode == 17 then Some ZeroWithin else None))))
+
+-- Zero cells in place of those of a range, as far as there are any.
+abbrev pub zeroed : {C : Type 0} → C → ℕ → ℕ → List C → List C
+zeroed zero_cell offset size cells = take offset cells ++ map (λ c. zero_cell) (take size (drop offset cells)) ++ drop (offset + size) cells
+
+-- Filled up to the end of the range, or as they are, or zero cells in it: as far as there are cells, or as a write of so many.
+abbrev pub allocated : {C : Type 0} → C → Allocation → ℕ → ℕ → List C → List C
+allocated zero_cell Lengthen offset size cells = filled zero_cell (offset + size) cells
+allocated zero_cell KeepSize offset size cells = cells
+allocated zero_cell PunchHole offset size cells = zeroed zero_cell offset size cells
+allocated zero_cell ZeroRange offset size cells = written_at zero_cell offset (replicate size zero_cell) cells
+allocated zero_cell ZeroWithin offset size cells = zeroed zero_cell offset size cells
+
+-- A range of no cells changes nothing, wherever it stands.
+unfoldable pub fallocated : {C : Type 0} → C → Allocation → ℕ → ℕ → List C → List C
+fallocated zero_cell allocation offset zero cells = cells
+fallocated zero_cell allocation offset (suc size) cells = allocated zero_cell allocation offset (suc size) cells
+
+unfoldable pub fallocate : {C : Type 0} → C → List ℕ → ℕ → ℕ → ℕ → Subvolume C → Result (Subvolume C) Refusal
+fallocate zero_cell path offset size mode s = do
+  ino ← walk s path
+  require (is_file s ino) NotFile
+  allocation ← found (allocation_of mode) (BadFallocate mode)
+  require (nat_le (offset + size) greatest_end) FileTooBig
+  Ok (change_inode ino (set_cells (fallocated zero_cell allocation offset size)) s)
+
 -- The edit of each command, where a WRITE puts the given cells. Heads, CLONE and END are no edits of one subvolume, and stand
 -- here as the edit that changes nothing. UPDATE_EXTENT says where data is, and changes nothing.
 unfoldable pub edit : {C : Type 0} → C → List C → Command → Subvolume C → Result (Subvolume C) Refusal
@@ -207,4 +250,9 @@ edit zero_cell put (Chmod mode path) s = change_at path (λ inode. record inode 
 edit zero_cell put (Chown uid gid path) s = change_at path (λ inode. record inode { uid = uid; gid = gid }) s
 edit zero_cell put (Utimes mtime atime path) s = change_at path (λ inode. record inode { atime = atime; mtime = mtime }) s
 edit zero_cell put (UpdateExtent size path offset) s = Ok s
-edit zero_cell put _ s = Ok s
+edit zero_cell put (Fallocate size path offset mode) s = fallocate zero_cell path offset size mode s
+edit zero_cell put (FileAttr path flags) s = change_at path (λ inode. record inode { flags = flags }) s
+edit zero_cell put (Subvol uuid ctransid path) s = Ok s
+edit zero_cell put (Snapshot uuid ctransid path clone_uuid clone_ctransid) s = Ok s
+edit zero_cell put (Clone path offset clone_uuid clone_ctransid clone_path clone_offset clone_len) s = Ok s
+edit zero_cell put End s = Ok s

@@ -14,7 +14,7 @@ use Rattle.send_model.specs.Order.{heads, heads_of, commands_of, IsConsecutive, 
 use Rattle.send_model.specs.Outside.{part_uuids, keys_outside, outside, all_keys_named, IsAmong, SameOn}
 use Rattle.send_model.specs.Provenance.{ranges_of, uncarried_in, runs_in, uncarried, runs}
 use Rattle.send_model.specs.Counts.{literal, clones, streams, kept_from, kept}
-use Rattle.send_model.specs.Composed.{first_head, last_head, composed, composed_before}
+use Rattle.send_model.specs.Composed.{first_head, last_head, version_of, composed, composed_before}
 
 -- The commands of a stream that was written.
 abbrev pub commands_in : List ℕ → List Command
@@ -89,16 +89,20 @@ IsUnfinished written = (reads 1 written).end ≢ Whole
 
 -- ---- what stands on standard output where compose stops before its end
 
--- The header of a stream and commands; nothing where there are no commands.
-abbrev pub stream_front : List Command → List ℕ
-stream_front [] = []
-stream_front (c ∷ cs) = stream_header 1 ++ canonical_all 1 (c ∷ cs)
+-- The header of a stream of a version and commands; nothing where there are no commands.
+abbrev pub stream_front : ℕ → List Command → List ℕ
+stream_front version [] = []
+stream_front version (c ∷ cs) = stream_header version ++ canonical_all version (c ∷ cs)
+
+-- The version of the stream that is written for files: by all that is read of them.
+abbrev pub output_version : List (List ℕ) → ℕ
+output_version files = version_of (input files).items
 
 -- All that compose may write for files, by the verdict on them: what they are composed to; or, where a command is unlawful or
 -- their reading ends at a fault, what the commands before that place are composed to, without END.
 abbrev pub output_for : Option Verdict → Store ℕ → List (List ℕ) → List ℕ
-output_for None base files = stream_header 1 ++ canonical_all 1 (composed base files)
-output_for (Some verdict) base files = stream_front (composed_before base files)
+output_for None base files = stream_header (output_version files) ++ canonical_all (output_version files) (composed base files)
+output_for (Some verdict) base files = stream_front (output_version files) (composed_before base files)
 
 unfoldable pub whole_output : Store ℕ → List (List ℕ) → List ℕ
 whole_output base files = output_for (judge base files) base files

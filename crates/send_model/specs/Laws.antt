@@ -1,11 +1,11 @@
 -- What the definitions mean together: laws that every later promise leans on.
-use Rattle.std.specs.Prelude.{◌≡◌, ◌≢◌, ℕ, ◌+◌, ◌<◌, false, List, [], ◌∷◌, ◌++◌, map, length, take, Option, None, Some, Result, Ok}
+use Rattle.std.specs.Prelude.{◌≡◌, ◌≢◌, ℕ, ◌+◌, ◌<◌, true, false, List, [], ◌∷◌, ◌++◌, map, length, take, Option, None, Some, Result, Ok}
 use Rattle.std.specs.declared.cmp.Ordering.TheVariants.{Greater}
 use Rattle.std.specs.List.{AllByRecursion}
 use Rattle.send_model.specs.Attribute.{IsBytes}
 use Rattle.send_model.specs.Command.{Command, End, row, kind_of}
-use Rattle.send_model.specs.Spelling.{Spells, IsSpellable, stream_header, canonical, canonical_all}
-use Rattle.send_model.specs.Reading.{Item, Front, Whole, reads, input, taken, front_of, data_place}
+use Rattle.send_model.specs.Spelling.{Attribute, body_of, Spells, IsSpellable, stream_header, canonical, canonical_all}
+use Rattle.send_model.specs.Reading.{Item, Frame, Front, Whole, is_version, frame_at, attributes_at, command_of, reads, input, taken, front_of, data_place}
 use Rattle.send_model.specs.Refusal.{Refusal}
 use Rattle.send_model.specs.Map.{bytes_cmp}
 use Rattle.send_model.specs.Subvolume.{Subvolume, IsSound, walk, first_path}
@@ -16,19 +16,29 @@ use Rattle.send_model.specs.Order.{commands_of, IsConsecutive}
 use Rattle.send_model.specs.Outside.{base_of, base, keys_outside, outside, FindsLawful, FindsSayable}
 use Rattle.send_model.specs.Provenance.{Traced, ranges_from, uncarried_in, runs_in}
 use Rattle.send_model.specs.Counts.{literal, clones, is_clone, is_end, kept_from}
-use Rattle.send_model.specs.Composed.{composed_from, composed_of}
+use Rattle.send_model.specs.Composed.{version_of, composed_from, composed_of}
 use Rattle.send_model.specs.Cells.{recelled_state, recelled_step}
 use Rattle.send_model.specs.Headline.{AreComposed, IsComposed, IsUnfinished, output_for}
 
--- A command that the program takes and can spell.
-pub record CanWrite (c : Command) : Type 0 where
-  pub spellable : IsSpellable c
-  pub taken_kind : taken 1 (row (kind_of c)).number ≡ Ok tt
+-- A command that the program takes, and that a version can say.
+pub record CanWrite (version : ℕ) (c : Command) : Type 0 where
+  pub spellable : IsSpellable version c
+  pub taken_kind : taken version (row (kind_of c)).number ≡ Ok tt
 
--- Whatever spells a command is read as that command, whatever follows it.
+-- The bytes in front are read, rule by rule, as one frame of a command, and after it others follow.
+pub record IsReadAs (version : ℕ) (bytes rest : List ℕ) (attributes : List Attribute) (c : Command) : Type 0 where
+  pub frame : frame_at (bytes ++ rest) ≡ Ok (record { number = (row (kind_of c)).number; body = body_of version attributes; rest = rest })
+  pub body : attributes_at version (body_of version attributes) ≡ Ok attributes
+  pub command : command_of version (row (kind_of c)).number attributes ≡ Ok c
+
+-- Whatever spells a command is read as that command, whatever follows it: every command of either version.
 abbrev pub SpelledIsRead : Type 0
-SpelledIsRead = (file version number offset : ℕ) (bytes rest : List ℕ) (c : Command) (s : Spells version bytes c) → taken version (row (kind_of c)).number ≡ Ok tt
-    → front_of file version number offset (bytes ++ rest) ≡ Ok (record { item = record { file = file; number = number; offset = offset; version = version; data_at = data_place offset s.attributes; command = c }; rest = rest })
+SpelledIsRead = (version : ℕ) (bytes rest : List ℕ) (c : Command) (s : Spells version bytes c) → IsReadAs version bytes rest s.attributes c
+
+-- So it is the item in front, where the program takes it.
+abbrev pub SpelledIsFront : Type 0
+SpelledIsFront = (file version number offset : ℕ) (bytes rest : List ℕ) (c : Command) (s : Spells version bytes c) → taken version (row (kind_of c)).number ≡ Ok tt
+    → front_of file version number offset (bytes ++ rest) ≡ Ok (record { item = record { file = file; number = number; offset = offset; version = version; data_at = data_place version offset s.attributes; command = c }; rest = rest })
 
 -- What is in front was spelled: one frame for the item's command, which is taken, and then what follows it.
 pub record WasSpelled (file version number offset : ℕ) (bytes : List ℕ) (front : Front) : Type 0 where
@@ -36,35 +46,48 @@ pub record WasSpelled (file version number offset : ℕ) (bytes : List ℕ) (fro
   pub spells : Spells version frame front.item.command
   pub taken_kind : taken version (row (kind_of front.item.command)).number ≡ Ok tt
   pub whole : bytes ≡ frame ++ front.rest
-  pub item_is : front.item ≡ record { file = file; number = number; offset = offset; version = version; data_at = data_place offset spells.attributes; command = front.item.command }
+  pub item_is : front.item ≡ record { file = file; number = number; offset = offset; version = version; data_at = data_place version offset spells.attributes; command = front.item.command }
 
 -- Where bytes are read as a command, they spell it.
 abbrev pub ReadWasSpelled : Type 0
 ReadWasSpelled = (file version number offset : ℕ) (bytes : List ℕ) (front : Front) → IsBytes bytes → front_of file version number offset bytes ≡ Ok front → WasSpelled file version number offset bytes front
 
+-- Frame, attributes and command, rule by rule, where it is not asked whether the program takes the command.
+abbrev pub RulesWereSpelled : Type 0
+RulesWereSpelled = (version : ℕ) (bytes : List ℕ) (frame : Frame) (attributes : List Attribute) (c : Command) → IsBytes bytes → frame_at bytes ≡ Ok frame
+    → attributes_at version frame.body ≡ Ok attributes → command_of version frame.number attributes ≡ Ok c
+    → (front : List ℕ) × (spells : Spells version front c) × (bytes ≡ front ++ frame.rest) × (spells.attributes ≡ attributes)
+
 -- A frame has one reading: bytes that spell a command spell no other.
 abbrev pub FrameHasOneReading : Type 0
 FrameHasOneReading = (version : ℕ) (bytes : List ℕ) (c d : Command) → Spells version bytes c → Spells version bytes d → c ≡ d
 
--- The canonical spelling of a command spells it.
+-- The canonical spelling of a command spells it; and what is spelled in any way can be spelled canonically.
 abbrev pub CanonicalSpells : Type 0
-CanonicalSpells = (version : ℕ) (c : Command) → IsSpellable c → Spells version (canonical version c) c
+CanonicalSpells = (version : ℕ) (c : Command) → IsSpellable version c → Spells version (canonical version c) c
+
+abbrev pub SpelledIsSpellable : Type 0
+SpelledIsSpellable = (version : ℕ) (bytes : List ℕ) (c : Command) → Spells version bytes c → IsSpellable version c
+
+-- What version 1 can say, version 2 can.
+abbrev pub SecondSaysMore : Type 0
+SecondSaysMore = (c : Command) → IsSpellable 1 c → IsSpellable 2 c
 
 -- One stream of commands, END last and only there.
-abbrev pub stream_of : List Command → List ℕ
-stream_of cs = stream_header 1 ++ canonical_all 1 (cs ++ End ∷ [])
+abbrev pub stream_of : ℕ → List Command → List ℕ
+stream_of version cs = stream_header version ++ canonical_all version (cs ++ End ∷ [])
 
-abbrev pub AreInner : List Command → Type 0
-AreInner cs = AllByRecursion (λ c. CanWrite c × (is_end c ≡ false)) cs
+abbrev pub AreInner : ℕ → List Command → Type 0
+AreInner version cs = AllByRecursion (λ c. CanWrite version c × (is_end c ≡ false)) cs
 
 -- A stream that was spelled is read whole, with its commands.
-pub record StreamIsRead (file : ℕ) (cs : List Command) : Type 0 where
-  pub commands : commands_of (reads file (stream_of cs)).items ≡ cs ++ End ∷ []
-  pub whole : (reads file (stream_of cs)).end ≡ Whole
+pub record StreamIsRead (file version : ℕ) (cs : List Command) : Type 0 where
+  pub commands : commands_of (reads file (stream_of version cs)).items ≡ cs ++ End ∷ []
+  pub whole : (reads file (stream_of version cs)).end ≡ Whole
 
 -- A stream cut short is not read as whole.
 abbrev pub CutIsUnfinished : Type 0
-CutIsUnfinished = (cs : List Command) (k : ℕ) → AreInner cs → k < length (stream_of cs) → IsUnfinished (take k (stream_of cs))
+CutIsUnfinished = (version : ℕ) (cs : List Command) (k : ℕ) → is_version version ≡ true → AreInner version cs → k < length (stream_of version cs) → IsUnfinished (take k (stream_of version cs))
 
 -- A command that is neither a head nor END nor a clone looks at nothing but the part's own subvolume.
 abbrev pub EditLooksAtItsPart : Type 0
@@ -81,11 +104,11 @@ abbrev pub ItemsHold : Type 0
 ItemsHold = (store : Store ℕ) (items : List Item) → IsConsecutive items → IsAccepted (run_items 0 byte_cells (start_of (base_of store items)) items)
     → FindsLawful (base_of store items) (keys_outside items) → AreComposed (base_of store items) items (composed_of (base_of store items) items)
 
--- Where the items' own commands can be spelled, and each subvolume of the base that they name can be said, the composed ones can
--- be spelled too.
+-- Where the items' own versions can say their commands, and each subvolume of the base that they name can be said, the version of
+-- the composed stream can say the composed ones.
 abbrev pub ItemsSpelled : Type 0
 ItemsSpelled = (store : Store ℕ) (items : List Item) → IsConsecutive items → IsAccepted (run_items 0 byte_cells (start_of (base_of store items)) items)
-    → FindsSayable (base_of store items) (keys_outside items) → AllByRecursion IsSpellable (commands_of items) → AllByRecursion IsSpellable (composed_of (base_of store items) items)
+    → FindsSayable (base_of store items) (keys_outside items) → AllByRecursion (λ item. IsSpellable item.version item.command) items → AllByRecursion (IsSpellable (version_of items)) (composed_of (base_of store items) items)
 
 -- Files of bytes that a base takes in order: the stream of their composed commands is what the headline says, where each subvolume
 -- of the base that they name can be said.

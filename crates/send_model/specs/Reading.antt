@@ -1,14 +1,14 @@
--- Reading a file of streams from the front: its commands, and how the reading ends. The first rule that is broken ends
+-- Reading a file of streams, of either version, from the front: its commands, and how the reading ends. The first rule that is broken ends
 -- it, with the refusal of that rule. Source: read_and_process_cmd in send-stream.c of btrfs-progs.
 use Rattle.std.specs.Prelude.{ℕ, zero, suc, ◌+◌, ◌-◌, Bool, true, false, ◌&&◌, not, List, [], ◌∷◌, ◌++◌, length, take, drop, Option, None, Some, Result, Ok, Err, nat_lt, nat_le, ◌==◌, if◌then◌else◌}
 use Rattle.std.specs.List.{list_all}
 use Rattle.std.specs.Option.{unwrap_or}
 use Rattle.std.specs.Str.{bytes_eq}
 use Rattle.std.specs.Int.{w16, w32, from_le_bytes}
-use Rattle.send_model.specs.Refusal.{Refusal, BadMagic, BadVersion, Truncated, LongCommand, BadChecksum, UnknownCommand, BadAttribute, MissingAttribute, BadTime, NotBuilt}
+use Rattle.send_model.specs.Refusal.{Refusal, BadMagic, BadVersion, Truncated, LongCommand, BadChecksum, UnknownCommand, BadAttribute, MissingAttribute, BadTime, Encoded, NotBuilt}
 use Rattle.send_model.specs.Chain.{◌>>=◌, ◌>>◌, require, refuse_if, found}
-use Rattle.send_model.specs.Attribute.{Form, AnIdentifier, ANumber, AMoment, AnyBytes, form_of, second, last_attribute, DATA, is_one_of}
-use Rattle.send_model.specs.Command.{Kind, SUBVOL, SNAPSHOT, MKFILE, WRITE, TRUNCATE, END, UPDATE_EXTENT, Command, End, row, kind_of_number, command_with, time_in}
+use Rattle.send_model.specs.Attribute.{Form, AnIdentifier, ANumber, AShortNumber, AMoment, AnyBytes, NoForm, form_of, second, last_attribute, takes_rest, DATA, is_one_of}
+use Rattle.send_model.specs.Command.{Kind, SUBVOL, SNAPSHOT, MKFILE, MKDIR, MKNOD, MKFIFO, MKSOCK, SYMLINK, RENAME, LINK, UNLINK, RMDIR, SET_XATTR, REMOVE_XATTR, WRITE, CLONE, TRUNCATE, CHMOD, CHOWN, UTIMES, END, UPDATE_EXTENT, FALLOCATE, FILEATTR, Command, End, row, is_encoded, kind_of_number, command_with, time_in}
 use Rattle.send_model.specs.Spelling.{Attribute, magic, value_of, frame_checksum, greatest_body}
 
 -- Numbers of two and four bytes at the front of a list.
@@ -63,22 +63,34 @@ frame_at bytes = do
 
 -- ---- the attributes
 
--- The number of the attribute in front, 0 where it is not whole.
+-- The number of the attribute in front, 0 where it is not there whole.
 abbrev pub attribute_number : List ℕ → ℕ
 attribute_number body = if nat_lt (length body) 2 then 0 else number16 body
 
--- The length that the attribute in front says.
-abbrev pub attribute_len : List ℕ → ℕ
-attribute_len body = number16 (drop 2 body)
+-- How many bytes stand before those of an attribute: its number, and its length, if it has one.
+abbrev pub attribute_head : ℕ → ℕ → ℕ
+attribute_head version kind = if takes_rest version kind then 2 else 4
 
--- The attribute in front is whole, of a known number, and not one of those seen before.
+-- The length of the attribute in front: what it says, or, where it has no length, all that follows.
+abbrev pub attribute_len : ℕ → List ℕ → ℕ
+attribute_len version body = if takes_rest version (number16 body) then length body - 2 else number16 (drop 2 body)
+
+-- Where the attribute in front ends.
+abbrev pub attribute_end : ℕ → List ℕ → ℕ
+attribute_end version body = attribute_head version (number16 body) + attribute_len version body
+
+-- The attribute in front is of a known number, not one of those seen before, and whole.
 abbrev pub attribute_lawful : ℕ → List ℕ → List ℕ → Bool
 attribute_lawful version seen body =
-    nat_le 4 (length body)
+    nat_le 2 (length body)
     && nat_lt 0 (number16 body)
     && nat_le (number16 body) (last_attribute version)
     && not (is_one_of (number16 body) seen)
-    && nat_le (attribute_len body) (length body - 4)
+    && nat_le (attribute_end version body) (length body)
+
+-- The attribute in front of a body.
+abbrev pub attribute_in : ℕ → List ℕ → Attribute
+attribute_in version body = record { kind = number16 body; bytes = take (attribute_len version body) (drop (attribute_head version (number16 body)) body) }
 
 -- The attributes of a body from the front on, the first breach of these rules being BadAttribute with its number.
 -- The first number bounds how many there are; the body's length is always enough.
@@ -87,8 +99,8 @@ attributes_from zero version seen body = Ok []
 attributes_from (suc n) version seen [] = Ok []
 attributes_from (suc n) version seen (b ∷ bs) = let body : List ℕ = b ∷ bs in
     if attribute_lawful version seen body
-    then (attributes_from n version (number16 body ∷ seen) (drop (4 + attribute_len body) body) >>= λ rest.
-    Ok (record { kind = number16 body; bytes = take (attribute_len body) (drop 4 body) } ∷ rest))
+    then (attributes_from n version (number16 body ∷ seen) (drop (attribute_end version body) body) >>= λ rest.
+    Ok (attribute_in version body ∷ rest))
     else Err (BadAttribute (attribute_number body))
 
 unfoldable pub attributes_at : ℕ → List ℕ → Result (List Attribute) Refusal
@@ -100,8 +112,10 @@ attributes_at version body = attributes_from (length body) version [] body
 abbrev pub form_fits : Form → List ℕ → Bool
 form_fits AnIdentifier bytes = length bytes == 16
 form_fits ANumber bytes = length bytes == 8
+form_fits AShortNumber bytes = length bytes == 4
 form_fits AMoment bytes = length bytes == 12
 form_fits AnyBytes bytes = true
+form_fits NoForm bytes = false
 
 -- Wanted attribute by wanted attribute: it is missing, or has another length than its form.
 unfoldable pub wanted_there : List ℕ → List Attribute → Result (Unit {0}) Refusal
@@ -118,14 +132,20 @@ bytes_at attributes kind = unwrap_or (value_of kind attributes) []
 -- A moment among the wanted attributes has less than a second of nanoseconds.
 abbrev pub nanos_lawful : Form → List ℕ → Bool
 nanos_lawful AMoment bytes = nat_lt (time_in bytes).nanos second
-nanos_lawful _ bytes = true
+nanos_lawful AnIdentifier bytes = true
+nanos_lawful ANumber bytes = true
+nanos_lawful AShortNumber bytes = true
+nanos_lawful AnyBytes bytes = true
+nanos_lawful NoForm bytes = true
 
 abbrev pub moment_lawful : List Attribute → ℕ → Bool
 moment_lawful attributes kind = nanos_lawful (form_of kind) (bytes_at attributes kind)
 
--- The command of a number with these attributes: no such number, an attribute missing or of a wrong length, a bad time.
+-- The command of a number with these attributes: no such number, the number of ENCODED_WRITE, an attribute missing or of a wrong
+-- length, a bad time.
 unfoldable pub command_of : ℕ → ℕ → List Attribute → Result Command Refusal
 command_of version number attributes = do
+  refuse_if (is_encoded version number) Encoded
   kind ← found (kind_of_number version number) (UnknownCommand number)
   wanted_there (row kind).wanted attributes
   require (list_all (moment_lawful attributes) (row kind).wanted) BadTime
@@ -138,11 +158,27 @@ unfoldable pub is_taken : Kind → Bool
 is_taken SUBVOL = true
 is_taken SNAPSHOT = true
 is_taken MKFILE = true
+is_taken MKDIR = false
+is_taken MKNOD = false
+is_taken MKFIFO = false
+is_taken MKSOCK = false
+is_taken SYMLINK = false
+is_taken RENAME = false
+is_taken LINK = false
+is_taken UNLINK = false
+is_taken RMDIR = false
+is_taken SET_XATTR = false
+is_taken REMOVE_XATTR = false
 is_taken WRITE = true
+is_taken CLONE = false
 is_taken TRUNCATE = true
+is_taken CHMOD = false
+is_taken CHOWN = false
+is_taken UTIMES = false
 is_taken END = true
 is_taken UPDATE_EXTENT = true
-is_taken _ = false
+is_taken FALLOCATE = false
+is_taken FILEATTR = false
 
 -- A known number whose command is not taken yet is refused; an unknown one is left to the next rule.
 unfoldable pub taken : ℕ → ℕ → Result (Unit {0}) Refusal
@@ -151,7 +187,8 @@ taken version number = elim (kind_of_number version number) [ None ↦ Ok tt | S
 -- ---- a file
 
 -- A command with the file that it stands in, counted from 1, its number there, counted from 1, the place of its frame's
--- first byte, the stream's version, and the place of the first byte of its data, 0 where it has no data.
+-- first byte, the stream's version, and the place of the first byte of its attribute DATA, 0 where it has none. Only a WRITE wants
+-- this attribute; any other command may have it and it is skipped.
 pub record Item : Type 0 where
   pub file : ℕ
   pub number : ℕ
@@ -177,12 +214,13 @@ pub record Reading : Type 0 where
   pub end : Ending
 
 -- The place in a body of the bytes of the attribute of a number, if it is there.
-abbrev pub place_of : ℕ → List Attribute → Option ℕ
-place_of kind [] = None
-place_of kind (a ∷ rest) = if a.kind == kind then Some 4 else elim (place_of kind rest) [ None ↦ None | Some place ↦ Some (4 + length a.bytes + place) ]
+abbrev pub place_of : ℕ → ℕ → List Attribute → Option ℕ
+place_of version kind [] = None
+place_of version kind (a ∷ rest) = if a.kind == kind then Some (attribute_head version kind)
+    else elim (place_of version kind rest) [ None ↦ None | Some place ↦ Some (attribute_head version a.kind + length a.bytes + place) ]
 
-abbrev pub data_place : ℕ → List Attribute → ℕ
-data_place offset attributes = elim (place_of DATA attributes) [ None ↦ 0 | Some place ↦ offset + frame_header_len + place ]
+abbrev pub data_place : ℕ → ℕ → List Attribute → ℕ
+data_place version offset attributes = elim (place_of version DATA attributes) [ None ↦ 0 | Some place ↦ offset + frame_header_len + place ]
 
 -- The command in front of the bytes, as the item of the given number at the given offset, and what follows its frame.
 pub record Front : Type 0 where
@@ -195,7 +233,7 @@ front_of file version number offset bytes = do
   attributes ← attributes_at version frame.body
   taken version frame.number
   command ← command_of version frame.number attributes
-  Ok (record { item = record { file = file; number = number; offset = offset; version = version; data_at = data_place offset attributes; command = command }; rest = frame.rest })
+  Ok (record { item = record { file = file; number = number; offset = offset; version = version; data_at = data_place version offset attributes; command = command }; rest = frame.rest })
 
 -- What is due: a stream's header, or a command of a stream of a version.
 pub data Due : Type 0 where

@@ -1,6 +1,7 @@
 -- Why a command is refused, with the values that a refusal keeps, and the number and name of each refusal,
--- as notes print them. The first eight, UnknownCommand among them, are faults of the bytes of a stream; the others
--- are faults of what a command asks for. The numbers are this program's own.
+-- as notes print them. Faults of reading a stream's bytes are the first eight, BadTime, Encoded and NotBuilt; Guarded is what
+-- a guard answers, and NotConsecutive what compose asks of the order of parts; the others are faults of what a command asks for.
+-- The numbers are this program's own.
 use Rattle.std.specs.Prelude.{ℕ, List, codes}
 
 pub data Refusal : Type 0 where
@@ -35,6 +36,9 @@ pub data Refusal : Type 0 where
   BadRange : Refusal
   Unaligned : Refusal
   Overlap : Refusal
+  Encoded : Refusal
+  Guarded : ℕ → ℕ → Refusal
+  BadFallocate : ℕ → Refusal
   NotConsecutive : Refusal
   NotBuilt : ℕ → Refusal
   NoNumber : Refusal
@@ -72,6 +76,9 @@ refusal_number NoSource = 28
 refusal_number BadRange = 29
 refusal_number Unaligned = 30
 refusal_number Overlap = 31
+refusal_number Encoded = 32
+refusal_number (Guarded _ _) = 33
+refusal_number (BadFallocate _) = 34
 refusal_number NotConsecutive = 35
 refusal_number (NotBuilt _) = 36
 refusal_number NoNumber = 38
@@ -109,6 +116,9 @@ refusal_name NoSource = codes "NoSource"
 refusal_name BadRange = codes "BadRange"
 refusal_name Unaligned = codes "Unaligned"
 refusal_name Overlap = codes "Overlap"
+refusal_name Encoded = codes "Encoded"
+refusal_name (Guarded _ _) = codes "Guarded"
+refusal_name (BadFallocate _) = codes "BadFallocate"
 refusal_name NotConsecutive = codes "NotConsecutive"
 refusal_name (NotBuilt _) = codes "NotBuilt"
 refusal_name NoNumber = codes "NoNumber"

@@ -1,26 +1,31 @@
 // Laws that tie the definitions to what they mean. Each is the contract of a function that does nothing.
-ghost use Rattle.std.specs.Prelude.{ℕ, Bool, List, Option};
+ghost use Rattle.std.specs.Prelude.{◌≡◌, ℕ, Bool, true, List, Option};
 ghost use Rattle.send_model.specs.Command.{Command};
-ghost use Rattle.send_model.specs.Reading.{Item};
+ghost use Rattle.send_model.specs.Reading.{Item, is_version};
 ghost use Rattle.send_model.specs.Subvolume.{Subvolume, IsSound, IsLawful, root_alone};
 ghost use Rattle.send_model.specs.Edit.{edit};
 ghost use Rattle.send_model.specs.Clone.{clone};
 ghost use Rattle.send_model.specs.Store.{Key, Store, State};
 ghost use Rattle.send_model.specs.Provenance.{Traced};
-ghost use Rattle.send_model.specs.Laws.{SpelledIsRead, FrameHasOneReading, ReadWasSpelled, CanonicalSpells, AreInner, StreamIsRead, CutIsUnfinished, EditLooksAtItsPart, StepKeepsCells, KeepsSoundness, FirstPathsAreLeast, AreCounted, ItemsHold, ItemsSpelled, FilesHold, PlainFilesHold};
+ghost use Rattle.send_model.specs.Laws.{SpelledIsRead, SpelledIsFront, FrameHasOneReading, ReadWasSpelled, RulesWereSpelled, CanonicalSpells, SpelledIsSpellable, SecondSaysMore, AreInner, StreamIsRead, CutIsUnfinished, EditLooksAtItsPart, StepKeepsCells, KeepsSoundness, FirstPathsAreLeast, AreCounted, ItemsHold, ItemsSpelled, FilesHold, PlainFilesHold};
 
-/// Whatever spells a command is read as that command, whatever follows it, and spells no other; what is read was spelled; and
-/// the canonical spelling spells its command.
+/// Whatever spells a command is read as that command, whatever follows it, and spells no other; what is read was spelled. So it is
+/// of every command of either version, and of the item in front for those that the program takes. The canonical spelling spells its
+/// command, there is one for each command that is spelled in any way, and version 2 has one for whatever version 1 has one for.
 pub fn spelling_is_read_back()
     ensures spelled { SpelledIsRead }
+    ensures front { SpelledIsFront }
     ensures once { FrameHasOneReading }
     ensures read { ReadWasSpelled }
+    ensures rules { RulesWereSpelled }
     ensures canonical { CanonicalSpells }
+    ensures spellable { SpelledIsSpellable }
+    ensures second { SecondSaysMore }
 {}
 
-/// A stream that was spelled is read whole, with its commands; and one that is cut short is never read as whole.
+/// A stream of a version that is read is read whole, with its commands; and one that is cut short is never read as whole.
 pub fn stream_is_read_back()
-    ensures whole { (file : ℕ) (cs : List Command) → AreInner cs → StreamIsRead file cs }
+    ensures whole { (file version : ℕ) (cs : List Command) → is_version version ≡ true → AreInner version cs → StreamIsRead file version cs }
     ensures cut { CutIsUnfinished }
 {}
 

@@ -76,7 +76,7 @@ fn note_line(answer: &Answer) -> Line
 fn push_verdict(verdict: &Verdict, line: &mut Line)
     requires room { length line.old ≡ 0 }
     ensures pushed { line.new ≡ line.old ++ verdict_text (verdict_meant verdict.now) }
-    ensures len { length line.new ≤ 130 }
+    ensures len { length line.new ≤ 151 }
 {
     line.push(b"refused");
     line.push_number(verdict.file);
@@ -90,9 +90,9 @@ fn push_verdict(verdict: &Verdict, line: &mut Line)
 // The values that a refusal keeps.
 #[tactic(auto, unfolding(send_model::specs::Answer::kept_values))]
 fn push_kept(refusal: &Refusal, line: &mut Line)
-    requires room { length line.old + 22 ≤ 160 }
+    requires room { length line.old + 43 ≤ 160 }
     ensures pushed { line.new ≡ line.old ++ kept_values (refusal_of refusal.now) }
-    ensures len { length line.new ≤ length line.old + 21 }
+    ensures len { length line.new ≤ length line.old + 42 }
 {
     match refusal {
         Refusal::BadVersion(kept) => line.push_number(u64::from(*kept)),
@@ -104,6 +104,11 @@ fn push_kept(refusal: &Refusal, line: &mut Line)
         Refusal::UnknownCommand(kept) => line.push_number(u64::from(*kept)),
         Refusal::BadAttribute(kept) => line.push_number(u64::from(*kept)),
         Refusal::MissingAttribute(kept) => line.push_number(u64::from(*kept)),
+        Refusal::Guarded { guard, used } => {
+            line.push_number(*guard);
+            line.push_number(*used);
+        }
+        Refusal::BadFallocate(kept) => line.push_number(u64::from(*kept)),
         Refusal::NotBuilt(kept) => line.push_number(u64::from(*kept)),
         _ => {}
     }

@@ -74,6 +74,17 @@ pub enum Refusal {
     Unaligned,
     /// A clone's source and destination share a place of one inode.
     Overlap,
+    /// A write of bytes that are compressed or encrypted.
+    Encoded,
+    /// A guard does not allow the command.
+    Guarded {
+        /// The guard's place among the guards, counted from 0.
+        guard: u64,
+        /// What it had counted before this command.
+        used: u64,
+    },
+    /// The mode of a FALLOCATE is none that is known; it keeps the mode.
+    BadFallocate(u32),
     /// A part does not follow on the part before it.
     NotConsecutive,
     /// This command can't be read yet; it keeps the command's number.
@@ -120,6 +131,9 @@ impl Refusal {
             Refusal::BadRange => 29,
             Refusal::Unaligned => 30,
             Refusal::Overlap => 31,
+            Refusal::Encoded => 32,
+            Refusal::Guarded { .. } => 33,
+            Refusal::BadFallocate(_) => 34,
             Refusal::NotConsecutive => 35,
             Refusal::NotBuilt(_) => 36,
             Refusal::NoNumber => 38,
@@ -163,6 +177,9 @@ impl Refusal {
             Refusal::BadRange => "BadRange",
             Refusal::Unaligned => "Unaligned",
             Refusal::Overlap => "Overlap",
+            Refusal::Encoded => "Encoded",
+            Refusal::Guarded { .. } => "Guarded",
+            Refusal::BadFallocate(_) => "BadFallocate",
             Refusal::NotConsecutive => "NotConsecutive",
             Refusal::NotBuilt(_) => "NotBuilt",
             Refusal::NoNumber => "NoNumber",

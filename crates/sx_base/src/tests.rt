@@ -1,7 +1,7 @@
 // What no clause says: that each call succeeds where there is memory, and values from outside.
 use crate::{
-    Blob, Failed, Inputs, MemInputs, MemSink, PlainInputs, PlainSink, Refusal, Stop, escape_into,
-    write_whole,
+    Blob, Failed, Inputs, Lost, MemInputs, MemSink, PlainInputs, PlainSink, Refusal, Stop,
+    escape_into, write_whole,
 };
 use std::process::Abort;
 use std::test::Fail;
@@ -77,6 +77,25 @@ fn files_in_memory_are_read(rt: HostRuntime) -> Result<(), Fail> {
     assert_eq!(rt; chosen.read_at("b", 0, &mut buf), Ok(5));
     assert_eq!(rt; chosen.read_at("b", 0, &mut buf), Err(Failed));
     assert_eq!(rt; chosen.read_at("b", 3, &mut buf), Ok(2));
+    Ok(())
+}
+
+#[test]
+#[tactic(auto, unfolding(crate::specs::Outside::file_at))]
+fn files_in_memory_are_read_again(rt: HostRuntime) -> Result<(), Fail> {
+    let mut plain = PlainInputs::new(rt.alloc());
+    plain.add("a", b"0123456789")?;
+    let mut buf = [0; 4];
+    assert_eq!(rt; plain.read_again("a", 6, &mut buf), Ok(()));
+    assert_eq!(rt; &buf, b"6789");
+    let mut chosen = MemInputs::new(rt.alloc());
+    chosen.add("a", b"0123456789")?;
+    chosen.fail_call(2)?;
+    assert_eq!(rt; chosen.read_again("a", 0, &mut buf), Ok(()));
+    assert_eq!(rt; &buf, b"0123");
+    assert_eq!(rt; chosen.read_again("a", 1, &mut buf), Err(Lost::Failed));
+    assert_eq!(rt; chosen.read_again("a", 1, &mut buf), Ok(()));
+    assert_eq!(rt; &buf, b"1234");
     Ok(())
 }
 

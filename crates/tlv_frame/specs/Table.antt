@@ -1,6 +1,7 @@
 -- A table of the attributes of a frame's body, by their numbers.
-use Rattle.std.specs.Prelude.{◌≡◌, ℕ, ◌^◌, ◌<◌, List, length, Option, None, Some, Result, Ok, Err, slice_index_or, option_map}
+use Rattle.std.specs.Prelude.{◌≡◌, ℕ, List, length, Option, None, Some, Result, Ok, Err, slice_index_or, option_map}
 use Rattle.send_model.specs.Refusal as meant
+use Rattle.send_model.specs.Attribute.{HasRoom}
 use Rattle.send_model.specs.Spelling.{Attribute, value_of}
 use Rattle.send_model.specs.Reading.{place_of}
 use Rattle.sx_base.specs.declared.refusal.Refusal.{Refusal}
@@ -36,7 +37,7 @@ place_at table kind = place_in (slot_at table.slots kind)
 -- The table has what the attributes have.
 pub record StandsFor (table : Table) (attributes : List Attribute) : Type 0 where
   pub values : (kind : ℕ) → value_at table kind ≡ value_of kind attributes
-  pub places : (kind : ℕ) → place_at table kind ≡ place_of kind attributes
+  pub places : (kind : ℕ) → place_at table kind ≡ place_of table.version kind attributes
 
 -- The answer is a table that stands for the attributes that are read, or the refusal of these.
 abbrev pub ReadsTable : Result Table Refusal → Result (List Attribute) meant.Refusal → Type 0
@@ -47,12 +48,12 @@ ReadsTable (Err refusal) read = read ≡ Err (refusal_of refusal)
 abbrev pub slot_of : Option made.Slot → Option Slot
 slot_of slot = option_map (λ (s : made.Slot). record { place = s.place; bytes = s.bytes.now }) slot
 
--- A length that an attribute's header can say.
-abbrev pub IsShort : Option Slot → Type 0
-IsShort None = Unit {0}
-IsShort (Some slot) = length slot.bytes < 2 ^ 16
+-- An attribute that has a length has one that its header can say.
+abbrev pub IsShort : ℕ → ℕ → Option Slot → Type 0
+IsShort version kind None = Unit {0}
+IsShort version kind (Some slot) = HasRoom version kind (length slot.bytes)
 
 -- One slot for each attribute number up to the last, and lengths that an attribute's header can say.
-pub record IsWhole (slots : List (Option Slot)) : Type 0 where
-  pub count : length slots ≡ 25
-  pub short : (kind : ℕ) → IsShort (slot_at slots kind)
+pub record IsWhole (version : ℕ) (slots : List (Option Slot)) : Type 0 where
+  pub count : length slots ≡ 32
+  pub short : (kind : ℕ) → IsShort version kind (slot_at slots kind)

@@ -1,6 +1,7 @@
 // The attributes of a frame, found by their numbers.
-ghost use Rattle.std.specs.Prelude.{◌≡◌, ◌^◌, ◌<◌, true, length, IfOk, IfSome, option_map};
-ghost use Rattle.send_model.specs.Reading.{is_version, attributes_at};
+ghost use Rattle.std.specs.Prelude.{◌≡◌, length, IfOk, IfSome, option_map};
+ghost use Rattle.send_model.specs.Attribute.{HasRoom, last_attribute, takes_rest};
+ghost use Rattle.send_model.specs.Reading.{attributes_at, attribute_head};
 ghost use Rattle.tlv_frame.specs.Answers.{Reads};
 ghost use Rattle.tlv_frame.specs.Table.{Table, ReadsTable, value_at, place_at};
 ghost use Rattle.tlv_frame.specs.Front.{front_at};
@@ -8,8 +9,17 @@ ghost use Rattle.tlv_frame.specs.Front.{front_at};
 use std::marker::Model;
 use sx_base::Refusal;
 
-// How many slots a table has: one for each attribute number up to the last, 24.
-const SLOTS: usize = 25;
+// How many slots a table has: one for each attribute number up to the last of version 2, 31.
+const SLOTS: usize = 32;
+
+// The last attribute number of version 1.
+const LAST_OF_FIRST: u16 = 24;
+
+// The last attribute number of version 2.
+const LAST: u16 = 31;
+
+// The number of the attribute DATA.
+pub(crate) const DATA: u16 = 19;
 
 // An attribute's bytes, and the place of the first of them in the body.
 #[derive(Clone, Copy)]
@@ -33,14 +43,15 @@ impl<'a> Model for AttrTable<'a> {
 
     ghost view = { λ t. record { version = t.version; slots = map slot_of t.slots } };
 
-    ghost invariant = { λ t. IsWhole (map slot_of t.slots) };
+    ghost invariant = { λ t. IsWhole t.version (map slot_of t.slots) };
 }
 
 impl<'a> AttrTable<'a> {
-    /// The bytes of the attribute of this number, None where the body has none. They are fewer than 65,536.
+    /// The bytes of the attribute of this number, None where the body has none. They are fewer than 65,536, but for
+    /// DATA in version 2.
     pub fn get(&self, kind: u16) -> Option<&'a [u8]>
         ensures value { option_map (λ bytes. bytes.now) result ≡ value_at self.now kind }
-        ensures short { IfSome result (λ bytes. length bytes.now < 2 ^ 16) }
+        ensures short { IfSome result (λ bytes. HasRoom self.now.version kind (length bytes.now)) }
     {
         match self.slots.get(kind as usize) {
             Some(Some(slot)) => Some(slot.bytes),
@@ -70,18 +81,17 @@ impl<'a> AttrTable<'a> {
 /// is not whole, has no number of this version, or stands for the second time. Takes no memory. Source: struct
 /// btrfs_tlv_header in send.h of btrfs-progs, and read_cmd in send-stream.c.
 pub fn attrs(body: &[u8], version: u32) -> Result<AttrTable<'_>, Refusal>
-    requires version { is_version version ≡ true }
     ensures exact { ReadsTable result (attributes_at version body.now) }
     ensures kept { IfOk result (λ table. table.version ≡ version) }
 {
     let mut slots = [None; SLOTS];
     let mut at = 0;
     while at < body.len() {
-        let (kind, bytes) = front(&body[at..])?;
+        let (kind, bytes) = front(&body[at..], version)?;
         if slots[kind as usize].is_some() {
             return Err(Refusal::BadAttribute(kind));
         }
-        let place = at + 4;
+        let place = at + head_len(version, kind);
         slots[kind as usize] = Some(Slot { place, bytes });
         at = place + bytes.len();
     }
@@ -90,22 +100,47 @@ pub fn attrs(body: &[u8], version: u32) -> Result<AttrTable<'_>, Refusal>
 
 // The number and the bytes of the attribute in front.
 #[tactic(auto, unfolding(crate::specs::Front::front_at, send_model::specs::Reading::number16))]
-fn front(rest: &[u8]) -> Result<(u16, &[u8]), Refusal>
-    ensures exact { Reads (λ a. record { kind = a.0; bytes = a.1.now }) result (front_at rest.now) }
-    ensures short { IfOk result (λ a. length a.1.now < 2 ^ 16) }
+fn front(rest: &[u8], version: u32) -> Result<(u16, &[u8]), Refusal>
+    ensures exact { Reads (λ a. record { kind = a.0; bytes = a.1.now }) result (front_at version rest.now) }
+    ensures short { IfOk result (λ a. HasRoom version a.0 (length a.1.now)) }
 {
-    if rest.len() < 4 {
-        let kind = if rest.len() < 2 {
-            0
-        } else {
-            u16::from_le_bytes([rest[0], rest[1]])
-        };
-        return Err(Refusal::BadAttribute(kind));
+    if rest.len() < 2 {
+        return Err(Refusal::BadAttribute(0));
     }
     let kind = u16::from_le_bytes([rest[0], rest[1]]);
+    if kind == 0 || kind > last_number(version) {
+        return Err(Refusal::BadAttribute(kind));
+    }
+    if has_no_length(version, kind) {
+        return Ok((kind, &rest[2..]));
+    }
+    if rest.len() < 4 {
+        return Err(Refusal::BadAttribute(kind));
+    }
     let len = u16::from_le_bytes([rest[2], rest[3]]) as usize;
-    if kind == 0 || kind > 24 || len > rest.len() - 4 {
+    if len > rest.len() - 4 {
         return Err(Refusal::BadAttribute(kind));
     }
     Ok((kind, &rest[4..4 + len]))
+}
+
+// The greatest attribute number of a version.
+fn last_number(version: u32) -> u16
+    ensures { result ≡ last_attribute version }
+{
+    if version == 1 { LAST_OF_FIRST } else { LAST }
+}
+
+// Whether the bytes of an attribute are the rest of the body, since it has no length.
+pub(crate) fn has_no_length(version: u32, kind: u16) -> bool
+    ensures { result ≡ takes_rest version kind }
+{
+    version == 2 && kind == DATA
+}
+
+// How many bytes stand before those of an attribute.
+fn head_len(version: u32, kind: u16) -> usize
+    ensures { result ≡ attribute_head version kind }
+{
+    if has_no_length(version, kind) { 2 } else { 4 }
 }

@@ -1,7 +1,8 @@
 use Rattle.std.proofs.Common.{◌≡◌, ◌≤◌, Ok, sym, ap, subst, ◌∙◌, length, ℕ, ◌+◌, arith}
-use Rattle.send_model.specs.Reading.{data_place, command_of, frame_header_len}
+use Rattle.send_model.specs.Reading.{place_of, data_place, command_of, frame_header_len}
 use Rattle.send_model.specs.Receive.{bytes_of}
 use Rattle.send_commands.specs.Meaning.{meaning_of}
+use Rattle.send_commands.specs.Writing.{IsWritable}
 use Rattle.send_model.specs.Attribute.{DATA}
 use Rattle.cmd_reader.proofs.CommandFacts.{place_in_body, slice_bytes, read_can_write, data_place_within, data_at_some, data_at_none}
 use Rattle.cmd_reader.proofs.front.command_in.Goals as goal
@@ -10,7 +11,7 @@ use Rattle.cmd_reader.proofs.front.command_in.Goals.{in-Some, in-None}
 pub overflow_add-data_at-in-Some : goal.overflow_add-data_at-in-Some
 overflow_add-data_at-in-Some c =
     let there = c.in-Ok.ensures.exact in
-    let place = sym (there.2.places DATA) ∙ sym c.place.ensures.place ∙ c.in-Some.is in
+    let place = ap (λ (v : ℕ). place_of v DATA there.0) (sym c.in-Ok.ensures.kept) ∙ sym (there.2.places DATA) ∙ sym c.place.ensures.place ∙ c.in-Some.is in
     let within = place_in_body c.args.version c.args.body.now there.0 c.in-Some.place there.1 place in
     omega (arith, within, c.requires.place, c.requires.short)
 
@@ -19,13 +20,13 @@ returns-in-Ok-decode-clause-fits c =
     let there = c.in-Ok.ensures.exact in
     let attributes = there.0 in
     let command : command_of c.args.version c.args.cmd attributes ≡ Ok (meaning_of c.in-Ok-decode.command) = ap (λ (v : ℕ). command_of v c.args.cmd attributes) (sym c.in-Ok.ensures.kept) ∙ c.in-Ok-decode.ensures.exact attributes there.2 in
-    let place : c.match-place.data_at ≡ data_place c.args.at attributes = (elim c.match-place.branch [
-      | in-Some w ↦ w.data_at-is ∙ sym (data_at_some c.args.at attributes w.in-Some.place (sym (there.2.places DATA) ∙ sym c.place.ensures.place ∙ w.in-Some.is))
-      | in-None w ↦ w.data_at-is ∙ sym (data_at_none c.args.at attributes (sym (there.2.places DATA) ∙ sym c.place.ensures.place ∙ w.in-None.is))
+    let place : c.match-place.data_at ≡ data_place c.args.version c.args.at attributes = (elim c.match-place.branch [
+      | in-Some w ↦ w.data_at-is ∙ sym (data_at_some c.args.version c.args.at attributes w.in-Some.place (ap (λ (v : ℕ). place_of v DATA attributes) (sym c.in-Ok.ensures.kept) ∙ sym (there.2.places DATA) ∙ sym c.place.ensures.place ∙ w.in-Some.is))
+      | in-None w ↦ w.data_at-is ∙ sym (data_at_none c.args.version c.args.at attributes (ap (λ (v : ℕ). place_of v DATA attributes) (sym c.in-Ok.ensures.kept) ∙ sym (there.2.places DATA) ∙ sym c.place.ensures.place ∙ w.in-None.is))
     ]) in
     let within = data_place_within c.args.at c.args.version c.args.cmd c.args.body.now attributes (meaning_of c.in-Ok-decode.command) there.1 command in
     record {
-      writable = c.in-Ok-decode.ensures.writable;
-      can_write = read_can_write c.args.version c.args.cmd c.args.body.now attributes (meaning_of c.in-Ok-decode.command) (slice_bytes c.args.body.now c.type_inv.body) there.1 c.in_default.ensures.exact command;
+      writable = subst (λ (v : ℕ). IsWritable v (meaning_of c.in-Ok-decode.command)) c.in-Ok.ensures.kept c.in-Ok-decode.ensures.writable;
+      can_write = read_can_write c.args.version c.args.cmd c.args.body.now attributes (meaning_of c.in-Ok-decode.command) c.ranges.cmd.fits c.requires.short (slice_bytes c.args.body.now c.type_inv.body) there.1 c.in_default.ensures.exact command;
       payload = subst (λ (n : ℕ). n + length (bytes_of (meaning_of c.in-Ok-decode.command)) ≤ c.args.at + frame_header_len + length c.args.body.now) (sym place) within;
     }

@@ -1,6 +1,7 @@
 use Rattle.std.proofs.Common.{refl, ap, arith, ◌∙◌}
 use Rattle.cmd_reader.specs.Left.{Reader}
 use Rattle.composer.proofs.HeadsRead.{heads_start, heads_next, heads_whole, heads_fault, heads_stop}
+use Rattle.composer.proofs.Takes.{item_writable}
 use Rattle.composer.proofs.heads.heads_of_file.Goals as goal
 
 pub loop-item-init : goal.loop-item-init
@@ -38,3 +39,6 @@ pub returns-in_default-stop-clause-heads : goal.returns-in_default-stop-clause-h
 returns-in_default-stop-clause-heads g c =
     let kept = c.loop-item.invariant in
     heads_stop _ _ c.args.file c.args.name.now c.loop-item.reader c.next.new.self c.in-Err.stop c.outcome_of.result c.args.last.now c.loop-item.last _ _ kept.same kept.name c.in_default-stop.not-Refused c.outcome_of.ensures.outcome kept.heads c.in-Err.ensures.read
+
+pub keep_head-requires : goal.keep_head-requires
+keep_head-requires g c = record { writable = item_writable c.in-Ok-Some.field-0 c.in-Ok-Some.item _ _ c.in-Ok-Some.field-0-is c.in-Ok-Some.ensures.fits }

@@ -1,6 +1,6 @@
 use Rattle.std.proofs.Common.{refl, ap, ◌∙◌, arith}
 use Rattle.cmd_reader.specs.Left.{Reader}
-use Rattle.composer.proofs.Takes.{item_taken}
+use Rattle.composer.proofs.Takes.{item_taken, item_writable}
 use Rattle.composer.proofs.FileWriting.{stands_at_start, stands_after, file_unopened, file_ends, file_stops, command_stops}
 use Rattle.composer.proofs.whole.write_file.Goals as goal
 
@@ -52,3 +52,6 @@ pub returns-in-Err-clause-wrote : goal.returns-in-Err-clause-wrote
 returns-in-Err-clause-wrote g c =
     let i = c.loop-reader.invariant in
     file_stops _ _ c.args.file c.args.name.now c.args.composer.now _ c.loop-reader.reader c.next.new.self c.loop-reader.composer _ _ c.args.before c.loop-reader.place _ _ _ _ c.in-Err.stop c.outcome_of.result c.stopped.result i.same i.name c.in-Err.ensures.read c.outcome_of.ensures.outcome c.stopped.ensures.stopped i.stands
+
+pub write_command-written-requires-clause-writable : goal.write_command-written-requires-clause-writable
+write_command-written-requires-clause-writable g c = item_writable c.in-Ok-Some.field-0 c.in-Ok-Some.item _ _ c.in-Ok-Some.field-0-is c.in-Ok-Some.ensures.fits

@@ -4,5 +4,5 @@ use Rattle.tlv_frame.proofs.attribute_table.AttrTable.get.Goals as goal
 
 pub returns-in-Some-Some-clause-short : goal.returns-in-Some-Some-clause-short
 returns-in-Some-Some-clause-short c =
-    short_slot c.self.inside.slots c.args.kind c.in-Some-Some.slot c.self.invariant
-    (sym (c.in-Some-Some.ensures.lookup.3.1 None) ∙ c.in-Some-Some.field-0-is)
+    rw (← c.self.view_is) (short_slot c.self.inside.version c.self.inside.slots c.args.kind c.in-Some-Some.slot c.self.invariant
+    (sym (c.in-Some-Some.ensures.lookup.3.1 None) ∙ c.in-Some-Some.field-0-is))
