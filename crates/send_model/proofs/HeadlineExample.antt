@@ -6,7 +6,7 @@ use Rattle.send_model.specs.Reading.{Item}
 use Rattle.send_model.specs.Subvolume.{Subvolume, root_alone, IsSound, IsLawful}
 use Rattle.send_model.specs.Edit.{edit}
 use Rattle.send_model.specs.Store.{Key, Head, Store, same_key, find}
-use Rattle.send_model.specs.Receive.{run_items, byte_cells, start_of, IsAccepted}
+use Rattle.send_model.specs.Receive.{run_by, run_items, byte_cells, start_of, IsAccepted}
 use Rattle.send_model.specs.Order.{heads, IsConsecutive}
 use Rattle.send_model.specs.Outside.{base_of, keys_outside, FindsLawful}
 use Rattle.send_model.specs.Composed.{composed_of}
@@ -71,7 +71,7 @@ finds_lawful k s f = one (same_key (key 0x11 1) k) f
     one false f = cc
 
 accepted : IsAccepted (run_items 0 byte_cells (start_of (store_of linked)) cloned_items)
-unfolding composing_words run_items
+unfolding composing_words run_items run_by
 accepted = refl
 
 consecutive : IsConsecutive cloned_items

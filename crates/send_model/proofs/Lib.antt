@@ -3,10 +3,12 @@ pub mod ChecksumExamples
 mod ExampleWords
 mod ReadingExamples
 mod EditExamples
+mod GuardExamples
 mod ComposingExamples
 pub mod ElementLaws
 pub mod Sorts
 pub mod Runs
+mod Guarding
 pub mod Stores
 pub mod Merging
 pub mod Composing

@@ -14,6 +14,8 @@ pub mod Edit
 pub mod Clone
 pub mod Store
 pub mod Receive
+pub mod Guards
+pub mod GuardLaws
 pub mod Order
 pub mod Outside
 pub mod Provenance

@@ -7,6 +7,7 @@ ghost use Rattle.send_model.specs.Edit.{edit};
 ghost use Rattle.send_model.specs.Clone.{clone};
 ghost use Rattle.send_model.specs.Store.{Key, Store, State};
 ghost use Rattle.send_model.specs.Provenance.{Traced};
+ghost use Rattle.send_model.specs.GuardLaws.{NoGuardsChangeNothing, AllowedIsAccepted};
 ghost use Rattle.send_model.specs.Laws.{SpelledIsRead, SpelledIsFront, FrameHasOneReading, ReadWasSpelled, RulesWereSpelled, CanonicalSpells, SpelledIsSpellable, SecondSaysMore, AreInner, StreamIsRead, CutIsUnfinished, EditLooksAtItsPart, StepKeepsCells, KeepsSoundness, FirstPathsAreLeast, AreCounted, ItemsHold, ItemsSpelled, FilesHold, PlainFilesHold};
 
 /// Whatever spells a command is read as that command, whatever follows it, and spells no other; what is read was spelled. So it is
@@ -47,6 +48,13 @@ pub fn edits_keep_soundness()
 /// exactly where none does.
 pub fn first_paths_are_least()
     ensures least { (s : Subvolume ℕ) → IsLawful s → FirstPathsAreLeast s }
+{}
+
+/// Guards add refusals to a run and nothing else: without guards it is the plain run, and what is accepted under guards is
+/// accepted without them and leads to the same state.
+pub fn guards_only_refuse()
+    ensures none { NoGuardsChangeNothing }
+    ensures allowed { AllowedIsAccepted }
 {}
 
 /// The composed commands, from every state, carry the bytes of the commands themselves and the cells of redirected clones

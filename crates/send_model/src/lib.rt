@@ -5,5 +5,5 @@ mod laws;
 
 pub use laws::{
     composed_streams_are_accepted, edits_keep_soundness, edits_look_at_their_part,
-    spelling_is_read_back, stream_is_read_back,
+    guards_only_refuse, spelling_is_read_back, stream_is_read_back,
 };
