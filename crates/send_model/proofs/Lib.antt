@@ -4,6 +4,7 @@ mod ExampleWords
 mod ReadingExamples
 mod EditExamples
 mod GuardExamples
+mod LineExamples
 mod ComposingExamples
 pub mod ElementLaws
 pub mod Sorts

@@ -22,6 +22,9 @@ pub mod Provenance
 pub mod Counts
 pub mod Composed
 pub mod Answer
+pub mod Printed
+pub mod Lines
+pub mod Generated
 pub mod Headline
 pub mod Cells
 pub mod Laws
