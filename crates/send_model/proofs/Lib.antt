@@ -2,6 +2,7 @@ pub mod ChecksumLaws
 pub mod ChecksumExamples
 mod ExampleWords
 mod ReadingExamples
+mod VersionExamples
 mod EditExamples
 mod GuardExamples
 mod LineExamples
@@ -65,3 +66,6 @@ pub mod ReadCommands
 mod HeadlineClones
 mod HeadlineLaw
 mod HeadlineExample
+pub mod Exporting
+pub mod ExportedStreams
+mod ReceivableExamples

@@ -1,5 +1,5 @@
 -- The commands of the pieces of a redirected clone can be spelled, and are neither heads nor END.
-use Rattle.std.specs.Prelude.{◌≡◌, ℕ, zero, suc, ◌+◌, ◌-◌, ◌^◌, ◌<◌, ◌==◌, ◌&&◌, Bool, true, false, List, [], ◌∷◌, map, length, take, drop, Option, None, Some, Ok, nat_le, is_some, if◌then◌else◌}
+use Rattle.std.specs.Prelude.{◌≡◌, ℕ, zero, suc, ◌+◌, ◌-◌, ◌^◌, ◌<◌, ◌==◌, Bool, true, false, List, [], ◌∷◌, map, length, take, drop, Option, None, Some, Ok, nat_le, is_some, if◌then◌else◌}
 use Rattle.std.specs.List.{AllByRecursion, flat_map}
 use Rattle.std.specs.Option.{unwrap_or}
 use Rattle.std.proofs.Common.{refl, sym, ap, subst, ◌∙◌, arith, length-append, ⊎_elim}
@@ -20,7 +20,7 @@ use Rattle.send_model.specs.Provenance.{Place, Traced, fresh, Piece, Carried, Li
 use Rattle.send_model.specs.Composed.{write_len, writes_from, path_of, piece_commands, clone_commands}
 use Rattle.send_model.proofs.ElementLaws.{all_both, all_first, all_rest, all_take, all_drop}
 use Rattle.send_model.proofs.Sound.{bytes_take, bytes_drop}
-use Rattle.send_model.proofs.Versions.{IsVersion}
+use Rattle.send_model.proofs.Versions.{IsVersion, not_rest}
 use Rattle.send_model.proofs.Canonical.{spellable_first}
 use Rattle.send_model.proofs.PathLaws.{path_names_short}
 use Rattle.send_model.proofs.FirstPaths.{least_is}
@@ -108,11 +108,7 @@ clone_known version is = ⊎_elim (λ e. subst (λ (v : ℕ). IsKnown v CLONE) (
 
 -- A path that a version says in an attribute other than DATA.
 pub path_first : (version kind : ℕ) (path : List ℕ) → (kind == DATA) ≡ false → FieldFits version kind (Bytes path) → PathFits path
-path_first version kind path other fits = (λ e. fits.0 (ap (λ (b : Bool). (version == 2) && b) other ∙ never (version == 2)), fits.1)
-  where
-    never : (b : Bool) → b && false ≡ false
-    never true = refl
-    never false = refl
+path_first version kind path other fits = (λ e. fits.0 (not_rest version kind other), fits.1)
 
 module _ (version : ℕ) (is : IsVersion version) (path : List ℕ) (path_fits : PathFits path) where
   -- WRITE commands of at most so many bytes each.

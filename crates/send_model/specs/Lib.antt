@@ -26,5 +26,6 @@ pub mod Printed
 pub mod Lines
 pub mod Generated
 pub mod Headline
+pub mod Receivable
 pub mod Cells
 pub mod Laws

@@ -8,6 +8,7 @@ ghost use Rattle.send_model.specs.Clone.{clone};
 ghost use Rattle.send_model.specs.Store.{Key, Store, State};
 ghost use Rattle.send_model.specs.Provenance.{Traced};
 ghost use Rattle.send_model.specs.GuardLaws.{NoGuardsChangeNothing, AllowedIsAccepted};
+ghost use Rattle.send_model.specs.Receivable.{ReceivableSpells, ReceivableRises, ExportedIsSame, ExportedIsComposed};
 ghost use Rattle.send_model.specs.Laws.{SpelledIsRead, SpelledIsFront, FrameHasOneReading, ReadWasSpelled, RulesWereSpelled, CanonicalSpells, SpelledIsSpellable, SecondSaysMore, AreInner, StreamIsRead, CutIsUnfinished, EditLooksAtItsPart, StepKeepsCells, KeepsSoundness, FirstPathsAreLeast, AreCounted, ItemsHold, ItemsSpelled, FilesHold, PlainFilesHold};
 
 /// Whatever spells a command is read as that command, whatever follows it, and spells no other; what is read was spelled. So it is
@@ -22,6 +23,16 @@ pub fn spelling_is_read_back()
     ensures canonical { CanonicalSpells }
     ensures spellable { SpelledIsSpellable }
     ensures second { SecondSaysMore }
+{}
+
+/// The receivable spelling of a command, which the real `btrfs receive` takes, spells it, with its attributes in rising order. A
+/// file that is exported in it is read as the same commands in the same streams; and what compose promises of a stream that it
+/// wrote holds of that stream exported.
+pub fn receivable_spelling_is_read_back()
+    ensures spelled { ReceivableSpells }
+    ensures rises { ReceivableRises }
+    ensures exported { ExportedIsSame }
+    ensures composed { ExportedIsComposed }
 {}
 
 /// A stream of a version that is read is read whole, with its commands; and one that is cut short is never read as whole.

@@ -4,6 +4,7 @@
 mod laws;
 
 pub use laws::{
-    composed_streams_are_accepted, edits_keep_soundness, edits_look_at_their_part,
-    guards_only_refuse, spelling_is_read_back, stream_is_read_back,
+    composed_commands_are_counted, composed_streams_are_accepted, edits_keep_soundness,
+    edits_look_at_their_part, first_paths_are_least, guards_only_refuse,
+    receivable_spelling_is_read_back, spelling_is_read_back, stream_is_read_back,
 };
