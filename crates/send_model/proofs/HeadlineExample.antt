@@ -44,7 +44,7 @@ linked_sound =
 
 linked_lawful : IsLawful linked
 unfolding composing_words
-linked_lawful = record { sound = linked_sound; lawful_names = (refl, (refl, tt)) }
+linked_lawful = record { sound = linked_sound; lawful_names = (refl, (refl, tt)); ordered_attributes = (tt, (tt, tt)) }
 
 -- Its first block is overwritten by one name, and then both are cloned by the other.
 abbrev cloned_items : List Item

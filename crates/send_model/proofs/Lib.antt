@@ -54,6 +54,7 @@ pub mod SoundRemovals
 pub mod SoundChanges
 pub mod SoundEdits
 pub mod SoundRenames
+pub mod Keeping
 pub mod Fronts
 mod TracedBase
 mod Naming
@@ -65,6 +66,8 @@ mod SpelledRuns
 pub mod ReadCommands
 mod HeadlineClones
 mod HeadlineLaw
+pub mod LawfulEdits
+pub mod LawfulStores
 mod HeadlineExample
 pub mod Exporting
 pub mod ExportedStreams

@@ -1,14 +1,13 @@
 -- What the definitions mean together: laws that every later promise leans on.
-use Rattle.std.specs.Prelude.{◌≡◌, ◌≢◌, ℕ, ◌+◌, ◌<◌, true, false, List, [], ◌∷◌, ◌++◌, map, length, take, Option, None, Some, Result, Ok}
+use Rattle.std.specs.Prelude.{◌≡◌, ◌≢◌, ℕ, ◌+◌, ◌<◌, true, false, List, [], ◌∷◌, ◌++◌, map, length, take, Option, None, Some, Ok}
 use Rattle.std.specs.declared.cmp.Ordering.TheVariants.{Greater}
 use Rattle.std.specs.List.{AllByRecursion}
 use Rattle.send_model.specs.Attribute.{IsBytes}
 use Rattle.send_model.specs.Command.{Command, End, row, kind_of}
 use Rattle.send_model.specs.Spelling.{Attribute, body_of, Spells, IsSpellable, stream_header, canonical, canonical_all}
 use Rattle.send_model.specs.Reading.{Item, Frame, Front, Whole, is_version, frame_at, attributes_at, command_of, reads, input, taken, front_of, data_place}
-use Rattle.send_model.specs.Refusal.{Refusal}
 use Rattle.send_model.specs.Map.{bytes_cmp}
-use Rattle.send_model.specs.Subvolume.{Subvolume, IsSound, walk, first_path}
+use Rattle.send_model.specs.Subvolume.{Subvolume, walk, first_path}
 use Rattle.send_model.specs.Edit.{edit}
 use Rattle.send_model.specs.Store.{Key, Store, Part, State, step, edit_part, head_of}
 use Rattle.send_model.specs.Receive.{IsAccepted, run_items, byte_cells, start_of, receive}
@@ -94,9 +93,9 @@ abbrev pub EditLooksAtItsPart : Type 0
 EditLooksAtItsPart = (put : List ℕ) (store : Store ℕ) (part : Part ℕ) (c : Command) → is_clone c ≡ false → is_end c ≡ false → head_of c ≡ None
     → edit_part 0 put store part c ≡ edit 0 put c part.subvolume
 
--- A step does not look at cells: over other cells it is the same step.
-abbrev pub StepKeepsCells : Type 0
-StepKeepsCells = (f : ℕ → ℕ) (put : List ℕ) (state : State ℕ) (c : Command) → is_clone c ≡ false → step (f 0) (map f put) (recelled_state f state) c ≡ recelled_step f (step 0 put state c)
+-- A step does not look at cells: over other cells, of whatever type, it is the same step.
+abbrev pub StepKeepsCells : Type 0 → Type 0 → Type 0
+StepKeepsCells C D = (f : C → D) (zero_cell : C) (put : List C) (state : State C) (c : Command) → step (f zero_cell) (map f put) (recelled_state f state) c ≡ recelled_step f (step zero_cell put state c)
 
 -- Items that a base takes in order, all commands among them and whatever of them can be read: their composed commands do what the
 -- headline says, where each subvolume of the base that they name is lawful.
@@ -122,10 +121,6 @@ abbrev pub PlainFilesHold : Type 0
 PlainFilesHold = (store : Store ℕ) (files : List (List ℕ)) → AllByRecursion IsBytes files → (input files).end ≡ Whole
     → IsConsecutive (input files).items → IsAccepted (receive (base store files) files) → AllByRecursion (λ c. is_clone c ≡ false) (commands_of (input files).items)
     → IsComposed (base store files) files (output_for None (base store files) files)
-
--- A change that may be refused makes a sound subvolume of each sound one that it takes.
-abbrev pub KeepsSoundness : (Subvolume ℕ → Result (Subvolume ℕ) Refusal) → Type 0
-KeepsSoundness change = (s after : Subvolume ℕ) → IsSound s → change s ≡ Ok after → IsSound after
 
 -- ---- paths
 

@@ -26,6 +26,7 @@ pub mod Printed
 pub mod Lines
 pub mod Generated
 pub mod Headline
+pub mod Lawful
 pub mod Receivable
 pub mod Cells
 pub mod Laws
