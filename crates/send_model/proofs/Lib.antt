@@ -4,6 +4,7 @@ mod ExampleWords
 mod ReadingExamples
 mod VersionExamples
 mod EditExamples
+mod CommandExamples
 mod GuardExamples
 mod LineExamples
 mod ComposingExamples
