@@ -8,6 +8,7 @@ mod CommandExamples
 mod GuardExamples
 mod LineExamples
 mod ComposingExamples
+mod ProvenanceExamples
 pub mod ElementLaws
 pub mod Sorts
 pub mod Runs
@@ -48,6 +49,7 @@ pub mod Writing
 pub mod Composed
 pub mod Sound
 pub mod ReadSpelled
+pub mod DataPlaces
 pub mod MapLaws
 pub mod WalkLaws
 pub mod Soundness

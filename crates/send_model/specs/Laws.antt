@@ -1,13 +1,13 @@
 -- What the definitions mean together: laws that every later promise leans on.
-use Rattle.std.specs.Prelude.{◌≡◌, ◌≢◌, ℕ, ◌+◌, ◌<◌, true, false, List, [], ◌∷◌, ◌++◌, map, length, take, Option, None, Some, Ok}
+use Rattle.std.specs.Prelude.{◌≡◌, ◌≢◌, ℕ, ◌+◌, ◌-◌, ◌<◌, ◌≤◌, true, false, List, [], ◌∷◌, ◌++◌, map, length, take, drop, Option, None, Some, Ok}
 use Rattle.std.specs.declared.cmp.Ordering.TheVariants.{Greater}
 use Rattle.std.specs.List.{AllByRecursion}
 use Rattle.send_model.specs.Attribute.{IsBytes}
-use Rattle.send_model.specs.Command.{Command, End, row, kind_of}
+use Rattle.send_model.specs.Command.{Command, Write, End, row, kind_of}
 use Rattle.send_model.specs.Spelling.{Attribute, body_of, Spells, IsSpellable, stream_header, canonical, canonical_all}
 use Rattle.send_model.specs.Reading.{Item, Frame, Front, Whole, is_version, frame_at, attributes_at, command_of, reads, input, taken, front_of, data_place}
 use Rattle.send_model.specs.Map.{bytes_cmp}
-use Rattle.send_model.specs.Subvolume.{Subvolume, walk, first_path}
+use Rattle.send_model.specs.Subvolume.{Subvolume, IsNameable, walk, first_path, is_nameable}
 use Rattle.send_model.specs.Edit.{edit}
 use Rattle.send_model.specs.Store.{Key, Store, Part, State, step, edit_part, head_of}
 use Rattle.send_model.specs.Receive.{IsAccepted, run_items, byte_cells, start_of, receive}
@@ -56,6 +56,11 @@ abbrev pub RulesWereSpelled : Type 0
 RulesWereSpelled = (version : ℕ) (bytes : List ℕ) (frame : Frame) (attributes : List Attribute) (c : Command) → IsBytes bytes → frame_at bytes ≡ Ok frame
     → attributes_at version frame.body ≡ Ok attributes → command_of version frame.number attributes ≡ Ok c
     → (front : List ℕ) × (spells : Spells version front c) × (bytes ≡ front ++ frame.rest) × (spells.attributes ≡ attributes)
+
+-- Where a WRITE is read, its data stand at the place that the item says.
+abbrev pub DataIsThere : Type 0
+DataIsThere = (file version number offset : ℕ) (bytes : List ℕ) (front : Front) (path : List ℕ) (at : ℕ) (written : List ℕ) → IsBytes bytes → front_of file version number offset bytes ≡ Ok front
+    → front.item.command ≡ Write path at written → (offset ≤ front.item.data_at) × (take (length written) (drop (front.item.data_at - offset) bytes) ≡ written)
 
 -- A frame has one reading: bytes that spell a command spell no other.
 abbrev pub FrameHasOneReading : Type 0
@@ -129,12 +134,15 @@ pub record IsLeastPath {C : Type 0} (s : Subvolume C) (ino : ℕ) (path : List �
   pub leads : walk s path ≡ Ok ino
   pub least : (other : List ℕ) → walk s other ≡ Ok ino → bytes_cmp path other ≢ Greater
 
--- The first path of an inode is the least of all that lead to it, and there is none exactly where none does.
+-- The first path of an inode is the least of all that lead to it, and there is none exactly where none does; and it can be named
+-- exactly where a path names it.
 pub record FirstPathsAreLeast {C : Type 0} (s : Subvolume C) : Type 0 where
   pub some : (ino : ℕ) (path : List ℕ) → first_path s ino ≡ Some path → IsLeastPath s ino path
   pub only : (ino : ℕ) (path : List ℕ) → IsLeastPath s ino path → first_path s ino ≡ Some path
   pub none : (ino : ℕ) → first_path s ino ≡ None → (path : List ℕ) → walk s path ≢ Ok ino
   pub nowhere : (ino : ℕ) → ((path : List ℕ) → walk s path ≢ Ok ino) → first_path s ino ≡ None
+  pub nameable : (ino : ℕ) → is_nameable s ino ≡ true → IsNameable s ino
+  pub named : (ino : ℕ) → IsNameable s ino → is_nameable s ino ≡ true
 
 -- ---- counts
 

@@ -10,10 +10,11 @@ ghost use Rattle.send_model.specs.Provenance.{Traced};
 ghost use Rattle.send_model.specs.GuardLaws.{NoGuardsChangeNothing, AllowedIsAccepted};
 ghost use Rattle.send_model.specs.Lawful.{KeepsLawfulness, EditsKeepSayable, ReceivedIsLawful, FilesLeaveLawful, LawfulFindsSayable, LawfulStoresHold};
 ghost use Rattle.send_model.specs.Receivable.{ReceivableSpells, ReceivableRises, ExportedIsSame, ExportedIsComposed};
-ghost use Rattle.send_model.specs.Laws.{SpelledIsRead, SpelledIsFront, FrameHasOneReading, ReadWasSpelled, RulesWereSpelled, CanonicalSpells, SpelledIsSpellable, SecondSaysMore, AreInner, StreamIsRead, CutIsUnfinished, EditLooksAtItsPart, StepKeepsCells, FirstPathsAreLeast, AreCounted, ItemsHold, ItemsSpelled, FilesHold, PlainFilesHold};
+ghost use Rattle.send_model.specs.Laws.{SpelledIsRead, SpelledIsFront, FrameHasOneReading, ReadWasSpelled, RulesWereSpelled, DataIsThere, CanonicalSpells, SpelledIsSpellable, SecondSaysMore, AreInner, StreamIsRead, CutIsUnfinished, EditLooksAtItsPart, StepKeepsCells, FirstPathsAreLeast, AreCounted, ItemsHold, ItemsSpelled, FilesHold, PlainFilesHold};
 
 /// Whatever spells a command is read as that command, whatever follows it, and spells no other; what is read was spelled. So it is
-/// of every command of either version, and of the item in front for those that the program takes. The canonical spelling spells its
+/// of every command of either version, and of the item in front for those that the program takes; the data of a WRITE stand where
+/// its item says. The canonical spelling spells its
 /// command, there is one for each command that is spelled in any way, and version 2 has one for whatever version 1 has one for.
 pub fn spelling_is_read_back()
     ensures spelled { SpelledIsRead }
@@ -21,6 +22,7 @@ pub fn spelling_is_read_back()
     ensures once { FrameHasOneReading }
     ensures read { ReadWasSpelled }
     ensures rules { RulesWereSpelled }
+    ensures places { DataIsThere }
     ensures canonical { CanonicalSpells }
     ensures spellable { SpelledIsSpellable }
     ensures second { SecondSaysMore }
@@ -69,8 +71,8 @@ pub fn stores_stay_lawful()
 
 /// In a lawful subvolume, the first path of an inode is the least of all that lead to it, and there is none
 /// exactly where none does.
-pub fn first_paths_are_least()
-    ensures least { (s : Subvolume ℕ) → IsLawful s → FirstPathsAreLeast s }
+pub fn first_paths_are_least<C>()
+    ensures least { (s : Subvolume C) → IsLawful s → FirstPathsAreLeast s }
 {}
 
 /// Guards add refusals to a run and nothing else: without guards it is the plain run, and what is accepted under guards is
