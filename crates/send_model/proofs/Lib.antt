@@ -4,6 +4,7 @@ mod ExampleWords
 mod ReadingExamples
 mod VersionExamples
 mod EditExamples
+mod DueExamples
 mod CommandExamples
 mod GuardExamples
 mod LineExamples
@@ -71,6 +72,7 @@ mod HeadlineClones
 mod HeadlineLaw
 pub mod LawfulEdits
 pub mod LawfulStores
+pub mod Dues
 mod HeadlineExample
 pub mod Exporting
 pub mod ExportedStreams

@@ -27,6 +27,8 @@ pub mod Lines
 pub mod Generated
 pub mod Headline
 pub mod Lawful
+pub mod Due
+pub mod Words
 pub mod Receivable
 pub mod Cells
 pub mod Laws

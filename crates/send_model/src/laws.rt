@@ -8,6 +8,7 @@ ghost use Rattle.send_model.specs.Clone.{clone};
 ghost use Rattle.send_model.specs.Store.{Key, Store, State};
 ghost use Rattle.send_model.specs.Provenance.{Traced};
 ghost use Rattle.send_model.specs.GuardLaws.{NoGuardsChangeNothing, AllowedIsAccepted};
+ghost use Rattle.send_model.specs.Due.{IsJudged};
 ghost use Rattle.send_model.specs.Lawful.{KeepsLawfulness, EditsKeepSayable, ReceivedIsLawful, FilesLeaveLawful, LawfulFindsSayable, LawfulStoresHold};
 ghost use Rattle.send_model.specs.Receivable.{ReceivableSpells, ReceivableRises, ExportedIsSame, ExportedIsComposed};
 ghost use Rattle.send_model.specs.Laws.{SpelledIsRead, SpelledIsFront, FrameHasOneReading, ReadWasSpelled, RulesWereSpelled, DataIsThere, CanonicalSpells, SpelledIsSpellable, SecondSaysMore, AreInner, StreamIsRead, CutIsUnfinished, EditLooksAtItsPart, StepKeepsCells, FirstPathsAreLeast, AreCounted, ItemsHold, ItemsSpelled, FilesHold, PlainFilesHold};
@@ -97,4 +98,10 @@ pub fn composed_streams_are_accepted()
     ensures spelled { ItemsSpelled }
     ensures files { FilesHold }
     ensures plain { PlainFilesHold }
+{}
+
+/// The answer that is due to compose is the verdict on the files over the base, unless one of them is too long or the redirected
+/// clones would have to carry too many bytes; where all was done, they do not.
+pub fn answers_are_judged()
+    ensures judged { (base : Store ℕ) (files : List (List ℕ)) → IsJudged base files }
 {}
