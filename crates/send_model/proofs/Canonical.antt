@@ -6,21 +6,22 @@ use Rattle.std.specs.Int.{w16, w32, w64, to_le_bytes}
 use Rattle.std.proofs.Common.{refl, sym, ap, subst, ◌∙◌, eqb-true, arith, length-append, le_trans, lit<, lit≤, get_or, zero-le}
 use Rattle.std.proofs.Math.Nat.{mod-lt}
 use Rattle.std.proofs.lemmas.Bool.{and_parts, leb-true, ltb-true, not-true, true≢false}
-use Rattle.send_model.specs.Attribute.{Field, Identifier, Number, ShortNumber, Moment, Bytes, field_bytes, FieldFits, FieldsFit, HasRoom, IsBytes, is_one_of, last_attribute, takes_rest}
+use Rattle.send_model.specs.Attribute.{Field, Identifier, Number, ShortNumber, Moment, Bytes, field_bytes, FieldFits, FieldsFit, HasRoom, IsBytes, DATA, is_one_of, last_attribute, takes_rest}
 use Rattle.send_model.specs.Command.{Command, Subvol, Snapshot, MkFile, MkDir, MkNod, MkFifo, MkSock, Symlink, Rename, Link, Unlink, Rmdir, SetXattr, RemoveXattr, Write, Clone, Truncate, Chmod, Chown, Utimes, End, UpdateExtent, Fallocate, FileAttr, row, kind_of, fields_of}
 use Rattle.send_model.specs.Spelling.{Attribute, attribute_bytes, body_of, value_of, AreAttributes, frame_checksum, greatest_body, with_fields, attributes_of, IsKnown, IsSpellable, canonical}
 use Rattle.send_model.specs.Reading.{Frame, frame_at, attributes_at, command_of, front_of}
 use Rattle.send_model.specs.Laws.{SpelledIsRead, SpelledIsFront, FrameHasOneReading, CanonicalSpells, SpelledIsSpellable, SecondSaysMore}
 use Rattle.send_model.proofs.ChecksumLaws.{crc_of-below}
+use Rattle.send_model.proofs.Stores.{or_parts}
 use Rattle.send_model.proofs.Frames.{frame_read_back}
 use Rattle.send_model.proofs.Fuel.{ok_same}
 use Rattle.send_model.proofs.Attributes.{differ_back, bytes_by, attributes_read_back}
 use Rattle.send_model.proofs.Commands.{command_read_back, known_second, number_small}
-use Rattle.send_model.proofs.Versions.{is_no_list, are_kinds, wanted_lawful}
+use Rattle.send_model.proofs.Versions.{not_rest, is_no_list, are_kinds, wanted_lawful}
 
 -- ---- the wanted attributes are there
 
-wanted_there : (c : Command) → AllByRecursion (λ (a : Attribute). value_of a.kind (attributes_of c) ≡ Some a.bytes) (attributes_of c)
+pub wanted_there : (c : Command) → AllByRecursion (λ (a : Attribute). value_of a.kind (attributes_of c) ≡ Some a.bytes) (attributes_of c)
 unfolding attributes_of row
 wanted_there (Subvol uuid ctransid path) = (refl, (refl, (refl, tt)))
 wanted_there (Snapshot uuid ctransid path clone_uuid clone_ctransid) = (refl, (refl, (refl, (refl, (refl, tt)))))
@@ -124,7 +125,7 @@ attributes_lawful version c known fits = are_lawful version (row (kind_of c)).wa
 -- ---- what version 1 can say has a short body in either version
 
 -- The greatest length of a field's bytes.
-abbrev room : Field → ℕ
+abbrev pub room : Field → ℕ
 room (Identifier bytes) = 16
 room (Number n) = 8
 room (ShortNumber n) = 4
@@ -151,22 +152,34 @@ fields_later version [] (field ∷ fields) fits = absurd fits
 fields_later version (kind ∷ kinds) [] fits = absurd fits
 fields_later version (kind ∷ kinds) (field ∷ fields) fits = (field_later version kind field fits.0, fields_later version kinds fields fits.1)
 
--- An attribute that does not take the rest says its length, and so has it in version 1 too.
-pub first_fits : (version kind : ℕ) (bytes : List ℕ) → takes_rest version kind ≡ false → FieldFits version kind (Bytes bytes) → FieldFits 1 kind (Bytes bytes)
-first_fits version kind bytes own fits = (λ e. fits.0 own, fits.1)
+-- Where no value is that of DATA, version 1 can say the values that a version can.
+pub first_fits : (version kind : ℕ) (field : Field) → takes_rest version kind ≡ false → FieldFits version kind field → FieldFits 1 kind field
+first_fits version kind (Identifier bytes) own fits = fits
+first_fits version kind (Number n) own fits = fits
+first_fits version kind (ShortNumber n) own fits = fits
+first_fits version kind (Moment t) own fits = fits
+first_fits version kind (Bytes bytes) own fits = (λ e. fits.0 own, fits.1)
 
-abbrev rooms : List Field → ℕ
+pub fields_first : (version : ℕ) (kinds : List ℕ) (fields : List Field) → is_one_of DATA kinds ≡ false → FieldsFit version kinds fields → FieldsFit 1 kinds fields
+fields_first version [] [] none fits = tt
+fields_first version [] (field ∷ fields) none fits = absurd fits
+fields_first version (kind ∷ kinds) [] none fits = absurd fits
+fields_first version (kind ∷ kinds) (field ∷ fields) none fits =
+    let parts = or_parts (kind == DATA) (is_one_of DATA kinds) none in
+    (first_fits version kind field (not_rest version kind parts.0) fits.0, fields_first version kinds fields parts.1 fits.1)
+
+abbrev pub rooms : List Field → ℕ
 rooms [] = 0
 rooms (field ∷ fields) = (4 + room field) + rooms fields
 
-attribute_len : (version : ℕ) (a : Attribute) → length (attribute_bytes version a) ≤ 4 + length a.bytes
+pub attribute_len : (version : ℕ) (a : Attribute) → length (attribute_bytes version a) ≤ 4 + length a.bytes
 attribute_len version a = one (takes_rest version a.kind) refl
   where
     one : (b : Bool) → takes_rest version a.kind ≡ b → length (attribute_bytes version a) ≤ 4 + length a.bytes
     one true e = let l = ap length (bytes_by version a true e) in omega (arith, l)
     one false e = let l = ap length (bytes_by version a false e) in omega (arith, l)
 
-body_len : (version : ℕ) (kinds : List ℕ) (fields : List Field) → FieldsFit 1 kinds fields → length (body_of version (with_fields kinds fields)) ≤ rooms fields
+pub body_len : (version : ℕ) (kinds : List ℕ) (fields : List Field) → FieldsFit 1 kinds fields → length (body_of version (with_fields kinds fields)) ≤ rooms fields
 unfolding body_of
 body_len version [] fields fits = zero-le
 body_len version (kind ∷ kinds) [] fits = zero-le

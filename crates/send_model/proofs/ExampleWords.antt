@@ -8,7 +8,7 @@ use Rattle.send_model.specs.Command.{Command, row, kind_of_number}
 use Rattle.send_model.specs.Spelling.{stream_header, canonical, canonical_all, frame_of, frame_checksum, attributes_of, attribute_bytes, body_of}
 use Rattle.send_model.specs.Reading.{Item, reads, reads_from, front_of, frame_at, frame_with, number16, number32, stream_version, attributes_at, attributes_from, taken, is_taken, command_of, wanted_there, input, input_from}
 use Rattle.send_model.specs.Subvolume.{File, Directory, Inode, Subvolume, root_alone, is_directory, is_file, walk_names, walk, spot, inodes_on_way, name_count, is_empty_directory, paths_from, all_paths, first_path, is_nameable}
-use Rattle.send_model.specs.Edit.{resized, overwritten, written_at, change_inode, add_inode, take_name, make, link, unlink, lies_below, move_name, rename_onto, rename, change_contents, edit}
+use Rattle.send_model.specs.Edit.{resized, overwritten, written_at, fallocated, change_inode, add_inode, take_name, make, make_device, link, unlink, rmdir, change_at, set_xattr, remove_xattr, fallocate, lies_below, move_name, rename_onto, rename, change_contents, edit}
 use Rattle.send_model.specs.Clone.{cells_of, cloned, clone}
 use Rattle.send_model.specs.Store.{Key, Store, find, with_contents, completed, begun, step_head, edit_part, step_edit, step}
 use Rattle.send_model.specs.Order.{heads_of}
@@ -61,7 +61,7 @@ reading_words = tt
 
 -- Edits and clones.
 unfoldable pub edit_words : Unit {0}
-unfolding edit make link unlink rename rename_onto move_name take_name lies_below change_contents resized overwritten written_at change_inode add_inode clone cloned cells_of root_alone spot walk walk_names inodes_on_way name_count is_empty_directory path_names between_slashes is_name is_directory is_file
+unfolding edit make make_device rmdir set_xattr remove_xattr change_at fallocate fallocated link unlink rename rename_onto move_name take_name lies_below change_contents resized overwritten written_at change_inode add_inode clone cloned cells_of root_alone spot walk walk_names inodes_on_way name_count is_empty_directory path_names between_slashes is_name is_directory is_file
 edit_words = tt
 
 -- Steps, traces and composing.

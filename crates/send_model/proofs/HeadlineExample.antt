@@ -6,7 +6,7 @@ use Rattle.send_model.specs.Reading.{Item}
 use Rattle.send_model.specs.Subvolume.{Subvolume, root_alone, IsSound, IsLawful}
 use Rattle.send_model.specs.Edit.{edit}
 use Rattle.send_model.specs.Store.{Key, Head, Store, same_key, find}
-use Rattle.send_model.specs.Receive.{run_items, byte_cells, start_of, IsAccepted}
+use Rattle.send_model.specs.Receive.{run_by, run_items, byte_cells, start_of, IsAccepted}
 use Rattle.send_model.specs.Order.{heads, IsConsecutive}
 use Rattle.send_model.specs.Outside.{base_of, keys_outside, FindsLawful}
 use Rattle.send_model.specs.Composed.{composed_of}
@@ -44,7 +44,7 @@ linked_sound =
 
 linked_lawful : IsLawful linked
 unfolding composing_words
-linked_lawful = record { sound = linked_sound; lawful_names = (refl, (refl, tt)) }
+linked_lawful = record { sound = linked_sound; lawful_names = (refl, (refl, tt)); ordered_attributes = (tt, (tt, tt)) }
 
 -- Its first block is overwritten by one name, and then both are cloned by the other.
 abbrev cloned_items : List Item
@@ -71,7 +71,7 @@ finds_lawful k s f = one (same_key (key 0x11 1) k) f
     one false f = cc
 
 accepted : IsAccepted (run_items 0 byte_cells (start_of (store_of linked)) cloned_items)
-unfolding composing_words run_items
+unfolding composing_words run_items run_by
 accepted = refl
 
 consecutive : IsConsecutive cloned_items

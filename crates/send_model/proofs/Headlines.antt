@@ -213,6 +213,11 @@ received_as store bytes end whole ran =
     let g : Run ℕ → Run ℕ = λ x. record { state = x.state; refused = first_of x.refused None } in
     ap f (one_input bytes whole) ∙ ap g ran
 
+-- Receiving one whole file is running its items.
+pub received_run : (store : Store ℕ) (bytes : List ℕ) → (reads 1 bytes).end ≡ Whole → receive store (bytes ∷ []) ≡ with_fault (run_items 0 byte_cells (start_of store) (reads 1 bytes).items) Whole
+unfolding receive receive_items
+received_run store bytes whole = let f : Reading → Run ℕ = λ x. receive_items 0 byte_cells store x in ap f (one_input bytes whole)
+
 pub received_one : (store : Store ℕ) (bytes : List ℕ) (cs : List Command) (end : State ℕ) → ReadsAs (reads 1 bytes) cs → Takes (start_of store) cs end → receive store (bytes ∷ []) ≡ record { state = end; refused = None }
 received_one store bytes cs end r t =
     let P : List Command → Type 0 = λ ds. Takes (start_of store) ds end in

@@ -327,14 +327,6 @@ module _ {C : Type 0} (s : Subvolume C) where
       one None e = refl
       one (Some p) e = absurd (nowhere p (first_path_is_first lawful ino p e).leads)
 
-  pub first_paths_are_least : IsLawful s → FirstPathsAreLeast s
-  first_paths_are_least lawful = record {
-    some = first_path_is_first lawful;
-    only = first_is_first_path lawful;
-    none = no_first_path;
-    nowhere = no_path_no_first lawful;
-  }
-
   -- An inode has a first path exactly where it can be named.
   pub nameable_there : IsLawful s → (ino : ℕ) → is_nameable s ino ≡ true → IsNameable s ino
   unfolding is_nameable IsNameable
@@ -347,3 +339,13 @@ module _ {C : Type 0} (s : Subvolume C) where
   pub there_nameable : (ino : ℕ) → IsNameable s ino → is_nameable s ino ≡ true
   unfolding is_nameable IsNameable
   there_nameable ino n = let b = first_path_there ino n.0 n.1 in ap is_some b.1
+
+  pub first_paths_are_least : IsLawful s → FirstPathsAreLeast s
+  first_paths_are_least lawful = record {
+    some = first_path_is_first lawful;
+    only = first_is_first_path lawful;
+    none = no_first_path;
+    nowhere = no_path_no_first lawful;
+    nameable = nameable_there lawful;
+    named = there_nameable;
+  }

@@ -2,11 +2,18 @@ pub mod ChecksumLaws
 pub mod ChecksumExamples
 mod ExampleWords
 mod ReadingExamples
+mod VersionExamples
 mod EditExamples
+mod DueExamples
+mod CommandExamples
+mod GuardExamples
+mod LineExamples
 mod ComposingExamples
+mod ProvenanceExamples
 pub mod ElementLaws
 pub mod Sorts
 pub mod Runs
+mod Guarding
 pub mod Stores
 pub mod Merging
 pub mod Composing
@@ -43,6 +50,7 @@ pub mod Writing
 pub mod Composed
 pub mod Sound
 pub mod ReadSpelled
+pub mod DataPlaces
 pub mod MapLaws
 pub mod WalkLaws
 pub mod Soundness
@@ -50,6 +58,7 @@ pub mod SoundRemovals
 pub mod SoundChanges
 pub mod SoundEdits
 pub mod SoundRenames
+pub mod Keeping
 pub mod Fronts
 mod TracedBase
 mod Naming
@@ -61,4 +70,10 @@ mod SpelledRuns
 pub mod ReadCommands
 mod HeadlineClones
 mod HeadlineLaw
+pub mod LawfulEdits
+pub mod LawfulStores
+pub mod Dues
 mod HeadlineExample
+pub mod Exporting
+pub mod ExportedStreams
+mod ReceivableExamples

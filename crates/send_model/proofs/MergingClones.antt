@@ -80,7 +80,7 @@ plain_uuid current c h = refl
 turned_true : (a b : List ℕ) → bytes_eq a b ≡ true → bytes_eq b a ≡ true
 turned_true a b e = ap (bytes_eq b) (bytes_eq_true a b e) ∙ bytes_eq_same b
 
-turned_false : (a b : List ℕ) → bytes_eq a b ≡ false → bytes_eq b a ≡ false
+pub turned_false : (a b : List ℕ) → bytes_eq a b ≡ false → bytes_eq b a ≡ false
 turned_false a b e = one (bytes_eq b a) refl
   where
     one : (t : Bool) → bytes_eq b a ≡ t → t ≡ false

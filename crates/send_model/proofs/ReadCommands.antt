@@ -47,7 +47,7 @@ item_then item r true w more = (w, tt)
 item_then item r false w more = (w, more)
 
 -- A header says a version that is read.
-header_version : (bytes : List ℕ) (version : ℕ) → stream_version bytes ≡ Ok version → is_version version ≡ true
+pub header_version : (bytes : List ℕ) (version : ℕ) → stream_version bytes ≡ Ok version → is_version version ≡ true
 unfolding stream_version
 header_version bytes version e =
     let own : ℕ = number32 (drop 13 bytes) in
@@ -57,11 +57,11 @@ header_version bytes version e =
     ap is_version (sym (ok_same c.1)) ∙ c.0
 
 -- What is due is of a version that is read.
-abbrev DueIsRead : Due → Type 0
+abbrev pub DueIsRead : Due → Type 0
 DueIsRead HeaderDue = Unit {0}
 DueIsRead (CommandDue version) = is_version version ≡ true
 
-due_is_read : (version : ℕ) (c : Command) → is_version version ≡ true → DueIsRead (due_after version c)
+pub due_is_read : (version : ℕ) (c : Command) → is_version version ≡ true → DueIsRead (due_after version c)
 due_is_read version End e = tt
 due_is_read version c e = e
 

@@ -5,7 +5,7 @@ use Rattle.send_model.specs.Refusal.{Refusal}
 use Rattle.send_model.specs.Command.{Command}
 use Rattle.send_model.specs.Reading.{Item}
 use Rattle.send_model.specs.Store.{State, Stepped, step}
-use Rattle.send_model.specs.Receive.{Run, run_items, then_run, byte_cells, bytes_of, IsAccepted}
+use Rattle.send_model.specs.Receive.{Run, run_by, run_items, then_run, byte_cells, bytes_of, IsAccepted}
 use Rattle.send_model.specs.Order.{commands_of}
 
 abbrev pub step_of : State ℕ → Command → Stepped ℕ
@@ -30,7 +30,7 @@ taken_on item rest state None h = (refl, refl)
 taken_on item rest state (Some r) h = cc
 
 pub takes_run : (items : List Item) (state : State ℕ) → IsAccepted (run_items 0 byte_cells state items) → Takes state (commands_of items) (run_items 0 byte_cells state items).state
-unfolding run_items
+unfolding run_items run_by
 takes_run [] state h = refl
 takes_run (item ∷ items) state h =
     let s = step_of state item.command in
@@ -44,7 +44,7 @@ runs_on item rest state None h = refl
 runs_on item rest state (Some r) h = cc
 
 pub runs_taken : (items : List Item) (state end : State ℕ) → Takes state (commands_of items) end → run_items 0 byte_cells state items ≡ record { state = end; refused = None }
-unfolding run_items
+unfolding run_items run_by
 runs_taken [] state end e = let f : State ℕ → Run ℕ = λ s. record { state = s; refused = None } in ap f e
 runs_taken (item ∷ items) state end (h, t) =
     let s = step_of state item.command in

@@ -1,8 +1,9 @@
 -- The commands of the pieces of a redirected clone can be spelled, and are neither heads nor END.
-use Rattle.std.specs.Prelude.{◌≡◌, ℕ, zero, suc, ◌+◌, ◌-◌, ◌^◌, ◌<◌, ◌==◌, ◌&&◌, Bool, true, false, List, [], ◌∷◌, map, length, take, drop, Option, None, Some, Ok, nat_le, is_some, if◌then◌else◌}
+use Rattle.std.specs.Prelude.{◌≡◌, ℕ, zero, suc, ◌+◌, ◌-◌, ◌^◌, ◌<◌, ◌≤◌, ◌==◌, Bool, true, false, List, [], ◌∷◌, map, length, take, drop, Option, None, Some, Ok, nat_le, is_some, if◌then◌else◌}
 use Rattle.std.specs.List.{AllByRecursion, flat_map}
 use Rattle.std.specs.Option.{unwrap_or}
-use Rattle.std.proofs.Common.{refl, sym, ap, subst, ◌∙◌, arith, length-append, ⊎_elim}
+use Rattle.std.specs.Ordering.{nat_cmp}
+use Rattle.std.proofs.Common.{refl, sym, ap, subst, ◌∙◌, arith, zero-le, length-append, ⊎_elim}
 use Rattle.std.proofs.lemmas.Bool.{leb-true}
 use Rattle.std.proofs.lemmas.List.{length-take, length-drop, length-map}
 use Rattle.send_model.specs.Attribute.{UUID, CTRANSID, PATH, DATA, Identifier, Number, Bytes, FieldFits, IsBytes}
@@ -10,7 +11,7 @@ use Rattle.send_model.specs.Command.{Command, WRITE, CLONE, Write, Clone, row, k
 use Rattle.send_model.specs.Spelling.{IsKnown, IsSpellable}
 use Rattle.send_model.specs.Map.{Map}
 use Rattle.send_model.specs.Path.{slash, path_names, longest_path}
-use Rattle.send_model.specs.Subvolume.{Subvolume, root, path_below, Reached, one_further, all_further, paths_from, all_paths, first_path, is_nameable, IsLawful}
+use Rattle.send_model.specs.Subvolume.{Inode, Subvolume, inode_at, root, path_below, Reached, one_further, all_further, paths_from, all_paths, first_path, is_nameable, IsLawful}
 use Rattle.send_model.specs.Edit.{greatest_end}
 use Rattle.send_model.specs.Clone.{cells_of, Cloned, cloned}
 use Rattle.send_model.specs.Store.{Key, Store, Part, head_of, find, edit_part}
@@ -19,8 +20,9 @@ use Rattle.send_model.specs.Counts.{is_end}
 use Rattle.send_model.specs.Provenance.{Place, Traced, fresh, Piece, Carried, Literal, is_redirected, pieces_of}
 use Rattle.send_model.specs.Composed.{write_len, writes_from, path_of, piece_commands, clone_commands}
 use Rattle.send_model.proofs.ElementLaws.{all_both, all_first, all_rest, all_take, all_drop}
+use Rattle.send_model.proofs.Keeping.{all_found}
 use Rattle.send_model.proofs.Sound.{bytes_take, bytes_drop}
-use Rattle.send_model.proofs.Versions.{IsVersion}
+use Rattle.send_model.proofs.Versions.{IsVersion, not_rest}
 use Rattle.send_model.proofs.Canonical.{spellable_first}
 use Rattle.send_model.proofs.PathLaws.{path_names_short}
 use Rattle.send_model.proofs.FirstPaths.{least_is}
@@ -108,11 +110,7 @@ clone_known version is = ⊎_elim (λ e. subst (λ (v : ℕ). IsKnown v CLONE) (
 
 -- A path that a version says in an attribute other than DATA.
 pub path_first : (version kind : ℕ) (path : List ℕ) → (kind == DATA) ≡ false → FieldFits version kind (Bytes path) → PathFits path
-path_first version kind path other fits = (λ e. fits.0 (ap (λ (b : Bool). (version == 2) && b) other ∙ never (version == 2)), fits.1)
-  where
-    never : (b : Bool) → b && false ≡ false
-    never true = refl
-    never false = refl
+path_first version kind path other fits = (λ e. fits.0 (not_rest version kind other), fits.1)
 
 module _ (version : ℕ) (is : IsVersion version) (path : List ℕ) (path_fits : PathFits path) where
   -- WRITE commands of at most so many bytes each.
@@ -160,6 +158,15 @@ module _ (version : ℕ) (is : IsVersion version) (path : List ℕ) (path_fits :
       one [] l = tt
       one (x ∷ bs) l = l
 
+-- No file of a subvolume that can be said is too big.
+cells_short : (s : Subvolume ℕ) → AllByRecursion (λ e. length e.1.cells ≤ greatest_end) s.inodes → (ino : ℕ) → length (cells_of s ino) ≤ greatest_end
+unfolding cells_of
+cells_short s all ino = one (inode_at s ino) refl
+  where
+    one : (o : Option (Inode ℕ)) → inode_at s ino ≡ o → length (elim o as (λ x. List ℕ) [ None ↦ [] | Some inode ↦ inode.cells ]) ≤ greatest_end
+    one None e = zero-le
+    one (Some inode) e = all_found nat_cmp (λ (i : Inode ℕ). length i.cells ≤ greatest_end) ino inode s.inodes all e
+
 -- A key that a command can name.
 abbrev pub KeyFits : Key → Type 0
 KeyFits key = FieldFits 1 UUID (Identifier key.uuid) × FieldFits 1 CTRANSID (Number key.ctransid)
@@ -173,7 +180,7 @@ module _ (version : ℕ) (is : IsVersion version) (store : Store ℕ) (keys : Li
   carried_inside at place len h l =
       let s = sayable place.key h.source h.among h.found in
       let key = key_fits place.key h.among in
-      let size = s.sizes place.ino in
+      let size = cells_short h.source s.sizes place.ino in
       let within = h.within in (
         spellable_first version (Clone path (offset + at) place.key.uuid place.key.ctransid (path_of store place) place.offset len) (clone_known version is)
             (path_fits, (l, (key.0, (key.1, (path_of_fits store place h.source s.lawful s.byte_names h.found h.nameable, (omega (arith, size, within), (omega (arith, size, within), tt))))))),

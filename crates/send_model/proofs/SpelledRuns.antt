@@ -101,7 +101,7 @@ fresh_bytes : (bytes : List ℕ) → IsBytes bytes → AllByRecursion IsByte (ma
 fresh_bytes [] b = tt
 fresh_bytes (x ∷ bytes) b = (b.0, fresh_bytes bytes b.1)
 
-written_bytes : (version : ℕ) (c : Command) → IsSpellable version c → IsBytes (bytes_of c)
+pub written_bytes : (version : ℕ) (c : Command) → IsSpellable version c → IsBytes (bytes_of c)
 unfolding row
 written_bytes version (Write path offset bytes) s = let v = s.values in v.1.1.0.1
 written_bytes version c s = tt

@@ -92,7 +92,7 @@ says_version : (version : ℕ) (rest : List ℕ) → IsVersion version → numbe
 unfolding stream_header number32
 says_version version rest is = from_le_bytes-to_le_bytes_4 version (⊎_elim (λ e. omega (arith, e)) (λ e. omega (arith, e)) is)
 
-header_read : (version : ℕ) (rest : List ℕ) → is_version version ≡ true → stream_version (stream_header version ++ rest) ≡ Ok version
+pub header_read : (version : ℕ) (rest : List ℕ) → is_version version ≡ true → stream_version (stream_header version ++ rest) ≡ Ok version
 unfolding stream_version
 header_read version rest is =
     let long : nat_le header_len (length (stream_header version ++ rest)) ≡ true = le-leb _ _ (let l = header_length version rest in omega (arith, l)) in
@@ -106,6 +106,10 @@ commands_long : (version : ℕ) (cs : List Command) → length cs ≤ length (ca
 unfolding canonical_all
 commands_long version [] = zero-le
 commands_long version (c ∷ cs) = omega (arith, length-append (canonical version c) (canonical_all version cs), canonical_long version c, commands_long version cs)
+
+pub after_header : (version : ℕ) (rest : List ℕ) → drop header_len (stream_header version ++ rest) ≡ rest
+unfolding stream_header
+after_header version rest = refl
 
 pub header_step : (n file version : ℕ) (rest : List ℕ) → is_version version ≡ true → reads_from (suc n) file HeaderDue 1 0 (stream_header version ++ rest) ≡ reads_from n file (CommandDue version) 1 header_len rest
 unfolding reads_from stream_header

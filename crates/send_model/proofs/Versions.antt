@@ -4,7 +4,7 @@ use Rattle.std.specs.List.{find, list_all}
 use Rattle.std.specs.Option.{unwrap_or}
 use Rattle.std.proofs.Common.{refl, sym, ap, subst, ◌∙◌, eqb-true, inl, inr, ⊎_elim}
 use Rattle.std.proofs.lemmas.Bool.{and_parts}
-use Rattle.send_model.specs.Attribute.{is_one_of, last_attribute, takes_rest}
+use Rattle.send_model.specs.Attribute.{DATA, is_one_of, last_attribute, takes_rest}
 use Rattle.send_model.specs.Command.{Kind, first_kinds, all_kinds, row, kind_of_number}
 use Rattle.send_model.specs.Spelling.{IsKnown}
 
@@ -33,6 +33,14 @@ known_version version number kind e = one (version == 1) refl (version == 2) ref
     one true p b q f = inl (eqb-true version 1 p)
     one false p true q f = inr (eqb-true version 2 q)
     one false p false q f = cc
+
+-- No attribute but DATA takes the rest.
+pub not_rest : (version kind : ℕ) → (kind == DATA) ≡ false → takes_rest version kind ≡ false
+not_rest version kind other = ap (λ (b : Bool). (version == 2) && b) other ∙ never (version == 2)
+  where
+    never : (b : Bool) → b && false ≡ false
+    never true = refl
+    never false = refl
 
 -- ---- the wanted attributes of each command are lawful ones of its version
 

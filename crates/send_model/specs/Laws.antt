@@ -1,14 +1,13 @@
 -- What the definitions mean together: laws that every later promise leans on.
-use Rattle.std.specs.Prelude.{◌≡◌, ◌≢◌, ℕ, ◌+◌, ◌<◌, true, false, List, [], ◌∷◌, ◌++◌, map, length, take, Option, None, Some, Result, Ok}
+use Rattle.std.specs.Prelude.{◌≡◌, ◌≢◌, ℕ, ◌+◌, ◌-◌, ◌<◌, ◌≤◌, true, false, List, [], ◌∷◌, ◌++◌, map, length, take, drop, Option, None, Some, Ok}
 use Rattle.std.specs.declared.cmp.Ordering.TheVariants.{Greater}
 use Rattle.std.specs.List.{AllByRecursion}
 use Rattle.send_model.specs.Attribute.{IsBytes}
-use Rattle.send_model.specs.Command.{Command, End, row, kind_of}
+use Rattle.send_model.specs.Command.{Command, Write, End, row, kind_of}
 use Rattle.send_model.specs.Spelling.{Attribute, body_of, Spells, IsSpellable, stream_header, canonical, canonical_all}
 use Rattle.send_model.specs.Reading.{Item, Frame, Front, Whole, is_version, frame_at, attributes_at, command_of, reads, input, taken, front_of, data_place}
-use Rattle.send_model.specs.Refusal.{Refusal}
 use Rattle.send_model.specs.Map.{bytes_cmp}
-use Rattle.send_model.specs.Subvolume.{Subvolume, IsSound, walk, first_path}
+use Rattle.send_model.specs.Subvolume.{Subvolume, IsNameable, walk, first_path, is_nameable}
 use Rattle.send_model.specs.Edit.{edit}
 use Rattle.send_model.specs.Store.{Key, Store, Part, State, step, edit_part, head_of}
 use Rattle.send_model.specs.Receive.{IsAccepted, run_items, byte_cells, start_of, receive}
@@ -58,6 +57,11 @@ RulesWereSpelled = (version : ℕ) (bytes : List ℕ) (frame : Frame) (attribute
     → attributes_at version frame.body ≡ Ok attributes → command_of version frame.number attributes ≡ Ok c
     → (front : List ℕ) × (spells : Spells version front c) × (bytes ≡ front ++ frame.rest) × (spells.attributes ≡ attributes)
 
+-- Where a WRITE is read, its data stand at the place that the item says.
+abbrev pub DataIsThere : Type 0
+DataIsThere = (file version number offset : ℕ) (bytes : List ℕ) (front : Front) (path : List ℕ) (at : ℕ) (written : List ℕ) → IsBytes bytes → front_of file version number offset bytes ≡ Ok front
+    → front.item.command ≡ Write path at written → (offset ≤ front.item.data_at) × (take (length written) (drop (front.item.data_at - offset) bytes) ≡ written)
+
 -- A frame has one reading: bytes that spell a command spell no other.
 abbrev pub FrameHasOneReading : Type 0
 FrameHasOneReading = (version : ℕ) (bytes : List ℕ) (c d : Command) → Spells version bytes c → Spells version bytes d → c ≡ d
@@ -94,9 +98,9 @@ abbrev pub EditLooksAtItsPart : Type 0
 EditLooksAtItsPart = (put : List ℕ) (store : Store ℕ) (part : Part ℕ) (c : Command) → is_clone c ≡ false → is_end c ≡ false → head_of c ≡ None
     → edit_part 0 put store part c ≡ edit 0 put c part.subvolume
 
--- A step does not look at cells: over other cells it is the same step.
-abbrev pub StepKeepsCells : Type 0
-StepKeepsCells = (f : ℕ → ℕ) (put : List ℕ) (state : State ℕ) (c : Command) → is_clone c ≡ false → step (f 0) (map f put) (recelled_state f state) c ≡ recelled_step f (step 0 put state c)
+-- A step does not look at cells: over other cells, of whatever type, it is the same step.
+abbrev pub StepKeepsCells : Type 0 → Type 0 → Type 0
+StepKeepsCells C D = (f : C → D) (zero_cell : C) (put : List C) (state : State C) (c : Command) → step (f zero_cell) (map f put) (recelled_state f state) c ≡ recelled_step f (step zero_cell put state c)
 
 -- Items that a base takes in order, all commands among them and whatever of them can be read: their composed commands do what the
 -- headline says, where each subvolume of the base that they name is lawful.
@@ -123,10 +127,6 @@ PlainFilesHold = (store : Store ℕ) (files : List (List ℕ)) → AllByRecursio
     → IsConsecutive (input files).items → IsAccepted (receive (base store files) files) → AllByRecursion (λ c. is_clone c ≡ false) (commands_of (input files).items)
     → IsComposed (base store files) files (output_for None (base store files) files)
 
--- A change that may be refused makes a sound subvolume of each sound one that it takes.
-abbrev pub KeepsSoundness : (Subvolume ℕ → Result (Subvolume ℕ) Refusal) → Type 0
-KeepsSoundness change = (s after : Subvolume ℕ) → IsSound s → change s ≡ Ok after → IsSound after
-
 -- ---- paths
 
 -- A path leads to an inode, and is not after any other path that does, by bytes. No path of more than 4,095 bytes leads anywhere.
@@ -134,12 +134,15 @@ pub record IsLeastPath {C : Type 0} (s : Subvolume C) (ino : ℕ) (path : List �
   pub leads : walk s path ≡ Ok ino
   pub least : (other : List ℕ) → walk s other ≡ Ok ino → bytes_cmp path other ≢ Greater
 
--- The first path of an inode is the least of all that lead to it, and there is none exactly where none does.
+-- The first path of an inode is the least of all that lead to it, and there is none exactly where none does; and it can be named
+-- exactly where a path names it.
 pub record FirstPathsAreLeast {C : Type 0} (s : Subvolume C) : Type 0 where
   pub some : (ino : ℕ) (path : List ℕ) → first_path s ino ≡ Some path → IsLeastPath s ino path
   pub only : (ino : ℕ) (path : List ℕ) → IsLeastPath s ino path → first_path s ino ≡ Some path
   pub none : (ino : ℕ) → first_path s ino ≡ None → (path : List ℕ) → walk s path ≢ Ok ino
   pub nowhere : (ino : ℕ) → ((path : List ℕ) → walk s path ≢ Ok ino) → first_path s ino ≡ None
+  pub nameable : (ino : ℕ) → is_nameable s ino ≡ true → IsNameable s ino
+  pub named : (ino : ℕ) → IsNameable s ino → is_nameable s ino ≡ true
 
 -- ---- counts
 

@@ -7,7 +7,6 @@ use Rattle.send_model.specs.Command.{Command, Snapshot, Clone}
 use Rattle.send_model.specs.Reading.{Item, input}
 use Rattle.send_model.specs.Subvolume.{Subvolume, IsLawful}
 use Rattle.send_model.specs.Edit.{greatest_end}
-use Rattle.send_model.specs.Clone.{cells_of}
 use Rattle.send_model.specs.Store.{Key, Store, find}
 use Rattle.send_model.specs.Order.{heads, commands_of}
 
@@ -64,7 +63,7 @@ pub record IsSayable (s : Subvolume ℕ) : Type 0 where
   pub lawful : IsLawful s
   pub byte_names : AllByRecursion (λ e. IsBytes e.0.1) s.names
   pub byte_cells : AllByRecursion (λ e. IsBytes e.1.cells) s.inodes
-  pub sizes : (ino : ℕ) → length (cells_of s ino) ≤ greatest_end
+  pub sizes : AllByRecursion (λ e. length e.1.cells ≤ greatest_end) s.inodes
 
 abbrev pub FindsSayable : Store ℕ → List Key → Type 0
 FindsSayable store keys = (key : Key) (s : Subvolume ℕ) → IsAmong key keys → find store key ≡ Some s → IsSayable s

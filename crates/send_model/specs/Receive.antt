@@ -3,7 +3,7 @@ use Rattle.std.specs.Prelude.{◌≡◌, ℕ, List, [], ◌∷◌, Option, None,
 use Rattle.send_model.specs.Refusal.{Refusal}
 use Rattle.send_model.specs.Command.{Command, Write}
 use Rattle.send_model.specs.Reading.{Item, Verdict, Ending, Whole, Faulty, Reading, input}
-use Rattle.send_model.specs.Store.{Store, State, Stepped, step}
+use Rattle.send_model.specs.Store.{Store, State, After, step}
 
 -- What an item's WRITE puts into a file: its bytes, or cells that stand for them.
 abbrev pub bytes_of : Command → List ℕ
@@ -16,23 +16,30 @@ byte_cells item = bytes_of item.command
 abbrev pub verdict_of : Item → Refusal → Verdict
 verdict_of item refusal = record { file = item.file; command = item.number; offset = item.offset; refusal = refusal }
 
--- Where the commands lead: the state after the last that was taken, and the verdict on the first that was refused.
-pub record Run (C : Type 0) : Type 0 where
-  pub state : State C
+-- Where items lead: the state after the last that was taken, and the verdict on the first that was refused.
+pub record Ran (S : Type 0) : Type 0 where
+  pub state : S
   pub refused : Option Verdict
 
--- What follows an item's step: the run of the rest, or the verdict on a step that was refused.
-abbrev pub then_run : {C : Type 0} → Item → Stepped C → Run C → Run C
-then_run item stepped rest = elim stepped.refusal [
-  | Some refusal ↦ record { state = stepped.state; refused = Some (verdict_of item refusal) }
+-- What follows an item: the run of the rest, or the verdict on the item that was refused.
+abbrev pub then_run : {S : Type 0} → Item → After S → Ran S → Ran S
+then_run item after rest = elim after.refusal [
+  | Some refusal ↦ record { state = after.state; refused = Some (verdict_of item refusal) }
   | None ↦ rest
 ]
 
+-- Items in order, where it is given what an item does to a state.
+unfoldable pub run_by : {S : Type 0} → (S → Item → After S) → S → List Item → Ran S
+run_by does state [] = record { state = state; refused = None }
+run_by does state (item ∷ items) = let after = does state item in then_run item after (run_by does after.state items)
+
+-- The run of a store and a part.
+abbrev pub Run : Type 0 → Type 0
+Run C = Ran (State C)
+
 -- The commands of items in order, where each WRITE puts the cells of its item.
 unfoldable pub run_items : {C : Type 0} → C → (Item → List C) → State C → List Item → Run C
-run_items zero_cell cells state [] = record { state = state; refused = None }
-run_items zero_cell cells state (item ∷ items) = let stepped = step zero_cell (cells item) state item.command in
-    then_run item stepped (run_items zero_cell cells stepped.state items)
+run_items zero_cell cells state items = run_by (λ s item. step zero_cell (cells item) s item.command) state items
 
 -- The fault with which reading ended, if any.
 abbrev pub fault_of : Ending → Option Verdict
@@ -47,7 +54,7 @@ abbrev pub start_of : {C : Type 0} → Store C → State C
 start_of store = record { store = store; part = None }
 
 -- The run, with the fault that ended the reading where no command was refused.
-abbrev pub with_fault : {C : Type 0} → Run C → Ending → Run C
+abbrev pub with_fault : {S : Type 0} → Ran S → Ending → Ran S
 with_fault r ending = record { state = r.state; refused = first_of r.refused (fault_of ending) }
 
 -- Receiving what was read into a store.

@@ -91,10 +91,14 @@ begun store head = do
 
 -- ---- the step
 
--- What a step leaves, and its refusal if there is one.
-pub record Stepped (C : Type 0) : Type 0 where
-  pub state : State C
+-- What an item leaves of a state of any kind, and its refusal if there is one.
+pub record After (S : Type 0) : Type 0 where
+  pub state : S
   pub refusal : Option Refusal
+
+-- What a step leaves.
+abbrev pub Stepped : Type 0 → Type 0
+Stepped C = After (State C)
 
 -- A new entry, unfinished.
 abbrev pub unfinished : {C : Type 0} → Head → Entry C

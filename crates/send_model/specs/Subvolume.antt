@@ -186,7 +186,7 @@ is_nameable s ino = is_some (first_path s ino)
 
 -- ---- soundness
 
--- What every subvolume has that edits made.
+-- What every subvolume has that edits made: its inodes and names make one tree of directories.
 pub record IsSound {C : Type 0} (s : Subvolume C) : Type 0 where
   pub inodes_in_order : IsMap nat_cmp s.inodes
   pub names_in_order : IsMap named_cmp s.names
@@ -208,7 +208,12 @@ pub record IsSound {C : Type 0} (s : Subvolume C) : Type 0 where
 abbrev pub HasLawfulNames : {C : Type 0} → Subvolume C → Type 0
 HasLawfulNames s = AllByRecursion (λ e. is_name e.0.1 ≡ true) s.names
 
--- A lawful subvolume: a sound one with lawful names.
+-- The extended attributes of each inode are a map.
+abbrev pub HasOrderedAttributes : {C : Type 0} → Subvolume C → Type 0
+HasOrderedAttributes s = AllByRecursion (λ e. IsMap bytes_cmp e.1.xattrs) s.inodes
+
+-- A lawful subvolume: a sound one with lawful names and ordered attributes.
 pub record IsLawful {C : Type 0} (s : Subvolume C) : Type 0 where
   pub sound : IsSound s
   pub lawful_names : HasLawfulNames s
+  pub ordered_attributes : HasOrderedAttributes s

@@ -2,15 +2,20 @@
 ghost use Rattle.std.specs.Prelude.{◌≡◌, ℕ, Bool, true, List, Option};
 ghost use Rattle.send_model.specs.Command.{Command};
 ghost use Rattle.send_model.specs.Reading.{Item, is_version};
-ghost use Rattle.send_model.specs.Subvolume.{Subvolume, IsSound, IsLawful, root_alone};
+ghost use Rattle.send_model.specs.Subvolume.{Subvolume, IsLawful, root_alone};
 ghost use Rattle.send_model.specs.Edit.{edit};
 ghost use Rattle.send_model.specs.Clone.{clone};
 ghost use Rattle.send_model.specs.Store.{Key, Store, State};
 ghost use Rattle.send_model.specs.Provenance.{Traced};
-ghost use Rattle.send_model.specs.Laws.{SpelledIsRead, SpelledIsFront, FrameHasOneReading, ReadWasSpelled, RulesWereSpelled, CanonicalSpells, SpelledIsSpellable, SecondSaysMore, AreInner, StreamIsRead, CutIsUnfinished, EditLooksAtItsPart, StepKeepsCells, KeepsSoundness, FirstPathsAreLeast, AreCounted, ItemsHold, ItemsSpelled, FilesHold, PlainFilesHold};
+ghost use Rattle.send_model.specs.GuardLaws.{NoGuardsChangeNothing, AllowedIsAccepted};
+ghost use Rattle.send_model.specs.Due.{IsJudged};
+ghost use Rattle.send_model.specs.Lawful.{KeepsLawfulness, EditsKeepSayable, ReceivedIsLawful, FilesLeaveLawful, LawfulFindsSayable, LawfulStoresHold};
+ghost use Rattle.send_model.specs.Receivable.{ReceivableSpells, ReceivableRises, ExportedIsSame, ExportedIsComposed};
+ghost use Rattle.send_model.specs.Laws.{SpelledIsRead, SpelledIsFront, FrameHasOneReading, ReadWasSpelled, RulesWereSpelled, DataIsThere, CanonicalSpells, SpelledIsSpellable, SecondSaysMore, AreInner, StreamIsRead, CutIsUnfinished, EditLooksAtItsPart, StepKeepsCells, FirstPathsAreLeast, AreCounted, ItemsHold, ItemsSpelled, FilesHold, PlainFilesHold};
 
 /// Whatever spells a command is read as that command, whatever follows it, and spells no other; what is read was spelled. So it is
-/// of every command of either version, and of the item in front for those that the program takes. The canonical spelling spells its
+/// of every command of either version, and of the item in front for those that the program takes; the data of a WRITE stand where
+/// its item says. The canonical spelling spells its
 /// command, there is one for each command that is spelled in any way, and version 2 has one for whatever version 1 has one for.
 pub fn spelling_is_read_back()
     ensures spelled { SpelledIsRead }
@@ -18,9 +23,20 @@ pub fn spelling_is_read_back()
     ensures once { FrameHasOneReading }
     ensures read { ReadWasSpelled }
     ensures rules { RulesWereSpelled }
+    ensures places { DataIsThere }
     ensures canonical { CanonicalSpells }
     ensures spellable { SpelledIsSpellable }
     ensures second { SecondSaysMore }
+{}
+
+/// The receivable spelling of a command, which the real `btrfs receive` takes, spells it, with its attributes in rising order. A
+/// file that is exported in it is read as the same commands in the same streams; and what compose promises of a stream that it
+/// wrote holds of that stream exported.
+pub fn receivable_spelling_is_read_back()
+    ensures spelled { ReceivableSpells }
+    ensures rises { ReceivableRises }
+    ensures exported { ExportedIsSame }
+    ensures composed { ExportedIsComposed }
 {}
 
 /// A stream of a version that is read is read whole, with its commands; and one that is cut short is never read as whole.
@@ -29,24 +45,42 @@ pub fn stream_is_read_back()
     ensures cut { CutIsUnfinished }
 {}
 
-/// An edit that is no CLONE looks at nothing but its part's own subvolume, and no step but that of a CLONE at cells.
-pub fn edits_look_at_their_part()
+/// An edit that is no CLONE looks at nothing but its part's own subvolume, and no step looks at cells: whatever these are, it is the
+/// same step over any others.
+pub fn edits_look_at_their_part<C, D>()
     ensures part { EditLooksAtItsPart }
-    ensures cells { StepKeepsCells }
+    ensures cells { StepKeepsCells C D }
 {}
 
-/// A root alone is sound, and what an edit or a clone makes of a sound subvolume is sound, whatever its cells are. Heads,
+/// A root alone is lawful, and what an edit or a clone makes of a lawful subvolume is lawful, whatever its cells are. Heads,
 /// CLONE and END stand among the edits as those that change nothing.
-pub fn edits_keep_soundness()
-    ensures start { IsSound {C = ℕ} root_alone }
-    ensures edits { (zero_cell : ℕ) (put : List ℕ) (c : Command) → KeepsSoundness (edit zero_cell put c) }
-    ensures clones { (zero_cell : ℕ) (source : Option (Subvolume ℕ)) (is_own : Bool) (path : List ℕ) (offset : ℕ) (clone_path : List ℕ) (from len : ℕ) → KeepsSoundness (λ part. clone zero_cell part source is_own path offset clone_path from len) }
+pub fn edits_keep_subvolumes_lawful<C>()
+    ensures start { IsLawful {C = C} root_alone }
+    ensures edits { (zero_cell : C) (put : List C) (c : Command) → KeepsLawfulness (edit zero_cell put c) }
+    ensures clones { (zero_cell : C) (source : Option (Subvolume C)) (is_own : Bool) (path : List ℕ) (offset : ℕ) (clone_path : List ℕ) (from len : ℕ) → KeepsLawfulness (λ part. clone zero_cell part source is_own path offset clone_path from len) }
+{}
+
+/// Whatever is received into a lawful store leaves a lawful one, wherever it ends; and over such a store the headline holds of all
+/// files that it accepts.
+pub fn stores_stay_lawful()
+    ensures edits { EditsKeepSayable }
+    ensures items { ReceivedIsLawful }
+    ensures files { FilesLeaveLawful }
+    ensures finds { LawfulFindsSayable }
+    ensures composed { LawfulStoresHold }
 {}
 
 /// In a lawful subvolume, the first path of an inode is the least of all that lead to it, and there is none
 /// exactly where none does.
-pub fn first_paths_are_least()
-    ensures least { (s : Subvolume ℕ) → IsLawful s → FirstPathsAreLeast s }
+pub fn first_paths_are_least<C>()
+    ensures least { (s : Subvolume C) → IsLawful s → FirstPathsAreLeast s }
+{}
+
+/// Guards add refusals to a run and nothing else: without guards it is the plain run, and what is accepted under guards is
+/// accepted without them and leads to the same state.
+pub fn guards_only_refuse()
+    ensures none { NoGuardsChangeNothing }
+    ensures allowed { AllowedIsAccepted }
 {}
 
 /// The composed commands, from every state, carry the bytes of the commands themselves and the cells of redirected clones
@@ -64,4 +98,10 @@ pub fn composed_streams_are_accepted()
     ensures spelled { ItemsSpelled }
     ensures files { FilesHold }
     ensures plain { PlainFilesHold }
+{}
+
+/// The answer that is due to compose is the verdict on the files over the base, unless one of them is too long or the redirected
+/// clones would have to carry too many bytes; where all was done, they do not.
+pub fn answers_are_judged()
+    ensures judged { (base : Store ℕ) (files : List (List ℕ)) → IsJudged base files }
 {}

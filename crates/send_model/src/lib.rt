@@ -4,6 +4,8 @@
 mod laws;
 
 pub use laws::{
-    composed_streams_are_accepted, edits_keep_soundness, edits_look_at_their_part,
-    spelling_is_read_back, stream_is_read_back,
+    answers_are_judged, composed_commands_are_counted, composed_streams_are_accepted,
+    edits_keep_subvolumes_lawful, edits_look_at_their_part, first_paths_are_least,
+    guards_only_refuse, receivable_spelling_is_read_back, spelling_is_read_back,
+    stores_stay_lawful, stream_is_read_back,
 };

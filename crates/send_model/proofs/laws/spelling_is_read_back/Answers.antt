@@ -1,5 +1,6 @@
 use Rattle.send_model.proofs.Canonical.{spelled_read, spelled_front, spelled_once, canonical_spells, spelled_spellable, second_says_more}
 use Rattle.send_model.proofs.ReadSpelled.{read_was_spelled, rules_were_spelled}
+use Rattle.send_model.proofs.DataPlaces.{data_is_there}
 use Rattle.send_model.proofs.laws.spelling_is_read_back.Goals as goal
 
 pub returns-clause-spelled : goal.returns-clause-spelled
@@ -16,6 +17,9 @@ returns-clause-read c = read_was_spelled
 
 pub returns-clause-rules : goal.returns-clause-rules
 returns-clause-rules c = rules_were_spelled
+
+pub returns-clause-places : goal.returns-clause-places
+returns-clause-places c = data_is_there
 
 pub returns-clause-canonical : goal.returns-clause-canonical
 returns-clause-canonical c = canonical_spells

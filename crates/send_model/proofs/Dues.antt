@@ -1,0 +1,169 @@
+-- The answer of compose is the verdict on the files, unless a file is too long or there is too much.
+use Rattle.std.specs.Prelude.{◌≡◌, ℕ, ◌+◌, ◌≤◌, Bool, true, false, List, [], ◌∷◌, map, Option, None, Some, nat_lt, if◌then◌else◌}
+use Rattle.std.specs.List.{sum_by}
+use Rattle.std.proofs.Common.{refl, sym, ap, subst, ◌∙◌, arith, zero-le}
+use Rattle.std.proofs.lemmas.Bool.{ltb-false}
+use Rattle.std.proofs.lemmas.List.Sums.{sum_by-cons}
+use Rattle.send_model.specs.Refusal.{Refusal}
+use Rattle.send_model.specs.Reading.{Item, Verdict, Reading, input}
+use Rattle.send_model.specs.Lengths.{too_long}
+use Rattle.send_model.specs.Store.{Key, Store, State, Stepped, head_of, step}
+use Rattle.send_model.specs.Receive.{bytes_of, byte_cells, first_of, fault_of, start_of}
+use Rattle.send_model.specs.Order.{heads, breaks_order, part_after, then_judge, judge_items, judge_reading, judge, without_parts}
+use Rattle.send_model.specs.Outside.{part_uuids}
+use Rattle.send_model.specs.Provenance.{Traced, fresh, Piece, traced_store, traced_step, uuid_after, is_redirected, clone_range, ranges_from, redirected_ranges, pieces_of, literal_len, uncarried_in, uncarried}
+use Rattle.send_model.specs.Cells.{recelled_state, recelled_step}
+use Rattle.send_model.specs.Due.{Due, DoneWhole, RefusedAt, TooLong, TooMuch, most_literal, uncarried_of, then_due, due_from, refused_due, or_due, compose_due, IsJudged}
+use Rattle.send_model.proofs.CellClones.{all_steps-cells}
+use Rattle.send_model.proofs.Tracing.{byte_of, bytes_fresh, untraced_store}
+
+-- A traced step is the plain one.
+plain_is : (state : State Traced) (item : Item) → step 0 (byte_cells item) (recelled_state byte_of state) item.command ≡ recelled_step byte_of (traced_step state item)
+plain_is state item =
+    ap (λ (put : List ℕ). step 0 put (recelled_state byte_of state) item.command) (sym (bytes_fresh (bytes_of item.command)))
+    ∙ all_steps-cells byte_of item.command (fresh 0) (map fresh (bytes_of item.command)) state
+
+abbrev literal_in : List Piece → ℕ
+literal_in pieces = sum_by literal_len pieces
+
+-- The uncarried bytes of an item and of those after it.
+uncarried_split : (base : Store ℕ) (parts : List (List ℕ)) (state : State Traced) (current : Option (List ℕ)) (item : Item) (items : List Item)
+    → uncarried_in base (ranges_from parts state current (item ∷ items)) ≡ uncarried_of base parts state current item + uncarried_in base (ranges_from parts (traced_step state item).state (uuid_after current item.command) items)
+unfolding ranges_from
+uncarried_split base parts state current item items = one (is_redirected parts current item.command)
+  where
+    others : List (List Traced)
+    others = ranges_from parts (traced_step state item).state (uuid_after current item.command) items
+
+    one : (b : Bool) → uncarried_in base (if b then clone_range state item.command ∷ others else others) ≡ (if b then uncarried_in base (clone_range state item.command ∷ []) else 0) + uncarried_in base others
+    one true =
+        let x : List Piece = pieces_of base (clone_range state item.command) in
+        let a = sum_by-cons literal_in x (map (pieces_of base) others) in
+        let b = sum_by-cons literal_in x [] in
+        omega (arith, a, b)
+    one false = omega arith
+
+-- What an answer says of the verdict on the same items, and of their uncarried bytes.
+abbrev Says : Option Due → Option Verdict → ℕ → Type 0
+Says None verdict sum = (verdict ≡ None) × (sum ≤ most_literal)
+Says (Some (RefusedAt v)) verdict sum = verdict ≡ Some v
+Says (Some (TooMuch much)) verdict sum = Unit {0}
+Says (Some DoneWhole) verdict sum = ⊥
+Says (Some (TooLong file)) verdict sum = ⊥
+
+one_item : (item : Item) (state : State ℕ) (o : Option Refusal) (breaks : Bool) (so_far all : ℕ) (rest : Option Due) (verdict : Option Verdict) → (so_far ≤ most_literal → Says rest verdict all)
+    → Says (then_due item o breaks so_far rest) (then_judge item (record { state = state; refusal = o }) breaks verdict) all
+one_item item state (Some refusal) breaks so_far all rest verdict more = refl
+one_item item state None true so_far all rest verdict more = refl
+one_item item state None false so_far all rest verdict more = one (nat_lt most_literal so_far) refl
+  where
+    one : (b : Bool) → nat_lt most_literal so_far ≡ b → Says (if b then Some (TooMuch so_far) else rest) verdict all
+    one true e = tt
+    one false e = more (ltb-false most_literal so_far e)
+
+due_says : (base : Store ℕ) (parts : List (List ℕ)) (items : List Item) (state : State Traced) (previous : Option Key) (current : Option (List ℕ)) (sum : ℕ) → sum ≤ most_literal
+    → Says (due_from base parts state previous current sum items) (judge_items 0 byte_cells (recelled_state byte_of state) previous items) (sum + uncarried_in base (ranges_from parts state current items))
+unfolding due_from judge_items ranges_from
+due_says base parts [] state previous current sum low = (refl, omega (arith, low))
+due_says base parts (item ∷ items) state previous current sum low =
+    let stepped : Stepped Traced = traced_step state item in
+    let plain : Stepped ℕ = recelled_step byte_of stepped in
+    let own : ℕ = uncarried_of base parts state current item in
+    let next : Option Key = part_after previous (head_of item.command) in
+    let rest : Option Due = due_from base parts stepped.state next (uuid_after current item.command) (sum + own) items in
+    let left : ℕ = uncarried_in base (ranges_from parts stepped.state (uuid_after current item.command) items) in
+    let split = uncarried_split base parts state current item items in
+    let all : sum + own + left ≡ sum + uncarried_in base (ranges_from parts state current (item ∷ items)) = omega (arith, split) in
+    let here : Says (then_due item stepped.refusal (breaks_order previous (head_of item.command)) (sum + own) rest) (then_judge item plain (breaks_order previous (head_of item.command)) (judge_items 0 byte_cells plain.state next items)) (sum + own + left) =
+    one_item item plain.state stepped.refusal (breaks_order previous (head_of item.command)) (sum + own) (sum + own + left) rest (judge_items 0 byte_cells plain.state next items)
+    (λ low'. due_says base parts items stepped.state next (uuid_after current item.command) (sum + own) low') in
+    subst (λ (n : ℕ). Says (then_due item stepped.refusal (breaks_order previous (head_of item.command)) (sum + own) rest) (judge_items 0 byte_cells (recelled_state byte_of state) previous (item ∷ items)) n) all
+    (subst (λ (s : Stepped ℕ). Says (then_due item stepped.refusal (breaks_order previous (head_of item.command)) (sum + own) rest) (then_judge item s (breaks_order previous (head_of item.command)) (judge_items 0 byte_cells s.state next items)) (sum + own + left)) (sym (plain_is state item)) here)
+
+-- ---- the whole answer
+
+refused_none : (o : Option Verdict) → refused_due o ≡ DoneWhole → o ≡ None
+refused_none None e = refl
+refused_none (Some v) e = cc
+
+refused_some : (o : Option Verdict) (v : Verdict) → refused_due o ≡ RefusedAt v → o ≡ Some v
+refused_some None v e = cc
+refused_some (Some w) v e = ap refused_of e
+  where
+    refused_of : Due → Option Verdict
+    refused_of DoneWhole = None
+    refused_of (RefusedAt x) = Some x
+    refused_of (TooLong file) = None
+    refused_of (TooMuch sum) = None
+
+refused_never : (o : Option Verdict) (file : ℕ) → refused_due o ≡ TooLong file → ⊥
+refused_never None file e = cc
+refused_never (Some v) file e = cc
+
+-- By what the items say, and by the end.
+record Ends (due : Due) (verdict : Option Verdict) (sum : ℕ) : Type 0 where
+  done : due ≡ DoneWhole → (verdict ≡ None) × (sum ≤ most_literal)
+  refused : (v : Verdict) → due ≡ RefusedAt v → verdict ≡ Some v
+  never : (file : ℕ) → due ≡ TooLong file → ⊥
+
+ends : (o : Option Due) (verdict rest : Option Verdict) (sum : ℕ) → Says o verdict sum → Ends (or_due o (refused_due rest)) (first_of verdict rest) sum
+ends None verdict rest sum s = record {
+  done = λ e. (ap (λ (v : Option Verdict). first_of v rest) s.0 ∙ refused_none rest e, s.1);
+  refused = λ v e. ap (λ (x : Option Verdict). first_of x rest) s.0 ∙ refused_some rest v e;
+  never = λ file e. refused_never rest file e;
+}
+ends (Some (RefusedAt w)) verdict rest sum s = record {
+  done = λ e. cc;
+  refused = λ v e. ap (λ (x : Option Verdict). first_of x rest) s ∙ refused_some (Some w) v e;
+  never = λ file e. cc;
+}
+ends (Some (TooMuch much)) verdict rest sum s = record { done = λ e. cc; refused = λ v e. cc; never = λ file e. cc }
+ends (Some DoneWhole) verdict rest sum s = absurd s
+ends (Some (TooLong file)) verdict rest sum s = absurd s
+
+pub is_judged : (base : Store ℕ) (files : List (List ℕ)) → IsJudged base files
+unfolding compose_due judge judge_reading uncarried redirected_ranges
+is_judged base files = one (too_long files) refl
+  where
+    reading : Reading
+    reading = input files
+
+    rest : Option Verdict
+    rest = first_of (fault_of (input files).end) (without_parts (input files).items (heads (input files).items))
+
+    due : Option Due
+    due = due_from base (part_uuids (input files).items) (start_of (traced_store base)) None None 0 (input files).items
+
+    items_say : Says due (judge_items 0 byte_cells (start_of base) None (input files).items) (uncarried base files)
+    items_say =
+        let own = due_says base (part_uuids (input files).items) (input files).items (start_of (traced_store base)) None None 0 zero-le in
+        subst (λ (s : Store ℕ). Says due (judge_items 0 byte_cells (start_of s) None (input files).items) (uncarried base files)) (untraced_store base)
+        (subst (λ (n : ℕ). Says due (judge_items 0 byte_cells (recelled_state byte_of (start_of (traced_store base))) None (input files).items) n) (omega arith) own)
+
+    e : Ends (or_due due (refused_due rest)) (judge base files) (uncarried base files)
+    e = ends due (judge_items 0 byte_cells (start_of base) None (input files).items) rest (uncarried base files) items_say
+
+    by_long : Option ℕ → Due
+    by_long (Some file) = TooLong file
+    by_long None = or_due due (refused_due rest)
+
+    due_is : (o : Option ℕ) → (elim o as (λ x. Due) [ Some file ↦ TooLong file | None ↦ or_due due (refused_due rest) ]) ≡ by_long o
+    due_is None = refl
+    due_is (Some file) = refl
+
+    one : (o : Option ℕ) → too_long files ≡ o → IsJudged base files
+    one None l =
+        let at : compose_due base files ≡ or_due due (refused_due rest) = due_is (too_long files) ∙ ap by_long l in
+        record { done = λ d. e.done (sym at ∙ d); refused = λ v d. e.refused v (sym at ∙ d); long = λ file d. absurd (e.never file (sym at ∙ d)) }
+    one (Some file) l =
+        let at : compose_due base files ≡ TooLong file = due_is (too_long files) ∙ ap by_long l in
+        record { done = λ d. let x : TooLong file ≡ DoneWhole = sym at ∙ d in cc; refused = λ v d. let x : TooLong file ≡ RefusedAt v = sym at ∙ d in cc; long = λ other d. l ∙ ap Some (same_file file other (sym at ∙ d)) }
+      where
+        same_file : (a b : ℕ) → TooLong a ≡ TooLong b → a ≡ b
+        same_file a b q = ap file_of q
+          where
+            file_of : Due → ℕ
+            file_of DoneWhole = 0
+            file_of (RefusedAt x) = 0
+            file_of (TooLong n) = n
+            file_of (TooMuch sum) = 0

@@ -1,0 +1,8 @@
+use Rattle.send_model.proofs.Guarding.{no_guards_change_nothing, allowed_is_accepted}
+use Rattle.send_model.proofs.laws.guards_only_refuse.Goals as goal
+
+pub returns-clause-none : goal.returns-clause-none
+returns-clause-none c = no_guards_change_nothing
+
+pub returns-clause-allowed : goal.returns-clause-allowed
+returns-clause-allowed c = allowed_is_accepted

@@ -1,0 +1,130 @@
+-- The one answer that is due where no device fails and memory is there: for each word, over a base that is given, and the files.
+-- The order of answers is this program's own.
+use Rattle.std.specs.Prelude.{◌≡◌, ◌≤◌, ℕ, ◌+◌, ◌^◌, Bool, true, false, List, [], ◌∷◌, ◌++◌, length, take, Option, None, Some, nat_lt, codes, if◌then◌else◌}
+use Rattle.std.specs.Fmt.{decimal}
+use Rattle.send_model.specs.Refusal.{Refusal, NotConsecutive}
+use Rattle.send_model.specs.Reading.{Item, Verdict, Ending, Whole, Faulty, reads, input}
+use Rattle.send_model.specs.Lengths.{limit, is_too_long, too_long}
+use Rattle.send_model.specs.Store.{Key, Store, State, Stepped, head_of, step}
+use Rattle.send_model.specs.Receive.{Ran, run_by, verdict_of, first_of, fault_of, byte_cells, start_of}
+use Rattle.send_model.specs.Guards.{Guard, Watched, watched_step}
+use Rattle.send_model.specs.Answer.{and_number, verdict_text, line}
+use Rattle.send_model.specs.Order.{heads, breaks_order, part_after, without_parts, judge}
+use Rattle.send_model.specs.Outside.{part_uuids}
+use Rattle.send_model.specs.Provenance.{Traced, traced_store, traced_step, uuid_after, is_redirected, clone_range, uncarried_in, uncarried}
+
+-- An answer that the files decide: all was done, a command is refused, a file is too long, or the bytes of redirected clones that
+-- no outside subvolume carries are too many.
+pub data Due : Type 0 where
+  DoneWhole : Due
+  RefusedAt : Verdict → Due
+  TooLong : (file : ℕ) → Due
+  TooMuch : (sum : ℕ) → Due
+
+unfoldable pub due_status : Due → ℕ
+due_status DoneWhole = 0
+due_status (RefusedAt verdict) = 1
+due_status (TooMuch sum) = 9
+due_status (TooLong file) = 11
+
+-- The line on standard error: nothing where all was done.
+unfoldable pub due_note : Due → List ℕ
+due_note DoneWhole = []
+due_note (RefusedAt verdict) = line (verdict_text verdict)
+due_note (TooMuch sum) = line (codes "too much" ++ and_number sum)
+due_note (TooLong file) = line (codes "input too long" ++ and_number file)
+
+-- ---- compose
+
+-- The most bytes of redirected clones that are written.
+abbrev pub most_literal : ℕ
+most_literal = 2 ^ 40
+
+-- The uncarried bytes of a command: those of a redirected clone.
+abbrev pub uncarried_of : Store ℕ → List (List ℕ) → State Traced → Option (List ℕ) → Item → ℕ
+uncarried_of base parts state current item = if is_redirected parts current item.command then uncarried_in base (clone_range state item.command ∷ []) else 0
+
+-- What follows an item: its refusal, its breach of the order of parts, too many bytes up to it, or the rest.
+abbrev pub then_due : Item → Option Refusal → Bool → ℕ → Option Due → Option Due
+then_due item (Some refusal) breaks sum rest = Some (RefusedAt (verdict_of item refusal))
+then_due item None true sum rest = Some (RefusedAt (verdict_of item NotConsecutive))
+then_due item None false sum rest = if nat_lt most_literal sum then Some (TooMuch sum) else rest
+
+-- The first item that ends composing, where so many uncarried bytes stand before it.
+unfoldable pub due_from : Store ℕ → List (List ℕ) → State Traced → Option Key → Option (List ℕ) → ℕ → List Item → Option Due
+due_from base parts state previous current sum [] = None
+due_from base parts state previous current sum (item ∷ items) =
+    let stepped : Stepped Traced = traced_step state item in
+    let so_far : ℕ = sum + uncarried_of base parts state current item in
+    then_due item stepped.refusal (breaks_order previous (head_of item.command)) so_far
+    (due_from base parts stepped.state (part_after previous (head_of item.command)) (uuid_after current item.command) so_far items)
+
+abbrev pub refused_due : Option Verdict → Due
+refused_due None = DoneWhole
+refused_due (Some verdict) = RefusedAt verdict
+
+abbrev pub or_due : Option Due → Due → Due
+or_due None other = other
+or_due (Some due) other = due
+
+-- All files are read for their heads before a command is looked at, so a file that is too long comes first. Then the commands in
+-- order; then the fault that ended the reading; and last, that there is no part.
+unfoldable pub compose_due : Store ℕ → List (List ℕ) → Due
+compose_due base files = let reading = input files in
+    elim (too_long files) [
+      | Some file ↦ TooLong file
+      | None ↦ or_due (due_from base (part_uuids reading.items) (start_of (traced_store base)) None None 0 reading.items)
+          (refused_due (first_of (fault_of reading.end) (without_parts reading.items (heads reading.items))))
+    ]
+
+-- ---- audit
+
+-- How far files are read: to the end of the last, to a fault, or to the limit of one that is too long.
+pub data Stop : Type 0 where
+  AtEnd : Stop
+  AtFault : Verdict → Stop
+  AtLimit : (file : ℕ) → Stop
+
+pub record Limited : Type 0 where
+  pub items : List Item
+  pub stop : Stop
+
+abbrev pub then_limited : List Item → Ending → Limited → Limited
+then_limited items Whole rest = record { items = items ++ rest.items; stop = rest.stop }
+then_limited items (Faulty verdict) rest = record { items = items; stop = AtFault verdict }
+
+-- Files in order, of which the first has the given number; of one that is too long, what stands before the limit.
+unfoldable pub limited_from : ℕ → List (List ℕ) → Limited
+limited_from number [] = record { items = []; stop = AtEnd }
+limited_from number (bytes ∷ files) =
+    if is_too_long number bytes then record { items = (reads number (take limit bytes)).items; stop = AtLimit number }
+    else then_limited (reads number bytes).items (reads number bytes).end (limited_from (number + 1) files)
+
+abbrev pub stop_due : Stop → Due
+stop_due AtEnd = DoneWhole
+stop_due (AtFault verdict) = RefusedAt verdict
+stop_due (AtLimit file) = TooLong file
+
+-- Each command as it is read, under guards; so a refusal comes before a later file that is too long.
+unfoldable pub audit_due : Store ℕ → List Guard → List (List ℕ) → Due
+audit_due store guards files = let read = limited_from 1 files in
+    let ran : Ran (Watched (State ℕ)) = run_by (watched_step (λ s item. step 0 (byte_cells item) s item.command)) (record { guards = guards; state = start_of store }) read.items in
+    elim ran.refused [ Some verdict ↦ RefusedAt verdict | None ↦ stop_due read.stop ]
+
+-- What it prints where all is accepted: the parts and the commands of all files.
+unfoldable pub accepted_line : List (List ℕ) → List ℕ
+accepted_line files = let items = (input files).items in codes "accepted " ++ decimal (length (heads items)) ++ 0x20 ∷ decimal (length items) ++ 0x0a ∷ []
+
+-- ---- dump and export
+
+-- One file, whose commands are looked at by nobody.
+unfoldable pub file_due : List ℕ → Due
+file_due bytes = if is_too_long 1 bytes then TooLong 1 else refused_due (fault_of (reads 1 bytes).end)
+
+-- ---- laws
+
+-- The answer of compose is the verdict on the files, unless a file is too long or there is too much.
+pub record IsJudged (base : Store ℕ) (files : List (List ℕ)) : Type 0 where
+  pub done : compose_due base files ≡ DoneWhole → (judge base files ≡ None) × (uncarried base files ≤ most_literal)
+  pub refused : (verdict : Verdict) → compose_due base files ≡ RefusedAt verdict → judge base files ≡ Some verdict
+  pub long : (file : ℕ) → compose_due base files ≡ TooLong file → too_long files ≡ Some file
