@@ -9,7 +9,7 @@ use Rattle.clone_resolve.specs.Flat.{Blank}
 abbrev pub key_of : Key → meant.Key
 key_of key = record { uuid = key.uuid; ctransid = key.ctransid }
 
-abbrev pub entry_of : Entry → meant.Entry Blank
+abbrev pub entry_of : Entry → meant.Entry (Subvolume Blank)
 entry_of e = record { name = e.name; key = key_of e.key; parent = option_map key_of e.parent; contents = e.tree }
 
 abbrev pub store_of : List Entry → meant.Store Blank

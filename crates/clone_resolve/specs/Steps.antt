@@ -24,7 +24,7 @@ done_by End = done.Ended
 done_by _ = done.Edited
 
 -- An unfinished entry of a key.
-abbrev pub is_open : {C : Type 0} → Key → Entry C → Bool
+abbrev pub is_open : {S : Type 0} → Key → Entry S → Bool
 is_open key e = same_key e.key key && is_none e.contents
 
 -- An unfinished entry has the key of the part, if there is a part.

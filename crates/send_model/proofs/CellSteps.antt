@@ -38,7 +38,7 @@ module _ {C D : Type 0} (f : C → D) where
   find-cells [] key = refl
   find-cells (e ∷ store) key = find_one (same_key e.key key) e.contents _ _ (find-cells store key)
 
-  with_one : (b : Bool) (e : Entry C) (s : Subvolume C) (rest' : Store D) (rest : Store C) (store : Store C) → rest' ≡ recelled_store f rest
+  with_one : (b : Bool) (e : Entry (Subvolume C)) (s : Subvolume C) (rest' : Store D) (rest : Store C) (store : Store C) → rest' ≡ recelled_store f rest
       → (if b then record (recelled_entry f e) { contents = Some (recelled f s) } ∷ recelled_store f store else recelled_entry f e ∷ rest') ≡ recelled_store f (if b then record e { contents = Some s } ∷ store else e ∷ rest)
   with_one true e s rest' rest store more = refl
   with_one false e s rest' rest store more = ap (λ (r : Store D). recelled_entry f e ∷ r) more

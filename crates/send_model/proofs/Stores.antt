@@ -36,7 +36,7 @@ key_with uuid (e ∷ store) = if bytes_eq e.key.uuid uuid then Some e.key else k
 
 module _ {C : Type 0} where
   -- A part's entry gets its contents, and then its key finds them.
-  found_here : (key : Key) (s : Subvolume C) (e : Entry C) (store : Store C) (b : Bool) → bytes_eq e.key.uuid key.uuid ≡ b
+  found_here : (key : Key) (s : Subvolume C) (e : Entry (Subvolume C)) (store : Store C) (b : Bool) → bytes_eq e.key.uuid key.uuid ≡ b
       → (if b then Some e.key else key_with key.uuid store) ≡ Some key
       → (key_with key.uuid store ≡ Some key → find (with_contents key.uuid s store) key ≡ Some s)
       → find (if b then record e { contents = Some s } ∷ store else e ∷ with_contents key.uuid s store) key ≡ Some s

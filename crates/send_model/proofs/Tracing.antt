@@ -32,14 +32,14 @@ untraced key s = let at : Map ℕ (Inode ℕ) → Subvolume ℕ = λ m. record {
 pub untraced_store : (store : Store ℕ) → recelled_store byte_of (traced_store store) ≡ store
 unfolding traced_store
 untraced_store [] = refl
-untraced_store (e ∷ store) = ap₂ (λ (a : Entry ℕ) (r : Store ℕ). a ∷ r) (one e.contents) (untraced_store store)
+untraced_store (e ∷ store) = ap₂ (λ (a : Entry (Subvolume ℕ)) (r : Store ℕ). a ∷ r) (one e.contents) (untraced_store store)
   where
-    with_those : Option (Subvolume ℕ) → Entry ℕ
+    with_those : Option (Subvolume ℕ) → Entry (Subvolume ℕ)
     with_those o = record { name = e.name; key = e.key; parent = e.parent; contents = o }
 
     one : (o : Option (Subvolume ℕ)) → recelled_entry byte_of (record { name = e.name; key = e.key; parent = e.parent; contents = elim o as (λ x. Option (Subvolume Traced)) [ None ↦ None | Some s ↦ Some (traced_subvolume e.key s) ] }) ≡ record { name = e.name; key = e.key; parent = e.parent; contents = o }
     one None = refl
-    one (Some s) = let at : Subvolume ℕ → Entry ℕ = λ x. record { name = e.name; key = e.key; parent = e.parent; contents = Some x } in ap at (untraced e.key s)
+    one (Some s) = let at : Subvolume ℕ → Entry (Subvolume ℕ) = λ x. record { name = e.name; key = e.key; parent = e.parent; contents = Some x } in ap at (untraced e.key s)
 
 -- What a traced store finds.
 pub find_traced : (store : Store ℕ) (key : Key) → find (traced_store store) key ≡ option_map (traced_subvolume key) (find store key)

@@ -13,7 +13,7 @@ abbrev pub recelled_result : {C D : Type 0} → (C → D) → Result (Subvolume 
 recelled_result f (Ok s) = Ok (recelled f s)
 recelled_result f (Err refusal) = Err refusal
 
-abbrev pub recelled_entry : {C D : Type 0} → (C → D) → Entry C → Entry D
+abbrev pub recelled_entry : {C D : Type 0} → (C → D) → Entry (Subvolume C) → Entry (Subvolume D)
 recelled_entry f e = record { name = e.name; key = e.key; parent = e.parent; contents = option_map (recelled f) e.contents }
 
 abbrev pub recelled_store : {C D : Type 0} → (C → D) → Store C → Store D

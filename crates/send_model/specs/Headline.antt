@@ -29,7 +29,7 @@ pub record CanReceive (base : Store ℕ) (files : List (List ℕ)) (last : Head)
   pub no_uuid : has_uuid last.key.uuid store ≡ false
 
 -- The entry that such a store gets: the last part's name, key and subvolume, with the first part's parent.
-abbrev pub last_entry : Head → Head → Subvolume ℕ → Entry ℕ
+abbrev pub last_entry : Head → Head → Subvolume ℕ → Entry (Subvolume ℕ)
 last_entry first last subvolume = record { name = last.name; key = last.key; parent = first.parent; contents = Some subvolume }
 
 -- What the composed commands of items promise over a base, which is a store without the items' own parts. Nothing is said here of

@@ -7,7 +7,7 @@ use Rattle.send_model.specs.Command.{Command, Snapshot, Clone}
 use Rattle.send_model.specs.Reading.{Item, input}
 use Rattle.send_model.specs.Subvolume.{Subvolume, IsLawful}
 use Rattle.send_model.specs.Edit.{greatest_end}
-use Rattle.send_model.specs.Store.{Key, Store, find}
+use Rattle.send_model.specs.Store.{Key, Entry, Store, find}
 use Rattle.send_model.specs.Order.{heads, commands_of}
 
 -- The uuids of the parts.
@@ -18,7 +18,7 @@ abbrev pub is_among : List (List ℕ) → List ℕ → Bool
 is_among uuids uuid = list_any (λ u. bytes_eq u uuid) uuids
 
 -- A store without the subvolumes that have one of the uuids.
-abbrev pub store_without : {C : Type 0} → List (List ℕ) → Store C → Store C
+abbrev pub store_without : {S : Type 0} → List (List ℕ) → List (Entry S) → List (Entry S)
 store_without uuids store = filter (λ e. not (is_among uuids e.key.uuid)) store
 
 -- The base of items: the store without their own parts, which it may have already.

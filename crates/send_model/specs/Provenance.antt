@@ -44,7 +44,7 @@ with_cells change s = record { inodes = map (λ e. (e.0, inode_with e.1 (change 
 unfoldable pub traced_subvolume : Key → Subvolume ℕ → Subvolume Traced
 traced_subvolume key s = with_cells (λ ino cells. traced_from key ino 0 cells) s
 
-abbrev pub traced_entry : Entry ℕ → Entry Traced
+abbrev pub traced_entry : Entry (Subvolume ℕ) → Entry (Subvolume Traced)
 traced_entry e = record { name = e.name; key = e.key; parent = e.parent; contents = elim e.contents [ None ↦ None | Some s ↦ Some (traced_subvolume e.key s) ] }
 
 -- A store whose bytes are traced to their own places.

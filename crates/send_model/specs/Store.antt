@@ -19,29 +19,30 @@ pub record Key : Type 0 where
 abbrev pub same_key : Key → Key → Bool
 same_key a b = bytes_eq a.uuid b.uuid && (a.ctransid == b.ctransid)
 
--- A subvolume of a store. It has no contents while it is unfinished.
-pub record Entry (C : Type 0) : Type 0 where
+-- A subvolume of a store, with its contents of any kind. It has none while it is unfinished.
+pub record Entry (S : Type 0) : Type 0 where
   pub name : List ℕ
   pub key : Key
   pub parent : Option Key
-  pub contents : Option (Subvolume C)
+  pub contents : Option S
 
+-- A store has an entry for each subvolume, in the order in which they began.
 abbrev pub Store : Type 0 → Type 0
-Store C = List (Entry C)
+Store C = List (Entry (Subvolume C))
 
-abbrev pub has_name : {C : Type 0} → List ℕ → Store C → Bool
+abbrev pub has_name : {S : Type 0} → List ℕ → List (Entry S) → Bool
 has_name name store = list_any (λ e. bytes_eq e.name name) store
 
-abbrev pub has_uuid : {C : Type 0} → List ℕ → Store C → Bool
+abbrev pub has_uuid : {S : Type 0} → List ℕ → List (Entry S) → Bool
 has_uuid uuid store = list_any (λ e. bytes_eq e.key.uuid uuid) store
 
 -- No name and no uuid stands twice.
-abbrev pub IsStore : {C : Type 0} → Store C → Type 0
+abbrev pub IsStore : {S : Type 0} → List (Entry S) → Type 0
 IsStore [] = Unit {0}
 IsStore (e ∷ store) = (has_name e.name store ≡ false) × (has_uuid e.key.uuid store ≡ false) × IsStore store
 
--- The complete subvolume that a key finds, if any.
-unfoldable pub find : {C : Type 0} → Store C → Key → Option (Subvolume C)
+-- The contents of the complete subvolume that a key finds, if any.
+unfoldable pub find : {S : Type 0} → List (Entry S) → Key → Option S
 find [] key = None
 find (e ∷ store) key = if same_key e.key key then elim e.contents [ None ↦ find store key | Some s ↦ Some s ] else find store key
 
@@ -57,7 +58,7 @@ pub record State (C : Type 0) : Type 0 where
   pub part : Option (Part C)
 
 -- The unfinished entry of a uuid gets its contents.
-unfoldable pub with_contents : {C : Type 0} → List ℕ → Subvolume C → Store C → Store C
+unfoldable pub with_contents : {S : Type 0} → List ℕ → S → List (Entry S) → List (Entry S)
 with_contents uuid s [] = []
 with_contents uuid s (e ∷ store) = if bytes_eq e.key.uuid uuid then record e { contents = Some s } ∷ store else e ∷ with_contents uuid s store
 
@@ -101,7 +102,7 @@ abbrev pub Stepped : Type 0 → Type 0
 Stepped C = After (State C)
 
 -- A new entry, unfinished.
-abbrev pub unfinished : {C : Type 0} → Head → Entry C
+abbrev pub unfinished : {S : Type 0} → Head → Entry S
 unfinished head = record { name = head.name; key = head.key; parent = head.parent; contents = None }
 
 -- What stands after a head: a new part that starts from a subvolume, or no part and the refusal.

@@ -1,0 +1,3 @@
+mod NameMaps
+mod Admissions
+mod Pairs

@@ -1,0 +1,27 @@
+use Rattle.std.proofs.Common.{◌≡◌, ℕ, Bool, List, None, Some, cond, sym, ap, ◌∙◌}
+use Rattle.std.specs.Str.{bytes_eq}
+use Rattle.subvol_catalog.proofs.Pairs.{none_named, named_in, if_named}
+use Rattle.subvol_catalog.proofs.catalog.Catalog.uuid_of.Goals as goal
+
+pub returns-in_err-uuid : goal.returns-in_err-uuid
+returns-in_err-uuid g c = rw (c.from_residual.ensures, ← c.self.view_is) (sym (none_named c.self.inside.names.entries c.args.name.now c.self.inside.entries.entries c.self.invariant (sym c.in_err-uuid.ensures.value)))
+
+pub returns-in_err-entry : goal.returns-in_err-entry
+returns-in_err-entry g c =
+    let u : List ℕ = c.in_ok-uuid.field-0.now in
+    rw (c.from_residual-in_err-entry.ensures, ← c.self.view_is)
+    (sym (named_in c.self.inside.names.entries c.args.name.now u c.self.inside.entries.entries c.self.invariant (sym c.in_ok-uuid.ensures.value) ∙ ap (if_named c.args.name.now u) (sym c.in_err-entry.ensures.value)))
+
+pub returns-then-eq : goal.returns-then-eq
+returns-then-eq g c =
+    let u : List ℕ = c.in_ok-uuid.field-0.now in
+    let same : bytes_eq c.in_ok-entry.entry.now.name c.args.name.now ≡ c.eq.result = ap (λ (x : List ℕ). bytes_eq x c.args.name.now) (sym c.as_slice.ensures.bytes) ∙ sym c.eq.ensures in
+    rw (← c.self.view_is)
+    (sym (named_in c.self.inside.names.entries c.args.name.now u c.self.inside.entries.entries c.self.invariant (sym c.in_ok-uuid.ensures.value) ∙ ap (if_named c.args.name.now u) (sym c.in_ok-entry.ensures.value) ∙ ap (λ (b : Bool). cond b (Some u) None) (same ∙ c.if-eq.true)))
+
+pub returns-else-eq : goal.returns-else-eq
+returns-else-eq g c =
+    let u : List ℕ = c.in_ok-uuid.field-0.now in
+    let same : bytes_eq c.in_ok-entry.entry.now.name c.args.name.now ≡ c.eq.result = ap (λ (x : List ℕ). bytes_eq x c.args.name.now) (sym c.as_slice.ensures.bytes) ∙ sym c.eq.ensures in
+    rw (← c.self.view_is)
+    (sym (named_in c.self.inside.names.entries c.args.name.now u c.self.inside.entries.entries c.self.invariant (sym c.in_ok-uuid.ensures.value) ∙ ap (if_named c.args.name.now u) (sym c.in_ok-entry.ensures.value) ∙ ap (λ (b : Bool). cond b (Some u) None) (same ∙ c.if-eq.false)))

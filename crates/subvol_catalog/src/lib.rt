@@ -1,0 +1,12 @@
+//! Subvolumes by name and by key, in the order in which they began: what a store keeps of them beside their contents.
+#![tactic(auto)]
+
+mod catalog;
+mod entry;
+mod key;
+#[cfg(test)]
+mod tests;
+
+pub use catalog::Catalog;
+pub use entry::Entry;
+pub use key::Key;
