@@ -44,7 +44,7 @@ find_sayable (e ∷ store) key s all f = one (same_key e.key key) (λ q. find_sa
     one false more q = more q
 
 -- Contents change neither names nor uuids.
-same_entries : (test : Entry ℕ → Bool) → ((e : Entry ℕ) (o : Option (Subvolume ℕ)) → test (record e { contents = o }) ≡ test e) → (uuid : List ℕ) (s : Subvolume ℕ) (store : Store ℕ) → list_any test (with_contents uuid s store) ≡ list_any test store
+same_entries : (test : Entry (Subvolume ℕ) → Bool) → ((e : Entry (Subvolume ℕ)) (o : Option (Subvolume ℕ)) → test (record e { contents = o }) ≡ test e) → (uuid : List ℕ) (s : Subvolume ℕ) (store : Store ℕ) → list_any test (with_contents uuid s store) ≡ list_any test store
 unfolding with_contents
 same_entries test same uuid s [] = refl
 same_entries test same uuid s (e ∷ store) = one (bytes_eq e.key.uuid uuid) (same_entries test same uuid s store)
@@ -72,13 +72,13 @@ entries_contents uuid s (e ∷ store) h all = one (bytes_eq e.key.uuid uuid) (en
     one false more = (all.0, more)
 
 -- One entry more, of a new name and a new uuid.
-none_last : (test : Entry ℕ → Bool) (store : Store ℕ) (last : Entry ℕ) → list_any test store ≡ false → test last ≡ false → list_any test (store ++ last ∷ []) ≡ false
+none_last : (test : Entry (Subvolume ℕ) → Bool) (store : Store ℕ) (last : Entry (Subvolume ℕ)) → list_any test store ≡ false → test last ≡ false → list_any test (store ++ last ∷ []) ≡ false
 none_last test [] last none own = ap (λ (b : Bool). b || false) own
 none_last test (e ∷ store) last none own =
     let p = or_parts (test e) (list_any test store) none in
     ap (λ (b : Bool). b || list_any test (store ++ last ∷ [])) p.0 ∙ none_last test store last p.1 own
 
-distinct_last : (store : Store ℕ) (last : Entry ℕ) → IsStore store → has_name last.name store ≡ false → has_uuid last.key.uuid store ≡ false → IsStore (store ++ last ∷ [])
+distinct_last : (store : Store ℕ) (last : Entry (Subvolume ℕ)) → IsStore store → has_name last.name store ≡ false → has_uuid last.key.uuid store ≡ false → IsStore (store ++ last ∷ [])
 distinct_last [] last h n u = (refl, refl, tt)
 distinct_last (e ∷ store) last h n u =
     let a = or_parts (bytes_eq e.name last.name) (has_name last.name store) n in

@@ -20,7 +20,7 @@ abbrev pub HasSayable : Option (Subvolume ℕ) → Type 0
 HasSayable None = Unit {0}
 HasSayable (Some s) = IsSayable s
 
-pub record IsLawfulEntry (e : Entry ℕ) : Type 0 where
+pub record IsLawfulEntry (e : Entry (Subvolume ℕ)) : Type 0 where
   pub name : is_name e.name ≡ true
   pub uuid : (length e.key.uuid ≡ 16) × IsBytes e.key.uuid
   pub contents : HasSayable e.contents
