@@ -1,0 +1,5 @@
+pub mod Answers
+pub mod Changes
+pub mod Kinds
+pub mod Places
+pub mod Trees

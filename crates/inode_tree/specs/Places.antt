@@ -1,0 +1,29 @@
+-- Where a path leads in a tree. Source: this program's own; the walks are those of the definitions.
+use Rattle.std.specs.Prelude.{◌≡◌, ℕ, List, [], ◌∷◌, Result, Ok, Err}
+use Rattle.send_model.specs.Refusal as meant
+use Rattle.send_model.specs.Chain.{◌>>=◌, ◌>>◌, require, found}
+use Rattle.send_model.specs.Subvolume.{Subvolume, Spot, named, is_directory, walk_names, all_but_last}
+use Rattle.sx_base.specs.declared.refusal.Refusal.{Refusal}
+use Rattle.sx_base.specs.Refusals.{refusal_of}
+
+abbrev pub spot_of : ℕ × List ℕ → Spot
+spot_of place = record { directory = place.0; name = place.1 }
+
+-- A call gives the place that the definition says, or refuses by the same refusal.
+abbrev pub FindsSpot : Result (ℕ × List ℕ) Refusal → Result Spot meant.Refusal → Type 0
+FindsSpot (Ok place) said = said ≡ Ok (spot_of place)
+FindsSpot (Err refusal) said = said ≡ Err (refusal_of refusal)
+
+-- One step of a walk: what a name in a directory leads to.
+abbrev pub one_step : {C : Type 0} → Subvolume C → ℕ → List ℕ → Result ℕ meant.Refusal
+one_step s directory name = require (is_directory s directory) meant.NotDirectory >> found (named s directory name) meant.NoEntry
+
+-- The last of some names.
+abbrev pub last_of : List ℕ → List (List ℕ) → List ℕ
+last_of name [] = name
+last_of name (further ∷ rest) = last_of further rest
+
+-- The place that names give from a directory on: the walk of all but the last.
+abbrev pub spot_from : {C : Type 0} → Subvolume C → ℕ → List ℕ → List (List ℕ) → Result Spot meant.Refusal
+spot_from s directory name rest =
+    walk_names s directory (all_but_last (name ∷ rest)) >>= λ there. require (is_directory s there) meant.NotDirectory >> Ok (record { directory = there; name = last_of name rest })

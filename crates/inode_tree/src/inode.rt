@@ -1,0 +1,210 @@
+// The inodes of a tree.
+ghost use Rattle.std.specs.Prelude.{◌≡◌, IfOk, OnOk};
+ghost use Rattle.inode_tree.specs.Changes.{changed};
+ghost use Rattle.inode_tree.specs.Kinds.{kind_of, time_of, new_of_kind, mode_of};
+
+use crate::change::Change;
+use crate::kind::NodeKind;
+use crate::name::{Bytes, BytesRef};
+use crate::time::Timestamp;
+use extent_map::{Extents, Origin};
+use shared_map::{Copied, SharedMap};
+use std::alloc::{AllocError, Global};
+use std::marker::Model;
+
+/// An inode, seen as that of the definitions, where a cell is an origin or zero.
+#[derive(Drop)]
+pub struct Inode<O: Origin> {
+    kind: NodeKind,
+    mode: u16,
+    uid: u64,
+    gid: u64,
+    atime: Timestamp,
+    mtime: Timestamp,
+    rdev: u64,
+    flags: u64,
+    target: Bytes,
+    xattrs: SharedMap<Bytes, Bytes>,
+    contents: Extents<O>,
+}
+
+impl<O: Origin> Model for Inode<O> {
+    ghost use Rattle.std.specs.Prelude.{Option};
+    ghost use Rattle.send_model.specs.Subvolume as meant;
+    ghost use Rattle.inode_tree.specs.Kinds.{kind_of, time_of};
+
+    ghost Value = { meant.Inode (Option O) };
+
+    ghost view = { λ i. record { kind = kind_of i.kind; mode = i.mode; uid = i.uid; gid = i.gid; atime = time_of i.atime; mtime = time_of i.mtime; rdev = i.rdev; flags = i.flags; target = i.target; xattrs = i.xattrs; cells = i.contents } };
+}
+
+impl<O: Origin> Inode<O> {
+    // A new inode: nothing set but its kind, mode, device number and target. Fails for want of memory alone.
+    pub(crate) fn new(
+        alloc: Global,
+        kind: NodeKind,
+        rdev: u64,
+        target: &[u8],
+    ) -> Result<Inode<O>, AllocError>
+        ensures { IfOk result (λ i. i ≡ new_of_kind (kind_of kind) rdev target.now) }
+    {
+        let epoch = Timestamp { secs: 0, nanos: 0 };
+        Ok(Inode {
+            kind,
+            mode: first_mode(kind),
+            uid: 0,
+            gid: 0,
+            atime: epoch,
+            mtime: epoch,
+            rdev,
+            flags: 0,
+            target: Bytes::new(alloc, target)?,
+            xattrs: SharedMap::new(alloc),
+            contents: Extents::new(alloc),
+        })
+    }
+
+    /// What the inode is.
+    pub fn kind(&self) -> NodeKind
+        ensures { kind_of result ≡ self.now.kind }
+    {
+        self.kind
+    }
+
+    /// The permission bits, the low twelve bits of a mode.
+    pub fn mode(&self) -> u16
+        ensures { result ≡ self.now.mode }
+    {
+        self.mode
+    }
+
+    /// The owner.
+    pub fn uid(&self) -> u64
+        ensures { result ≡ self.now.uid }
+    {
+        self.uid
+    }
+
+    /// The group.
+    pub fn gid(&self) -> u64
+        ensures { result ≡ self.now.gid }
+    {
+        self.gid
+    }
+
+    /// When it was last read.
+    pub fn atime(&self) -> Timestamp
+        ensures { time_of result ≡ self.now.atime }
+    {
+        self.atime
+    }
+
+    /// When it was last written.
+    pub fn mtime(&self) -> Timestamp
+        ensures { time_of result ≡ self.now.mtime }
+    {
+        self.mtime
+    }
+
+    /// The number of the device, where it is one.
+    pub fn rdev(&self) -> u64
+        ensures { result ≡ self.now.rdev }
+    {
+        self.rdev
+    }
+
+    /// The flags of FILEATTR.
+    pub fn flags(&self) -> u64
+        ensures { result ≡ self.now.flags }
+    {
+        self.flags
+    }
+
+    /// What a symbolic link leads to, any bytes.
+    pub fn target(&self) -> &[u8]
+        ensures { result.now ≡ self.now.target }
+    {
+        self.target.as_slice()
+    }
+
+    /// The extended attributes by their names.
+    pub fn xattrs(&self) -> &SharedMap<Bytes, Bytes>
+        ensures { result.now ≡ self.now.xattrs }
+    {
+        &self.xattrs
+    }
+
+    /// The contents of a file.
+    pub fn contents(&self) -> &Extents<O>
+        ensures { result.now ≡ self.now.cells }
+    {
+        &self.contents
+    }
+
+    // A change. Fails for want of memory alone, and then nothing is said of the inode.
+    pub(crate) fn apply(&mut self, alloc: Global, change: &Change<'_>) -> Result<(), AllocError>
+        ensures { OnOk result (self.new ≡ changed change.now self.old) }
+    {
+        match change {
+            Change::Mode(mode) => self.mode = *mode % 0o10_000,
+            Change::Owner(uid, gid) => {
+                self.uid = *uid;
+                self.gid = *gid;
+            }
+            Change::Times(atime, mtime) => {
+                self.atime = *atime;
+                self.mtime = *mtime;
+            }
+            Change::Flags(flags) => self.flags = *flags,
+            Change::SetXattr(name, value) => {
+                let value = Bytes::new(alloc, value)?;
+                self.xattrs.insert(&BytesRef::new(name), value)?;
+            }
+            Change::RemoveXattr(name) => {
+                let _value = self.xattrs.remove(&BytesRef::new(name))?;
+            }
+        }
+        Ok(())
+    }
+
+    // Exchanges the contents with the given ones.
+    pub(crate) fn swap_contents(&mut self, contents: &mut Extents<O>)
+        ensures mine { self.new ≡ record self.old { cells = contents.old } }
+        ensures given { contents.new ≡ self.old.cells }
+    {
+        std::mem::swap(&mut self.contents, contents);
+    }
+}
+
+impl<O: Origin> Copied for Inode<O> {
+    fn copy(&self) -> Result<Inode<O>, AllocError> {
+        Ok(Inode {
+            kind: self.kind,
+            mode: self.mode,
+            uid: self.uid,
+            gid: self.gid,
+            atime: self.atime,
+            mtime: self.mtime,
+            rdev: self.rdev,
+            flags: self.flags,
+            target: self.target.copy()?,
+            xattrs: self.xattrs.copy()?,
+            contents: self.contents.copy()?,
+        })
+    }
+}
+
+// The mode of a new inode.
+fn first_mode(kind: NodeKind) -> u16
+    ensures { result ≡ mode_of (kind_of kind) }
+{
+    match kind {
+        NodeKind::Directory => 0o700,
+        NodeKind::SymbolicLink => 0o777,
+        NodeKind::File
+        | NodeKind::CharacterDevice
+        | NodeKind::BlockDevice
+        | NodeKind::Fifo
+        | NodeKind::Socket => 0o600,
+    }
+}

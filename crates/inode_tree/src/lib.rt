@@ -1,0 +1,20 @@
+//! The names, inodes and contents of a subvolume. A copy of a tree shares all that it does not change.
+#![tactic(auto)]
+
+mod attributes;
+mod change;
+mod inode;
+mod kind;
+mod making;
+mod name;
+mod removing;
+#[cfg(test)]
+mod tests;
+mod time;
+mod tree;
+
+pub use inode::Inode;
+pub use kind::NodeKind;
+pub use name::Bytes;
+pub use time::Timestamp;
+pub use tree::Tree;

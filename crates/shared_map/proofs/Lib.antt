@@ -1,0 +1,5 @@
+pub mod Lists
+pub mod Orders
+pub mod Homes
+pub mod Edits
+pub mod Parts

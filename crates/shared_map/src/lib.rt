@@ -1,0 +1,17 @@
+//! An ordered map whose copies share their entries: a copy costs a hundredth of the entries and takes no entry's memory, and a
+//! change of what is shared copies one small page.
+#![tactic(auto)]
+
+mod entries;
+mod keys;
+mod map;
+mod page;
+mod place;
+mod shared;
+#[cfg(test)]
+mod tests;
+
+pub use entries::Entries;
+pub use keys::{Copied, Key, Sought};
+pub use map::SharedMap;
+pub use shared::Shared;

@@ -1,0 +1,242 @@
+// The map.
+ghost use Rattle.std.specs.Prelude.{◌≡◌, ◌+◌, ◌<◌, ◌^◌, [], length, vec_len, slice_index_or, IfOk, OnOk, OnErr};
+ghost use Rattle.std.specs.Option.{option_copied};
+ghost use Rattle.send_model.specs.Map.{IsMap, value_at, with_value, without};
+ghost use Rattle.shared_map.specs.Sought.{entry_after};
+ghost use Rattle.shared_map.specs.Pages.{joined, AreFilled};
+
+use crate::entries::Entries;
+use crate::keys::{Copied, Key, Sought};
+use crate::page::Page;
+use crate::place::{find, home, past};
+use std::alloc::{AllocError, Global};
+use std::marker::Model;
+
+// How many entries a page has at most. Splitting and merging keep to it where there is memory, and no contract rests on it.
+const PAGE_ENTRIES: usize = 128;
+
+/// An ordered map, seen as the list of its entries in rising order of their keys. Copies share their entries.
+#[derive(Drop)]
+pub struct SharedMap<K: Key, V: Copied> {
+    pages: Vec<Page<K, V>>,
+    len: u64,
+    alloc: Global,
+}
+
+impl<K: Key, V: Copied> Model for SharedMap<K, V> {
+    ghost use Rattle.send_model.specs.Map.{Map};
+    ghost use Rattle.shared_map.specs.Pages.{joined, AreKept};
+
+    ghost Value = { Map K V };
+
+    ghost view = { λ m. joined m.pages.items };
+
+    ghost invariant = { λ m. AreKept K.order m.pages.items m.len };
+}
+
+impl<K: Key, V: Copied> SharedMap<K, V> {
+    /// A map without entries. Takes no memory; later calls take theirs from `alloc`.
+    pub fn new(alloc: Global) -> SharedMap<K, V>
+        ensures { result ≡ [] }
+    {
+        SharedMap {
+            pages: Vec::new(alloc),
+            len: 0,
+            alloc,
+        }
+    }
+
+    /// The number of entries.
+    pub fn len(&self) -> u64
+        ensures { result ≡ length self.now }
+    {
+        self.len
+    }
+
+    /// The entries in rising order of their keys.
+    pub fn iter(&self) -> Entries<'_, K, V>
+        ensures entries { result ≡ self.now }
+        ensures ordered { IsMap K.order self.now }
+        ensures fits { length self.now < 2 ^ 64 }
+    {
+        let _len = self.len;
+        Entries::new(&self.pages)
+    }
+
+    /// A map of the same entries, which shares them. Fails for want of memory alone.
+    pub fn copy(&self) -> Result<SharedMap<K, V>, AllocError>
+        ensures { IfOk result (λ map. map ≡ self.now) }
+    {
+        let mut pages = Vec::with_capacity(self.alloc, self.pages.len())?;
+        for page in &self.pages {
+            pages.push(page.copy()?)?;
+        }
+        Ok(SharedMap {
+            pages,
+            len: self.len,
+            alloc: self.alloc,
+        })
+    }
+
+    /// The value at a key, if there is one. Takes no memory.
+    pub fn get<Q: Sought<K>>(&self, query: &Q) -> Option<&V>
+        ensures { option_copied result ≡ value_at K.order (Q.sought query.now) self.now }
+    {
+        let at = home(&self.pages, query);
+        if at >= self.pages.len() {
+            return None;
+        }
+        let entries = self.pages[at].entries();
+        match find(entries, query) {
+            Ok(place) => Some(&entries[place].1),
+            Err(_) => None,
+        }
+    }
+
+    /// The entry with the least key above a key, if there is one. Takes no memory.
+    pub fn next_after<Q: Sought<K>>(&self, query: &Q) -> Option<&(K, V)>
+        ensures { option_copied result ≡ entry_after K.order (Q.sought query.now) self.now }
+    {
+        let at = home(&self.pages, query);
+        if at >= self.pages.len() {
+            return None;
+        }
+        let entries = self.pages[at].entries();
+        let place = past(entries, query);
+        if place < entries.len() {
+            return Some(&entries[place]);
+        }
+        if at + 1 < self.pages.len() {
+            return self.pages[at + 1].entries().first();
+        }
+        None
+    }
+
+    /// Sets the value at a key. Fails for want of memory alone, and then nothing changes.
+    pub fn insert<Q: Sought<K>>(&mut self, query: &Q, value: V) -> Result<(), AllocError>
+        ensures ok { OnOk result (self.new ≡ with_value K.order (Q.sought query.now) value self.old) }
+        ensures err { OnErr result (self.new ≡ self.old) }
+    {
+        let alloc = self.alloc;
+        let at = home(&self.pages, query);
+        if at >= self.pages.len() {
+            let mut entries = Vec::new(alloc);
+            entries.push((query.own(alloc)?, value))?;
+            self.pages.push(Page::new(alloc, entries)?)?;
+            self.len = 1;
+            return Ok(());
+        }
+        match find(self.pages[at].entries(), query) {
+            Ok(place) => {
+                let page = &mut self.pages[at];
+                page.set_at(alloc, place, value)?;
+                Ok(())
+            }
+            Err(place) => {
+                let Some(len) = self.len.checked_add(1) else {
+                    return Err(AllocError);
+                };
+                let key = query.own(alloc)?;
+                let page = &mut self.pages[at];
+                page.put_at(alloc, place, (key, value))?;
+                self.len = len;
+                shorten(&mut self.pages, alloc, at, place);
+                Ok(())
+            }
+        }
+    }
+
+    /// Takes out the entry of a key, if there is one, and hands over its value. Fails for want of memory alone, and then
+    /// nothing changes.
+    pub fn remove<Q: Sought<K>>(&mut self, query: &Q) -> Result<Option<V>, AllocError>
+        ensures ok { OnOk result (self.new ≡ without K.order (Q.sought query.now) self.old) }
+        ensures was { IfOk result (λ was. was ≡ value_at K.order (Q.sought query.now) self.old) }
+        ensures err { OnErr result (self.new ≡ self.old) }
+    {
+        let alloc = self.alloc;
+        let at = home(&self.pages, query);
+        if at >= self.pages.len() {
+            return Ok(None);
+        }
+        let entries = self.pages[at].entries();
+        let Ok(place) = find(entries, query) else {
+            return Ok(None);
+        };
+        if entries.len() == 1 {
+            let was = entries[place].1.copy()?;
+            let _page = self.pages.remove(at);
+            self.len -= 1;
+            return Ok(Some(was));
+        }
+        let page = &mut self.pages[at];
+        let (_key, was) = page.take_at(alloc, place)?;
+        self.len -= 1;
+        lengthen(&mut self.pages, alloc, at);
+        Ok(Some(was))
+    }
+}
+
+// Splits a page that has too many entries, if there is memory for that.
+fn shorten<K: Key, V: Copied>(pages: &mut Vec<Page<K, V>>, alloc: Global, at: usize, place: usize)
+    requires { at < vec_len pages.old }
+    ensures same { joined pages.new.items ≡ joined pages.old.items }
+    ensures filled { AreFilled pages.old.items → AreFilled pages.new.items }
+{
+    let count = pages[at].entries().len();
+    if count > PAGE_ENTRIES {
+        let cut = if place == count - 1 { place } else { count / 2 };
+        let _ = split(pages, alloc, at, cut);
+    }
+}
+
+// Makes two pages of one.
+fn split<K: Key, V: Copied>(
+    pages: &mut Vec<Page<K, V>>,
+    alloc: Global,
+    at: usize,
+    cut: usize,
+) -> Result<(), AllocError>
+    requires within { at < vec_len pages.old }
+    requires low { 0 < cut }
+    requires high { cut < length (slice_index_or pages.old.items at []) }
+    ensures same { joined pages.new.items ≡ joined pages.old.items }
+    ensures filled { AreFilled pages.old.items → AreFilled pages.new.items }
+{
+    let (low, high) = pages[at].entries().split_at(cut);
+    let back = Page::of(alloc, high)?;
+    let front = Page::of(alloc, low)?;
+    pages.insert(at + 1, back)?;
+    pages[at] = front;
+    Ok(())
+}
+
+// Makes one page of two that have few entries, if there is memory for that.
+fn lengthen<K: Key, V: Copied>(pages: &mut Vec<Page<K, V>>, alloc: Global, at: usize)
+    requires { at < vec_len pages.old }
+    ensures same { joined pages.new.items ≡ joined pages.old.items }
+    ensures filled { AreFilled pages.old.items → AreFilled pages.new.items }
+{
+    if pages.len() - at > 1 {
+        let few = pages[at].entries().len() < PAGE_ENTRIES / 4;
+        let next_few = pages[at + 1].entries().len() < PAGE_ENTRIES / 4;
+        if few && next_few {
+            let _ = join(pages, alloc, at);
+        }
+    }
+}
+
+// Makes one page of two.
+fn join<K: Key, V: Copied>(
+    pages: &mut Vec<Page<K, V>>,
+    alloc: Global,
+    at: usize,
+) -> Result<(), AllocError>
+    requires { at + 1 < vec_len pages.old }
+    ensures same { joined pages.new.items ≡ joined pages.old.items }
+    ensures filled { AreFilled pages.old.items → AreFilled pages.new.items }
+{
+    let both = pages[at].with(alloc, &pages[at + 1])?;
+    pages[at] = both;
+    let _next = pages.remove(at + 1);
+    Ok(())
+}
