@@ -1,6 +1,6 @@
 // A caller of the log, which shows that its contract is one to build on: groups of several pieces are published one
 // after the other, and what is said of all of them follows from what the log says of each call.
-ghost use Rattle.std.specs.Prelude.{◌≡◌, ◌⊎◌, ℕ, ◌+◌, ◌<◌, ◌≤◌, List, [], ◌∷◌, ◌++◌, length, take, drop, IfOk, OnOk};
+ghost use Rattle.std.specs.Prelude.{◌≡◌, ◌⊎◌, ℕ, ◌+◌, ◌≤◌, List, [], ◌∷◌, ◌++◌, length, take, IfOk, OnOk};
 ghost use Rattle.sx_base.specs.Disk.{IsImage};
 ghost use Rattle.sx_base.specs.Crash.{LeavesOnly};
 ghost use Rattle.send_model.specs.Image.{Header, HasGroups, sealed, reserve};

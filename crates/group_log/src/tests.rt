@@ -1,5 +1,5 @@
 // What no clause says: that calls succeed, and what stands on the disk byte for byte.
-ghost use Rattle.std.specs.Prelude.{◌≡◌, ◌≤◌, ◌<◌, ◌+◌, ◌^◌, IfOk, IfSome, OnOk, length};
+ghost use Rattle.std.specs.Prelude.{IfOk, IfSome, OnOk};
 ghost use Rattle.group_log.specs.Journal.{IsAtRest};
 
 use crate::client::{publish_all, publish_and_read};
