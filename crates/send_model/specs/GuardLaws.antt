@@ -1,4 +1,4 @@
--- What guards mean for receiving: they add refusals and nothing else.
+-- What guards mean for receiving: they add refusals and nothing else. This program's own.
 use Rattle.std.specs.Prelude.{◌≡◌, ℕ, List, [], None}
 use Rattle.send_model.specs.Store.{Store}
 use Rattle.send_model.specs.Receive.{Ran, receive}
