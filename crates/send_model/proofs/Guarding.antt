@@ -36,11 +36,11 @@ after_item S does item items guards state None more t = more t
 after_item S does item items guards state (Some refusal) more t = cc
 
 -- An item under guards, by what the guards answer.
-abbrev after_looks : (S : Type 0) → (S → Item → After S) → Watched S → Item → Option Refusal → After (Watched S)
+abbrev pub after_looks : (S : Type 0) → (S → Item → After S) → Watched S → Item → Option Refusal → After (Watched S)
 after_looks S does w item (Some r) = record { state = record { guards = looked w.guards item.command; state = w.state }; refusal = Some r }
 after_looks S does w item None = watched (looked w.guards item.command) (does w.state item)
 
-looks_are : (S : Type 0) (does : S → Item → After S) (w : Watched S) (item : Item) → watched_step does w item ≡ after_looks S does w item (guarded w.guards item.command)
+pub looks_are : (S : Type 0) (does : S → Item → After S) (w : Watched S) (item : Item) → watched_step does w item ≡ after_looks S does w item (guarded w.guards item.command)
 looks_are S does w item = one (guarded w.guards item.command)
   where
     one : (o : Option Refusal) → (elim o as (λ x. After (Watched S)) [
@@ -70,7 +70,7 @@ allowed_run S does w (item ∷ items) t =
 -- ---- receiving
 
 -- What an item does to a store of bytes and a part.
-abbrev does_step : State ℕ → Item → After (State ℕ)
+abbrev pub does_step : State ℕ → Item → After (State ℕ)
 does_step s item = step 0 (byte_cells item) s item.command
 
 pub no_guards_change_nothing : NoGuardsChangeNothing
@@ -79,7 +79,7 @@ no_guards_change_nothing store files =
     let reading : Reading = input files in
     ap (λ (r : Ran (Watched (State ℕ))). with_fault r reading.end) (no_guards_run (State ℕ) does_step (start_of store) reading.items)
 
-no_fault : (a b : Option Verdict) → first_of a b ≡ None → (a ≡ None) × (b ≡ None)
+pub no_fault : (a b : Option Verdict) → first_of a b ≡ None → (a ≡ None) × (b ≡ None)
 no_fault None b e = (refl, e)
 no_fault (Some v) b e = cc
 

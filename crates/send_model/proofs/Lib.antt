@@ -14,6 +14,7 @@ pub mod ElementLaws
 pub mod Sorts
 pub mod Runs
 mod Guarding
+mod Guarded
 pub mod Stores
 pub mod Merging
 pub mod Composing

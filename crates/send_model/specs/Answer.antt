@@ -1,4 +1,5 @@
 -- What the program's words ask for, and how it answers: the exit status and the line on standard error.
+-- They are this program's own. These are the words that it takes today; `Words` has all.
 use Rattle.std.specs.Prelude.{ℕ, ◌-◌, false, ◌&&◌, List, [], ◌∷◌, ◌++◌, length, replicate, Option, None, Some, codes, if◌then◌else◌}
 use Rattle.std.specs.Fmt.{decimal, digits}
 use Rattle.std.specs.Str.{bytes_eq}

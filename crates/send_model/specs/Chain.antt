@@ -1,4 +1,4 @@
--- A chain of tests, each of which may refuse: the first refusal is the answer.
+-- A chain of tests, each of which may refuse: the first refusal is the answer. This program's own.
 use Rattle.std.specs.Prelude.{Bool, true, false, Result, Ok, Err, Option, None, Some}
 use Rattle.send_model.specs.Refusal.{Refusal}
 

@@ -14,7 +14,8 @@ cells_of s ino = elim (inode_at s ino) [ None ↦ [] | Some inode ↦ inode.cell
 abbrev pub block_len : ℕ
 block_len = 4_096
 
--- The range of the source begins and ends in it; it and its place are whole blocks, but that it may be short at the source's end.
+-- The source range and the range that it goes to are whole blocks from the start of one on, but that they may be short where the
+-- source range ends at its file's end. That it lies in its file is a test of its own.
 abbrev pub is_aligned : ℕ → ℕ → ℕ → ℕ → Bool
 is_aligned offset from len size =
     (offset % block_len == 0) && (from % block_len == 0) && ((len % block_len == 0) || (from + len == size))

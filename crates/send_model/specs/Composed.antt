@@ -1,6 +1,7 @@
 -- The one list of commands that stands for several parts: the first part's head with the name and the key of the last, the
 -- commands of all parts in order, and END. A clone inside a part names the new part; one from an earlier part gives way to
 -- clones of the outside places that carry its blocks, and to writes of its other bytes.
+-- This program's own; the kernel sends at most so many bytes in one WRITE of version 1 (BTRFS_SEND_READ_SIZE).
 use Rattle.std.specs.Prelude.{ℕ, zero, suc, ◌==◌, ◌+◌, List, [], ◌∷◌, ◌++◌, take, drop, length, Option, None, Some, if◌then◌else◌}
 use Rattle.std.specs.List.{flat_map, list_any}
 use Rattle.std.specs.Option.{unwrap_or}

@@ -1,4 +1,4 @@
--- The literal bytes and the clones among commands.
+-- The literal bytes and the clones among commands. This program's own.
 use Rattle.std.specs.Prelude.{ℕ, ◌+◌, Bool, true, false, not, ◌&&◌, List, [], ◌∷◌, length, Option, None, if◌then◌else◌}
 use Rattle.std.specs.List.{sum_by, count_by}
 use Rattle.send_model.specs.Command.{Command, Clone, End}

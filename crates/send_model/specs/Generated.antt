@@ -77,7 +77,9 @@ chain_of seed count = flat_map (λ part. stream_header 1 ++ canonical_all 1 part
 
 -- The chain's commands as items of one file. Composing looks at nothing else of an item.
 abbrev pub chain_items : ℕ → ℕ → List Item
-chain_items seed count = map (λ command. record { file = 1; number = 1; offset = 0; version = 1; data_at = 0; command = command }) (flat_map (λ part. part) (parts_of seed count))
+chain_items seed count =
+    map (λ command. record { file = 1; number = 1; offset = 0; version = 1; data_at = 0; command = command })
+    (flat_map (λ part. part) (parts_of seed count))
 
 -- What the chain is composed to over the empty store.
 unfoldable pub trial_composed : ℕ → ℕ → List Command

@@ -1,8 +1,13 @@
--- What guards mean for receiving: they add refusals and nothing else.
-use Rattle.std.specs.Prelude.{◌≡◌, ℕ, List, [], None}
+-- What guards mean for receiving: they add refusals and nothing else. This program's own.
+use Rattle.std.specs.Prelude.{◌≡◌, ◌≤◌, ℕ, false, List, [], map, length, None}
+use Rattle.std.specs.List.{AllByRecursion}
+use Rattle.send_model.specs.Command.{Command}
+use Rattle.send_model.specs.Reading.{input}
 use Rattle.send_model.specs.Store.{Store}
 use Rattle.send_model.specs.Receive.{Ran, receive}
-use Rattle.send_model.specs.Guards.{Guard, Watched, receive_under}
+use Rattle.send_model.specs.Order.{commands_of}
+use Rattle.send_model.specs.Counts.{literal}
+use Rattle.send_model.specs.Guards.{GuardSpec, MostBytes, MostCommands, NoDevices, MostEnd, Guard, new_guard, seen, end_of, is_device, is_above, Watched, receive_under}
 
 -- A run, with guards beside its state.
 abbrev pub watched_run : {S : Type 0} → List Guard → Ran S → Ran (Watched S)
@@ -16,3 +21,16 @@ NoGuardsChangeNothing = (store : Store ℕ) (files : List (List ℕ)) → receiv
 abbrev pub AllowedIsAccepted : Type 0
 AllowedIsAccepted = (store : Store ℕ) (guards : List Guard) (files : List (List ℕ)) → (receive_under store guards files).refused ≡ None
     → receive store files ≡ record { state = (receive_under store guards files).state.state; refused = None }
+
+-- What a guard that began with nothing counted says of commands that it allowed, one after the other: so many bytes in WRITE
+-- commands at most, so many commands at most, no MKNOD, or no end of a WRITE with data, a CLONE or a TRUNCATE above a place.
+abbrev pub IsWithin : GuardSpec → List Command → Type 0
+IsWithin (MostBytes most) commands = literal commands ≤ most
+IsWithin (MostCommands most) commands = length commands ≤ most
+IsWithin NoDevices commands = AllByRecursion (λ c. is_device (seen c) ≡ false) commands
+IsWithin (MostEnd most) commands = AllByRecursion (λ c. is_above most (end_of (seen c)) ≡ false) commands
+
+-- What is accepted under guards is within the limits of each.
+abbrev pub AcceptedIsWithin : Type 0
+AcceptedIsWithin = (store : Store ℕ) (specs : List GuardSpec) (files : List (List ℕ)) → (receive_under store (map new_guard specs) files).refused ≡ None
+    → AllByRecursion (λ spec. IsWithin spec (commands_of (input files).items)) specs

@@ -1,7 +1,7 @@
 -- The headline: for every store and every list of consecutive streams that it accepts in order, compose writes one stream that
 -- names only the first stream's parent and subvolumes outside the list; every store holding these same subvolumes, and neither
 -- the last name nor uuid, accepts it and gets exactly the last stream's subvolume; and it writes literally only the streams' own
--- bytes and cloned blocks that no outside subvolume carries.
+-- bytes and cloned blocks that no outside subvolume carries. This program's own promise.
 use Rattle.std.specs.Prelude.{◌≡◌, ◌≢◌, ℕ, ◌+◌, ◌≤◌, List, [], ◌∷◌, ◌++◌, length, take, Option, None, Some, false, ◌⊎◌}
 use Rattle.std.specs.List.{AllByRecursion}
 use Rattle.send_model.specs.Command.{Command}

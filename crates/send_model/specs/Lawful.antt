@@ -1,4 +1,5 @@
 -- Lawful stores: what every store is that streams were received into, starting from an empty one.
+-- This program's own, of what inode(7) and xattr(7) say of names and files.
 use Rattle.std.specs.Prelude.{◌≡◌, ℕ, true, List, length, Option, None, Some, Result, Ok}
 use Rattle.std.specs.List.{AllByRecursion}
 use Rattle.send_model.specs.Refusal.{Refusal}
@@ -39,7 +40,8 @@ KeepsLawfulness change = (s after : Subvolume _) → IsLawful s → change s ≡
 
 -- An edit by a command that a version can say makes a subvolume that can be said of each that can.
 abbrev pub EditsKeepSayable : Type 0
-EditsKeepSayable = (version : ℕ) (c : Command) (s after : Subvolume ℕ) → IsSpellable version c → IsSayable s → edit 0 (bytes_of c) c s ≡ Ok after → IsSayable after
+EditsKeepSayable = (version : ℕ) (c : Command) (s after : Subvolume ℕ) → IsSpellable version c → IsSayable s
+    → edit 0 (bytes_of c) c s ≡ Ok after → IsSayable after
 
 -- Whatever is received into a lawful store leaves a lawful one, wherever it ends.
 abbrev pub ReceivedIsLawful : Type 0
@@ -48,7 +50,8 @@ ReceivedIsLawful = (store : Store ℕ) (items : List Item) → IsLawfulStore sto
 
 -- So it is of files of bytes.
 abbrev pub FilesLeaveLawful : Type 0
-FilesLeaveLawful = (store : Store ℕ) (files : List (List ℕ)) → IsLawfulStore store → AllByRecursion IsBytes files → IsLawfulStore (completed (receive store files).state) × IsLawfulStore (receive store files).state.store
+FilesLeaveLawful = (store : Store ℕ) (files : List (List ℕ)) → IsLawfulStore store → AllByRecursion IsBytes files
+    → IsLawfulStore (completed (receive store files).state) × IsLawfulStore (receive store files).state.store
 
 -- What a lawful store finds can be said, whatever entries are left out: it meets what the headline asks of a base.
 abbrev pub LawfulFindsSayable : Type 0
@@ -57,4 +60,5 @@ LawfulFindsSayable = (store : Store ℕ) (files : List (List ℕ)) (keys : List 
 -- The headline over a lawful store.
 abbrev pub LawfulStoresHold : Type 0
 LawfulStoresHold = (store : Store ℕ) (files : List (List ℕ)) → IsLawfulStore store → AllByRecursion IsBytes files → (input files).end ≡ Whole
-    → IsConsecutive (input files).items → IsAccepted (receive (base store files) files) → IsComposed (base store files) files (output_for None (base store files) files)
+    → IsConsecutive (input files).items → IsAccepted (receive (base store files) files)
+    → IsComposed (base store files) files (output_for None (base store files) files)

@@ -1,4 +1,4 @@
--- What the definitions mean together: laws that every later promise leans on.
+-- What the definitions mean together: laws that every later promise leans on. This program's own.
 use Rattle.std.specs.Prelude.{◌≡◌, ◌≢◌, ℕ, ◌+◌, ◌-◌, ◌<◌, ◌≤◌, true, false, List, [], ◌∷◌, ◌++◌, map, length, take, drop, Option, None, Some, Ok}
 use Rattle.std.specs.declared.cmp.Ordering.TheVariants.{Greater}
 use Rattle.std.specs.List.{AllByRecursion}
@@ -36,7 +36,8 @@ SpelledIsRead = (version : ℕ) (bytes rest : List ℕ) (c : Command) (s : Spell
 
 -- So it is the item in front, where the program takes it.
 abbrev pub SpelledIsFront : Type 0
-SpelledIsFront = (file version number offset : ℕ) (bytes rest : List ℕ) (c : Command) (s : Spells version bytes c) → taken version (row (kind_of c)).number ≡ Ok tt
+SpelledIsFront = (file version number offset : ℕ) (bytes rest : List ℕ) (c : Command) (s : Spells version bytes c)
+    → taken version (row (kind_of c)).number ≡ Ok tt
     → front_of file version number offset (bytes ++ rest) ≡ Ok (record { item = record { file = file; number = number; offset = offset; version = version; data_at = data_place version offset s.attributes; command = c }; rest = rest })
 
 -- What is in front was spelled: one frame for the item's command, which is taken, and then what follows it.
@@ -49,18 +50,22 @@ pub record WasSpelled (file version number offset : ℕ) (bytes : List ℕ) (fro
 
 -- Where bytes are read as a command, they spell it.
 abbrev pub ReadWasSpelled : Type 0
-ReadWasSpelled = (file version number offset : ℕ) (bytes : List ℕ) (front : Front) → IsBytes bytes → front_of file version number offset bytes ≡ Ok front → WasSpelled file version number offset bytes front
+ReadWasSpelled = (file version number offset : ℕ) (bytes : List ℕ) (front : Front) → IsBytes bytes
+    → front_of file version number offset bytes ≡ Ok front → WasSpelled file version number offset bytes front
 
 -- Frame, attributes and command, rule by rule, where it is not asked whether the program takes the command.
 abbrev pub RulesWereSpelled : Type 0
-RulesWereSpelled = (version : ℕ) (bytes : List ℕ) (frame : Frame) (attributes : List Attribute) (c : Command) → IsBytes bytes → frame_at bytes ≡ Ok frame
+RulesWereSpelled = (version : ℕ) (bytes : List ℕ) (frame : Frame) (attributes : List Attribute) (c : Command) → IsBytes bytes
+    → frame_at bytes ≡ Ok frame
     → attributes_at version frame.body ≡ Ok attributes → command_of version frame.number attributes ≡ Ok c
     → (front : List ℕ) × (spells : Spells version front c) × (bytes ≡ front ++ frame.rest) × (spells.attributes ≡ attributes)
 
 -- Where a WRITE is read, its data stand at the place that the item says.
 abbrev pub DataIsThere : Type 0
-DataIsThere = (file version number offset : ℕ) (bytes : List ℕ) (front : Front) (path : List ℕ) (at : ℕ) (written : List ℕ) → IsBytes bytes → front_of file version number offset bytes ≡ Ok front
-    → front.item.command ≡ Write path at written → (offset ≤ front.item.data_at) × (take (length written) (drop (front.item.data_at - offset) bytes) ≡ written)
+DataIsThere = (file version number offset : ℕ) (bytes : List ℕ) (front : Front) (path : List ℕ) (at : ℕ) (written : List ℕ)
+    → IsBytes bytes → front_of file version number offset bytes ≡ Ok front
+    → front.item.command ≡ Write path at written
+    → (offset ≤ front.item.data_at) × (take (length written) (drop (front.item.data_at - offset) bytes) ≡ written)
 
 -- A frame has one reading: bytes that spell a command spell no other.
 abbrev pub FrameHasOneReading : Type 0
@@ -91,7 +96,8 @@ pub record StreamIsRead (file version : ℕ) (cs : List Command) : Type 0 where
 
 -- A stream cut short is not read as whole.
 abbrev pub CutIsUnfinished : Type 0
-CutIsUnfinished = (version : ℕ) (cs : List Command) (k : ℕ) → is_version version ≡ true → AreInner version cs → k < length (stream_of version cs) → IsUnfinished (take k (stream_of version cs))
+CutIsUnfinished = (version : ℕ) (cs : List Command) (k : ℕ) → is_version version ≡ true → AreInner version cs
+    → k < length (stream_of version cs) → IsUnfinished (take k (stream_of version cs))
 
 -- A command that is neither a head nor END nor a clone looks at nothing but the part's own subvolume.
 abbrev pub EditLooksAtItsPart : Type 0
@@ -100,7 +106,8 @@ EditLooksAtItsPart = (put : List ℕ) (store : Store ℕ) (part : Part ℕ) (c :
 
 -- A step does not look at cells: over other cells, of whatever type, it is the same step.
 abbrev pub StepKeepsCells : Type 0 → Type 0 → Type 0
-StepKeepsCells C D = (f : C → D) (zero_cell : C) (put : List C) (state : State C) (c : Command) → step (f zero_cell) (map f put) (recelled_state f state) c ≡ recelled_step f (step zero_cell put state c)
+StepKeepsCells C D = (f : C → D) (zero_cell : C) (put : List C) (state : State C) (c : Command)
+    → step (f zero_cell) (map f put) (recelled_state f state) c ≡ recelled_step f (step zero_cell put state c)
 
 -- Items that a base takes in order, all commands among them and whatever of them can be read: their composed commands do what the
 -- headline says, where each subvolume of the base that they name is lawful.
@@ -111,8 +118,11 @@ ItemsHold = (store : Store ℕ) (items : List Item) → IsConsecutive items → 
 -- Where the items' own versions can say their commands, and each subvolume of the base that they name can be said, the version of
 -- the composed stream can say the composed ones.
 abbrev pub ItemsSpelled : Type 0
-ItemsSpelled = (store : Store ℕ) (items : List Item) → IsConsecutive items → IsAccepted (run_items 0 byte_cells (start_of (base_of store items)) items)
-    → FindsSayable (base_of store items) (keys_outside items) → AllByRecursion (λ item. IsSpellable item.version item.command) items → AllByRecursion (IsSpellable (version_of items)) (composed_of (base_of store items) items)
+ItemsSpelled = (store : Store ℕ) (items : List Item) → IsConsecutive items
+    → IsAccepted (run_items 0 byte_cells (start_of (base_of store items)) items)
+    → FindsSayable (base_of store items) (keys_outside items)
+    → AllByRecursion (λ item. IsSpellable item.version item.command) items
+    → AllByRecursion (IsSpellable (version_of items)) (composed_of (base_of store items) items)
 
 -- Files of bytes that a base takes in order: the stream of their composed commands is what the headline says, where each subvolume
 -- of the base that they name can be said.
@@ -124,7 +134,8 @@ FilesHold = (store : Store ℕ) (files : List (List ℕ)) → AllByRecursion IsB
 -- Where they have no clones, the base may find subvolumes of any kind.
 abbrev pub PlainFilesHold : Type 0
 PlainFilesHold = (store : Store ℕ) (files : List (List ℕ)) → AllByRecursion IsBytes files → (input files).end ≡ Whole
-    → IsConsecutive (input files).items → IsAccepted (receive (base store files) files) → AllByRecursion (λ c. is_clone c ≡ false) (commands_of (input files).items)
+    → IsConsecutive (input files).items → IsAccepted (receive (base store files) files)
+    → AllByRecursion (λ c. is_clone c ≡ false) (commands_of (input files).items)
     → IsComposed (base store files) files (output_for None (base store files) files)
 
 -- ---- paths

@@ -1,4 +1,4 @@
--- How much of a file is read, and which file is too long.
+-- How much of a file is read, and which file is too long. The limit is this program's own.
 use Rattle.std.specs.Prelude.{ℕ, ◌+◌, ◌^◌, Bool, true, false, ◌&&◌, List, [], ◌∷◌, length, take, Option, None, Some, nat_le, if◌then◌else◌}
 use Rattle.send_model.specs.Refusal.{Refusal, Truncated}
 use Rattle.send_model.specs.Reading.{Ending, Whole, Faulty, reads}

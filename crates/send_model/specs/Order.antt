@@ -1,5 +1,6 @@
 -- The order of parts that compose asks for: each part but the first is a snapshot of the part before it. And the verdict on
 -- files: the first command that is refused, by its step or by this order, or the fault with which their reading ended.
+-- The order is this program's own: `btrfs receive` takes parts in any order that their parents allow.
 use Rattle.std.specs.Prelude.{◌≡◌, ◌≢◌, ℕ, Bool, false, not, List, [], ◌∷◌, map, Option, None, Some, if◌then◌else◌}
 use Rattle.send_model.specs.Refusal.{NotConsecutive}
 use Rattle.send_model.specs.Command.{Command}

@@ -1,6 +1,6 @@
 -- Where the cells of cloned ranges come from: a byte of a subvolume outside the files stands at a place there, and edits
 -- carry this with the byte. Bytes that commands write, and zero bytes that they make, come from nowhere outside.
--- Which blocks of a redirected clone are carried by an outside subvolume is decided by these places alone.
+-- Which blocks of a redirected clone are carried by an outside subvolume is decided by these places alone. This program's own.
 use Rattle.std.specs.Prelude.{ℕ, zero, suc, ◌+◌, ◌%◌, ◌==◌, Bool, true, false, not, ◌&&◌, ◌||◌, List, [], ◌∷◌, ◌++◌, map, length, take, drop, Option, None, Some, Ok, Err, if◌then◌else◌}
 use Rattle.std.specs.List.{sum_by, count_by}
 use Rattle.std.specs.Str.{bytes_eq}

@@ -92,4 +92,5 @@ ExportedIsSame = (bytes : List ℕ) → IsBytes bytes → (reads 1 bytes).end �
 
 -- So whatever compose promises of what it wrote, the exported stream keeps.
 abbrev pub ExportedIsComposed : Type 0
-ExportedIsComposed = (base : Store ℕ) (files : List (List ℕ)) (written : List ℕ) → IsBytes written → IsComposed base files written → IsComposed base files (exported written)
+ExportedIsComposed = (base : Store ℕ) (files : List (List ℕ)) (written : List ℕ) → IsBytes written
+    → IsComposed base files written → IsComposed base files (exported written)

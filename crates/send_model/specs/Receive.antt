@@ -1,4 +1,5 @@
 -- Receiving files into a store: each command's step in order, up to the first refusal or fault of reading.
+-- Source: the btrfs-receive manual, and do_receive in cmds/receive.c of btrfs-progs.
 use Rattle.std.specs.Prelude.{◌≡◌, ℕ, List, [], ◌∷◌, Option, None, Some}
 use Rattle.send_model.specs.Refusal.{Refusal}
 use Rattle.send_model.specs.Command.{Command, Write}

@@ -133,7 +133,7 @@ name_count s ino = length (filter (λ e. e.1 == ino) s.names)
 unfoldable pub is_empty_directory : {C : Type 0} → Subvolume C → ℕ → Bool
 is_empty_directory s ino = elim (filter (λ e. e.0.0 == ino) s.names) [ [] ↦ true | e ∷ es ↦ false ]
 
--- A path of at most 4,095 bytes names the inode.
+-- A path names the inode. No path of more than 4,095 bytes leads anywhere.
 unfoldable pub IsNameable : {C : Type 0} → Subvolume C → ℕ → Type 0
 IsNameable s ino = (path : List ℕ) × (walk s path ≡ Ok ino)
 
@@ -192,7 +192,8 @@ pub record IsSound {C : Type 0} (s : Subvolume C) : Type 0 where
   pub names_in_order : IsMap named_cmp s.names
   -- the root is a directory
   pub root_there : IsTrue (is_directory s root)
-  -- a name stands in a directory and leads to an inode that is there, and never to the root
+  -- a name stands in a directory and leads to an inode that is there, and never to the root (which is more than a tree needs, and
+  -- kept by every edit)
   pub in_directory : (directory : ℕ) (name : List ℕ) (ino : ℕ) → named s directory name ≡ Some ino → IsTrue (is_directory s directory)
   pub leads_somewhere : (directory : ℕ) (name : List ℕ) (ino : ℕ) → named s directory name ≡ Some ino → IsTrue (is_some (inode_at s ino))
   pub root_unnamed : (directory : ℕ) (name : List ℕ) → named s directory name ≢ Some root

@@ -7,7 +7,7 @@ ghost use Rattle.send_model.specs.Edit.{edit};
 ghost use Rattle.send_model.specs.Clone.{clone};
 ghost use Rattle.send_model.specs.Store.{Key, Store, State};
 ghost use Rattle.send_model.specs.Provenance.{Traced};
-ghost use Rattle.send_model.specs.GuardLaws.{NoGuardsChangeNothing, AllowedIsAccepted};
+ghost use Rattle.send_model.specs.GuardLaws.{NoGuardsChangeNothing, AllowedIsAccepted, AcceptedIsWithin};
 ghost use Rattle.send_model.specs.Due.{IsJudged};
 ghost use Rattle.send_model.specs.Lawful.{KeepsLawfulness, EditsKeepSayable, ReceivedIsLawful, FilesLeaveLawful, LawfulFindsSayable, LawfulStoresHold};
 ghost use Rattle.send_model.specs.Receivable.{ReceivableSpells, ReceivableRises, ExportedIsSame, ExportedIsComposed};
@@ -77,10 +77,11 @@ pub fn first_paths_are_least<C>()
 {}
 
 /// Guards add refusals to a run and nothing else: without guards it is the plain run, and what is accepted under guards is
-/// accepted without them and leads to the same state.
+/// accepted without them and leads to the same state. It is within the limits of each guard.
 pub fn guards_only_refuse()
     ensures none { NoGuardsChangeNothing }
     ensures allowed { AllowedIsAccepted }
+    ensures within { AcceptedIsWithin }
 {}
 
 /// The composed commands, from every state, carry the bytes of the commands themselves and the cells of redirected clones

@@ -2,6 +2,8 @@
 #![tactic(auto)]
 
 mod laws;
+#[cfg(test)]
+mod tests;
 
 pub use laws::{
     answers_are_judged, composed_commands_are_counted, composed_streams_are_accepted,

@@ -1,4 +1,5 @@
 use Rattle.send_model.proofs.Guarding.{no_guards_change_nothing, allowed_is_accepted}
+use Rattle.send_model.proofs.Guarded.{accepted_is_within}
 use Rattle.send_model.proofs.laws.guards_only_refuse.Goals as goal
 
 pub returns-clause-none : goal.returns-clause-none
@@ -6,3 +7,6 @@ returns-clause-none c = no_guards_change_nothing
 
 pub returns-clause-allowed : goal.returns-clause-allowed
 returns-clause-allowed c = allowed_is_accepted
+
+pub returns-clause-within : goal.returns-clause-within
+returns-clause-within c = accepted_is_within
