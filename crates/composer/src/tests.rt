@@ -32,7 +32,7 @@ fn blob(alloc: Global, byte: u8) -> Result<Blob, AllocError>
     Ok(Blob::from(Vec::from_slice(alloc, &[byte])?))
 }
 
-#[tactic(auto, unfolding(send_model::specs::Reading::is_taken))]
+#[tactic(auto, unfolding(send_model::specs::Reading::is_taken, send_commands::specs::Writing::IsWritable, send_model::specs::Command::row))]
 fn command(alloc: Global, row: Row) -> Result<Command, AllocError>
     ensures taken { IfOk result (λ c. IsTrue (is_taken (kind_of (meaning_of c)))) }
     ensures writable { IfOk result (λ c. IsWritable 1 (meaning_of c)) }

@@ -2,3 +2,6 @@ mod Headers
 mod Slots
 mod Progress
 pub mod Parts
+pub mod Uncut
+pub mod Fronts
+pub mod Pieces

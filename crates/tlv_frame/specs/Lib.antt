@@ -2,3 +2,5 @@ pub mod Answers
 pub mod Frame
 pub mod Table
 pub mod Front
+pub mod Feeding
+pub mod InFront

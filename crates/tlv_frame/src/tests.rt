@@ -77,6 +77,51 @@ fn attributes_are_found(rt: HostRuntime) -> Result<(), Fail> {
     Ok(())
 }
 
+#[test]
+fn data_of_version_two_has_no_length(rt: HostRuntime) -> Result<(), Fail> {
+    let bodies: [(&[u8], usize, &[u8]); 3] = [
+        (b"\x0f\x00\x01\x00x\x13\x00hi", 7, b"hi"),
+        (b"\x13\x00", 2, b""),
+        (
+            b"\x19\x00\x04\x00\x03\x00\x00\x00\x13\x00\x13\x00\x0f\x00\x01\x00x",
+            10,
+            b"\x13\x00\x0f\x00\x01\x00x",
+        ),
+    ];
+    for (body, place, data) in bodies {
+        let table = attrs(body, 2).ok().ok_or("the attributes are lawful")?;
+        assert_eq!(rt; table.get(19), Some(data));
+        assert_eq!(rt; table.place(19), Some(place));
+        assert_eq!(rt; table.version(), 2);
+    }
+    let refused: [(&[u8], u16); 4] = [
+        (b"\x0f\x00\x01\x00x\x13", 0),
+        (b"\x20\x00\x01\x00x", 32),
+        (b"\x0f\x00", 15),
+        (b"\x0f\x00\x01\x00x\x0f\x00\x01\x00x\x13\x00", 15),
+    ];
+    for (body, kind) in refused {
+        assert_eq!(rt; bad_attribute(attrs(body, 2)), Some(kind));
+    }
+    Ok(())
+}
+
+#[test]
+#[tactic(auto, unfolding(send_model::specs::Spelling::attribute_bytes))]
+fn frames_of_version_two_are_written(rt: HostRuntime) -> Result<(), Fail> {
+    let mut to = Blob::new(rt.alloc());
+    let mut writer = FrameWriter::begin(&mut to, 15, 2)?;
+    writer.attr_bytes(&mut to, 15, b"x")?;
+    writer.attr_u64(&mut to, 18, 5)?;
+    writer.attr_data(&mut to, b"hi")?;
+    writer.finish(&mut to);
+    assert_eq!(rt;
+        to.as_slice(),
+        b"\x15\x00\x00\x00\x0f\x00\x17\x15h\xc7\x0f\x00\x01\x00x\x12\x00\x08\x00\x05\x00\x00\x00\x00\x00\x00\x00\x13\x00hi".as_slice()
+    );
+    Ok(())
+}
+
 // The number that the refusal of these attributes keeps, if they are refused.
 fn bad_attribute(read: Result<AttrTable<'_>, Refusal>) -> Option<u16> {
     match read {

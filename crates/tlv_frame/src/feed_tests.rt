@@ -1,0 +1,107 @@
+// Feeds over a file in pieces. The bytes are from another program.
+use crate::{Feed, Unit};
+use std::alloc::AllocFailed;
+use std::process::Abort;
+use std::test::Fail;
+use sx_base::Refusal;
+
+// A stream with a SNAPSHOT, a WRITE of one byte and END.
+const FILE: &[u8] =
+    b"btrfs-stream\x00\x01\x00\x00\x00E\x00\x00\x00\x02\x00\xca\x93\xbf\xed\x01\x00\x10\x00\"\"\"\"\"\"\"\"\"\"\"\"\"\"\"\"\x02\x00\x08\x00\x02\x00\x00\x00\x00\x00\x00\x00\x0f\x00\x01\x00b\x14\x00\x10\x00\x11\x11\x11\x11\x11\x11\x11\x11\x11\x11\x11\x11\x11\x11\x11\x11\x15\x00\x08\x00\x01\x00\x00\x00\x00\x00\x00\x00\x16\x00\x00\x00\x0f\x00\x95\xb7Kw\x0f\x00\x01\x00x\x12\x00\x08\x00\x02\x00\x00\x00\x00\x00\x00\x00\x13\x00\x01\x00!\x00\x00\x00\x00\x15\x00Pl\xc9\x9d";
+
+// The version of the header, and the number and the length of each frame.
+const UNITS: [(u16, u32); 4] = [(0, 1), (2, 69), (15, 22), (21, 0)];
+
+// Takes all units that are there, and gives the refusal if there is one.
+fn drain(
+    feed: &mut Feed,
+    seen: &mut Vec<(u16, u32)>,
+) -> Result<Option<Refusal>, AllocFailed<(u16, u32)>> {
+    for _ in 0..100 {
+        match feed.next() {
+            Ok(Some(Unit::Head(head))) => seen.push((0, head.version))?,
+            Ok(Some(Unit::Frame { head, .. })) => seen.push((head.cmd, head.len))?,
+            Ok(None) => return Ok(None),
+            Err(refusal) => return Ok(Some(refusal)),
+        }
+    }
+    Ok(None)
+}
+
+#[test]
+fn pieces_of_any_size_give_the_same(rt: HostRuntime) -> Result<(), Fail> {
+    for size in 1..=20 {
+        let mut feed = Feed::new(rt.alloc())?;
+        let mut seen = Vec::new(rt.alloc());
+        for piece in FILE.chunks(size) {
+            assert!(rt; !feed.whole());
+            assert_eq!(rt; feed.give(piece), piece.len());
+            assert_eq!(rt; drain(&mut feed, &mut seen)?, None);
+        }
+        assert_eq!(rt; seen.as_slice(), UNITS.as_slice());
+        assert!(rt; feed.whole());
+        assert_eq!(rt; feed.last(), &FILE[FILE.len() - 10..]);
+    }
+    Ok(())
+}
+
+#[test]
+fn a_file_that_is_cut_is_not_whole(rt: HostRuntime) -> Result<(), Fail> {
+    for cut in 0..FILE.len() {
+        let mut feed = Feed::new(rt.alloc())?;
+        let mut seen = Vec::new(rt.alloc());
+        assert_eq!(rt; feed.give(&FILE[..cut]), cut);
+        assert_eq!(rt; drain(&mut feed, &mut seen)?, None);
+        assert!(rt; UNITS.starts_with(&seen) && seen.len() < 4 && !feed.whole());
+    }
+    Ok(())
+}
+
+// What a feed says of bytes behind a header, and then again with more bytes.
+fn refused(rt: &impl Abort, feed: &mut Feed, bytes: &[u8]) -> Option<Refusal> {
+    feed.give(&FILE[..17]);
+    assert!(rt; feed.next().is_ok());
+    feed.give(bytes);
+    let first = feed.next().err();
+    feed.give(FILE);
+    assert_eq!(rt; feed.next().err(), first);
+    first
+}
+
+#[test]
+fn a_refusal_stays(rt: HostRuntime) -> Result<(), Fail> {
+    let sums = Refusal::BadChecksum {
+        stored: 1,
+        computed: 0x9dc9_6c50,
+    };
+    let table: [(&[u8], Refusal); 2] = [
+        (
+            b"\x01\x00\x04\x00\x15\x00\x00\x00\x00\x00",
+            Refusal::LongCommand(262_145),
+        ),
+        (b"\x00\x00\x00\x00\x15\x00\x01\x00\x00\x00", sums),
+    ];
+    for (bytes, want) in table {
+        let mut feed = Feed::new(rt.alloc())?;
+        assert_eq!(rt; refused(&rt, &mut feed, bytes), Some(want));
+    }
+    let mut feed = Feed::new(rt.alloc())?;
+    feed.give(b"btrfs-stream\x00\x03\x00\x00\x00");
+    assert_eq!(rt; feed.next().err(), Some(Refusal::BadVersion(3)));
+    Ok(())
+}
+
+#[test]
+fn a_feed_takes_what_it_has_room_for(rt: HostRuntime) -> Result<(), Fail> {
+    let mut piece = Vec::new(rt.alloc());
+    piece.resize(100_000, 0)?;
+    let mut feed = Feed::new(rt.alloc())?;
+    feed.give(FILE);
+    assert!(rt; feed.next().is_ok());
+    for _ in 0..5 {
+        assert_eq!(rt; feed.give(&piece), 100_000);
+    }
+    assert_eq!(rt; feed.give(&piece), 524_288 - 500_000 - (FILE.len() - 17));
+    assert_eq!(rt; feed.give(&piece), 0);
+    Ok(())
+}
