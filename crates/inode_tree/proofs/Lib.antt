@@ -1,6 +1,7 @@
 pub mod ChangeLaws
 pub mod Chains
-pub mod Walks
 pub mod EditSteps
 pub mod Empties
+pub mod RenameSteps
 pub mod TreeLaws
+pub mod Walks

@@ -8,6 +8,7 @@ mod kind;
 mod making;
 mod name;
 mod removing;
+mod renaming;
 #[cfg(test)]
 mod tests;
 mod time;

@@ -81,6 +81,38 @@ fn names_come_and_go(rt: HostRuntime) -> Result<(), Fail> {
 }
 
 #[test]
+fn names_move(rt: HostRuntime) -> Result<(), Fail> {
+    let mut tree: Tree<Mark> = Tree::new(rt.alloc())?;
+    tree.make(b"x", NodeKind::File, 0, b"")?;
+    tree.link(b"y", b"x")?;
+    tree.rename(b"x", b"y")?;
+    assert_eq!(rt; (tree.find(b"x"), tree.find(b"y")), (Ok(257), Ok(257)));
+    tree.make(b"d", NodeKind::Directory, 0, b"")?;
+    tree.make(b"e", NodeKind::Directory, 0, b"")?;
+    tree.make(b"e/f", NodeKind::File, 0, b"")?;
+    assert_eq!(rt; refusal(tree.rename(b"d", b"e")), Some(Refusal::NotEmpty));
+    assert_eq!(rt;
+        refusal(tree.rename(b"d", b"d/g")),
+        Some(Refusal::IntoItself)
+    );
+    assert_eq!(rt; refusal(tree.rename(b"z", b"/")), Some(Refusal::NoEntry));
+    assert_eq!(rt;
+        refusal(tree.rename(b"d", b"x")),
+        Some(Refusal::NotDirectory)
+    );
+    assert_eq!(rt;
+        refusal(tree.rename(b"x", b"d")),
+        Some(Refusal::IsDirectory)
+    );
+    tree.rename(b"e", b"d")?;
+    assert_eq!(rt; tree.find(b"d/f"), Ok(260));
+    assert_eq!(rt; tree.inode(258).is_some(), false);
+    tree.rename(b"d/f", b"x")?;
+    assert_eq!(rt; (tree.find(b"x"), tree.find(b"y")), (Ok(260), Ok(257)));
+    Ok(())
+}
+
+#[test]
 fn a_snapshot_changes_alone(rt: HostRuntime) -> Result<(), Fail> {
     let mut before: Tree<Mark> = Tree::new(rt.alloc())?;
     before.make(b"n", NodeKind::CharacterDevice, 1_281, b"")?;

@@ -1,0 +1,138 @@
+// Moving names.
+ghost use Rattle.std.specs.Prelude.{◌≡◌, ◌≢◌, ◌&&◌, ℕ, List, Some, None, OnOk};
+ghost use Rattle.send_model.specs.Subvolume.{IsSound, named, is_directory};
+ghost use Rattle.send_model.specs.Edit as edit;
+ghost use Rattle.inode_tree.specs.Answers.{Finds, MayChange};
+ghost use Rattle.inode_tree.specs.Places.{spot_of};
+
+use crate::name::Place;
+use crate::tree::{ROOT, Tree};
+use extent_map::Origin;
+use path_rules::split;
+use std::alloc::AllocError;
+use sx_base::{Refusal, Stop};
+
+impl<O: Origin> Tree<O> {
+    /// Moves a name. What stands at the new place gives way; where that is the same inode, both names stay. After `NoMemory`
+    /// nothing is said of the tree.
+    ///
+    /// # Errors
+    /// The first refusal of RENAME: those of the place, NoEntry, those of the new place, IntoItself, and where another inode
+    /// stands there NotDirectory, IsDirectory or NotEmpty; then nothing changes.
+    pub fn rename(&mut self, path: &[u8], path_to: &[u8]) -> Result<(), Stop>
+        ensures { MayChange result self.old self.new (edit.rename path.now path_to.now self.old) }
+    {
+        let from = self.spot(path)?;
+        let Some(moved) = self.named(&from) else {
+            return Err(Stop::Refused(Refusal::NoEntry));
+        };
+        let to = self.spot(path_to)?;
+        let Some(there) = self.named(&to) else {
+            if self.goes_into_itself(moved, path_to) {
+                return Err(Stop::Refused(Refusal::IntoItself));
+            }
+            if !self.whole {
+                return Err(Stop::NoMemory);
+            }
+            self.move_name(&from, &to, moved)?;
+            return Ok(());
+        };
+        if there == moved {
+            return Ok(());
+        }
+        if self.goes_into_itself(moved, path_to) {
+            return Err(Stop::Refused(Refusal::IntoItself));
+        }
+        self.check_replace(moved, there)?;
+        if !self.whole {
+            return Err(Stop::NoMemory);
+        }
+        self.move_onto(&from, &to, moved, there)?;
+        Ok(())
+    }
+
+    // Whether a directory would move to a place in it or below it.
+    fn goes_into_itself(&self, moved: u64, path_to: &[u8]) -> bool
+        ensures { result ≡ (is_directory self.now moved && edit.lies_below self.now moved path_to.now) }
+    {
+        self.is_directory(moved) && self.lies_below(moved, path_to)
+    }
+
+    // Whether the walk to the directory of a path passes an inode.
+    fn lies_below(&self, ino: u64, path: &[u8]) -> bool
+        ensures { result ≡ edit.lies_below self.now ino path.now }
+    {
+        let Ok(mut names) = split(path) else {
+            return false;
+        };
+        let mut directory = ROOT;
+        let Some(mut name) = names.next() else {
+            return directory == ino;
+        };
+        for further in names {
+            if directory == ino {
+                return true;
+            }
+            let Some(below) = self.named(&Place::new(directory, name)) else {
+                return false;
+            };
+            directory = below;
+            name = further;
+        }
+        directory == ino
+    }
+
+    // Whether what stands at a place can give way to another inode.
+    fn check_replace(&self, moved: u64, there: u64) -> Result<(), Refusal>
+        ensures { Finds result (edit.can_replace self.now moved there) }
+    {
+        let from_directory = self.is_directory(moved);
+        let to_directory = self.is_directory(there);
+        if from_directory && !to_directory {
+            return Err(Refusal::NotDirectory);
+        }
+        if !from_directory && to_directory {
+            return Err(Refusal::IsDirectory);
+        }
+        if to_directory && !self.is_empty(there) {
+            return Err(Refusal::NotEmpty);
+        }
+        Ok(())
+    }
+
+    // The name of an inode goes to a place where another one gives way.
+    fn move_onto(
+        &mut self,
+        from: &Place<'_>,
+        to: &Place<'_>,
+        moved: u64,
+        there: u64,
+    ) -> Result<(), AllocError>
+        requires mine { named self.old from.now.0 from.now.1 ≡ Some moved }
+        requires stands { named self.old to.now.0 to.now.1 ≡ Some there }
+        requires differ { there ≢ moved }
+        requires leaf { (name : List ℕ) (below : ℕ) → named self.old there name ≢ Some below }
+        requires sound { IsSound (edit.move_name (spot_of from.now) (spot_of to.now) moved (edit.take_name (spot_of to.now) there self.old)) }
+        ensures { OnOk result (self.new ≡ edit.move_name (spot_of from.now) (spot_of to.now) moved (edit.take_name (spot_of to.now) there self.old)) }
+    {
+        self.take_name(to, there)?;
+        self.move_name(from, to, moved)
+    }
+
+    // The name of an inode goes from one place to another, which is free.
+    fn move_name(&mut self, from: &Place<'_>, to: &Place<'_>, moved: u64) -> Result<(), AllocError>
+        requires there { named self.old from.now.0 from.now.1 ≡ Some moved }
+        requires free { named self.old to.now.0 to.now.1 ≡ None }
+        requires sound { IsSound (edit.move_name (spot_of from.now) (spot_of to.now) moved self.old) }
+        ensures { OnOk result (self.new ≡ edit.move_name (spot_of from.now) (spot_of to.now) moved self.old) }
+    {
+        if !self.whole {
+            return Err(AllocError);
+        }
+        self.whole = false;
+        let _moved = self.names.remove(from)?;
+        self.names.insert(to, moved)?;
+        self.whole = true;
+        Ok(())
+    }
+}
