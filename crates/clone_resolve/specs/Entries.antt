@@ -1,6 +1,7 @@
 -- The entries and the part of the code as those of the definitions.
 use Rattle.std.specs.Prelude.{ℕ, List, Option, map}
 use Rattle.std.specs.Option.{option_map}
+use Rattle.send_model.specs.Subvolume.{Subvolume}
 use Rattle.send_model.specs.Store as meant
 use Rattle.clone_resolve.specs.declared.key.Key.{Key}
 use Rattle.clone_resolve.specs.declared.edit_core.Entry.{Entry}
