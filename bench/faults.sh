@@ -1,0 +1,331 @@
+#!/bin/sh
+# Tries the whole program against real faults: outputs that are full, closed or cut off, files that can not be read, that are
+# pipes, or that change between the two readings, short reads and short writes, many words and strange ones. The program is
+# the first word, or else the one that this repository has built; nothing is proved or built here. It prints a line for each
+# case, and ends with status 0 only where all are right. Needs python3, which makes the streams, and gcc.
+here=$(CDPATH='' cd -- "$(dirname -- "$0")" && pwd) || exit 2
+program=${1:-$here/../crates/btrsend/out/btrsend}
+[ -f "$program" ] && [ -x "$program" ] || { echo "there is no program $program" >&2; exit 2; }
+program=$(CDPATH='' cd -- "$(dirname -- "$program")" && pwd)/$(basename -- "$program") || exit 2
+folder=$(mktemp -d) || exit 2
+trap 'rm -rf -- "$folder"' EXIT
+trap 'exit 2' HUP INT TERM
+cd -- "$folder" || exit 2
+
+# The streams, and what chains of them are composed into. `first` has about a million bytes, so that the program writes while
+# it still reads; the others are small.
+python3 - <<'PYTHON' || exit 2
+import struct
+
+TABLE = []
+for entry in range(256):
+    for bit in range(8):
+        entry = (entry >> 1) ^ (0x82F63B78 if entry & 1 else 0)
+    TABLE.append(entry)
+
+def checksum(data):
+    sum = 0
+    for byte in data:
+        sum = (sum >> 8) ^ TABLE[(sum ^ byte) & 255]
+    return sum
+
+NUMBERS = dict(uuid=1, ctransid=2, path=15, offset=18, data=19, clone_uuid=20, clone_ctransid=21)
+
+def command(number, **values):
+    body = b''
+    for name, value in values.items():
+        value = struct.pack('<Q', value) if isinstance(value, int) else value
+        body += struct.pack('<HH', NUMBERS[name], len(value)) + value
+    front = struct.pack('<IH', len(body), number)
+    return front + struct.pack('<I', checksum(front + bytes(4) + body)) + body
+
+HEADER = b'btrfs-stream\0' + struct.pack('<I', 1)
+END = command(21)
+
+def uuid(number):
+    return struct.pack('>QQ', 1, number)
+
+def full(name, number, edits):
+    return HEADER + command(1, uuid=uuid(number), ctransid=number, path=name) + edits + END
+
+def later(name, number, edits):
+    head = command(2, uuid=uuid(number), ctransid=number, path=name, clone_uuid=uuid(number - 1), clone_ctransid=number - 1)
+    return HEADER + head + edits + END
+
+def file(path, *pieces):
+    writes = [command(15, path=path, offset=49152 * at, data=piece) for at, piece in enumerate(pieces)]
+    return command(3, path=path) + b''.join(writes)
+
+def put(name, data):
+    with open(name, 'wb') as out:
+        out.write(data)
+
+long = file(b'long', *(bytes([65 + at]) * 49152 for at in range(20)))
+one, two, three, other = file(b'1', b'one'), file(b'2', b'two'), file(b'3', b'three'), file(b'2', b'other')
+second = later(b'b', 2, two)
+put('end', END)
+put('first', full(b'a', 1, long))
+put('small', full(b'a', 1, one))
+put('second', second)
+put('third', later(b'c', 3, three))
+put('same-head', later(b'b', 2, other))
+put('other-head', later(b'd', 2, other))
+put('damaged', second[:-11] + b'!' + second[-10:])
+put('small-second', full(b'b', 2, one + two))
+put('first-second', full(b'b', 2, long + two))
+put('first-third', full(b'c', 3, long + two + three))
+put('first-same-head', full(b'b', 2, long + other))
+put('first-other-head', full(b'd', 2, long + other))
+
+files = [file(b'%d' % number, b'%d' % number) for number in range(3000)]
+put('m0', full(b's0', 1, files[0]))
+for number in range(1, 3000):
+    put('m%d' % number, later(b's%d' % number, number + 1, files[number]))
+put('many', full(b's2999', 3000, b''.join(files)))
+PYTHON
+
+# Stands between the program and its C library. With SHORT reads and writes move at most so many bytes a call; the call
+# whose number is FAIL_READ or FAIL_WRITE fails.
+gcc -O2 -shared -fPIC -o faults.so -x c - <<'C' || exit 2
+#include <errno.h>
+#include <stdlib.h>
+#include <sys/syscall.h>
+#include <unistd.h>
+
+static long word(const char *name) { return getenv(name) ? atol(getenv(name)) : 0; }
+
+static size_t at_most(size_t len) {
+    size_t most = (size_t)word("SHORT");
+    return most > 0 && most < len ? most : len;
+}
+
+ssize_t read(int file, void *bytes, size_t len) {
+    static long calls;
+    if (++calls == word("FAIL_READ")) {
+        errno = EIO;
+        return -1;
+    }
+    return syscall(SYS_read, file, bytes, at_most(len));
+}
+
+ssize_t write(int file, const void *bytes, size_t len) {
+    static long calls;
+    if (++calls == word("FAIL_WRITE")) {
+        errno = ENOSPC;
+        return -1;
+    }
+    return syscall(SYS_write, file, bytes, at_most(len));
+}
+
+ssize_t __write(int file, const void *bytes, size_t len) { return write(file, bytes, len); }
+C
+mkdir kept && cp small first second third damaged kept || exit 2
+
+wrong=0
+case_is() {
+    [ -z "$2" ] && { echo "right  $1"; return; }
+    echo "WRONG  $1: $2"
+    wrong=$((wrong + 1))
+}
+
+# The program with the given words, what it writes in out and note, and its status in $status.
+run() {
+    timeout 20 "$program" "$@" >out 2>note
+    status=$?
+}
+
+# What is wrong about a whole stream in out, where the status is not 0.
+cut() {
+    [ "$status" = 0 ] || ! tail -c 10 out | cmp -s - end || echo "status $status, and yet a whole stream"
+}
+
+# CASE STATUS NOTE: the last run ended with this status and this line on standard error, and left no whole stream.
+refused() {
+    if [ "$status" != "$2" ]; then case_is "$1" "status $status and not $2"
+    elif [ "$(cat note)" != "$3" ]; then case_is "$1" "the note is '$(cat note)' and not '$3'"
+    else case_is "$1" "$(cut)"; fi
+}
+
+# CASE STREAM: the last run ended with status 0 and this stream, and nothing on standard error.
+composed() {
+    if [ "$status" != 0 ]; then case_is "$1" "status $status: $(cat note)"
+    elif [ -s note ]; then case_is "$1" "there is a note: $(cat note)"
+    elif ! cmp -s out "$2"; then case_is "$1" "status 0 and a wrong stream"
+    else case_is "$1" ''; fi
+}
+
+# CASE STREAM..: the last run ended with status 0 and one of these streams, or refused its files and left no whole stream.
+never_wrong() {
+    name="$1, status $status"; shift
+    case $status in
+    0)
+        for stream in "$@"; do cmp -s out "$stream" && { case_is "$name" ''; return; }; done
+        case_is "$name" "a wrong stream"
+        ;;
+    1 | 3) case_is "$name" "$(cut)" ;;
+    *) case_is "$name" "it has to be 0, 1 or 3" ;;
+    esac
+}
+
+# ---- without a fault
+
+run compose none small second; composed 'a chain' small-second
+run compose none first second third; composed 'a long chain' first-third
+(ulimit -n 24; timeout 20 "$program" compose none $(seq -f m%g 0 2999) >out 2>note); status=$?
+composed '3000 files, of which 24 may be open' many
+
+# ---- words
+
+run; refused 'no words' 2 usage
+run compose; refused 'no store' 2 usage
+run compose none; refused 'no files' 2 usage
+run compose some small; refused 'another store' 2 usage
+run --help --version; refused 'two words' 2 usage
+run ''; refused 'an empty word' 2 usage
+run "$(printf '\377')"; refused 'a word that is not UTF-8' 2 usage
+run compose none "$(printf 'small\377')"; refused 'a file whose name is not UTF-8' 2 usage
+run $(seq 1 20000); refused '20,000 words' 2 usage
+
+# ---- outputs. The device /dev/full is always full, and a limit of two blocks lets the first bytes through.
+
+: >out
+for chain in 'small second' 'first second'; do
+    timeout 20 "$program" compose none $chain >/dev/full 2>note; status=$?
+    refused "a full device, $chain" 4 'output fault'
+    timeout 20 "$program" compose none $chain 2>note >&-; status=$?
+    refused "a closed output, $chain" 4 'output fault'
+    timeout 20 "$program" compose none $chain 2>note 1<second; status=$?
+    refused "an output that is open for reading, $chain" 4 'output fault'
+    { timeout 20 "$program" compose none $chain 2>note; echo $? >status; } | :
+    status=$(cat status)
+    refused "an output that nobody reads, $chain" 4 'output fault'
+done
+(trap '' XFSZ; ulimit -f 2; exec timeout 20 "$program" compose none first second >out 2>note); status=$?
+refused 'an output that is full in its middle' 4 'output fault'
+: >out
+for word in --help --version; do
+    timeout 20 "$program" $word >/dev/full 2>note; status=$?
+    refused "a full device, $word" 4 'output fault'
+    timeout 20 "$program" $word 2>note >&-; status=$?
+    refused "a closed output, $word" 4 'output fault'
+done
+: >note
+timeout 20 "$program" compose none damaged >out 2>/dev/full; status=$?
+refused 'a refusal, and the note fails' 1 ''
+timeout 20 "$program" compose none damaged >out 2>&-; status=$?
+refused 'a refusal, and standard error is closed' 1 ''
+
+# ---- files
+
+mkdir folder && ln -s loop loop && : >empty && mkfifo fifo || exit 2
+run compose none missing; refused 'a missing file' 3 'input fault'
+run compose none small missing; refused 'a missing second file' 3 'input fault'
+run compose none ''; refused 'a file without a name' 3 'input fault'
+run compose none folder; refused 'a folder' 3 'input fault'
+run compose none small folder; refused 'a folder as second file' 3 'input fault'
+run compose none small/second; refused 'a file below a file' 3 'input fault'
+run compose none loop; refused 'a link to itself' 3 'input fault'
+run compose none empty; refused 'an empty file' 1 'refused 1 1 0 3 Truncated'
+run compose none /dev/null; refused 'the empty device' 1 'refused 1 1 0 3 Truncated'
+run compose none /dev/zero; refused 'a device without end' 1 'refused 1 1 0 1 BadMagic'
+run compose none small small; refused 'the same file twice' 1 'refused 2 1 17 11 NameThere'
+
+# A pipe gives its bytes once, and each file is read twice. The second feeder waits until the first reading is over.
+(exec cat small second >fifo) &
+first=$!
+run compose none fifo
+refused 'a named pipe' 3 'input fault'
+kill "$first" 2>/dev/null; wait
+(exec cat second >fifo) &
+first=$!
+(sleep 1; exec cat second >fifo) &
+second=$!
+run compose none small fifo
+never_wrong 'a named pipe as second file, fed twice' small-second
+kill "$first" "$second" 2>/dev/null; wait
+cat small second | { timeout 20 "$program" compose none /dev/stdin >out 2>note; echo $? >status; }
+status=$(cat status)
+refused 'standard input, a pipe' 3 'input fault'
+: >out
+cat second | { timeout 20 "$program" compose none small /dev/stdin >/dev/full 2>note; echo $? >status; }
+status=$(cat status)
+refused 'standard input, a pipe, and a full device' 3 'input fault'
+
+# ---- files that change between the readings
+
+# CHANGE FILE..: once the program begins to write, and so is in its second reading, and waits for its output to be read,
+# CHANGE is run. The file `first` is longer than what it has read then.
+changing() {
+    change=$1; shift
+    rm -f pipe && mkfifo pipe || exit 2
+    timeout 20 "$program" compose none "$@" >pipe 2>note &
+    started=$!
+    exec 3<pipe
+    dd bs=1 count=1 <&3 >out 2>/dev/null
+    eval "$change"
+    cat <&3 >>out
+    exec 3<&-
+    wait "$started"
+    status=$?
+}
+
+new() { rm -rf file; cat "$@" >file; }
+new second; changing 'printf x >>file' first file
+refused 'a file that grows by a byte' 1 'refused 2 5 155 3 Truncated'
+new second; changing 'cat third >>file' first file
+never_wrong 'a file that grows by a stream' first-second first-third
+new first; changing 'cat second >>file' file
+never_wrong 'the only file grows by a stream' first first-second
+new second; changing 'truncate -s -5 file' first file
+refused 'a file that shrinks by five bytes' 1 'refused 2 4 145 3 Truncated'
+new second; changing ': >file' first file
+refused 'a file that shrinks to nothing' 1 'refused 2 1 0 3 Truncated'
+new first; changing 'truncate -s 500000 file' file
+refused 'the only file shrinks to its half' 1 'refused 1 13 491942 3 Truncated'
+new second third; changing 'truncate -s "$(wc -c <second)" file' first file
+never_wrong 'a file that shrinks by a stream' first-second first-third
+new second; changing 'cat same-head >file' first file
+never_wrong 'a file that gets other data' first-second first-same-head
+new second; changing 'cat other-head >file' first file
+never_wrong 'a file that gets another head' first-second first-other-head
+new second; changing 'cat damaged >file' first file
+never_wrong 'a file that is damaged' first-second
+new second; changing 'rm file' first file
+never_wrong 'a file that is removed' first-second
+new second; changing 'rm file; mkdir file' first file
+never_wrong 'a file that becomes a folder' first-second
+rm -rf file
+
+# ---- reads and writes that move few bytes, and that fail in their middle
+
+short() {
+    timeout 60 env LD_PRELOAD=./faults.so "$@" >out 2>note
+    status=$?
+}
+
+short SHORT=1 "$program" compose none small second; composed 'one byte for each read and write' small-second
+short SHORT=777 "$program" compose none first second; composed '777 bytes for each read and write' first-second
+
+# VARIABLE STATUS NOTE: each call fails once, up to the number that no run reaches.
+each_fails() {
+    call=1
+    while :; do
+        short "$1=$call" "$program" compose none first second
+        [ "$status" = 0 ] && break
+        [ "$status" = "$2" ] && [ "$(cat note)" = "$3" ] && [ -z "$(cut)" ] || break
+        call=$((call + 1))
+    done
+    if [ "$call" = 1 ]; then case_is "$1" "the first call that fails gives status $status"; return; fi
+    composed "each of $((call - 1)) calls fails once, $1" first-second
+}
+each_fails FAIL_READ 3 'input fault'
+each_fails FAIL_WRITE 4 'output fault'
+
+# ---- the files are as they were
+
+for name in small first second third damaged; do
+    cmp -s "$name" "kept/$name" || case_is "the file $name afterwards" "it was changed"
+done
+if [ "$wrong" = 0 ]; then echo "all right"; exit 0; fi
+echo "$wrong wrong"
+exit 1
