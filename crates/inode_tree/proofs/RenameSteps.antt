@@ -12,7 +12,7 @@ use Rattle.send_model.specs.Edit.{rename, rename_onto, can_replace, lies_below, 
 use Rattle.send_model.proofs.Fuel.{not_refused}
 use Rattle.send_model.proofs.MapLaws.{named_cmp_total, named_cmp_exact, without-here, without-other, count-with_value, count-without}
 use Rattle.send_model.proofs.SoundEdits.{file_is_leaf, empty_is_leaf}
-use Rattle.send_model.proofs.SoundRenames.{edit_keeps_sound}
+use Rattle.send_model.proofs.SoundRenames.{edit_keeps_sound, taken_names}
 use Rattle.inode_tree.proofs.Chains.{goes_on, stops, finds, misses, spares, refuses}
 use Rattle.inode_tree.specs.Places.{spot_of}
 use Rattle.inode_tree.specs.Trees.{IsTree, IsWholeTree}
@@ -99,21 +99,6 @@ module _ {C : Type 0} (s : Subvolume C) where
     pub replace_full : is_directory s moved ≡ true → is_directory s there ≡ true → is_empty_directory s there ≡ false → can_replace s moved there ≡ Err NotEmpty
     replace_full m t full = replace_last true m t ∙ ap (λ (e : Bool). require e NotEmpty) full
 
-    -- What gives way has no names in it.
-    pub replaced_is_leaf : IsSound s → can_replace s moved there ≡ Ok tt → (name : List ℕ) (ino : ℕ) → named s there name ≡ Some ino → ⊥
-    replaced_is_leaf h can =
-        let a = not_refused (is_directory s moved && not (is_directory s there)) NotDirectory _ tt can in
-        let b = not_refused (not (is_directory s moved) && is_directory s there) IsDirectory _ tt a.1 in
-        leaf (is_directory s there) refl (kept (not (is_directory s there) || is_empty_directory s there) b.1)
-      where
-        kept : (t : Bool) → require t NotEmpty ≡ Ok tt → t ≡ true
-        kept true e = refl
-        kept false e = cc
-
-        leaf : (d : Bool) → is_directory s there ≡ d → not d || is_empty_directory s there ≡ true → (name : List ℕ) (ino : ℕ) → named s there name ≡ Some ino → ⊥
-        leaf true is empty = empty_is_leaf s there empty
-        leaf false is empty = file_is_leaf s there h is
-
   -- ---- the way to a place
 
   abbrev pub passes_on : ℕ → ℕ → List (List ℕ) → Bool
@@ -181,14 +166,6 @@ module _ {C : Type 0} (s : Subvolume C) where
 
 module _ {C : Type 0} where
   -- Another name stays where one is taken away; and that one is gone.
-  taken_names : (place : Spot) (x : ℕ) (s : Subvolume C) → (take_name place x s).names ≡ without named_cmp (place.directory, place.name) s.names
-  unfolding take_name
-  taken_names place x s = one (nat_le (name_count s x) 1)
-    where
-      one : (b : Bool) → (cond b (remove_inode x (remove_name place s)) (remove_name place s)).names ≡ without named_cmp (place.directory, place.name) s.names
-      one true = refl
-      one false = refl
-
   pub stays_named : (s : Subvolume C) (from to : Spot) (moved there : ℕ) → at_spot s from ≡ Some moved → at_spot s to ≡ Some there → (there ≡ moved → ⊥) → at_spot (take_name to there s) from ≡ Some moved
   stays_named s from to moved there mine stands differ =
       ap (λ (m : Map (ℕ × List ℕ) ℕ). value_at named_cmp (from.directory, from.name) m) (taken_names to there s)

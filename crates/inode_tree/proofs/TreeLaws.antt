@@ -19,7 +19,7 @@ use Rattle.send_model.proofs.Fuel.{bound}
 use Rattle.send_model.proofs.WalkLaws.{Leads, Step, leads_from_walk}
 use Rattle.send_model.proofs.Soundness.{directory_is_there}
 use Rattle.send_model.proofs.SoundChanges.{root_alone_is_sound, changed_is_sound}
-use Rattle.send_model.proofs.SoundEdits.{make_is_sound, link_is_sound}
+use Rattle.send_model.proofs.SoundEdits.{make_is_sound, link_is_sound, walk_there}
 use Rattle.send_model.proofs.SoundRemovals.{taken_is_sound}
 use Rattle.inode_tree.specs.Places.{spot_of}
 use Rattle.inode_tree.specs.Trees.{further_names, IsTree, IsWholeTree}
@@ -75,17 +75,6 @@ module _ {C : Type 0} where
   pub cells_found : (s : Subvolume C) (ino : ℕ) (inode : Inode C) → inode_at s ino ≡ Some inode → cells_of s ino ≡ inode.cells
   unfolding cells_of
   cells_found s ino inode e = ap (λ (o : Option (Inode C)). elim o as (λ i. List C) [ None ↦ [] | Some i ↦ i.cells ]) e
-
-  -- A walk leads to an inode that is there.
-  leads_there : (s : Subvolume C) → IsSound s → (names : List (List ℕ)) (from to : ℕ) → Leads (Step s) names from to → IsTrue (is_some (inode_at s from)) → IsTrue (is_some (inode_at s to))
-  leads_there s h [] from to l is = subst (λ (i : ℕ). IsTrue (is_some (inode_at s i))) l is
-  leads_there s h (name ∷ names) from to l is = leads_there s h names l.0 to l.2 (h.leads_somewhere from name l.0 l.1.1)
-
-  walk_there : (s : Subvolume C) (path : List ℕ) (to : ℕ) → IsSound s → walk s path ≡ Ok to → IsTrue (is_some (inode_at s to))
-  unfolding walk
-  walk_there s path to h e =
-      let a = bound (found (path_names path) BadPath) _ to e in
-      leads_there s h a.0 root to (leads_from_walk s a.0 root to a.2) (directory_is_there s root h.root_there)
 
   module _ (s : Subvolume C) (f : Map ℕ ℕ) (tree : IsTree s f) where
     -- What is no directory and is walked to has a name.

@@ -4,7 +4,7 @@ ghost use Rattle.send_model.specs.Subvolume.{is_file};
 ghost use Rattle.send_model.specs.Clone.{cells_of};
 ghost use Rattle.send_model.specs.Edit as edit;
 ghost use Rattle.inode_tree.specs.Answers.{MayChange};
-ghost use Rattle.inode_tree.specs.Changes.{changed};
+ghost use Rattle.inode_tree.specs.Changes.{with_times, changed};
 ghost use Rattle.inode_tree.specs.Kinds.{time_of};
 
 use crate::change::Change;
@@ -49,7 +49,7 @@ impl<O: Origin> Tree<O> {
     /// # Errors
     /// The refusals of the walk; then nothing changes.
     pub fn set_times(&mut self, path: &[u8], atime: Timestamp, mtime: Timestamp) -> Result<(), Stop>
-        ensures { MayChange result self.old self.new (edit.change_at path.now (λ inode. record inode { atime = time_of atime; mtime = time_of mtime }) self.old) }
+        ensures { MayChange result self.old self.new (edit.change_at path.now (with_times (time_of atime) (time_of mtime)) self.old) }
     {
         let ino = self.find(path)?;
         self.change(ino, &Change::Times(atime, mtime))?;
@@ -119,7 +119,8 @@ impl<O: Origin> Tree<O> {
         let Some(shared) = self.inodes.remove(&ino)? else {
             return Err(AllocError);
         };
-        let (mut inode, _copied) = shared.own()?;
+        let (mut inode, copied) = shared.own()?;
+        self.copied = one_more_if(self.copied, copied);
         inode.swap_contents(contents);
         self.inodes.insert(&ino, Shared::new(self.alloc, inode)?)?;
         self.whole = true;
@@ -147,12 +148,18 @@ impl<O: Origin> Tree<O> {
         let Some(shared) = self.inodes.remove(&ino)? else {
             return Err(AllocError);
         };
-        let (mut inode, _copied) = shared.own()?;
+        let (mut inode, copied) = shared.own()?;
+        self.copied = one_more_if(self.copied, copied);
         inode.apply(self.alloc, change)?;
         self.inodes.insert(&ino, Shared::new(self.alloc, inode)?)?;
         self.whole = true;
         Ok(())
     }
+}
+
+// A count, with one more if so. At the greatest number it stays.
+fn one_more_if(count: u64, more: bool) -> u64 {
+    if more { count.saturating_add(1) } else { count }
 }
 
 // Whether the bytes are a name of an extended attribute: 1 to 255 of them.

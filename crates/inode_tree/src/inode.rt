@@ -35,7 +35,19 @@ impl<O: Origin> Model for Inode<O> {
 
     ghost Value = { meant.Inode (Option O) };
 
-    ghost view = { λ i. record { kind = kind_of i.kind; mode = i.mode; uid = i.uid; gid = i.gid; atime = time_of i.atime; mtime = time_of i.mtime; rdev = i.rdev; flags = i.flags; target = i.target; xattrs = i.xattrs; cells = i.contents } };
+    ghost view = { λ i. record {
+      kind = kind_of i.kind;
+      mode = i.mode;
+      uid = i.uid;
+      gid = i.gid;
+      atime = time_of i.atime;
+      mtime = time_of i.mtime;
+      rdev = i.rdev;
+      flags = i.flags;
+      target = i.target;
+      xattrs = i.xattrs;
+      cells = i.contents;
+    } };
 }
 
 impl<O: Origin> Inode<O> {

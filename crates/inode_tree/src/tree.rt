@@ -31,6 +31,8 @@ pub struct Tree<O: Origin> {
     pub(crate) further: SharedMap<u64, u64>,
     pub(crate) next: u64,
     pub(crate) alloc: Global,
+    // How many inodes were copied, and not shared, to change them.
+    pub(crate) copied: u64,
     // Whether no call ran out of memory in the middle of a change. After that each change answers want of memory.
     pub(crate) whole: bool,
 }
@@ -62,6 +64,7 @@ impl<O: Origin> Tree<O> {
             further: SharedMap::new(alloc),
             next: ROOT + 1,
             alloc,
+            copied: 0,
             whole: true,
         })
     }
@@ -76,6 +79,7 @@ impl<O: Origin> Tree<O> {
             further: self.further.copy()?,
             next: self.next,
             alloc: self.alloc,
+            copied: 0,
             whole: self.whole,
         })
     }
@@ -88,6 +92,12 @@ impl<O: Origin> Tree<O> {
             Some(inode) => Some(inode.get()),
             None => None,
         }
+    }
+
+    /// How many inodes were copied since the tree was made, because a change met one that another tree shares. At the greatest u64
+    /// it stays. Takes no memory.
+    pub fn copied(&self) -> u64 {
+        self.copied
     }
 
     /// The number that the next new inode gets. Takes no memory.

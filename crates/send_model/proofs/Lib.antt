@@ -39,7 +39,7 @@ mod CountLaws
 mod PieceRuns
 pub mod Redirected
 pub mod SpelledPieces
-mod Rewriting
+pub mod Rewriting
 mod Carrying
 mod FirstPaths
 mod LeastPaths

@@ -113,7 +113,7 @@ module _ {C : Type 0} where
   leads_there s h [] from to l is = subst (λ (i : ℕ). IsTrue (is_some (inode_at s i))) l is
   leads_there s h (name ∷ names) from to l is = leads_there s h names l.0 to l.2 (h.leads_somewhere from name l.0 l.1.1)
 
-  walk_there : (s : Subvolume C) (path : List ℕ) (to : ℕ) → IsSound s → walk s path ≡ Ok to → IsTrue (is_some (inode_at s to))
+  pub walk_there : (s : Subvolume C) (path : List ℕ) (to : ℕ) → IsSound s → walk s path ≡ Ok to → IsTrue (is_some (inode_at s to))
   unfolding walk
   walk_there s path to h e =
       let a = bound (found (path_names path) BadPath) _ to e in

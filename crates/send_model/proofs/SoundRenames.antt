@@ -23,7 +23,7 @@ use Rattle.send_model.proofs.SoundEdits.{PlaceOf, place_of, found_is, not_both, 
 module _ {C : Type 0} where
   -- ---- what a name that goes leaves
 
-  taken_names : (place : Spot) (x : ℕ) (s : Subvolume C) → (take_name place x s).names ≡ without named_cmp (key place) s.names
+  pub taken_names : (place : Spot) (x : ℕ) (s : Subvolume C) → (take_name place x s).names ≡ without named_cmp (key place) s.names
   unfolding take_name
   taken_names place x s = one (nat_le (name_count s x) 1)
     where
@@ -50,7 +50,7 @@ module _ {C : Type 0} where
       (all_but_last p.names, leads-around s x (all_but_last p.names) root place.directory (leads_from_walk s (all_but_last p.names) root place.directory p.walked) passed)
 
   -- What gives way to another inode has no names in it.
-  replaced_is_leaf : (s : Subvolume C) (moved there : ℕ) → IsSound s → can_replace s moved there ≡ Ok tt → (name : List ℕ) (ino : ℕ) → named s there name ≡ Some ino → ⊥
+  pub replaced_is_leaf : (s : Subvolume C) (moved there : ℕ) → IsSound s → can_replace s moved there ≡ Ok tt → (name : List ℕ) (ino : ℕ) → named s there name ≡ Some ino → ⊥
   replaced_is_leaf s moved there h can =
       let a = not_refused (is_directory s moved && not (is_directory s there)) NotDirectory _ tt can in
       let b = not_refused (not (is_directory s moved) && is_directory s there) IsDirectory _ tt a.1 in

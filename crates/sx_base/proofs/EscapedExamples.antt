@@ -2,7 +2,7 @@
 -- of the bytes that stand for themselves.
 use Rattle.std.proofs.Common.{◌≡◌, [], ◌∷◌, refl}
 use Rattle.std.specs.Prelude.{codes}
-use Rattle.sx_base.specs.Escaped.{escaped, escaped_byte, is_plain, hex_digit}
+use Rattle.send_model.specs.Printed.{escaped, escaped_byte, is_plain, hex_digit}
 
 pub target_with_blank : escaped (codes "../x y") ≡ codes "../x\\x20y"
 unfolding escaped escaped_byte is_plain hex_digit

@@ -3,7 +3,7 @@ use Rattle.std.proofs.Common.{◌≡◌, ℕ, ◌+◌, ◌-◌, ◌/◌, ◌%◌
 use Rattle.std.proofs.Math.Seq.{take-add}
 use Rattle.std.proofs.lemmas.List.{drop_all}
 use Rattle.std.specs.Prelude.{slice_index_or}
-use Rattle.sx_base.specs.Escaped.{escaped, escaped_byte, is_plain, hex_digit}
+use Rattle.send_model.specs.Printed.{escaped, escaped_byte, is_plain, hex_digit}
 
 pub escaped_step : (to bytes : List ℕ) (i d : ℕ) → i < length bytes
     → (to ++ escaped_byte (slice_index_or bytes i d)) ++ escaped (drop (i + 1) bytes) ≡ to ++ escaped (drop i bytes)

@@ -1,7 +1,6 @@
 pub mod Again
 pub mod Bytes
 pub mod Causes
-pub mod Escaped
 pub mod Memory
 pub mod Outside
 pub mod Refusals

@@ -1,7 +1,7 @@
 // The escaped form of bytes.
 ghost use Rattle.std.specs.Prelude.{◌≡◌, ℕ, ◌<◌, ◌++◌, OnOk, OnErr, false};
 ghost use Rattle.sx_base.specs.Bytes.{IsFront};
-ghost use Rattle.sx_base.specs.Escaped.{is_plain, hex_digit, escaped_byte, escaped};
+ghost use Rattle.send_model.specs.Printed.{is_plain, hex_digit, escaped_byte, escaped};
 
 use crate::blob::Blob;
 use std::alloc::AllocError;
@@ -38,7 +38,7 @@ fn push_all_escaped(bytes: &[u8], to: &mut Blob) -> Result<(), AllocError>
     to.push_all(&bytes[from..])
 }
 
-#[tactic(auto, unfolding(crate::specs::Escaped::escaped_byte))]
+#[tactic(auto, unfolding(send_model::specs::Printed::escaped_byte))]
 fn push_escaped(byte: u8, to: &mut Blob) -> Result<(), AllocError>
     requires { is_plain byte ≡ false }
     ensures appended { OnOk result (to.new ≡ to.old ++ escaped_byte byte) }
@@ -47,14 +47,14 @@ fn push_escaped(byte: u8, to: &mut Blob) -> Result<(), AllocError>
     to.push_all(&[b'\\', b'x', digit(byte / 16), digit(byte % 16)])
 }
 
-#[tactic(auto, unfolding(crate::specs::Escaped::is_plain))]
+#[tactic(auto, unfolding(send_model::specs::Printed::is_plain))]
 fn stands_for_itself(byte: u8) -> bool
     ensures { result ≡ is_plain byte }
 {
     0x21 <= byte && byte <= 0x7e && byte != b'\\'
 }
 
-#[tactic(auto, unfolding(crate::specs::Escaped::hex_digit))]
+#[tactic(auto, unfolding(send_model::specs::Printed::hex_digit))]
 fn digit(n: u8) -> u8
     requires { n < 16 }
     ensures { result ≡ hex_digit n }

@@ -12,7 +12,7 @@ use Rattle.send_model.specs.Reading.{stream_version, header_len, frame_header_le
 use Rattle.send_model.proofs.Fuel.{not_refused, required, ok_same}
 use Rattle.tlv_frame.specs.Frame.{Head, head_at, checksum_holds}
 
-abbrev error_or : {X : Type 0} → meant.Refusal → Result X meant.Refusal → meant.Refusal
+abbrev pub error_or : {X : Type 0} → meant.Refusal → Result X meant.Refusal → meant.Refusal
 error_or d (Ok x) = d
 error_or d (Err r) = r
 

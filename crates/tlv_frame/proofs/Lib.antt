@@ -5,3 +5,5 @@ pub mod Parts
 pub mod Uncut
 pub mod Fronts
 pub mod Pieces
+pub mod Growing
+mod Cuts

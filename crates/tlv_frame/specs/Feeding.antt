@@ -109,16 +109,27 @@ Hands next (Err refusal) = next ≡ Err (refusal_of refusal)
 -- What a feed has gone past, whose bytes it has as the last ones.
 abbrev pub passed_piece : Fed → Passed → Piece
 passed_piece fed (passed.Head head) = HeadPiece head.version
-passed_piece fed (passed.Frame head) = FramePiece head.cmd (drop frame_header_len fed.last)
+passed_piece fed (passed.Frame head version) = FramePiece head.cmd (drop frame_header_len fed.last)
 
 abbrev pub PassedFits : Fed → Passed → Type 0
 PassedFits fed (passed.Head head) = is_version head.version ≡ true
-PassedFits fed (passed.Frame head) = (length fed.last ≡ frame_header_len + head.len) × ((head.len ≤ greatest_body) × (head.crc ≡ frame_checksum head.len head.cmd (drop frame_header_len fed.last)))
+PassedFits fed (passed.Frame head version) = (length fed.last ≡ frame_header_len + head.len) × ((head.len ≤ greatest_body) × (head.crc ≡ frame_checksum head.len head.cmd (drop frame_header_len fed.last)))
 
 abbrev pub Passes : Fed → Result (Option Handed) meant.Refusal → Result (Option Passed) Refusal → Type 0
 Passes fed next (Ok None) = next ≡ Ok None
 Passes fed next (Ok (Some unit)) = (h : Handed) × ((next ≡ Ok (Some h)) × ((h.piece ≡ passed_piece fed unit) × PassedFits fed unit))
 Passes fed next (Err refusal) = next ≡ Err (refusal_of refusal)
+
+-- What was due where a unit was gone past: the header of a stream, or a frame of a stream of the version.
+abbrev pub PassedDue : Due → Passed → Type 0
+PassedDue due (passed.Head head) = due ≡ HeaderDue
+PassedDue due (passed.Frame head version) = (due ≡ CommandDue version) × (is_version version ≡ true)
+
+-- The same where a unit was gone past.
+abbrev pub IfPassed : Result (Option Passed) Refusal → (Passed → Type 0) → Type 0
+IfPassed (Ok (Some unit)) P = P unit
+IfPassed (Ok None) P = ⊤
+IfPassed (Err refusal) P = ⊤
 
 -- What is due, as the code keeps it.
 abbrev pub due_of : Option ℕ → Due

@@ -4,3 +4,4 @@ pub mod Table
 pub mod Front
 pub mod Feeding
 pub mod InFront
+pub mod Cuts

@@ -3,7 +3,7 @@ ghost use Rattle.std.specs.Prelude.{◌≡◌, ◌+◌, ◌-◌, ◌≤◌, leng
 ghost use Rattle.std.specs.Borrow.{sem};
 ghost use Rattle.std.specs.Io.BufRead.{Rests};
 ghost use Rattle.send_model.specs.Reading.{HeaderDue, CommandDue, is_version};
-ghost use Rattle.tlv_frame.specs.Feeding.{Hands, Passes, room, unfed, next_of, fed_after, fed_with, is_whole, due_of, due_past as due_of_next, VersionIs};
+ghost use Rattle.tlv_frame.specs.Feeding.{Hands, Passes, IfPassed, PassedDue, room, unfed, next_of, fed_after, fed_with, is_whole, due_of, due_past as due_of_next, VersionIs};
 
 use crate::frame_head::FrameHead;
 use crate::in_front::{FRAME_HEAD_LEN, HEADER_LEN, frame_in, head_in};
@@ -27,11 +27,13 @@ pub enum Unit<'a> {
     Frame { head: FrameHead, body: &'a [u8] },
 }
 
-// What a feed has gone past.
-#[derive(Clone, Copy)]
-enum Passed {
+/// What a feed has gone past. Its bytes are then the last ones of the feed.
+#[derive(Debug, Clone, Copy)]
+pub enum Passed {
+    /// The header of a stream.
     Head(StreamHead),
-    Frame(FrameHead),
+    /// A frame of a stream of the version, whose checksum is right: its header.
+    Frame { head: FrameHead, version: u32 },
 }
 
 /// The bytes of a file that is given in pieces of any size, and handed out as headers and frames. It is seen as the bytes that
@@ -111,7 +113,7 @@ impl Feed {
     {
         match self.pass() {
             Ok(Some(Passed::Head(head))) => Ok(Some(Unit::Head(head))),
-            Ok(Some(Passed::Frame(head))) => {
+            Ok(Some(Passed::Frame { head, .. })) => {
                 let body = &self.bytes.as_slice()[self.last + FRAME_HEAD_LEN..self.start];
                 Ok(Some(Unit::Frame { head, body }))
             }
@@ -134,10 +136,11 @@ impl Feed {
         &self.bytes.as_slice()[self.start..]
     }
 
-    // Goes past the next unit.
-    fn pass(&mut self) -> Result<Option<Passed>, Refusal>
+    /// Goes past what `next` would hand out, and gives None and the refusals that `next` would give. Takes no memory.
+    pub fn pass(&mut self) -> Result<Option<Passed>, Refusal>
         ensures after { self.new ≡ fed_after self.old }
         ensures answer { Passes self.new (next_of self.old) result }
+        ensures due { IfPassed result (PassedDue self.old.due) }
     {
         if let Some(refusal) = self.refused {
             return Err(refusal);
@@ -154,6 +157,7 @@ impl Feed {
         requires good { self.old.refused ≡ None }
         ensures after { self.new ≡ fed_after self.old }
         ensures answer { Passes self.new (next_of self.old) result }
+        ensures due { IfPassed result (PassedDue self.old.due) }
     {
         match head_in(self.left()) {
             Ok(None) => Ok(None),
@@ -178,6 +182,7 @@ impl Feed {
         requires good { self.old.refused ≡ None }
         ensures after { self.new ≡ fed_after self.old }
         ensures answer { Passes self.new (next_of self.old) result }
+        ensures due { IfPassed result (PassedDue self.old.due) }
     {
         match frame_in(self.left()) {
             Ok(None) => Ok(None),
@@ -186,7 +191,7 @@ impl Feed {
                 self.start += FRAME_HEAD_LEN + head.len as usize;
                 self.due = due_past(version, head.cmd);
                 self.ended = head.cmd == END;
-                Ok(Some(Passed::Frame(head)))
+                Ok(Some(Passed::Frame { head, version }))
             }
             Err(refusal) => {
                 self.refused = Some(refusal);

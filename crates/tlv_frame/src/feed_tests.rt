@@ -1,5 +1,5 @@
 // Feeds over a file in pieces. The bytes are from another program.
-use crate::{Feed, Unit};
+use crate::{Feed, Passed, Unit};
 use std::alloc::AllocFailed;
 use std::process::Abort;
 use std::test::Fail;
@@ -103,5 +103,23 @@ fn a_feed_takes_what_it_has_room_for(rt: HostRuntime) -> Result<(), Fail> {
     }
     assert_eq!(rt; feed.give(&piece), 524_288 - 500_000 - (FILE.len() - 17));
     assert_eq!(rt; feed.give(&piece), 0);
+    Ok(())
+}
+
+#[test]
+fn the_bytes_of_what_was_passed_are_the_last_ones(rt: HostRuntime) -> Result<(), Fail> {
+    let mut feed = Feed::new(rt.alloc())?;
+    feed.give(FILE);
+    for (cmd, len) in UNITS {
+        let size = match feed.pass() {
+            Ok(Some(Passed::Head(head))) if cmd == 0 && head.version == len => 17,
+            Ok(Some(Passed::Frame { head, version: 1 })) if head.cmd == cmd && head.len == len => {
+                (len as usize).saturating_add(10)
+            }
+            _ => 0,
+        };
+        assert!(rt; size > 0 && feed.last().len() == size);
+    }
+    assert!(rt; feed.whole());
     Ok(())
 }

@@ -8,12 +8,14 @@ mod feed_tests;
 mod frame_head;
 mod frame_writer;
 mod in_front;
+mod laws;
 mod stream_head;
 #[cfg(test)]
 mod tests;
 
 pub use attribute_table::{AttrTable, attrs};
-pub use feed::{Feed, Unit};
+pub use feed::{Feed, Passed, Unit};
 pub use frame_head::FrameHead;
 pub use frame_writer::FrameWriter;
+pub use laws::cuts_are_one_reading;
 pub use stream_head::StreamHead;

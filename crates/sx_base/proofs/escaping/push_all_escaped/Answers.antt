@@ -2,7 +2,7 @@ use Rattle.std.proofs.Common.{◌≡◌, ℕ, ◌++◌, ◌+◌, ◌-◌, List, 
 use Rattle.std.proofs.lemmas.Result.{on_ok_weaker}
 use Rattle.std.specs.Prelude.{slice_index_or}
 use Rattle.sx_base.proofs.EscapedSteps.{run_and_rest, run_grows, run_ends, run_at_end}
-use Rattle.sx_base.specs.Escaped.{escaped_byte, is_plain}
+use Rattle.send_model.specs.Printed.{escaped_byte, is_plain}
 use Rattle.sx_base.proofs.escaping.push_all_escaped.Goals as goal
 
 pub loop-at-preserved-then-stands_for_itself : goal.loop-at-preserved-then-stands_for_itself

@@ -1,6 +1,6 @@
 use Rattle.std.proofs.Common.{◌≡◌, ◌++◌, ◌-◌, ◌≤◌, drop, take}
 use Rattle.sx_base.specs.Bytes.{IsFront}
-use Rattle.sx_base.specs.Escaped.{escaped}
+use Rattle.send_model.specs.Printed.{escaped}
 use Rattle.sx_base.proofs.escaping.push_all_escaped.Given as goal
 
 -- the blob, the run of bytes that stand for themselves, and the escaped form of what is left, are what is wanted

@@ -5,7 +5,8 @@ use Rattle.std.proofs.lemmas.Result.{err_from_is_err_and}
 use Rattle.send_model.specs.Subvolume.{named, is_directory}
 use Rattle.send_model.specs.Edit.{lies_below}
 use Rattle.inode_tree.specs.Places.{spot_of}
-use Rattle.inode_tree.proofs.RenameSteps.{rename_nowhere, rename_absent, rename_lost, rename_into, rename_moved, rename_same, rename_into_other, rename_refused, rename_replaced, rename_keeps_sound, replaced_is_leaf, sound_of}
+use Rattle.send_model.proofs.SoundRenames.{replaced_is_leaf}
+use Rattle.inode_tree.proofs.RenameSteps.{rename_nowhere, rename_absent, rename_lost, rename_into, rename_moved, rename_same, rename_into_other, rename_refused, rename_replaced, rename_keeps_sound, sound_of}
 use Rattle.inode_tree.proofs.tree.Tree.rename.Goals as goal
 
 pub returns-in_err-from : goal.returns-in_err-from

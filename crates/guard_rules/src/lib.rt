@@ -1,0 +1,16 @@
+//! Guards: limits that whoever receives streams sets on them. Each looks at every command before the command does anything,
+//! and the first that refuses one ends the run. Nothing here takes memory.
+#![tactic(auto)]
+
+mod asking;
+mod kinds;
+mod limits;
+mod sights;
+#[cfg(test)]
+mod tests;
+mod words;
+
+pub use asking::{Guard, look_all};
+pub use kinds::GuardSpec;
+pub use limits::{ByteGuard, CommandGuard, DeviceGuard, EndGuard};
+pub use words::parse_guard;

@@ -1,0 +1,11 @@
+//! A subvolume: a tree of inodes and names, and what commands make of the contents of its files.
+#![tactic(auto)]
+
+mod allocation;
+mod cloning;
+mod contents;
+mod subvol;
+#[cfg(test)]
+mod tests;
+
+pub use subvol::Subvol;
