@@ -20,13 +20,11 @@ use Rattle.cmd_reader.specs.Places.{IfTold}
 use Rattle.cmd_reader.specs.Fronts.{IsRefused, IsLongAt, Says}
 use Rattle.cmd_reader.specs.Left.{Reader, left}
 use Rattle.sx_base.specs.Causes.{Rose}
+use Rattle.sx_base.specs.Calls.{verdict_meant}
 
 -- An item of a file as the definitions see it.
 abbrev pub item_of : ℕ → Item → reading.Item
 item_of file item = record { file = file; number = item.number; offset = item.offset; version = item.version; data_at = item.data_at; command = meaning_of item.command }
-
-abbrev pub verdict_meant : Verdict → reading.Verdict
-verdict_meant v = record { file = v.file; command = v.command; offset = v.offset; refusal = refusal_of v.refusal }
 
 -- ---- the command at a place
 

@@ -6,7 +6,7 @@ use Rattle.std.proofs.lemmas.List.{length-map, drop-map}
 use Rattle.send_model.specs.Reading.{Item, Ending, Whole, Faulty, Reading, ended, joined, reads, input_from}
 use Rattle.sx_base.specs.Outside.{file_at}
 use Rattle.composer.specs.Ahead.{IsAhead, then_reading}
-use Rattle.composer.specs.Files.{contents}
+use Rattle.sx_base.specs.Calls.{contents}
 use Rattle.composer.proofs.Loops.{ahead_next}
 
 -- ---- the commands of a file

@@ -24,12 +24,13 @@ use Rattle.sx_base.specs.declared.outcome.Verdict.{Verdict}
 use Rattle.sx_base.specs.declared.outcome.Outcome.{Outcome}
 use Rattle.sx_base.specs.declared.outcome.Outcome.TheVariants as over
 use Rattle.cmd_reader.specs.Places.{IfTold}
-use Rattle.cmd_reader.specs.Next.{verdict_meant}
+use Rattle.sx_base.specs.Calls.{verdict_meant}
 use Rattle.composer.specs.declared.places.Place.{Place}
 use Rattle.composer.specs.Advance.{Composing}
 use Rattle.composer.specs.Ahead.{IsAhead, then_reading}
 use Rattle.composer.specs.Folding.{TakesAll, unsent}
-use Rattle.composer.specs.Files.{nothing, contents, IfAllTold, StopSays, DoneSays, FilesEnd, SendEnd, Wrote, LastRead, LastStop, IsLastPlace, FileTaken, NextRefused, FileWhy, FileStops}
+use Rattle.composer.specs.Files.{nothing, StopSays, DoneSays, FilesEnd, SendEnd, LastRead, LastStop, IsLastPlace, FileTaken, NextRefused, FileWhy, FileStops}
+use Rattle.sx_base.specs.Calls.{contents, IfAllTold, Wrote}
 use Rattle.composer.proofs.Progress.{Progress}
 use Rattle.composer.proofs.Finish.{unfinished}
 use Rattle.composer.proofs.Loops.{LastFits, ahead_start, ahead_whole, input_some, last_item_none, judged_ahead, faulty_ahead, empty_ahead, composed_ahead, spelled_ahead, unfinished_ahead}

@@ -24,13 +24,15 @@ use Rattle.cmd_reader.specs.declared.item.ReadStop.TheVariants as stop
 use Rattle.cmd_reader.specs.Places.{IfTold}
 use Rattle.cmd_reader.specs.Fronts.{IsRefused, IsLongAt}
 use Rattle.cmd_reader.specs.Left.{Reader, left}
-use Rattle.cmd_reader.specs.Next.{item_of, verdict_meant, HasEnded, IsFaulty, OnlyEnds, IsNext, NextSays, ItemFits, IfItem}
+use Rattle.cmd_reader.specs.Next.{item_of, HasEnded, IsFaulty, OnlyEnds, IsNext, NextSays, ItemFits, IfItem}
+use Rattle.sx_base.specs.Calls.{verdict_meant}
 use Rattle.cmd_reader.proofs.Told.{Here, told_both, told_always, told_here, told_moved}
 use Rattle.composer.specs.Ahead.{IsAhead, then_reading}
 use Rattle.composer.specs.Folding.{AllCanWrite}
 use Rattle.composer.proofs.Takes.{item_can_write}
 use Rattle.composer.specs.Stopping.{outcome_at}
-use Rattle.composer.specs.Files.{contents, IfAllTold, last_of, HeadsRead, HeadsStop, HeadsEnd, LastRead, LastStop, LastEnd}
+use Rattle.composer.specs.Files.{last_of, HeadsRead, HeadsStop, HeadsEnd, LastRead, LastStop, LastEnd}
+use Rattle.sx_base.specs.Calls.{contents, IfAllTold}
 use Rattle.composer.proofs.Loops.{ahead_start, ahead_whole, ahead_fault, last_of_all}
 use Rattle.composer.proofs.TooLong.{LongAhead, short_fits, fault_fits, long_is, long_start, long_end, long_next, long_fault, long_here}
 use Rattle.composer.proofs.FilesAhead.{then_then, ahead_file, file_there, count_of_files}

@@ -18,32 +18,11 @@ use Rattle.sx_base.specs.declared.outcome.Verdict.{Verdict}
 use Rattle.sx_base.specs.declared.outcome.Outcome.{Outcome}
 use Rattle.sx_base.specs.declared.outcome.Outcome.TheVariants as ended
 use Rattle.send_model.specs.Lengths.{is_too_long, too_long}
-use Rattle.cmd_reader.specs.Next.{verdict_meant}
+use Rattle.sx_base.specs.Calls.{verdict_meant, Wrote}
 use Rattle.composer.specs.declared.places.Place.{Place}
 use Rattle.composer.specs.Advance.{Composing, advance}
 use Rattle.composer.specs.Ahead.{then_reading}
 use Rattle.composer.specs.Folding.{TakesAll, AllCanWrite, AppendsFront, unsent}
-
--- ---- the files
-
--- The bytes of the files with these names.
-abbrev pub contents : List (List ℕ × List ℕ) → List (List ℕ) → List (List ℕ)
-contents table names = map (file_at table) names
-
--- A fact about named files, where the inputs tell their files.
-abbrev pub IfAllTold : Option (List (List ℕ × List ℕ)) → List (List ℕ) → (List (List ℕ) → Type 0) → Type 0
-IfAllTold None names P = ⊤
-IfAllTold (Some table) names P = P (contents table names)
-
--- A fault is the outcome only where the count of its object rose.
-abbrev pub Caused : (inputs_before inputs_now out_before out_now : ℕ) → Outcome → Type 0
-Caused inputs_before inputs_now out_before out_now ended.InputFault = Rose inputs_before inputs_now
-Caused inputs_before inputs_now out_before out_now ended.OutputFault = Rose out_before out_now
-Caused inputs_before inputs_now out_before out_now _ = ⊤
-
-abbrev pub ErrCaused : {T : Type 0} → (inputs_before inputs_now out_before out_now : ℕ) → Result T Outcome → Type 0
-ErrCaused inputs_before inputs_now out_before out_now (Ok x) = ⊤
-ErrCaused inputs_before inputs_now out_before out_now (Err outcome) = Caused inputs_before inputs_now out_before out_now outcome
 
 -- ---- the end of composing
 
@@ -68,10 +47,6 @@ pub record DoneSays (files : List (List ℕ)) (written : List ℕ) : Type 0 wher
 abbrev pub EndSays : List (List ℕ) → List ℕ → Outcome → Type 0
 EndSays files written ended.Done = DoneSays files written
 EndSays files written outcome = StopSays files written outcome
-
--- What was written says so.
-abbrev pub Wrote : Option (List ℕ) → Option (List ℕ) → (List ℕ → Type 0) → Type 0
-Wrote old new P = (written : List ℕ) × Appends old new written × P written
 
 -- What composing files answers, where it answers Ok only at the end.
 abbrev pub FilesEnd : Option (List ℕ) → Option (List ℕ) → Result (Unit {0}) Outcome → List (List ℕ) → Type 0

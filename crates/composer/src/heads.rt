@@ -6,7 +6,8 @@ ghost use Rattle.send_model.specs.Receive.{first_of};
 ghost use Rattle.send_commands.specs.Meaning.{meaning_of};
 ghost use Rattle.send_commands.specs.Writing.{IsWritable};
 ghost use Rattle.cmd_reader.specs.Places.{IfTold};
-ghost use Rattle.composer.specs.Files.{IfAllTold, HeadsEnd, LastEnd, ErrCaused};
+ghost use Rattle.composer.specs.Files.{HeadsEnd, LastEnd};
+ghost use Rattle.sx_base.specs.Calls.{IfAllTold, ErrCaused};
 
 use crate::part_head::PartHead;
 use crate::places::outcome_of;

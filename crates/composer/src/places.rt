@@ -1,6 +1,6 @@
 // Where a command stands, and how a run ends at a file that can not be read on.
 ghost use Rattle.std.specs.Prelude.{◌≡◌};
-ghost use Rattle.cmd_reader.specs.Next.{verdict_meant};
+ghost use Rattle.sx_base.specs.Calls.{verdict_meant};
 ghost use Rattle.sx_base.specs.Refusals.{refusal_of};
 ghost use Rattle.composer.specs.Stopping.{outcome_at};
 

@@ -7,7 +7,8 @@ ghost use Rattle.send_model.specs.Reading.{is_taken};
 ghost use Rattle.send_commands.specs.Meaning.{meaning_of};
 ghost use Rattle.send_commands.specs.Writing.{IsWritable};
 ghost use Rattle.cmd_reader.specs.Places.{IfTold};
-ghost use Rattle.composer.specs.Files.{IfAllTold, Caused, ErrCaused, Wrote, EndSays, FilesEnd, FileEnd, CommandEnd, SendEnd, StopEnd};
+ghost use Rattle.composer.specs.Files.{EndSays, FilesEnd, FileEnd, CommandEnd, SendEnd, StopEnd};
+ghost use Rattle.sx_base.specs.Calls.{IfAllTold, Caused, ErrCaused, Wrote};
 
 use crate::composing::Composer;
 use crate::heads::last_head;

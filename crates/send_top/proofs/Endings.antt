@@ -10,7 +10,8 @@ use Rattle.send_model.specs.Spelling.{stream_header, canonical_all}
 use Rattle.sx_base.specs.Outside.{file_at}
 use Rattle.sx_base.specs.declared.outcome.Outcome.{Outcome}
 use Rattle.sx_base.specs.declared.outcome.Outcome.TheVariants as ended
-use Rattle.composer.specs.Files.{IfAllTold, Wrote, EndSays}
+use Rattle.composer.specs.Files.{EndSays}
+use Rattle.sx_base.specs.Calls.{IfAllTold, Wrote}
 use Rattle.send_top.specs.declared.words.Request.{Request}
 use Rattle.send_top.specs.declared.words.Request.TheVariants as made
 use Rattle.send_top.specs.Answered.{outcome_of}

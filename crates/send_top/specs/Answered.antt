@@ -7,7 +7,7 @@ use Rattle.sx_base.specs.Causes.{Rose}
 use Rattle.sx_base.specs.Outside.{AppendsPart}
 use Rattle.sx_base.specs.declared.outcome.Outcome.{Outcome}
 use Rattle.sx_base.specs.declared.outcome.Outcome.TheVariants as ended
-use Rattle.cmd_reader.specs.Next.{verdict_meant}
+use Rattle.sx_base.specs.Calls.{verdict_meant}
 use Rattle.send_top.specs.declared.noting.Answer.{Answer}
 use Rattle.send_top.specs.declared.noting.Answer.TheVariants as made
 

@@ -3,7 +3,7 @@ use Rattle.std.specs.Prelude.{◌≡◌, ⊤, ℕ, List, [], drop, Option, None,
 use Rattle.send_model.specs.Answer.{Request, Compose, Answer, Done, Refused, InputTooLong, request}
 use Rattle.send_model.specs.Order.{judge}
 use Rattle.send_model.specs.Lengths.{too_long}
-use Rattle.composer.specs.Files.{IfAllTold}
+use Rattle.sx_base.specs.Calls.{IfAllTold}
 
 -- The names of the files that a request is for.
 abbrev pub names_asked : Request → List (List ℕ) → List (List ℕ)

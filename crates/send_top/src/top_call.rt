@@ -8,7 +8,7 @@ ghost use Rattle.send_model.specs.Composed.{composed};
 ghost use Rattle.send_model.specs.Headline.{IsComposed, IsStopped};
 ghost use Rattle.send_model.specs.Spelling.{stream_header, canonical_all};
 ghost use Rattle.sx_base.specs.Causes.{Rose};
-ghost use Rattle.composer.specs.Files.{Wrote};
+ghost use Rattle.sx_base.specs.Calls.{Wrote};
 ghost use Rattle.send_top.specs.Answered.{IsGiven, answer_of, is_status};
 ghost use Rattle.send_top.specs.Ending.{OfFiles, IsRight};
 

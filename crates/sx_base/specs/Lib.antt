@@ -7,3 +7,4 @@ pub mod Refusals
 pub mod Stored
 pub mod Disk
 pub mod Crash
+pub mod Calls

@@ -1,6 +1,6 @@
 use Rattle.std.proofs.Common.{◌≡◌, ◌≤◌, length, map, ◌-◌}
 use Rattle.std.specs.String.{string_bytes}
-use Rattle.composer.specs.Files.{IfAllTold}
+use Rattle.sx_base.specs.Calls.{IfAllTold}
 use Rattle.composer.proofs.HeadsRead.{FilesSoFar}
 use Rattle.composer.proofs.heads.last_head.Given as goal
 

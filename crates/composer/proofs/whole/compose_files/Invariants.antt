@@ -1,7 +1,7 @@
 use Rattle.std.specs.Prelude.{map}
 use Rattle.std.specs.String.{string_bytes}
 use Rattle.std.proofs.Common.{◌≡◌, ◌≤◌, ◌-◌, length}
-use Rattle.composer.specs.Files.{IfAllTold}
+use Rattle.sx_base.specs.Calls.{IfAllTold}
 use Rattle.composer.proofs.FilesWriting.{FilesStand}
 use Rattle.composer.proofs.whole.compose_files.Given as goal
 

@@ -4,7 +4,8 @@ use Rattle.std.specs.String.{string_bytes}
 use Rattle.send_model.specs.Composed.{composed}
 use Rattle.send_model.specs.Headline.{IsComposed, IsStopped}
 use Rattle.send_model.specs.Spelling.{stream_header, canonical_all}
-use Rattle.composer.specs.Files.{Wrote, EndSays}
+use Rattle.composer.specs.Files.{EndSays}
+use Rattle.sx_base.specs.Calls.{Wrote}
 use Rattle.send_top.specs.Answered.{outcome_of}
 use Rattle.send_top.specs.Ending.{OfFiles, IsRight}
 use Rattle.send_top.proofs.Endings.{of_words, then_told, composed_end, spelled_end, unfinished_end, right_end}

@@ -1,0 +1,64 @@
+-- What a call over named files answers: which files these are, what it wrote, when it may say that an object of the outside
+-- failed, and what each answer says of the files. This program's own.
+use Rattle.std.specs.Prelude.{◌≡◌, ⊤, ℕ, List, map, Option, None, Some, Result, Ok, Err}
+use Rattle.std.specs.Io.KnownBytes.{Appends}
+use Rattle.send_model.specs.Reading as reading
+use Rattle.send_model.specs.Store.{Store}
+use Rattle.send_model.specs.Due.{Due, DoneWhole, RefusedAt, TooLong}
+use Rattle.send_model.specs.Words.{Request, due, EndSays, StandsBefore}
+use Rattle.sx_base.specs.Causes.{Rose}
+use Rattle.sx_base.specs.Outside.{file_at}
+use Rattle.sx_base.specs.Refusals.{refusal_of}
+use Rattle.sx_base.specs.declared.outcome.Verdict.{Verdict}
+use Rattle.sx_base.specs.declared.outcome.Outcome.{Outcome}
+use Rattle.sx_base.specs.declared.outcome.Outcome.TheVariants as ended
+
+-- A verdict of the code as that of the definitions.
+abbrev pub verdict_meant : Verdict → reading.Verdict
+verdict_meant v = record { file = v.file; command = v.command; offset = v.offset; refusal = refusal_of v.refusal }
+
+-- ---- files and what is written
+
+-- The bytes of the files with these names.
+abbrev pub contents : List (List ℕ × List ℕ) → List (List ℕ) → List (List ℕ)
+contents table names = map (file_at table) names
+
+-- A fact about named files, where the inputs tell their files.
+abbrev pub IfAllTold : Option (List (List ℕ × List ℕ)) → List (List ℕ) → (List (List ℕ) → Type 0) → Type 0
+IfAllTold None names P = ⊤
+IfAllTold (Some table) names P = P (contents table names)
+
+-- What a call added to a sink says so, where the sink tells what it took.
+abbrev pub Wrote : Option (List ℕ) → Option (List ℕ) → (List ℕ → Type 0) → Type 0
+Wrote old new P = (written : List ℕ) × Appends old new written × P written
+
+-- ---- causes
+
+-- A fault is the outcome only where the count of its object rose.
+abbrev pub Caused : (inputs_before inputs_now out_before out_now : ℕ) → Outcome → Type 0
+Caused inputs_before inputs_now out_before out_now ended.InputFault = Rose inputs_before inputs_now
+Caused inputs_before inputs_now out_before out_now ended.OutputFault = Rose out_before out_now
+Caused inputs_before inputs_now out_before out_now ended.Done = ⊤
+Caused inputs_before inputs_now out_before out_now (ended.Refused verdict) = ⊤
+Caused inputs_before inputs_now out_before out_now ended.NoMemory = ⊤
+Caused inputs_before inputs_now out_before out_now (ended.InputTooLong file) = ⊤
+
+abbrev pub ErrCaused : {T : Type 0} → (inputs_before inputs_now out_before out_now : ℕ) → Result T Outcome → Type 0
+ErrCaused inputs_before inputs_now out_before out_now (Ok x) = ⊤
+ErrCaused inputs_before inputs_now out_before out_now (Err outcome) = Caused inputs_before inputs_now out_before out_now outcome
+
+-- ---- the one answer
+
+-- An outcome that the files decide is the one answer that is due, and what was written stands as it says. Where an object of
+-- the outside failed or there was no memory, what was written stands as before an end.
+abbrev pub EndsAs : Due → (Due → List ℕ → Type 0) → (List ℕ → Type 0) → Outcome → List ℕ → Type 0
+EndsAs the_due stands before ended.Done written = (the_due ≡ DoneWhole) × stands DoneWhole written
+EndsAs the_due stands before (ended.Refused verdict) written = (the_due ≡ RefusedAt (verdict_meant verdict)) × stands (RefusedAt (verdict_meant verdict)) written
+EndsAs the_due stands before (ended.InputTooLong file) written = (the_due ≡ TooLong file) × stands (TooLong file) written
+EndsAs the_due stands before ended.InputFault written = before written
+EndsAs the_due stands before ended.OutputFault written = before written
+EndsAs the_due stands before ended.NoMemory written = before written
+
+-- The same of a request over a base.
+abbrev pub Ends : Request → Store ℕ → List (List ℕ) → Outcome → List ℕ → Type 0
+Ends request base files outcome written = EndsAs (due request base files) (EndSays request base files) (StandsBefore request base files) outcome written
