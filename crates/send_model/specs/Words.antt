@@ -130,6 +130,15 @@ StandsRefused (Export at) base files written = written ≡ exported (first_file 
 StandsRefused (Gen count seed) base files written = ⊥
 StandsRefused (Trial count seed) base files written = ⊥
 
+-- What stands there where standard output itself failed. Audit writes where all is accepted, and only then.
+abbrev pub StandsCut : Request → Store ℕ → List (List ℕ) → List ℕ → Type 0
+StandsCut (Compose store at) base files written = IsStopped base files written
+StandsCut (Audit guards store at) base files written = (audit_due base (new_guards guards) files ≡ DoneWhole) × IsFrontOf (accepted_line files) written
+StandsCut (Dump at) base files written = IsFrontOf (dump_of (first_file files)) written
+StandsCut (Export at) base files written = IsFrontOf (exported (first_file files)) written
+StandsCut (Gen count seed) base files written = IsFrontOf (chain_of seed count) written
+StandsCut (Trial count seed) base files written = IsFrontOf (trial_line seed count) written
+
 -- What stands on standard output after an answer that the files decide.
 abbrev pub EndSays : Request → Store ℕ → List (List ℕ) → Due → List ℕ → Type 0
 EndSays request base files DoneWhole written = written ≡ whole_of request base files

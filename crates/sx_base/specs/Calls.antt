@@ -5,7 +5,7 @@ use Rattle.std.specs.Io.KnownBytes.{Appends}
 use Rattle.send_model.specs.Reading as reading
 use Rattle.send_model.specs.Store.{Store}
 use Rattle.send_model.specs.Due.{Due, DoneWhole, RefusedAt, TooLong}
-use Rattle.send_model.specs.Words.{Request, due, EndSays, StandsBefore}
+use Rattle.send_model.specs.Words.{Request, due, EndSays, StandsBefore, StandsCut}
 use Rattle.sx_base.specs.Causes.{Rose}
 use Rattle.sx_base.specs.Outside.{file_at}
 use Rattle.sx_base.specs.Refusals.{refusal_of}
@@ -49,16 +49,17 @@ ErrCaused inputs_before inputs_now out_before out_now (Err outcome) = Caused inp
 
 -- ---- the one answer
 
--- An outcome that the files decide is the one answer that is due, and what was written stands as it says. Where an object of
--- the outside failed or there was no memory, what was written stands as before an end.
-abbrev pub EndsAs : Due → (Due → List ℕ → Type 0) → (List ℕ → Type 0) → Outcome → List ℕ → Type 0
-EndsAs the_due stands before ended.Done written = (the_due ≡ DoneWhole) × stands DoneWhole written
-EndsAs the_due stands before (ended.Refused verdict) written = (the_due ≡ RefusedAt (verdict_meant verdict)) × stands (RefusedAt (verdict_meant verdict)) written
-EndsAs the_due stands before (ended.InputTooLong file) written = (the_due ≡ TooLong file) × stands (TooLong file) written
-EndsAs the_due stands before ended.InputFault written = before written
-EndsAs the_due stands before ended.OutputFault written = before written
-EndsAs the_due stands before ended.NoMemory written = before written
+-- An outcome that the files decide is the one answer that is due, and what was written stands as it says. Where the inputs
+-- failed or there was no memory, what was written stands as before an end, and where the output failed, it is cut.
+abbrev pub EndsAs : Due → (stands : Due → List ℕ → Type 0) (before cut : List ℕ → Type 0) → Outcome → List ℕ → Type 0
+EndsAs the_due stands before cut ended.Done written = (the_due ≡ DoneWhole) × stands DoneWhole written
+EndsAs the_due stands before cut (ended.Refused verdict) written = (the_due ≡ RefusedAt (verdict_meant verdict)) × stands (RefusedAt (verdict_meant verdict)) written
+EndsAs the_due stands before cut (ended.InputTooLong file) written = (the_due ≡ TooLong file) × stands (TooLong file) written
+EndsAs the_due stands before cut ended.InputFault written = before written
+EndsAs the_due stands before cut ended.OutputFault written = cut written
+EndsAs the_due stands before cut ended.NoMemory written = before written
 
 -- The same of a request over a base.
 abbrev pub Ends : Request → Store ℕ → List (List ℕ) → Outcome → List ℕ → Type 0
-Ends request base files outcome written = EndsAs (due request base files) (EndSays request base files) (StandsBefore request base files) outcome written
+Ends request base files outcome written =
+    EndsAs (due request base files) (EndSays request base files) (StandsBefore request base files) (StandsCut request base files) outcome written
