@@ -16,21 +16,20 @@ pub items_with_heads : (store : Store ℕ) (items : List Item) (first last : Hea
     → composed_of store items ≡ composed_with store first last items
 items_with_heads store items first last f l = ap₂ (λ (a b : Option Head). composed_for store a b items) f l
 
-pub with_heads : (store : Store ℕ) (files : List (List ℕ)) (first last : Head) → first_head (heads (input files).items) ≡ Some first → last_head (heads (input files).items) ≡ Some last
-    → composed store files ≡ composed_with store first last (input files).items
-unfolding composed
-with_heads store files first last f l = items_with_heads store (input files).items first last f l
-
-composed_plain : (store : Store ℕ) (files : List (List ℕ)) (first last : Head) → NoClones (commands_of (input files).items)
-    → composed_with store first last (input files).items ≡ head_command last.name last.key first.parent ∷ (edits_of (commands_of (input files).items) ++ End ∷ [])
+composed_plain : (store : Store ℕ) (items : List Item) (first last : Head) → NoClones (commands_of items)
+    → composed_with store first last items ≡ head_command last.name last.key first.parent ∷ (edits_of (commands_of items) ++ End ∷ [])
 unfolding composed_with composed_edits
-composed_plain store files first last n =
-    ap (λ (es : List Command). head_command last.name last.key first.parent ∷ (es ++ End ∷ [])) (plain_composed store (part_uuids (input files).items) last.key (input files).items (start_of (traced_store store)) None n)
+composed_plain store items first last n =
+    ap (λ (es : List Command). head_command last.name last.key first.parent ∷ (es ++ End ∷ [])) (plain_composed store (part_uuids items) last.key items (start_of (traced_store store)) None n)
 
--- What files without clones are composed to: a head, all edits, END.
+-- What items without clones are composed to, and files: a head, all edits, END.
+pub composed_items : (store : Store ℕ) (items : List Item) (first last : Head) → first_head (heads items) ≡ Some first → last_head (heads items) ≡ Some last → NoClones (commands_of items)
+    → composed_of store items ≡ head_command last.name last.key first.parent ∷ (edits_of (commands_of items) ++ End ∷ [])
+composed_items store items first last f l n = items_with_heads store items first last f l ∙ composed_plain store items first last n
+
 pub composed_list : (store : Store ℕ) (files : List (List ℕ)) (first last : Head) → first_head (heads (input files).items) ≡ Some first → last_head (heads (input files).items) ≡ Some last → NoClones (commands_of (input files).items)
     → composed store files ≡ head_command last.name last.key first.parent ∷ (edits_of (commands_of (input files).items) ++ End ∷ [])
-composed_list store files first last f l n = with_heads store files first last f l ∙ composed_plain store files first last n
+composed_list store files first last f l n = composed_items store (input files).items first last f l n
 
 pub first_there : (hs : List Head) → hs ≢ [] → (h : Head) × (first_head hs ≡ Some h)
 first_there [] some = absurd (some refl)

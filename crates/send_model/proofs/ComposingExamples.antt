@@ -9,7 +9,7 @@ use Rattle.send_model.specs.Store.{Store}
 use Rattle.send_model.specs.Receive.{start_of}
 use Rattle.send_model.specs.Order.{heads}
 use Rattle.send_model.specs.Outside.{part_uuids}
-use Rattle.send_model.specs.Provenance.{Place, Piece, Carried, Literal, traced_store, ranges_from, pieces_of, literal_len, is_run, redirected_ranges, uncarried, runs}
+use Rattle.send_model.specs.Provenance.{Place, Piece, Carried, Literal, traced_store, ranges_from, pieces_of, literal_len, is_run, uncarried, runs}
 use Rattle.send_model.specs.Composed.{first_head, last_head, composed_for, composed}
 use Rattle.send_model.proofs.ExampleWords.{hexadecimal, uuid, key, one_file, store_of, items, reading_words, composing_words}
 use Rattle.send_model.proofs.ReadingExamples.{first_stream, second_stream, merged_stream}
@@ -63,17 +63,14 @@ runs_items store items = sum_by (λ pieces. count_by is_run pieces) (pieces stor
 
 -- The composed commands of files are those of their items.
 composed_is : (store : Store ℕ) (files : List (List ℕ)) → composed store files ≡ composed_items store (input files).items
-unfolding composed
 composed_is store files = refl
 
 -- So is what is not carried.
 uncarried_is : (store : Store ℕ) (files : List (List ℕ)) → uncarried store files ≡ uncarried_items store (input files).items
-unfolding uncarried redirected_ranges
 uncarried_is store files = refl
 
 -- So are the runs.
 runs_is : (store : Store ℕ) (files : List (List ℕ)) → runs store files ≡ runs_items store (input files).items
-unfolding runs redirected_ranges
 runs_is store files = refl
 
 -- A place in the one file of the subvolume in the store.

@@ -12,7 +12,7 @@ use Rattle.send_model.proofs.ExampleWords.{hexadecimal, reading_words, composing
 use Rattle.send_model.proofs.ReadingExamples.{first_stream, second_stream}
 
 unfoldable due_words : Unit {0}
-unfolding digits reading_words composing_words run_by guard_refuses guard_after refused_from looked is_too_long too_long too_long_from due_from compose_due limited_from audit_due accepted_line file_due first_stream second_stream
+unfolding digits reading_words composing_words run_by guard_refuses guard_after refused_from looked is_too_long too_long too_long_from due_from limited_from audit_due accepted_line file_due first_stream second_stream
 due_words = tt
 
 abbrev at : ℕ → ℕ → ℕ → Refusal → Due

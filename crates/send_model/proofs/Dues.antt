@@ -5,15 +5,14 @@ use Rattle.std.proofs.Common.{refl, sym, ap, subst, ◌∙◌, arith, zero-le}
 use Rattle.std.proofs.lemmas.Bool.{ltb-false}
 use Rattle.std.proofs.lemmas.List.Sums.{sum_by-cons}
 use Rattle.send_model.specs.Refusal.{Refusal}
-use Rattle.send_model.specs.Reading.{Item, Verdict, Reading, input}
-use Rattle.send_model.specs.Lengths.{too_long}
+use Rattle.send_model.specs.Reading.{Item, Verdict, Reading}
 use Rattle.send_model.specs.Store.{Key, Store, State, Stepped, head_of, step}
 use Rattle.send_model.specs.Receive.{bytes_of, byte_cells, first_of, fault_of, start_of}
-use Rattle.send_model.specs.Order.{heads, breaks_order, part_after, then_judge, judge_items, judge_reading, judge, without_parts}
+use Rattle.send_model.specs.Order.{heads, breaks_order, part_after, then_judge, judge_items, judge_reading, judge_of, without_parts}
 use Rattle.send_model.specs.Outside.{part_uuids}
-use Rattle.send_model.specs.Provenance.{Traced, fresh, Piece, traced_store, traced_step, uuid_after, is_redirected, clone_range, ranges_from, redirected_ranges, pieces_of, literal_len, uncarried_in, uncarried}
+use Rattle.send_model.specs.Provenance.{Traced, fresh, Piece, traced_store, traced_step, uuid_after, is_redirected, clone_range, ranges_from, pieces_of, literal_len, uncarried_in, uncarried_cells}
 use Rattle.send_model.specs.Cells.{recelled_state, recelled_step}
-use Rattle.send_model.specs.Due.{Due, DoneWhole, RefusedAt, TooLong, TooMuch, most_literal, uncarried_of, then_due, due_from, refused_due, or_due, compose_due, IsJudged}
+use Rattle.send_model.specs.Due.{Due, DoneWhole, RefusedAt, TooLong, TooMuch, most_literal, uncarried_of, then_due, due_from, refused_due, or_due, reading_due, IsJudgedOf}
 use Rattle.send_model.proofs.CellClones.{all_steps-cells}
 use Rattle.send_model.proofs.Tracing.{byte_of, bytes_fresh, untraced_store}
 
@@ -121,49 +120,29 @@ ends (Some (TooMuch much)) verdict rest sum s = record { done = λ e. cc; refuse
 ends (Some DoneWhole) verdict rest sum s = absurd s
 ends (Some (TooLong file)) verdict rest sum s = absurd s
 
-pub is_judged : (base : Store ℕ) (files : List (List ℕ)) → IsJudged base files
-unfolding compose_due judge judge_reading uncarried redirected_ranges
-is_judged base files = one (too_long files) refl
+same_file : (a b : ℕ) → TooLong a ≡ TooLong b → a ≡ b
+same_file a b q = ap file_of q
   where
-    reading : Reading
-    reading = input files
+    file_of : Due → ℕ
+    file_of DoneWhole = 0
+    file_of (RefusedAt x) = 0
+    file_of (TooLong n) = n
+    file_of (TooMuch sum) = 0
 
-    rest : Option Verdict
-    rest = first_of (fault_of (input files).end) (without_parts (input files).items (heads (input files).items))
-
+-- Of what was read, where no file is too long.
+reading_ends : (base : Store ℕ) (reading : Reading) → Ends (reading_due base reading) (judge_of base reading) (uncarried_cells base reading.items)
+unfolding judge_reading
+reading_ends base reading = ends due (judge_items 0 byte_cells (start_of base) None reading.items) (first_of (fault_of reading.end) (without_parts reading.items (heads reading.items))) (uncarried_cells base reading.items) items_say
+  where
     due : Option Due
-    due = due_from base (part_uuids (input files).items) (start_of (traced_store base)) None None 0 (input files).items
+    due = due_from base (part_uuids reading.items) (start_of (traced_store base)) None None 0 reading.items
 
-    items_say : Says due (judge_items 0 byte_cells (start_of base) None (input files).items) (uncarried base files)
+    items_say : Says due (judge_items 0 byte_cells (start_of base) None reading.items) (uncarried_cells base reading.items)
     items_say =
-        let own = due_says base (part_uuids (input files).items) (input files).items (start_of (traced_store base)) None None 0 zero-le in
-        subst (λ (s : Store ℕ). Says due (judge_items 0 byte_cells (start_of s) None (input files).items) (uncarried base files)) (untraced_store base)
-        (subst (λ (n : ℕ). Says due (judge_items 0 byte_cells (recelled_state byte_of (start_of (traced_store base))) None (input files).items) n) (omega arith) own)
+        let own = due_says base (part_uuids reading.items) reading.items (start_of (traced_store base)) None None 0 zero-le in
+        subst (λ (s : Store ℕ). Says due (judge_items 0 byte_cells (start_of s) None reading.items) (uncarried_cells base reading.items)) (untraced_store base)
+        (subst (λ (n : ℕ). Says due (judge_items 0 byte_cells (recelled_state byte_of (start_of (traced_store base))) None reading.items) n) (omega arith) own)
 
-    e : Ends (or_due due (refused_due rest)) (judge base files) (uncarried base files)
-    e = ends due (judge_items 0 byte_cells (start_of base) None (input files).items) rest (uncarried base files) items_say
-
-    by_long : Option ℕ → Due
-    by_long (Some file) = TooLong file
-    by_long None = or_due due (refused_due rest)
-
-    due_is : (o : Option ℕ) → (elim o as (λ x. Due) [ Some file ↦ TooLong file | None ↦ or_due due (refused_due rest) ]) ≡ by_long o
-    due_is None = refl
-    due_is (Some file) = refl
-
-    one : (o : Option ℕ) → too_long files ≡ o → IsJudged base files
-    one None l =
-        let at : compose_due base files ≡ or_due due (refused_due rest) = due_is (too_long files) ∙ ap by_long l in
-        record { done = λ d. e.done (sym at ∙ d); refused = λ v d. e.refused v (sym at ∙ d); long = λ file d. absurd (e.never file (sym at ∙ d)) }
-    one (Some file) l =
-        let at : compose_due base files ≡ TooLong file = due_is (too_long files) ∙ ap by_long l in
-        record { done = λ d. let x : TooLong file ≡ DoneWhole = sym at ∙ d in cc; refused = λ v d. let x : TooLong file ≡ RefusedAt v = sym at ∙ d in cc; long = λ other d. l ∙ ap Some (same_file file other (sym at ∙ d)) }
-      where
-        same_file : (a b : ℕ) → TooLong a ≡ TooLong b → a ≡ b
-        same_file a b q = ap file_of q
-          where
-            file_of : Due → ℕ
-            file_of DoneWhole = 0
-            file_of (RefusedAt x) = 0
-            file_of (TooLong n) = n
-            file_of (TooMuch sum) = 0
+pub is_judged_of : (long : Option ℕ) (base : Store ℕ) (reading : Reading) → IsJudgedOf long base reading
+is_judged_of None base reading = let e = reading_ends base reading in record { done = e.done; refused = e.refused; long = λ file d. absurd (e.never file d) }
+is_judged_of (Some file) base reading = record { done = λ d. cc; refused = λ v d. cc; long = λ other d. ap Some (same_file file other d) }

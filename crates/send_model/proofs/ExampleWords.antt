@@ -12,8 +12,8 @@ use Rattle.send_model.specs.Edit.{resized, overwritten, written_at, fallocated, 
 use Rattle.send_model.specs.Clone.{cells_of, cloned, clone}
 use Rattle.send_model.specs.Store.{Key, Store, find, with_contents, completed, begun, step_head, edit_part, step_edit, step}
 use Rattle.send_model.specs.Order.{heads_of}
-use Rattle.send_model.specs.Provenance.{traced_subvolume, traced_store, clone_range, ranges_from, redirected_ranges, blocks, carried_from, pieces_of, uncarried, runs}
-use Rattle.send_model.specs.Composed.{composed_from, composed_edits, composed_with, composed}
+use Rattle.send_model.specs.Provenance.{traced_subvolume, traced_store, clone_range, ranges_from, blocks, carried_from, pieces_of}
+use Rattle.send_model.specs.Composed.{composed_from, composed_edits, composed_with}
 
 -- The number of a hexadecimal digit, 0 to 9 or a to f.
 abbrev pub digit : ℕ → ℕ
@@ -66,5 +66,5 @@ edit_words = tt
 
 -- Steps, traces and composing.
 unfoldable pub composing_words : Unit {0}
-unfolding edit_words step step_head step_edit edit_part begun completed with_contents find heads_of traced_store traced_subvolume clone_range ranges_from redirected_ranges blocks carried_from pieces_of uncarried runs is_nameable first_path all_paths paths_from composed composed_with composed_edits composed_from
+unfolding edit_words step step_head step_edit edit_part begun completed with_contents find heads_of traced_store traced_subvolume clone_range ranges_from blocks carried_from pieces_of is_nameable first_path all_paths paths_from composed_with composed_edits composed_from
 composing_words = tt

@@ -77,7 +77,7 @@ front_of_front all written extra count is within = record {
 
 whole_front : (files : List (List ℕ)) (items more : List Item) (last first : Head) (count : ℕ) → (input files).items ≡ items ++ more → NoClones (commands_of items) → first_head (heads items) ≡ Some first → last_head (heads (input files).items) ≡ Some last
     → count ≤ length (written_so_far (output_version files) last (Some first) (commands_of items)) → IsFrontOf (stream_header (output_version files) ++ canonical_all (output_version files) (composed empty_store files)) (take count (written_so_far (output_version files) last (Some first) (commands_of items)))
-unfolding composed composed_with
+unfolding composed_with
 whole_front files items more last first count is n f l within =
     let extra = edits_append last.key items more n in
     let firsts : first_head (heads (input files).items) ≡ Some first = ap (λ (xs : List Item). first_head (heads xs)) is ∙ first_more items more first f in
@@ -90,7 +90,6 @@ whole_front files items more last first count is n f l within =
 
 before_front : (files : List (List ℕ)) (items rest : List Item) (last first : Head) (count : ℕ) → lawful empty_store files ≡ items ++ rest → NoClones (commands_of items) → first_head (heads items) ≡ Some first → last_head (heads (input files).items) ≡ Some last
     → count ≤ length (written_so_far (output_version files) last (Some first) (commands_of items)) → IsFrontOf (stream_front (output_version files) (composed_before empty_store files)) (take count (written_so_far (output_version files) last (Some first) (commands_of items)))
-unfolding composed_before
 before_front files items rest last first count is n f l within =
     let extra = edits_append last.key items rest n in
     let firsts : first_head (heads (lawful empty_store files)) ≡ Some first = ap (λ (xs : List Item). first_head (heads xs)) is ∙ first_more items rest first f in
@@ -107,7 +106,6 @@ by_judge files written (Some verdict) whole before = before
 
 -- Where all commands are lawful, it is all that they are composed to.
 pub whole_lawful : (files : List (List ℕ)) → judge empty_store files ≡ None → whole_output empty_store files ≡ stream_header (output_version files) ++ canonical_all (output_version files) (composed empty_store files)
-unfolding whole_output
 whole_lawful files none = ap (λ (o : Option Verdict). output_for o empty_store files) none
 
 -- Nothing is a front part of any bytes.
@@ -115,12 +113,11 @@ pub nothing_front : (all : List ℕ) (count : ℕ) → IsFrontOf all (take count
 nothing_front all count = record { count = 0; within = omega (arith); written_is = take-nil count }
 
 lawful_as : (files : List (List ℕ)) (items : List Item) → (input files).items ≡ items → lawful empty_store files ≡ lawful_items 0 byte_cells (start_of empty_store) None items
-unfolding lawful
 lawful_as files items is = ap (lawful_items 0 byte_cells (start_of empty_store) None) is
 
 so_far : (files : List (List ℕ)) (items more : List Item) (end : State ℕ) (last : Head) (first : Option Head) (count : ℕ) → (input files).items ≡ items ++ more → Takes (start_of empty_store) (commands_of items) end → AreOrdered None items
     → NoClones (commands_of items) → first_head (heads items) ≡ first → last_head (heads (input files).items) ≡ Some last → count ≤ length (written_so_far (output_version files) last first (commands_of items)) → IsFrontOf (whole_output empty_store files) (take count (written_so_far (output_version files) last first (commands_of items)))
-unfolding written_so_far whole_output
+unfolding written_so_far
 so_far files items more end last None count is t o n f l within = nothing_front (whole_output empty_store files) count
 so_far files items more end last (Some first) count is t o n f l within =
     let on = lawful_more items more None (start_of empty_store) end t o in

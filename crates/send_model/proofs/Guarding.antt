@@ -4,7 +4,7 @@ use Rattle.std.proofs.Common.{refl, sym, ap, subst, ◌∙◌}
 use Rattle.send_model.specs.Refusal.{Refusal}
 use Rattle.send_model.specs.Reading.{Item, Verdict, Reading, input}
 use Rattle.send_model.specs.Store.{After, State, step}
-use Rattle.send_model.specs.Receive.{Ran, run_by, run_items, then_run, byte_cells, first_of, fault_of, with_fault, start_of, receive_items, receive}
+use Rattle.send_model.specs.Receive.{Ran, run_by, run_items, then_run, byte_cells, first_of, fault_of, with_fault, start_of, receive_items}
 use Rattle.send_model.specs.Guards.{Guard, Watched, watched, guarded, looked, refused_from, watched_step, receive_watched, receive_under}
 use Rattle.send_model.specs.GuardLaws.{watched_run, NoGuardsChangeNothing, AllowedIsAccepted}
 
@@ -74,7 +74,7 @@ abbrev pub does_step : State ℕ → Item → After (State ℕ)
 does_step s item = step 0 (byte_cells item) s item.command
 
 pub no_guards_change_nothing : NoGuardsChangeNothing
-unfolding receive_under receive_watched receive receive_items run_items
+unfolding receive_under receive_watched receive_items run_items
 no_guards_change_nothing store files =
     let reading : Reading = input files in
     ap (λ (r : Ran (Watched (State ℕ))). with_fault r reading.end) (no_guards_run (State ℕ) does_step (start_of store) reading.items)
@@ -84,7 +84,7 @@ no_fault None b e = (refl, e)
 no_fault (Some v) b e = cc
 
 pub allowed_is_accepted : AllowedIsAccepted
-unfolding receive_under receive_watched receive receive_items run_items
+unfolding receive_under receive_watched receive_items run_items
 allowed_is_accepted store guards files t =
     let reading : Reading = input files in
     let w : Watched (State ℕ) = record { guards = guards; state = start_of store } in

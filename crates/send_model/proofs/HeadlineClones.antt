@@ -6,18 +6,18 @@ use Rattle.std.proofs.Common.{refl, sym, ap, subst, ◌∙◌, arith}
 use Rattle.std.proofs.lemmas.List.Sums.{sum_by-cons}
 use Rattle.send_model.specs.Command.{Command, Subvol, Snapshot, Clone, End}
 use Rattle.send_model.specs.Spelling.{stream_header, canonical_all}
-use Rattle.send_model.specs.Reading.{is_version, Item, Whole, reads, input}
+use Rattle.send_model.specs.Reading.{is_version, Item, Reading, Whole, reads}
 use Rattle.send_model.specs.Store.{Key, Head, head_of, Store, Part, State, find, with_contents, completed}
-use Rattle.send_model.specs.Receive.{Run, run_items, byte_cells, receive, receive_items, start_of, fault_of, IsAccepted}
+use Rattle.send_model.specs.Receive.{Run, run_items, byte_cells, receive, receive_of, receive_items, start_of, fault_of, IsAccepted}
 use Rattle.send_model.specs.Order.{onto_heads, heads, heads_of, commands_of, IsConsecutive}
-use Rattle.send_model.specs.Outside.{IsAmong, base_of, base, keys_outside, outside, all_keys_named, FindsLawful}
-use Rattle.send_model.specs.Provenance.{Traced, Piece, Carried, Literal, is_own, is_redirected, clone_range, pieces_of, traced_step, uuid_after, traced_store, redirected_ranges, uncarried, runs}
-use Rattle.send_model.specs.Counts.{literal, clones, is_end, streams, kept}
+use Rattle.send_model.specs.Outside.{IsAmong, base_of, keys_outside, all_keys_named, FindsLawful}
+use Rattle.send_model.specs.Provenance.{Traced, Piece, Carried, Literal, is_own, is_redirected, clone_range, pieces_of, traced_step, uuid_after, traced_store}
+use Rattle.send_model.specs.Counts.{literal, clones, is_end, streams}
 use Rattle.send_model.specs.Composed.{first_head, last_head, head_command, write_len, writes_from, piece_commands, commands_for, composed_from, composed_edits, composed_with}
-use Rattle.send_model.specs.Headline.{AreComposed, CanReceive, IsComposed, last_entry}
+use Rattle.send_model.specs.Headline.{AreComposed, CanReceiveOf, IsComposedOf, last_entry}
 use Rattle.send_model.proofs.Runs.{Takes, takes_run, runs_taken}
 use Rattle.send_model.proofs.Streams.{IsInner, ReadsAs, stream_read}
-use Rattle.send_model.proofs.Endings.{input_ends}
+use Rattle.send_model.proofs.Endings.{EndsWell}
 use Rattle.send_model.proofs.Headlines.{first_none, received_as, no_part_at_end}
 use Rattle.send_model.proofs.ElementLaws.{all_both}
 use Rattle.send_model.proofs.Elsewhere.{lawful_ordered, redirected_law}
@@ -134,40 +134,41 @@ headline_items store items first last first_is last_is consecutive accepted lawf
       clone_count = whole_clones b first last items;
     }
 
--- Everything that is known of files that compose took in order, and of their composed list.
-pub record IsTaken (version : ℕ) (store : Store ℕ) (files : List (List ℕ)) (first last : Head) : Type 0 where
-  pub whole : (input files).end ≡ Whole
-  pub consecutive : IsConsecutive (input files).items
-  pub accepted : IsAccepted (receive (base store files) files)
-  pub first_is : first_head (heads (input files).items) ≡ Some first
-  pub last_is : last_head (heads (input files).items) ≡ Some last
-  pub lawful : FindsLawful (base store files) (outside files)
+-- Everything that is known of what was read and taken in order, and of its composed list.
+pub record IsTaken (version : ℕ) (store : Store ℕ) (reading : Reading) (first last : Head) : Type 0 where
+  pub whole : reading.end ≡ Whole
+  pub ends : EndsWell (commands_of reading.items)
+  pub consecutive : IsConsecutive reading.items
+  pub accepted : IsAccepted (receive_of (base_of store reading.items) reading)
+  pub first_is : first_head (heads reading.items) ≡ Some first
+  pub last_is : last_head (heads reading.items) ≡ Some last
+  pub lawful : FindsLawful (base_of store reading.items) (keys_outside reading.items)
   -- the list can be spelled in a version that is read
   pub read : is_version version ≡ true
-  pub inner : AllByRecursion (IsInner version) (head_command last.name last.key first.parent ∷ composed_edits (base store files) last.key (input files).items)
+  pub inner : AllByRecursion (IsInner version) (head_command last.name last.key first.parent ∷ composed_edits (base_of store reading.items) last.key reading.items)
 
 completed_none : (state : State ℕ) → state.part ≡ None → completed state ≡ state.store
 unfolding completed
 completed_none state e = ap (λ (o : Option (Part ℕ)). elim o as (λ x. Store ℕ) [ None ↦ state.store | Some part ↦ with_contents part.key.uuid part.subvolume state.store ]) e
 
--- What compose writes for files that were taken in order, clones included.
-pub headline_files : (version : ℕ) (store : Store ℕ) (files : List (List ℕ)) (first last : Head) (written : List ℕ) → IsTaken version store files first last
-    → written ≡ stream_header version ++ canonical_all version (composed_with (base store files) first last (input files).items)
-    → IsComposed (base store files) files written
-unfolding headline_items base outside receive receive_items composed_with uncarried runs redirected_ranges kept
-headline_files version store files first last written a is =
-    let b : Store ℕ = base store files in
-    let items : List Item = (input files).items in
+-- What compose writes for what was taken in order, clones included.
+pub headline_reading : (version : ℕ) (store : Store ℕ) (reading : Reading) (first last : Head) (written : List ℕ) → IsTaken version store reading first last
+    → written ≡ stream_header version ++ canonical_all version (composed_with (base_of store reading.items) first last reading.items)
+    → IsComposedOf (base_of store reading.items) reading written
+unfolding headline_items receive_items composed_with
+headline_reading version store reading first last written a is =
+    let items : List Item = reading.items in
+    let b : Store ℕ = base_of store items in
     let cs : List Command = commands_of items in
     let es : List Command = composed_edits b last.key items in
     let hc : Command = head_command last.name last.key first.parent in
     let list : List Command = hc ∷ (es ++ End ∷ []) in
     let ra : ReadsAs (reads 1 written) list = subst (λ (w : List ℕ). ReadsAs (reads 1 w) list) (sym is) (stream_read 1 version (hc ∷ es) a.read a.inner) in
     let ran : Run ℕ = run_items 0 byte_cells (start_of b) items in
-    let refused : ran.refused ≡ None = first_none ran.refused (fault_of (input files).end) a.accepted in
+    let refused : ran.refused ≡ None = first_none ran.refused (fault_of reading.end) a.accepted in
     let k = headline_items store items first last a.first_is a.last_is a.consecutive refused a.lawful in
-    let none = no_part_at_end cs (start_of b) ran.state (input_ends files a.whole) a.consecutive.0 (takes_run items (start_of b) refused) in
-    let one : (t : Store ℕ) → CanReceive b files last t → receive t (written ∷ []) ≡ record { state = record { store = t ++ last_entry first last k.subvolume ∷ []; part = None }; refused = None } =
+    let none = no_part_at_end cs (start_of b) ran.state a.ends a.consecutive.0 (takes_run items (start_of b) refused) in
+    let one : (t : Store ℕ) → CanReceiveOf b items last t → receive t (written ∷ []) ≡ record { state = record { store = t ++ last_entry first last k.subvolume ∷ []; part = None }; refused = None } =
     λ t can. received_as t written (start_of (t ++ last_entry first last k.subvolume ∷ [])) ra.whole (k.gets t can.same can.no_name can.no_uuid (reads 1 written).items ra.commands) in
     record {
       read_whole = a.whole;
@@ -184,7 +185,7 @@ headline_files version store files first last written a is =
       one_stream = ap streams ra.commands ∙ k.one_stream;
       accepted_by = λ t can. ap (λ (r : Run ℕ). r.refused) (one t can);
       gets = λ t can. ap (λ (r : Run ℕ). r.state.store) (one t can);
-      names_only = subst (λ (ks : List Key). AllByRecursion (λ key. IsAmong key (outside files) ⊎ (key ≡ last.key)) ks) (sym (ap all_keys_named ra.commands)) k.names_only;
+      names_only = subst (λ (ks : List Key). AllByRecursion (λ key. IsAmong key (keys_outside items) ⊎ (key ≡ last.key)) ks) (sym (ap all_keys_named ra.commands)) k.names_only;
       literal_bytes = ap literal ra.commands ∙ k.literal_bytes;
       clone_count = ap clones ra.commands ∙ k.clone_count;
     }

@@ -12,13 +12,13 @@ use Rattle.send_model.specs.Spelling.{stream_header, canonical_all}
 use Rattle.send_model.specs.Reading.{is_version, Item, Reading, Ending, Whole, Faulty, reads, input, input_from, joined}
 use Rattle.send_model.specs.Subvolume.{Subvolume}
 use Rattle.send_model.specs.Store.{Key, Head, head_of, Store, Part, State, same_key, find, start_from, unfinished}
-use Rattle.send_model.specs.Receive.{Run, receive_items, receive, byte_cells, bytes_of, start_of, first_of, with_fault, run_items}
+use Rattle.send_model.specs.Receive.{Run, receive_items, receive_of, receive, byte_cells, bytes_of, start_of, first_of, with_fault, run_items}
 use Rattle.send_model.specs.Order.{heads, heads_of, commands_of, IsConsecutive}
-use Rattle.send_model.specs.Outside.{IsAmong, is_among, part_uuids, store_without, base, keys_named, all_keys_named, keys_outside, outside, SameOn}
-use Rattle.send_model.specs.Provenance.{Traced, uuid_after, is_redirected, traced_step, traced_store, ranges_from, redirected_ranges, uncarried, runs}
-use Rattle.send_model.specs.Counts.{literal, clones, streams, is_clone, is_end, kept, kept_from}
+use Rattle.send_model.specs.Outside.{IsAmong, is_among, part_uuids, store_without, base_of, base, keys_named, all_keys_named, keys_outside, SameOn}
+use Rattle.send_model.specs.Provenance.{Traced, uuid_after, is_redirected, traced_step, traced_store, ranges_from, uncarried_cells, carried_runs}
+use Rattle.send_model.specs.Counts.{literal, clones, streams, is_clone, is_end, kept_of, kept_from}
 use Rattle.send_model.specs.Composed.{first_head, last_head, head_command, commands_for, composed_from}
-use Rattle.send_model.specs.Headline.{CanReceive, IsComposed, last_entry}
+use Rattle.send_model.specs.Headline.{CanReceiveOf, IsComposedOf, IsComposed, last_entry}
 use Rattle.send_model.proofs.Sorts.{same_inside}
 use Rattle.send_model.proofs.Stores.{same_key_true}
 use Rattle.send_model.proofs.Runs.{Takes, runs_taken}
@@ -52,22 +52,19 @@ no_ranges parts [] state current n = refl
 no_ranges parts (item ∷ items) state current n =
     rw (plain_not_redirected parts current item.command n.0) (no_ranges parts items (traced_step state item).state (uuid_after current item.command) n.1)
 
-no_uncarried : (store : Store ℕ) (files : List (List ℕ)) → NoClones (commands_of (input files).items) → uncarried store files ≡ 0
-unfolding uncarried redirected_ranges
-no_uncarried store files n = rw (no_ranges (part_uuids (input files).items) (input files).items (start_of (traced_store store)) None n) refl
+no_uncarried : (store : Store ℕ) (items : List Item) → NoClones (commands_of items) → uncarried_cells store items ≡ 0
+no_uncarried store items n = rw (no_ranges (part_uuids items) items (start_of (traced_store store)) None n) refl
 
-no_runs : (store : Store ℕ) (files : List (List ℕ)) → NoClones (commands_of (input files).items) → runs store files ≡ 0
-unfolding runs redirected_ranges
-no_runs store files n = rw (no_ranges (part_uuids (input files).items) (input files).items (start_of (traced_store store)) None n) refl
+no_runs : (store : Store ℕ) (items : List Item) → NoClones (commands_of items) → carried_runs store items ≡ 0
+no_runs store items n = rw (no_ranges (part_uuids items) items (start_of (traced_store store)) None n) refl
 
 none_kept : (parts : List (List ℕ)) (current : Option (List ℕ)) (cs : List Command) → NoClones cs → kept_from parts current cs ≡ 0
 unfolding kept_from
 none_kept parts current [] n = refl
 none_kept parts current (c ∷ cs) n = rw (n.0, none_kept parts (uuid_after current c) cs n.1) refl
 
-no_kept : (files : List (List ℕ)) → NoClones (commands_of (input files).items) → kept files ≡ 0
-unfolding kept
-no_kept files n = none_kept (part_uuids (input files).items) None (commands_of (input files).items) n
+no_kept : (items : List Item) → NoClones (commands_of items) → kept_of items ≡ 0
+no_kept items n = none_kept (part_uuids items) None (commands_of items) n
 
 -- ---- counts
 
@@ -207,7 +204,7 @@ one_input bytes h = joined_whole (reads 1 bytes).items (reads 1 bytes).end h ∙
 
 pub received_as : (store : Store ℕ) (bytes : List ℕ) (end : State ℕ) → (reads 1 bytes).end ≡ Whole → run_items 0 byte_cells (start_of store) (reads 1 bytes).items ≡ record { state = end; refused = None }
     → receive store (bytes ∷ []) ≡ record { state = end; refused = None }
-unfolding receive receive_items
+unfolding receive_items
 received_as store bytes end whole ran =
     let f : Reading → Run ℕ = λ x. receive_items 0 byte_cells store x in
     let g : Run ℕ → Run ℕ = λ x. record { state = x.state; refused = first_of x.refused None } in
@@ -215,7 +212,7 @@ received_as store bytes end whole ran =
 
 -- Receiving one whole file is running its items.
 pub received_run : (store : Store ℕ) (bytes : List ℕ) → (reads 1 bytes).end ≡ Whole → receive store (bytes ∷ []) ≡ with_fault (run_items 0 byte_cells (start_of store) (reads 1 bytes).items) Whole
-unfolding receive receive_items
+unfolding receive_items
 received_run store bytes whole = let f : Reading → Run ℕ = λ x. receive_items 0 byte_cells store x in ap f (one_input bytes whole)
 
 pub received_one : (store : Store ℕ) (bytes : List ℕ) (cs : List Command) (end : State ℕ) → ReadsAs (reads 1 bytes) cs → Takes (start_of store) cs end → receive store (bytes ∷ []) ≡ record { state = end; refused = None }
@@ -229,27 +226,33 @@ pub first_none : {A : Type 0} (a b : Option A) → first_of a b ≡ None → a �
 first_none None b e = refl
 first_none (Some x) b e = e
 
--- Everything that is known of files that compose took in order.
+-- Everything that is known of what was read, and of files, where compose took it in order.
+pub record AcceptsOf (store : Store ℕ) (reading : Reading) (end : State ℕ) : Type 0 where
+  pub whole : reading.end ≡ Whole
+  pub ends : EndsWell (commands_of reading.items)
+  pub no_clones : NoClones (commands_of reading.items)
+  pub consecutive : IsConsecutive reading.items
+  pub taken : Takes (start_of (base_of store reading.items)) (commands_of reading.items) end
+
 pub record Accepts (store : Store ℕ) (files : List (List ℕ)) (end : State ℕ) : Type 0 where
   pub whole : (input files).end ≡ Whole
   pub no_clones : NoClones (commands_of (input files).items)
   pub consecutive : IsConsecutive (input files).items
   pub taken : Takes (start_of (base store files)) (commands_of (input files).items) end
 
--- What a part starts from is found outside the files.
-outside_parent : (store : Store ℕ) (files : List (List ℕ)) (name name' : List ℕ) (key key' : Key) (parent : Option Key) (start : Subvolume ℕ) → start_from (base store files) parent ≡ Ok start
-    → AllByRecursion (λ k. IsAmong k (all_keys_named (commands_of (input files).items))) (all_keys_named (head_command name key parent ∷ []))
-    → AllByRecursion (λ k. IsAmong k (outside files)) (all_keys_named (head_command name' key' parent ∷ []))
-unfolding outside base
-outside_parent store files name name' key key' None start from named = tt
-outside_parent store files name name' key key' (Some k) start from named = by_test (is_among (part_uuids (input files).items) k.uuid) refl
+-- What a part starts from is found outside the items.
+outside_parent : (store : Store ℕ) (items : List Item) (name name' : List ℕ) (key key' : Key) (parent : Option Key) (start : Subvolume ℕ) → start_from (base_of store items) parent ≡ Ok start
+    → AllByRecursion (λ k. IsAmong k (all_keys_named (commands_of items))) (all_keys_named (head_command name key parent ∷ []))
+    → AllByRecursion (λ k. IsAmong k (keys_outside items)) (all_keys_named (head_command name' key' parent ∷ []))
+outside_parent store items name name' key key' None start from named = tt
+outside_parent store items name name' key key' (Some k) start from named = by_test (is_among (part_uuids items) k.uuid) refl
   where
     parts : List (List ℕ)
-    parts = part_uuids (input files).items
+    parts = part_uuids items
 
-    by_test : (b : Bool) → is_among (part_uuids (input files).items) k.uuid ≡ b → AllByRecursion (λ q. IsAmong q (keys_outside (input files).items)) (k ∷ [])
+    by_test : (b : Bool) → is_among (part_uuids items) k.uuid ≡ b → AllByRecursion (λ q. IsAmong q (keys_outside items)) (k ∷ [])
     by_test true e = absurd (let none : find (store_without parts store) k ≡ None = without_finds parts store k e in let at : found None NoParent ≡ Ok start = subst (λ (o : Option (Subvolume ℕ)). found o NoParent ≡ Ok start) none from in cc)
-    by_test false e = (among_kept (λ q. not (is_among parts q.uuid)) k (all_keys_named (commands_of (input files).items)) (ap not e) named.0, tt)
+    by_test false e = (among_kept (λ q. not (is_among parts q.uuid)) k (all_keys_named (commands_of items)) (ap not e) named.0, tt)
 
 same_start : (base_store store : Store ℕ) (outside_keys : List Key) (name : List ℕ) (key : Key) (parent : Option Key) (start : Subvolume ℕ) → SameOn base_store store outside_keys
     → AllByRecursion (λ k. IsAmong k outside_keys) (all_keys_named (head_command name key parent ∷ [])) → start_from base_store parent ≡ Ok start → start_from store parent ≡ Ok start
@@ -266,11 +269,11 @@ unfolding heads_of
 no_part_at_end cs state end (inl none) some t = absurd (some (ap heads_of none))
 no_part_at_end cs state end (inr ends) some t = no_part_left cs state end ends t
 
-pub received_all : (store : Store ℕ) (files : List (List ℕ)) (end : State ℕ) → (input files).end ≡ Whole → Takes (start_of store) (commands_of (input files).items) end → receive store files ≡ record { state = end; refused = None }
-unfolding receive receive_items
-received_all store files end whole t =
+pub received_all : (store : Store ℕ) (reading : Reading) (end : State ℕ) → reading.end ≡ Whole → Takes (start_of store) (commands_of reading.items) end → receive_of store reading ≡ record { state = end; refused = None }
+unfolding receive_items
+received_all store reading end whole t =
     let g : Run ℕ → Ending → Run ℕ = λ x e. with_fault x e in
-    ap₂ g (runs_taken (input files).items (start_of store) end t) whole
+    ap₂ g (runs_taken reading.items (start_of store) end t) whole
 
 head_alone : (name : List ℕ) (key : Key) (parent : Option Key) (cs : List Command) → length (heads_of (head_command name key parent ∷ (edits_of cs ++ End ∷ []))) ≡ 1
 unfolding heads_of
@@ -285,23 +288,23 @@ all_left P Q (k ∷ keys) a = (inl a.0, all_left P Q keys a.1)
 abbrev pub written_for : ℕ → Head → Head → List Command → List ℕ
 written_for version first last cs = stream_header version ++ canonical_all version (head_command last.name last.key first.parent ∷ (edits_of cs ++ End ∷ []))
 
--- The headline, for files that were taken in order and hold no clone.
-module _ (store : Store ℕ) (files : List (List ℕ)) (end : State ℕ) (a : Accepts store files end) where
+-- The headline, for what was taken in order and holds no clone.
+module _ (store : Store ℕ) (reading : Reading) (end : State ℕ) (a : AcceptsOf store reading end) where
   cs : List Command
-  cs = commands_of (input files).items
+  cs = commands_of reading.items
 
-  c : Comes (base store files) (commands_of (input files).items) end
-  c = comes (commands_of (input files).items) (base store files) end a.no_clones a.consecutive.0 a.consecutive.1 a.taken
+  c : Comes (base_of store reading.items) (commands_of reading.items) end
+  c = comes (commands_of reading.items) (base_of store reading.items) end a.no_clones a.consecutive.0 a.consecutive.1 a.taken
 
   last' : (last : Head) × (last_head (c.first ∷ c.rest) ≡ Some last) × (last.key ≡ last_key c.first.key c.rest)
   last' = last_of c.first c.rest
 
-  composed_written : (version : ℕ) (written : List ℕ) → is_version version ≡ true → AllByRecursion (IsInner version) (head_command last'.0.name last'.0.key c.first.parent ∷ edits_of (commands_of (input files).items)) → written ≡ written_for version c.first last'.0 (commands_of (input files).items)
-      → IsComposed (base store files) files written
+  composed_written : (version : ℕ) (written : List ℕ) → is_version version ≡ true → AllByRecursion (IsInner version) (head_command last'.0.name last'.0.key c.first.parent ∷ edits_of (commands_of reading.items)) → written ≡ written_for version c.first last'.0 (commands_of reading.items)
+      → IsComposedOf (base_of store reading.items) reading written
   unfolding c last'
   composed_written version written read inner is =
-      let b : Store ℕ = base store files in
-      let items : List Item = (input files).items in
+      let items : List Item = reading.items in
+      let b : Store ℕ = base_of store items in
       let ds : List Command = commands_of items in
       let first : Head = c.first in
       let last : Head = last'.0 in
@@ -312,15 +315,15 @@ module _ (store : Store ℕ) (files : List (List ℕ)) (end : State ℕ) (a : Ac
       let ra : ReadsAs (reads 1 written) list = subst R (sym is) (stream_read 1 version (hc ∷ edits_of ds) read inner) in
       let A : List Head → Type 0 = λ hs. AreNamed hs in
       let named = last_named first c.rest (subst A c.heads_are (names ds (start_of b) end a.taken)) last last'.1 in
-      let received = received_all b files end a.whole a.taken in
-      let none = no_part_at_end ds (start_of b) end (input_ends files a.whole) a.consecutive.0 a.taken in
+      let received = received_all b reading end a.whole a.taken in
+      let none = no_part_at_end ds (start_of b) end a.ends a.consecutive.0 a.taken in
       let found_last : find end.store last.key ≡ Some c.merged.last = ap (find end.store) last'.2 ∙ stands_none end.store end.part (last_key first.key c.rest) c.merged.last none c.merged.stands in
-      let parent_out = outside_parent store files first.name last.name first.key last.key first.parent c.start c.from c.first_named in
-      let one : (t : Store ℕ) → CanReceive b files last t → receive t (written ∷ []) ≡ record { state = record { store = t ++ last_entry first last c.merged.last ∷ []; part = None }; refused = None } =
-      λ t can. received_one t written list _ ra (received_anywhere new c.start c.merged.last (edits_of ds) t named can.no_name can.no_uuid (same_start b t (outside files) last.name last.key first.parent c.start can.same parent_out c.from) (c.merged.merged (t ++ unfinished new ∷ []) new.key)) in
-      let keys : List Key → Type 0 = λ ks. AllByRecursion (λ key. IsAmong key (outside files) ⊎ (key ≡ last.key)) ks in
-      let no_extra = no_uncarried b files a.no_clones in
-      let kept_is : kept files ≡ 0 = no_kept files a.no_clones in
+      let parent_out = outside_parent store items first.name last.name first.key last.key first.parent c.start c.from c.first_named in
+      let one : (t : Store ℕ) → CanReceiveOf b items last t → receive t (written ∷ []) ≡ record { state = record { store = t ++ last_entry first last c.merged.last ∷ []; part = None }; refused = None } =
+      λ t can. received_one t written list _ ra (received_anywhere new c.start c.merged.last (edits_of ds) t named can.no_name can.no_uuid (same_start b t (keys_outside items) last.name last.key first.parent c.start can.same parent_out c.from) (c.merged.merged (t ++ unfinished new ∷ []) new.key)) in
+      let keys : List Key → Type 0 = λ ks. AllByRecursion (λ key. IsAmong key (keys_outside items) ⊎ (key ≡ last.key)) ks in
+      let no_extra = no_uncarried b items a.no_clones in
+      let kept_is : kept_of items ≡ 0 = no_kept items a.no_clones in
       record {
         read_whole = a.whole;
         accepted = ap (λ (r : Run ℕ). r.refused) received;
@@ -336,23 +339,32 @@ module _ (store : Store ℕ) (files : List (List ℕ)) (end : State ℕ) (a : Ac
         one_stream = ap streams ra.commands ∙ inner_streams version (hc ∷ edits_of ds) inner;
         accepted_by = λ t can. ap (λ (r : Run ℕ). r.refused) (one t can);
         gets = λ t can. ap (λ (r : Run ℕ). r.state.store) (one t can);
-        names_only = subst keys (sym (ap all_keys_named ra.commands ∙ keys_composed last.name last.key first.parent ds a.no_clones)) (all_left (λ k. IsAmong k (outside files)) (λ k. k ≡ last.key) _ parent_out);
+        names_only = subst keys (sym (ap all_keys_named ra.commands ∙ keys_composed last.name last.key first.parent ds a.no_clones)) (all_left (λ k. IsAmong k (keys_outside items)) (λ k. k ≡ last.key) _ parent_out);
         literal_bytes = ap literal ra.commands ∙ literal_composed last.name last.key first.parent ds ∙ (omega (arith, no_extra));
-        clone_count = ap clones ra.commands ∙ clones_composed last.name last.key first.parent ds a.no_clones ∙ (omega (arith, kept_is, no_runs b files a.no_clones));
+        clone_count = ap clones ra.commands ∙ clones_composed last.name last.key first.parent ds a.no_clones ∙ (omega (arith, kept_is, no_runs b items a.no_clones));
       }
 
--- What compose writes for files that were taken in order: the stream of its one list of commands.
-pub headline : (version : ℕ) (store : Store ℕ) (files : List (List ℕ)) (end : State ℕ) (written : List ℕ) (first last : Head) → is_version version ≡ true → Accepts store files end
-    → first_head (heads (input files).items) ≡ Some first → last_head (heads (input files).items) ≡ Some last
-    → AllByRecursion (IsInner version) (head_command last.name last.key first.parent ∷ edits_of (commands_of (input files).items)) → written ≡ written_for version first last (commands_of (input files).items)
-    → IsComposed (base store files) files written
+-- What compose writes for what was taken in order: the stream of its one list of commands.
+pub headline_of : (version : ℕ) (store : Store ℕ) (reading : Reading) (end : State ℕ) (written : List ℕ) (first last : Head) → is_version version ≡ true → AcceptsOf store reading end
+    → first_head (heads reading.items) ≡ Some first → last_head (heads reading.items) ≡ Some last
+    → AllByRecursion (IsInner version) (head_command last.name last.key first.parent ∷ edits_of (commands_of reading.items)) → written ≡ written_for version first last (commands_of reading.items)
+    → IsComposedOf (base_of store reading.items) reading written
 unfolding c last'
-headline version store files end written first last read a first_is last_is inner is =
-    let ds : List Command = commands_of (input files).items in
-    let k = c store files end a in
-    let l = last' store files end a in
+headline_of version store reading end written first last read a first_is last_is inner is =
+    let ds : List Command = commands_of reading.items in
+    let k = c store reading end a in
+    let l = last' store reading end a in
     let same_first : first ≡ k.first = same_inside (sym first_is ∙ ap first_head k.heads_are) in
     let same_last : last ≡ l.0 = same_inside (sym last_is ∙ ap last_head k.heads_are ∙ l.1) in
     let Q : Head → Head → Type 0 = λ f g. AllByRecursion (IsInner version) (head_command g.name g.key f.parent ∷ edits_of ds) × (written ≡ written_for version f g ds) in
     let q = subst₂ Q same_first same_last (inner, is) in
-    composed_written store files end a version written read q.0 q.1
+    composed_written store reading end a version written read q.0 q.1
+
+-- And for files.
+pub headline : (version : ℕ) (store : Store ℕ) (files : List (List ℕ)) (end : State ℕ) (written : List ℕ) (first last : Head) → is_version version ≡ true → Accepts store files end
+    → first_head (heads (input files).items) ≡ Some first → last_head (heads (input files).items) ≡ Some last
+    → AllByRecursion (IsInner version) (head_command last.name last.key first.parent ∷ edits_of (commands_of (input files).items)) → written ≡ written_for version first last (commands_of (input files).items)
+    → IsComposed (base store files) files written
+headline version store files end written first last read a =
+    headline_of version store (input files) end written first last read
+    (record { whole = a.whole; ends = input_ends files a.whole; no_clones = a.no_clones; consecutive = a.consecutive; taken = a.taken })

@@ -69,7 +69,7 @@ empty_store = []
 -- The verdict where an item after those that were taken is refused.
 pub judge_at_item : (files : List (List ℕ)) (items : List Item) (item : Item) (more : List Item) (ending : Ending) (end : State ℕ) (verdict : Verdict) → input files ≡ record { items = items ++ item ∷ more; end = ending } → Takes (start_of empty_store) (commands_of items) end → AreOrdered None items
     → judge_items 0 byte_cells end (previous_after None items) (item ∷ more) ≡ Some verdict → judge empty_store files ≡ Some verdict
-unfolding judge judge_reading
+unfolding judge_reading
 judge_at_item files items item more ending end verdict is t o v =
     let j : Reading → Option Verdict = λ r. judge_reading 0 byte_cells empty_store r in
     let k : Option Verdict → Option Verdict = λ x. first_of x (first_of (fault_of ending) (without_parts (items ++ item ∷ more) (heads (items ++ item ∷ more)))) in
@@ -85,7 +85,7 @@ judged_all items end t o = ap (judge_items 0 byte_cells (start_of empty_store) N
 -- The verdict where all commands were taken: the fault with which the reading ended, or no part at all, or none.
 pub judge_at_end : (files : List (List ℕ)) (items : List Item) (ending : Ending) (end : State ℕ) → input files ≡ record { items = items; end = ending } → Takes (start_of empty_store) (commands_of items) end → AreOrdered None items
     → judge empty_store files ≡ first_of (fault_of ending) (without_parts items (heads items))
-unfolding judge judge_reading
+unfolding judge_reading
 judge_at_end files items ending end is t o =
     let j : Reading → Option Verdict = λ r. judge_reading 0 byte_cells empty_store r in
     let k : Option Verdict → Option Verdict = λ x. first_of x (first_of (fault_of ending) (without_parts items (heads items))) in

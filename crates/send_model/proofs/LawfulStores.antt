@@ -12,7 +12,7 @@ use Rattle.send_model.specs.Spelling.{IsSpellable}
 use Rattle.send_model.specs.Reading.{Item, input}
 use Rattle.send_model.specs.Subvolume.{Subvolume}
 use Rattle.send_model.specs.Store.{Key, same_key, Head, head_of, Entry, Store, IsStore, has_name, has_uuid, find, Part, State, Stepped, with_contents, completed, unfinished, begun, start_from, entered, step_head, clone_source, edit_part, edited, step_edit, step}
-use Rattle.send_model.specs.Receive.{bytes_of, byte_cells, start_of, Ran, run_by, then_run, run_items, receive, receive_items}
+use Rattle.send_model.specs.Receive.{bytes_of, byte_cells, start_of, Ran, run_by, then_run, run_items, receive_items}
 use Rattle.send_model.specs.Counts.{is_clone}
 use Rattle.send_model.specs.Outside.{IsSayable, is_among, outside, base, part_uuids}
 use Rattle.send_model.specs.Lawful.{HasSayable, IsLawfulEntry, IsLawfulStore, ReceivedIsLawful, FilesLeaveLawful, LawfulFindsSayable, LawfulStoresHold}
@@ -203,13 +203,11 @@ items_spelled_as [] w = tt
 items_spelled_as (item ∷ items) w = (w.0.0.spellable, items_spelled_as items w.1)
 
 pub files_leave_lawful : FilesLeaveLawful
-unfolding receive receive_items
+unfolding receive_items
 files_leave_lawful store files h bytes = received_is_lawful store (input files).items h (items_spelled_as (input files).items (input_writable files bytes))
 
 pub lawful_finds_sayable : LawfulFindsSayable
-unfolding base
 lawful_finds_sayable store files keys h k s among f = find_sayable (base store files) k s (all_filtered IsLawfulEntry (λ e. not (is_among (part_uuids (input files).items) e.key.uuid)) store h.entries) f
 
 pub lawful_stores_hold : LawfulStoresHold
-unfolding outside
 lawful_stores_hold store files h bytes whole consecutive accepted = files_hold store files bytes whole consecutive accepted (lawful_finds_sayable store files (outside files) h)

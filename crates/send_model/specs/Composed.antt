@@ -10,7 +10,7 @@ use Rattle.send_model.specs.Reading.{Item, input}
 use Rattle.send_model.specs.Subvolume.{first_path}
 use Rattle.send_model.specs.Store.{Key, Head, head_of, Store, State, find}
 use Rattle.send_model.specs.Receive.{start_of}
-use Rattle.send_model.specs.Order.{heads, lawful}
+use Rattle.send_model.specs.Order.{heads, lawful_of}
 use Rattle.send_model.specs.Outside.{part_uuids}
 use Rattle.send_model.specs.Provenance.{Place, Traced, Piece, Carried, Literal, traced_store, traced_step, uuid_after, is_own, is_redirected, clone_range, pieces_of}
 
@@ -86,12 +86,13 @@ composed_with store first last items = head_command last.name last.key first.par
 -- The composed commands of items received into a base, and of files; none where they hold no part.
 abbrev pub composed_for : Store ℕ → Option Head → Option Head → List Item → List Command
 composed_for store (Some first) (Some last) items = composed_with store first last items
-composed_for store _ _ items = []
+composed_for store None last items = []
+composed_for store (Some first) None items = []
 
 abbrev pub composed_of : Store ℕ → List Item → List Command
 composed_of store items = composed_for store (first_head (heads items)) (last_head (heads items)) items
 
-unfoldable pub composed : Store ℕ → List (List ℕ) → List Command
+abbrev pub composed : Store ℕ → List (List ℕ) → List Command
 composed store files = composed_of store (input files).items
 
 -- ---- what stands for the commands before the first unlawful one
@@ -100,7 +101,11 @@ composed store files = composed_of store (input files).items
 -- before the first head.
 abbrev pub composed_part : Store ℕ → Option Head → Option Head → List Item → List Command
 composed_part store (Some first) (Some last) items = head_command last.name last.key first.parent ∷ composed_edits store last.key items
-composed_part store _ _ items = []
+composed_part store None last items = []
+composed_part store (Some first) None items = []
 
-unfoldable pub composed_before : Store ℕ → List (List ℕ) → List Command
-composed_before store files = composed_part store (first_head (heads (lawful store files))) (last_head (heads (input files).items)) (lawful store files)
+abbrev pub composed_before_of : Store ℕ → List Item → List Command
+composed_before_of store items = composed_part store (first_head (heads (lawful_of store items))) (last_head (heads items)) (lawful_of store items)
+
+abbrev pub composed_before : Store ℕ → List (List ℕ) → List Command
+composed_before store files = composed_before_of store (input files).items

@@ -2,7 +2,7 @@
 use Rattle.std.specs.Prelude.{ℕ, ◌+◌, Bool, true, false, not, ◌&&◌, List, [], ◌∷◌, length, Option, None, if◌then◌else◌}
 use Rattle.std.specs.List.{sum_by, count_by}
 use Rattle.send_model.specs.Command.{Command, Clone, End}
-use Rattle.send_model.specs.Reading.{input}
+use Rattle.send_model.specs.Reading.{Item, input}
 use Rattle.send_model.specs.Receive.{bytes_of}
 use Rattle.send_model.specs.Order.{commands_of}
 use Rattle.send_model.specs.Outside.{part_uuids}
@@ -33,5 +33,9 @@ kept_from parts current [] = 0
 kept_from parts current (command ∷ commands) =
     (if is_clone command && not (is_redirected parts current command) then 1 else 0) + kept_from parts (uuid_after current command) commands
 
-unfoldable pub kept : List (List ℕ) → ℕ
-kept files = let items = (input files).items in kept_from (part_uuids items) None (commands_of items)
+-- Those of all items, and of files.
+abbrev pub kept_of : List Item → ℕ
+kept_of items = kept_from (part_uuids items) None (commands_of items)
+
+abbrev pub kept : List (List ℕ) → ℕ
+kept files = kept_of (input files).items

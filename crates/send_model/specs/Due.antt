@@ -3,15 +3,15 @@
 use Rattle.std.specs.Prelude.{◌≡◌, ◌≤◌, ℕ, ◌+◌, ◌^◌, Bool, true, false, List, [], ◌∷◌, ◌++◌, length, take, Option, None, Some, nat_lt, codes, if◌then◌else◌}
 use Rattle.std.specs.Fmt.{decimal}
 use Rattle.send_model.specs.Refusal.{Refusal, NotConsecutive}
-use Rattle.send_model.specs.Reading.{Item, Verdict, Ending, Whole, Faulty, reads, input}
+use Rattle.send_model.specs.Reading.{Item, Verdict, Ending, Whole, Faulty, Reading, reads, input}
 use Rattle.send_model.specs.Lengths.{limit, is_too_long, too_long}
 use Rattle.send_model.specs.Store.{Key, Store, State, Stepped, head_of, step}
 use Rattle.send_model.specs.Receive.{Ran, run_by, verdict_of, first_of, fault_of, byte_cells, start_of}
 use Rattle.send_model.specs.Guards.{Guard, Watched, watched_step}
 use Rattle.send_model.specs.Answer.{and_number, verdict_text, line}
-use Rattle.send_model.specs.Order.{heads, breaks_order, part_after, without_parts, judge}
+use Rattle.send_model.specs.Order.{heads, breaks_order, part_after, without_parts, judge_of}
 use Rattle.send_model.specs.Outside.{part_uuids}
-use Rattle.send_model.specs.Provenance.{Traced, traced_store, traced_step, uuid_after, is_redirected, clone_range, uncarried_in, uncarried}
+use Rattle.send_model.specs.Provenance.{Traced, traced_store, traced_step, uuid_after, is_redirected, clone_range, uncarried_in, uncarried_cells}
 
 -- An answer that the files decide: all was done, a command is refused, a file is too long, or the bytes of redirected clones that
 -- no outside subvolume carries are too many.
@@ -67,15 +67,20 @@ abbrev pub or_due : Option Due → Due → Due
 or_due None other = other
 or_due (Some due) other = due
 
--- All files are read for their heads before a command is looked at, so a file that is too long comes first. Then the commands in
--- order; then the fault that ended the reading; and last, that there is no part.
-unfoldable pub compose_due : Store ℕ → List (List ℕ) → Due
-compose_due base files = let reading = input files in
-    elim (too_long files) [
-      | Some file ↦ TooLong file
-      | None ↦ or_due (due_from base (part_uuids reading.items) (start_of (traced_store base)) None None 0 reading.items)
-          (refused_due (first_of (fault_of reading.end) (without_parts reading.items (heads reading.items))))
-    ]
+-- Of what was read: the commands in order; then the fault that ended the reading; and last, that there is no part.
+abbrev pub reading_due : Store ℕ → Reading → Due
+reading_due base reading =
+    or_due (due_from base (part_uuids reading.items) (start_of (traced_store base)) None None 0 reading.items)
+    (refused_due (first_of (fault_of reading.end) (without_parts reading.items (heads reading.items))))
+
+-- All files are read for their heads before a command is looked at, so the first that is too long, if there is one, comes before
+-- all else.
+abbrev pub compose_due_of : Option ℕ → Store ℕ → Reading → Due
+compose_due_of (Some file) base reading = TooLong file
+compose_due_of None base reading = reading_due base reading
+
+abbrev pub compose_due : Store ℕ → List (List ℕ) → Due
+compose_due base files = compose_due_of (too_long files) base (input files)
 
 -- ---- audit
 
@@ -123,8 +128,12 @@ file_due bytes = if is_too_long 1 bytes then TooLong 1 else refused_due (fault_o
 
 -- ---- laws
 
--- The answer of compose is the verdict on the files, unless a file is too long or there is too much.
-pub record IsJudged (base : Store ℕ) (files : List (List ℕ)) : Type 0 where
-  pub done : compose_due base files ≡ DoneWhole → (judge base files ≡ None) × (uncarried base files ≤ most_literal)
-  pub refused : (verdict : Verdict) → compose_due base files ≡ RefusedAt verdict → judge base files ≡ Some verdict
-  pub long : (file : ℕ) → compose_due base files ≡ TooLong file → too_long files ≡ Some file
+-- The answer of compose is the verdict on what was read, unless a file is too long or there is too much.
+pub record IsJudgedOf (first_long : Option ℕ) (base : Store ℕ) (reading : Reading) : Type 0 where
+  pub done : compose_due_of first_long base reading ≡ DoneWhole → (judge_of base reading ≡ None) × (uncarried_cells base reading.items ≤ most_literal)
+  pub refused : (verdict : Verdict) → compose_due_of first_long base reading ≡ RefusedAt verdict → judge_of base reading ≡ Some verdict
+  pub long : (file : ℕ) → compose_due_of first_long base reading ≡ TooLong file → first_long ≡ Some file
+
+-- So it is of files.
+abbrev pub IsJudged : (base : Store ℕ) (files : List (List ℕ)) → Type 0
+IsJudged base files = IsJudgedOf (too_long files) base (input files)

@@ -6,15 +6,15 @@ use Rattle.std.specs.Prelude.{◌≡◌, ◌≢◌, ℕ, ◌+◌, ◌≤◌, Lis
 use Rattle.std.specs.List.{AllByRecursion}
 use Rattle.send_model.specs.Command.{Command}
 use Rattle.send_model.specs.Spelling.{stream_header, canonical_all}
-use Rattle.send_model.specs.Reading.{Item, Verdict, Whole, reads, input}
+use Rattle.send_model.specs.Reading.{Item, Verdict, Reading, Whole, reads, input}
 use Rattle.send_model.specs.Subvolume.{Subvolume}
 use Rattle.send_model.specs.Store.{Head, Entry, Store, IsStore, has_name, has_uuid, find, completed}
-use Rattle.send_model.specs.Receive.{IsAccepted, run_items, byte_cells, start_of, receive}
-use Rattle.send_model.specs.Order.{heads, heads_of, commands_of, IsConsecutive, judge}
-use Rattle.send_model.specs.Outside.{part_uuids, keys_outside, outside, all_keys_named, IsAmong, SameOn}
-use Rattle.send_model.specs.Provenance.{ranges_of, uncarried_in, runs_in, uncarried, runs}
-use Rattle.send_model.specs.Counts.{literal, clones, streams, kept_from, kept}
-use Rattle.send_model.specs.Composed.{first_head, last_head, version_of, composed, composed_before}
+use Rattle.send_model.specs.Receive.{IsAccepted, run_items, byte_cells, start_of, receive_of, receive}
+use Rattle.send_model.specs.Order.{heads, heads_of, commands_of, IsConsecutive, judge_of}
+use Rattle.send_model.specs.Outside.{keys_outside, all_keys_named, IsAmong, SameOn}
+use Rattle.send_model.specs.Provenance.{uncarried_cells, carried_runs}
+use Rattle.send_model.specs.Counts.{literal, clones, streams, kept_of}
+use Rattle.send_model.specs.Composed.{first_head, last_head, version_of, composed_of, composed_before_of}
 
 -- The commands of a stream that was written.
 abbrev pub commands_in : List ℕ → List Command
@@ -22,11 +22,14 @@ commands_in written = commands_of (reads 1 written).items
 
 -- A store that the composed stream can be received into: it finds the same outside subvolumes as the base, and has
 -- neither the last part's name nor its uuid.
-pub record CanReceive (base : Store ℕ) (files : List (List ℕ)) (last : Head) (store : Store ℕ) : Type 0 where
+pub record CanReceiveOf (base : Store ℕ) (items : List Item) (last : Head) (store : Store ℕ) : Type 0 where
   pub lawful : IsStore store
-  pub same : SameOn base store (outside files)
+  pub same : SameOn base store (keys_outside items)
   pub no_name : has_name last.name store ≡ false
   pub no_uuid : has_uuid last.key.uuid store ≡ false
+
+abbrev pub CanReceive : (base : Store ℕ) (files : List (List ℕ)) (last : Head) (store : Store ℕ) → Type 0
+CanReceive base files last store = CanReceiveOf base (input files).items last store
 
 -- The entry that such a store gets: the last part's name, key and subvolume, with the first part's parent.
 abbrev pub last_entry : Head → Head → Subvolume ℕ → Entry (Subvolume ℕ)
@@ -54,34 +57,39 @@ pub record AreComposed (base : Store ℕ) (items : List Item) (commands : List C
   pub names_only : AllByRecursion (λ key. IsAmong key (keys_outside items) ⊎ (key ≡ last.key)) (all_keys_named commands)
   -- they carry the items' own bytes and those of cloned blocks that no outside subvolume carries; their clones are those that are
   -- not redirected, and one for each run of carried blocks
-  pub literal_bytes : literal commands ≡ literal (commands_of items) + uncarried_in base (ranges_of base items)
-  pub clone_count : clones commands ≡ kept_from (part_uuids items) None (commands_of items) + runs_in base (ranges_of base items)
+  pub literal_bytes : literal commands ≡ literal (commands_of items) + uncarried_cells base items
+  pub clone_count : clones commands ≡ kept_of items + carried_runs base items
 
--- What compose promises of what it wrote for files over a base, which is the store without the files' own parts.
-pub record IsComposed (base : Store ℕ) (files : List (List ℕ)) (written : List ℕ) : Type 0 where
-  -- the files are read to a whole end, and their parts are accepted in order, each after the first a snapshot of the one before
-  pub read_whole : (input files).end ≡ Whole
-  pub accepted : IsAccepted (receive base files)
-  pub consecutive : IsConsecutive (input files).items
+-- What compose promises of what it wrote for what was read, over a base, which is the store without the parts that were read.
+pub record IsComposedOf (base : Store ℕ) (reading : Reading) (written : List ℕ) : Type 0 where
+  -- reading came to a whole end, and the parts are accepted in order, each after the first a snapshot of the one before
+  pub read_whole : reading.end ≡ Whole
+  pub accepted : IsAccepted (receive_of base reading)
+  pub consecutive : IsConsecutive reading.items
   -- the first and the last part, and the subvolume that the last one makes
   pub first : Head
   pub last : Head
   pub subvolume : Subvolume ℕ
-  pub first_is : first_head (heads (input files).items) ≡ Some first
-  pub last_is : last_head (heads (input files).items) ≡ Some last
-  pub subvolume_is : find (receive base files).state.store last.key ≡ Some subvolume
+  pub first_is : first_head (heads reading.items) ≡ Some first
+  pub last_is : last_head (heads reading.items) ≡ Some last
+  pub subvolume_is : find (receive_of base reading).state.store last.key ≡ Some subvolume
   -- one stream with one part
   pub whole : (reads 1 written).end ≡ Whole
   pub one_part : length (heads_of (commands_in written)) ≡ 1
   pub one_stream : streams (commands_in written) ≡ 1
   -- every such store accepts it, keeps what it had, and gets exactly the last part's subvolume
-  pub accepted_by : (store : Store ℕ) → CanReceive base files last store → IsAccepted (receive store (written ∷ []))
-  pub gets : (store : Store ℕ) → CanReceive base files last store → (receive store (written ∷ [])).state.store ≡ store ++ last_entry first last subvolume ∷ []
+  pub accepted_by : (store : Store ℕ) → CanReceiveOf base reading.items last store → IsAccepted (receive store (written ∷ []))
+  pub gets : (store : Store ℕ) → CanReceiveOf base reading.items last store
+      → (receive store (written ∷ [])).state.store ≡ store ++ last_entry first last subvolume ∷ []
   -- it names only the outside subvolumes, beside itself
-  pub names_only : AllByRecursion (λ key. IsAmong key (outside files) ⊎ (key ≡ last.key)) (all_keys_named (commands_in written))
-  -- its literal bytes are the files' own and those of cloned blocks that no outside subvolume carries
-  pub literal_bytes : literal (commands_in written) ≡ literal (commands_of (input files).items) + uncarried base files
-  pub clone_count : clones (commands_in written) ≡ kept files + runs base files
+  pub names_only : AllByRecursion (λ key. IsAmong key (keys_outside reading.items) ⊎ (key ≡ last.key)) (all_keys_named (commands_in written))
+  -- its literal bytes are those that were read and those of cloned blocks that no outside subvolume carries
+  pub literal_bytes : literal (commands_in written) ≡ literal (commands_of reading.items) + uncarried_cells base reading.items
+  pub clone_count : clones (commands_in written) ≡ kept_of reading.items + carried_runs base reading.items
+
+-- So it is of files.
+abbrev pub IsComposed : (base : Store ℕ) (files : List (List ℕ)) (written : List ℕ) → Type 0
+IsComposed base files written = IsComposedOf base (input files) written
 
 -- What stands on standard output does not read as a whole stream.
 abbrev pub IsUnfinished : List ℕ → Type 0
@@ -98,14 +106,20 @@ stream_front version (c ∷ cs) = stream_header version ++ canonical_all version
 abbrev pub output_version : List (List ℕ) → ℕ
 output_version files = version_of (input files).items
 
--- All that compose may write for files, by the verdict on them: what they are composed to; or, where a command is unlawful or
--- their reading ends at a fault, what the commands before that place are composed to, without END.
-abbrev pub output_for : Option Verdict → Store ℕ → List (List ℕ) → List ℕ
-output_for None base files = stream_header (output_version files) ++ canonical_all (output_version files) (composed base files)
-output_for (Some verdict) base files = stream_front (output_version files) (composed_before base files)
+-- All that compose may write for items, by the verdict on what was read: what they are composed to; or, where a command is unlawful
+-- or reading ended at a fault, what the commands before that place are composed to, without END. And so for files.
+abbrev pub output_of : Option Verdict → Store ℕ → List Item → List ℕ
+output_of None base items = stream_header (version_of items) ++ canonical_all (version_of items) (composed_of base items)
+output_of (Some verdict) base items = stream_front (version_of items) (composed_before_of base items)
 
-unfoldable pub whole_output : Store ℕ → List (List ℕ) → List ℕ
-whole_output base files = output_for (judge base files) base files
+abbrev pub output_for : Option Verdict → Store ℕ → List (List ℕ) → List ℕ
+output_for verdict base files = output_of verdict base (input files).items
+
+abbrev pub whole_output_of : Store ℕ → Reading → List ℕ
+whole_output_of base reading = output_of (judge_of base reading) base reading.items
+
+abbrev pub whole_output : Store ℕ → List (List ℕ) → List ℕ
+whole_output base files = whole_output_of base (input files)
 
 -- Bytes are a front part of others.
 pub record IsFrontOf (all written : List ℕ) : Type 0 where
@@ -114,6 +128,9 @@ pub record IsFrontOf (all written : List ℕ) : Type 0 where
   pub written_is : written ≡ take count all
 
 -- What was written before compose stopped: no whole stream, and nothing but a front part of what was to be written.
-pub record IsStopped (base : Store ℕ) (files : List (List ℕ)) (written : List ℕ) : Type 0 where
+pub record IsStoppedOf (base : Store ℕ) (reading : Reading) (written : List ℕ) : Type 0 where
   pub unfinished : IsUnfinished written
-  pub front : IsFrontOf (whole_output base files) written
+  pub front : IsFrontOf (whole_output_of base reading) written
+
+abbrev pub IsStopped : (base : Store ℕ) (files : List (List ℕ)) (written : List ℕ) → Type 0
+IsStopped base files written = IsStoppedOf base (input files) written

@@ -5,19 +5,19 @@ use Rattle.std.specs.List.{AllByRecursion}
 use Rattle.send_model.specs.Attribute.{IsBytes}
 use Rattle.send_model.specs.Command.{Command, Write, End, row, kind_of}
 use Rattle.send_model.specs.Spelling.{Attribute, body_of, Spells, IsSpellable, stream_header, canonical, canonical_all}
-use Rattle.send_model.specs.Reading.{Item, Frame, Front, Whole, is_version, frame_at, attributes_at, command_of, reads, input, taken, front_of, data_place}
+use Rattle.send_model.specs.Reading.{Item, Reading, Frame, Front, Whole, is_version, frame_at, attributes_at, command_of, reads, input, taken, front_of, data_place}
 use Rattle.send_model.specs.Map.{bytes_cmp}
 use Rattle.send_model.specs.Subvolume.{Subvolume, IsNameable, walk, first_path, is_nameable}
 use Rattle.send_model.specs.Edit.{edit}
 use Rattle.send_model.specs.Store.{Key, Store, Part, State, step, edit_part, head_of}
-use Rattle.send_model.specs.Receive.{IsAccepted, run_items, byte_cells, start_of, receive}
-use Rattle.send_model.specs.Order.{commands_of, IsConsecutive}
+use Rattle.send_model.specs.Receive.{IsAccepted, run_items, byte_cells, start_of, receive_of, receive}
+use Rattle.send_model.specs.Order.{heads, commands_of, IsConsecutive}
 use Rattle.send_model.specs.Outside.{base_of, base, keys_outside, outside, FindsLawful, FindsSayable}
 use Rattle.send_model.specs.Provenance.{Traced, ranges_from, uncarried_in, runs_in}
 use Rattle.send_model.specs.Counts.{literal, clones, is_clone, is_end, kept_from}
 use Rattle.send_model.specs.Composed.{version_of, composed_from, composed_of}
 use Rattle.send_model.specs.Cells.{recelled_state, recelled_step}
-use Rattle.send_model.specs.Headline.{AreComposed, IsComposed, IsUnfinished, output_for}
+use Rattle.send_model.specs.Headline.{AreComposed, IsComposedOf, IsComposed, IsUnfinished, output_of, output_for}
 
 -- A command that the program takes, and that a version can say.
 pub record CanWrite (version : ℕ) (c : Command) : Type 0 where
@@ -124,8 +124,32 @@ ItemsSpelled = (store : Store ℕ) (items : List Item) → IsConsecutive items
     → AllByRecursion (λ item. IsSpellable item.version item.command) items
     → AllByRecursion (IsSpellable (version_of items)) (composed_of (base_of store items) items)
 
--- Files of bytes that a base takes in order: the stream of their composed commands is what the headline says, where each subvolume
--- of the base that they name can be said.
+-- A whole reading, as a file of bytes gives it and whatever of it is renamed: the last command is END, and each command is one that is
+-- taken, and can be said, in its own version, which is one that is read.
+pub record IsWhole (reading : Reading) : Type 0 where
+  pub whole : reading.end ≡ Whole
+  pub others : List Command
+  pub ends : commands_of reading.items ≡ others ++ End ∷ []
+  pub writable : AllByRecursion (λ item. CanWrite item.version item.command × (is_version item.version ≡ true)) reading.items
+
+-- A whole reading that a base takes in order: the stream of its composed commands is what the headline says, where each subvolume of
+-- the base that it names can be said.
+abbrev pub ReadingsHold : Type 0
+ReadingsHold = (store : Store ℕ) (reading : Reading) → IsWhole reading → IsConsecutive reading.items
+    → IsAccepted (receive_of (base_of store reading.items) reading) → FindsSayable (base_of store reading.items) (keys_outside reading.items)
+    → IsComposedOf (base_of store reading.items) reading (output_of None (base_of store reading.items) reading.items)
+
+-- Where it has no clones, the base may find subvolumes of any kind.
+abbrev pub PlainReadingsHold : Type 0
+PlainReadingsHold = (store : Store ℕ) (reading : Reading) → IsWhole reading → IsConsecutive reading.items
+    → IsAccepted (receive_of (base_of store reading.items) reading) → AllByRecursion (λ c. is_clone c ≡ false) (commands_of reading.items)
+    → IsComposedOf (base_of store reading.items) reading (output_of None (base_of store reading.items) reading.items)
+
+-- Files of bytes that hold a part and are read to a whole end are a whole reading.
+abbrev pub FilesAreWhole : Type 0
+FilesAreWhole = (files : List (List ℕ)) → AllByRecursion IsBytes files → (input files).end ≡ Whole → heads (input files).items ≢ [] → IsWhole (input files)
+
+-- So it is of files of bytes that a base takes in order.
 abbrev pub FilesHold : Type 0
 FilesHold = (store : Store ℕ) (files : List (List ℕ)) → AllByRecursion IsBytes files → (input files).end ≡ Whole
     → IsConsecutive (input files).items → IsAccepted (receive (base store files) files) → FindsSayable (base store files) (outside files)

@@ -80,8 +80,12 @@ judge_reading zero_cell cells store reading =
     first_of (judge_items zero_cell cells (start_of store) None reading.items)
     (first_of (fault_of reading.end) (without_parts reading.items (heads reading.items)))
 
-unfoldable pub judge : Store ℕ → List (List ℕ) → Option Verdict
-judge store files = judge_reading 0 byte_cells store (input files)
+-- The same into a store of bytes, and of files.
+abbrev pub judge_of : Store ℕ → Reading → Option Verdict
+judge_of store reading = judge_reading 0 byte_cells store reading
+
+abbrev pub judge : Store ℕ → List (List ℕ) → Option Verdict
+judge store files = judge_of store (input files)
 
 -- ---- what is taken before the verdict
 
@@ -99,5 +103,9 @@ lawful_items zero_cell cells state previous (item ∷ items) = let stepped = ste
     then_lawful item stepped (breaks_order previous (head_of item.command))
     (lawful_items zero_cell cells stepped.state (part_after previous (head_of item.command)) items)
 
-unfoldable pub lawful : Store ℕ → List (List ℕ) → List Item
-lawful store files = lawful_items 0 byte_cells (start_of store) None (input files).items
+-- The same of items that are received into a store of bytes, and of files.
+abbrev pub lawful_of : Store ℕ → List Item → List Item
+lawful_of store items = lawful_items 0 byte_cells (start_of store) None items
+
+abbrev pub lawful : Store ℕ → List (List ℕ) → List Item
+lawful store files = lawful_of store (input files).items

@@ -26,7 +26,7 @@ abbrev pub base_of : {C : Type 0} → Store C → List Item → Store C
 base_of store items = store_without (part_uuids items) store
 
 -- The base of files.
-unfoldable pub base : {C : Type 0} → Store C → List (List ℕ) → Store C
+abbrev pub base : {C : Type 0} → Store C → List (List ℕ) → Store C
 base store files = base_of store (input files).items
 
 -- The key that a command names beside its own: a parent or the source of a clone.
@@ -38,11 +38,11 @@ keys_named _ = []
 abbrev pub all_keys_named : List Command → List Key
 all_keys_named commands = flat_map keys_named commands
 
--- The keys that are named and are no part's.
+-- The keys that items name and that are no part's, and of files.
 abbrev pub keys_outside : List Item → List Key
 keys_outside items = filter (λ key. not (is_among (part_uuids items) key.uuid)) (all_keys_named (commands_of items))
 
-unfoldable pub outside : List (List ℕ) → List Key
+abbrev pub outside : List (List ℕ) → List Key
 outside files = keys_outside (input files).items
 
 -- A key is one of some keys.

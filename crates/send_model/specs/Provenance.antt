@@ -96,7 +96,7 @@ ranges_from parts state current (item ∷ items) =
 abbrev pub ranges_of : Store ℕ → List Item → List (List Traced)
 ranges_of store items = ranges_from (part_uuids items) (start_of (traced_store store)) None items
 
-unfoldable pub redirected_ranges : Store ℕ → List (List ℕ) → List (List Traced)
+abbrev pub redirected_ranges : Store ℕ → List (List ℕ) → List (List Traced)
 redirected_ranges store files = ranges_of store (input files).items
 
 -- ---- blocks
@@ -186,9 +186,15 @@ uncarried_in store ranges = sum_by (λ pieces. sum_by literal_len pieces) (map (
 abbrev pub runs_in : Store ℕ → List (List Traced) → ℕ
 runs_in store ranges = sum_by (λ pieces. count_by is_run pieces) (map (pieces_of store) ranges)
 
--- The same of the redirected ranges of files.
-unfoldable pub uncarried : Store ℕ → List (List ℕ) → ℕ
-uncarried store files = uncarried_in store (redirected_ranges store files)
+-- The same of the redirected ranges of items, and of files.
+abbrev pub uncarried_cells : Store ℕ → List Item → ℕ
+uncarried_cells store items = uncarried_in store (ranges_of store items)
 
-unfoldable pub runs : Store ℕ → List (List ℕ) → ℕ
-runs store files = runs_in store (redirected_ranges store files)
+abbrev pub uncarried : Store ℕ → List (List ℕ) → ℕ
+uncarried store files = uncarried_cells store (input files).items
+
+abbrev pub carried_runs : Store ℕ → List Item → ℕ
+carried_runs store items = runs_in store (ranges_of store items)
+
+abbrev pub runs : Store ℕ → List (List ℕ) → ℕ
+runs store files = carried_runs store (input files).items

@@ -62,9 +62,12 @@ with_fault r ending = record { state = r.state; refused = first_of r.refused (fa
 unfoldable pub receive_items : {C : Type 0} → C → (Item → List C) → Store C → Reading → Run C
 receive_items zero_cell cells store reading = with_fault (run_items zero_cell cells (start_of store) reading.items) reading.end
 
--- Receiving files into a store of bytes.
-unfoldable pub receive : Store ℕ → List (List ℕ) → Run ℕ
-receive store files = receive_items 0 byte_cells store (input files)
+-- The same into a store of bytes, and of files.
+abbrev pub receive_of : Store ℕ → Reading → Run ℕ
+receive_of store reading = receive_items 0 byte_cells store reading
+
+abbrev pub receive : Store ℕ → List (List ℕ) → Run ℕ
+receive store files = receive_of store (input files)
 
 abbrev pub IsAccepted : {C : Type 0} → Run C → Type 0
 IsAccepted r = r.refused ≡ None

@@ -1,17 +1,17 @@
 // Laws that tie the definitions to what they mean. Each is the contract of a function that does nothing.
 ghost use Rattle.std.specs.Prelude.{◌≡◌, ℕ, Bool, true, List, Option};
 ghost use Rattle.send_model.specs.Command.{Command};
-ghost use Rattle.send_model.specs.Reading.{Item, is_version};
+ghost use Rattle.send_model.specs.Reading.{Item, Reading, is_version};
 ghost use Rattle.send_model.specs.Subvolume.{Subvolume, IsLawful, root_alone};
 ghost use Rattle.send_model.specs.Edit.{edit};
 ghost use Rattle.send_model.specs.Clone.{clone};
 ghost use Rattle.send_model.specs.Store.{Key, Store, State};
 ghost use Rattle.send_model.specs.Provenance.{Traced};
 ghost use Rattle.send_model.specs.GuardLaws.{NoGuardsChangeNothing, AllowedIsAccepted, AcceptedIsWithin};
-ghost use Rattle.send_model.specs.Due.{IsJudged};
+ghost use Rattle.send_model.specs.Due.{IsJudgedOf, IsJudged};
 ghost use Rattle.send_model.specs.Lawful.{KeepsLawfulness, EditsKeepSayable, ReceivedIsLawful, FilesLeaveLawful, LawfulFindsSayable, LawfulStoresHold};
 ghost use Rattle.send_model.specs.Receivable.{ReceivableSpells, ReceivableRises, ExportedIsSame, ExportedIsComposed};
-ghost use Rattle.send_model.specs.Laws.{SpelledIsRead, SpelledIsFront, FrameHasOneReading, ReadWasSpelled, RulesWereSpelled, DataIsThere, CanonicalSpells, SpelledIsSpellable, SecondSaysMore, AreInner, StreamIsRead, CutIsUnfinished, EditLooksAtItsPart, StepKeepsCells, FirstPathsAreLeast, AreCounted, ItemsHold, ItemsSpelled, FilesHold, PlainFilesHold};
+ghost use Rattle.send_model.specs.Laws.{SpelledIsRead, SpelledIsFront, FrameHasOneReading, ReadWasSpelled, RulesWereSpelled, DataIsThere, CanonicalSpells, SpelledIsSpellable, SecondSaysMore, AreInner, StreamIsRead, CutIsUnfinished, EditLooksAtItsPart, StepKeepsCells, FirstPathsAreLeast, AreCounted, ItemsHold, ItemsSpelled, ReadingsHold, PlainReadingsHold, FilesAreWhole, FilesHold, PlainFilesHold};
 
 /// Whatever spells a command is read as that command, whatever follows it, and spells no other; what is read was spelled. So it is
 /// of every command of either version, and of the item in front for those that the program takes; the data of a WRITE stand where
@@ -92,17 +92,21 @@ pub fn composed_commands_are_counted()
 
 /// The headline, for all commands: the composed ones name only outside subvolumes, and every store that holds these, and neither
 /// the last name nor uuid, accepts them and gets exactly the last part's subvolume. So it is for items, whatever of them can be
-/// read, where the subvolumes outside are lawful; and for files of bytes, in terms of the stream that is written, where the
-/// format can say the subvolumes outside. For files without clones these may be of any kind.
+/// read, where the subvolumes outside are lawful; and for what was read to a whole end, in terms of the stream that is written, where
+/// the format can say the subvolumes outside. Without clones these may be of any kind. Files of bytes are read so.
 pub fn composed_streams_are_accepted()
     ensures items { ItemsHold }
     ensures spelled { ItemsSpelled }
+    ensures readings { ReadingsHold }
+    ensures plain_readings { PlainReadingsHold }
+    ensures whole { FilesAreWhole }
     ensures files { FilesHold }
     ensures plain { PlainFilesHold }
 {}
 
-/// The answer that is due to compose is the verdict on the files over the base, unless one of them is too long or the redirected
+/// The answer that is due to compose is the verdict on what was read over the base, unless one of them is too long or the redirected
 /// clones would have to carry too many bytes; where all was done, they do not.
 pub fn answers_are_judged()
-    ensures judged { (base : Store ℕ) (files : List (List ℕ)) → IsJudged base files }
+    ensures judged { (long : Option ℕ) (base : Store ℕ) (reading : Reading) → IsJudgedOf long base reading }
+    ensures files { (base : Store ℕ) (files : List (List ℕ)) → IsJudged base files }
 {}

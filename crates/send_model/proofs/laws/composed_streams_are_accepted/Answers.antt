@@ -1,4 +1,4 @@
-use Rattle.send_model.proofs.HeadlineLaw.{items_hold, items_spelled, files_hold, plain_files_hold}
+use Rattle.send_model.proofs.HeadlineLaw.{items_hold, items_spelled, readings_hold, plain_readings_hold, files_are_whole, files_hold, plain_files_hold}
 use Rattle.send_model.proofs.laws.composed_streams_are_accepted.Goals as goal
 
 pub returns-clause-items : goal.returns-clause-items
@@ -6,6 +6,15 @@ returns-clause-items c = items_hold
 
 pub returns-clause-spelled : goal.returns-clause-spelled
 returns-clause-spelled c = items_spelled
+
+pub returns-clause-readings : goal.returns-clause-readings
+returns-clause-readings c = readings_hold
+
+pub returns-clause-plain_readings : goal.returns-clause-plain_readings
+returns-clause-plain_readings c = plain_readings_hold
+
+pub returns-clause-whole : goal.returns-clause-whole
+returns-clause-whole c = files_are_whole
 
 pub returns-clause-files : goal.returns-clause-files
 returns-clause-files c = files_hold
