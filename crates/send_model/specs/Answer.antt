@@ -13,7 +13,9 @@ pub data Request : Type 0 where
 -- The words `compose none FILE..`, with at least one FILE; no other words mean anything.
 unfoldable pub request : List (List ℕ) → Option Request
 request (word ∷ store ∷ file ∷ files) = if bytes_eq word (codes "compose") && bytes_eq store (codes "none") then Some (Compose 1 2) else None
-request _ = None
+request [] = None
+request (word ∷ []) = None
+request (word ∷ store ∷ []) = None
 
 pub data Answer : Type 0 where
   Done : Answer

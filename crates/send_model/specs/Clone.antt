@@ -31,7 +31,8 @@ pub record Cloned (C : Type 0) : Type 0 where
 
 -- Every refusal of a CLONE in its order, for the part, the subvolume of the source (nothing where there is none), whether
 -- that is the part itself, and the command's values.
-unfoldable pub cloned : {C : Type 0} → Subvolume C → Option (Subvolume C) → Bool → List ℕ → ℕ → List ℕ → ℕ → ℕ → Result (Cloned C) Refusal
+unfoldable pub cloned : {C : Type 0} → (part : Subvolume C) (source : Option (Subvolume C)) (is_own : Bool) (path : List ℕ) (offset : ℕ)
+    (clone_path : List ℕ) (from len : ℕ) → Result (Cloned C) Refusal
 cloned part source is_own path offset clone_path from len = do
   require (is_some (path_names path)) BadPath
   require (is_some (path_names clone_path)) BadPath
@@ -47,7 +48,8 @@ cloned part source is_own path offset clone_path from len = do
   Ok (record { ino = ino; cells = take len (drop from (cells_of other source_ino)) })
 
 -- The part after the clone.
-unfoldable pub clone : {C : Type 0} → C → Subvolume C → Option (Subvolume C) → Bool → List ℕ → ℕ → List ℕ → ℕ → ℕ → Result (Subvolume C) Refusal
+unfoldable pub clone : {C : Type 0} → (zero_cell : C) (part : Subvolume C) (source : Option (Subvolume C)) (is_own : Bool) (path : List ℕ)
+    (offset : ℕ) (clone_path : List ℕ) (from len : ℕ) → Result (Subvolume C) Refusal
 clone zero_cell part source is_own path offset clone_path from len = do
   range ← cloned part source is_own path offset clone_path from len
   Ok (change_inode range.ino (set_cells (overwritten zero_cell offset range.cells)) part)

@@ -54,7 +54,11 @@ row RMDIR = record { number = 12; name = codes "RMDIR"; wanted = PATH ∷ [] }
 row SET_XATTR = record { number = 13; name = codes "SET_XATTR"; wanted = XATTR_NAME ∷ XATTR_DATA ∷ PATH ∷ [] }
 row REMOVE_XATTR = record { number = 14; name = codes "REMOVE_XATTR"; wanted = XATTR_NAME ∷ PATH ∷ [] }
 row WRITE = record { number = 15; name = codes "WRITE"; wanted = PATH ∷ FILE_OFFSET ∷ DATA ∷ [] }
-row CLONE = record { number = 16; name = codes "CLONE"; wanted = PATH ∷ FILE_OFFSET ∷ CLONE_UUID ∷ CLONE_CTRANSID ∷ CLONE_PATH ∷ CLONE_OFFSET ∷ CLONE_LEN ∷ [] }
+row CLONE = record {
+  number = 16;
+  name = codes "CLONE";
+  wanted = PATH ∷ FILE_OFFSET ∷ CLONE_UUID ∷ CLONE_CTRANSID ∷ CLONE_PATH ∷ CLONE_OFFSET ∷ CLONE_LEN ∷ [];
+}
 row TRUNCATE = record { number = 17; name = codes "TRUNCATE"; wanted = SIZE ∷ PATH ∷ [] }
 row CHMOD = record { number = 18; name = codes "CHMOD"; wanted = MODE ∷ PATH ∷ [] }
 row CHOWN = record { number = 19; name = codes "CHOWN"; wanted = UID ∷ GID ∷ PATH ∷ [] }
@@ -69,7 +73,9 @@ abbrev pub is_encoded : ℕ → ℕ → Bool
 is_encoded version number = (version == 2) && (number == 25)
 
 abbrev pub first_kinds : List Kind
-first_kinds = SUBVOL ∷ SNAPSHOT ∷ MKFILE ∷ MKDIR ∷ MKNOD ∷ MKFIFO ∷ MKSOCK ∷ SYMLINK ∷ RENAME ∷ LINK ∷ UNLINK ∷ RMDIR ∷ SET_XATTR ∷ REMOVE_XATTR ∷ WRITE ∷ CLONE ∷ TRUNCATE ∷ CHMOD ∷ CHOWN ∷ UTIMES ∷ END ∷ UPDATE_EXTENT ∷ []
+first_kinds =
+    SUBVOL ∷ SNAPSHOT ∷ MKFILE ∷ MKDIR ∷ MKNOD ∷ MKFIFO ∷ MKSOCK ∷ SYMLINK ∷ RENAME ∷ LINK ∷ UNLINK ∷ RMDIR ∷ SET_XATTR
+    ∷ REMOVE_XATTR ∷ WRITE ∷ CLONE ∷ TRUNCATE ∷ CHMOD ∷ CHOWN ∷ UTIMES ∷ END ∷ UPDATE_EXTENT ∷ []
 
 abbrev pub all_kinds : List Kind
 all_kinds = first_kinds ++ FALLOCATE ∷ FILEATTR ∷ []
@@ -100,7 +106,8 @@ pub data Command : Type 0 where
   SetXattr : (name : List ℕ) (value : List ℕ) (path : List ℕ) → Command
   RemoveXattr : (name : List ℕ) (path : List ℕ) → Command
   Write : (path : List ℕ) (offset : ℕ) (bytes : List ℕ) → Command
-  Clone : (path : List ℕ) (offset : ℕ) (clone_uuid : List ℕ) (clone_ctransid : ℕ) (clone_path : List ℕ) (clone_offset : ℕ) (clone_len : ℕ) → Command
+  Clone : (path : List ℕ) (offset : ℕ) (clone_uuid : List ℕ) (clone_ctransid : ℕ)
+      (clone_path : List ℕ) (clone_offset : ℕ) (clone_len : ℕ) → Command
   Truncate : (size : ℕ) (path : List ℕ) → Command
   Chmod : (mode : ℕ) (path : List ℕ) → Command
   Chown : (uid : ℕ) (gid : ℕ) (path : List ℕ) → Command
@@ -139,7 +146,8 @@ kind_of (FileAttr path flags) = FILEATTR
 -- Its values, in the order of the wanted attributes.
 abbrev pub fields_of : Command → List Field
 fields_of (Subvol uuid ctransid path) = Identifier uuid ∷ Number ctransid ∷ Bytes path ∷ []
-fields_of (Snapshot uuid ctransid path clone_uuid clone_ctransid) = Identifier uuid ∷ Number ctransid ∷ Bytes path ∷ Identifier clone_uuid ∷ Number clone_ctransid ∷ []
+fields_of (Snapshot uuid ctransid path clone_uuid clone_ctransid) =
+    Identifier uuid ∷ Number ctransid ∷ Bytes path ∷ Identifier clone_uuid ∷ Number clone_ctransid ∷ []
 fields_of (MkFile path) = Bytes path ∷ []
 fields_of (MkDir path) = Bytes path ∷ []
 fields_of (MkNod mode rdev path) = Number mode ∷ Number rdev ∷ Bytes path ∷ []
@@ -153,7 +161,8 @@ fields_of (Rmdir path) = Bytes path ∷ []
 fields_of (SetXattr name value path) = Bytes name ∷ Bytes value ∷ Bytes path ∷ []
 fields_of (RemoveXattr name path) = Bytes name ∷ Bytes path ∷ []
 fields_of (Write path offset bytes) = Bytes path ∷ Number offset ∷ Bytes bytes ∷ []
-fields_of (Clone path offset clone_uuid clone_ctransid clone_path clone_offset clone_len) = Bytes path ∷ Number offset ∷ Identifier clone_uuid ∷ Number clone_ctransid ∷ Bytes clone_path ∷ Number clone_offset ∷ Number clone_len ∷ []
+fields_of (Clone path offset clone_uuid clone_ctransid clone_path clone_offset clone_len) =
+    Bytes path ∷ Number offset ∷ Identifier clone_uuid ∷ Number clone_ctransid ∷ Bytes clone_path ∷ Number clone_offset ∷ Number clone_len ∷ []
 fields_of (Truncate size path) = Number size ∷ Bytes path ∷ []
 fields_of (Chmod mode path) = Number mode ∷ Bytes path ∷ []
 fields_of (Chown uid gid path) = Number uid ∷ Number gid ∷ Bytes path ∷ []
@@ -190,7 +199,9 @@ command_with RMDIR values = Rmdir (values PATH)
 command_with SET_XATTR values = SetXattr (values XATTR_NAME) (values XATTR_DATA) (values PATH)
 command_with REMOVE_XATTR values = RemoveXattr (values XATTR_NAME) (values PATH)
 command_with WRITE values = Write (values PATH) (number_in (values FILE_OFFSET)) (values DATA)
-command_with CLONE values = Clone (values PATH) (number_in (values FILE_OFFSET)) (values CLONE_UUID) (number_in (values CLONE_CTRANSID)) (values CLONE_PATH) (number_in (values CLONE_OFFSET)) (number_in (values CLONE_LEN))
+command_with CLONE values =
+    Clone (values PATH) (number_in (values FILE_OFFSET)) (values CLONE_UUID) (number_in (values CLONE_CTRANSID))
+    (values CLONE_PATH) (number_in (values CLONE_OFFSET)) (number_in (values CLONE_LEN))
 command_with TRUNCATE values = Truncate (number_in (values SIZE)) (values PATH)
 command_with CHMOD values = Chmod (number_in (values MODE)) (values PATH)
 command_with CHOWN values = Chown (number_in (values UID)) (number_in (values GID)) (values PATH)

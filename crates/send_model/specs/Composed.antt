@@ -5,7 +5,7 @@
 use Rattle.std.specs.Prelude.{ℕ, zero, suc, ◌==◌, ◌+◌, List, [], ◌∷◌, ◌++◌, take, drop, length, Option, None, Some, if◌then◌else◌}
 use Rattle.std.specs.List.{flat_map, list_any}
 use Rattle.std.specs.Option.{unwrap_or}
-use Rattle.send_model.specs.Command.{Command, Subvol, Snapshot, Write, Clone, End}
+use Rattle.send_model.specs.Command.{Command, Subvol, Snapshot, MkFile, MkDir, MkNod, MkFifo, MkSock, Symlink, Rename, Link, Unlink, Rmdir, SetXattr, RemoveXattr, Write, Clone, Truncate, Chmod, Chown, Utimes, End, UpdateExtent, Fallocate, FileAttr}
 use Rattle.send_model.specs.Reading.{Item, input}
 use Rattle.send_model.specs.Subvolume.{first_path}
 use Rattle.send_model.specs.Store.{Key, Head, head_of, Store, State, find}
@@ -38,7 +38,8 @@ write_len = 49_152
 abbrev pub writes_from : ℕ → List ℕ → ℕ → List ℕ → List Command
 writes_from zero path offset bytes = []
 writes_from (suc n) path offset [] = []
-writes_from (suc n) path offset (b ∷ bytes) = Write path offset (take write_len (b ∷ bytes)) ∷ writes_from n path (offset + write_len) (drop write_len (b ∷ bytes))
+writes_from (suc n) path offset (b ∷ bytes) =
+    Write path offset (take write_len (b ∷ bytes)) ∷ writes_from n path (offset + write_len) (drop write_len (b ∷ bytes))
 
 -- The first path of an inode of a store's subvolume.
 abbrev pub path_of : Store ℕ → Place → List ℕ
@@ -47,7 +48,8 @@ path_of store place = elim (find store place.key) [ None ↦ [] | Some s ↦ unw
 -- The commands of one piece of a clone to a path and an offset.
 abbrev pub piece_commands : Store ℕ → List ℕ → ℕ → Piece → List Command
 piece_commands store path offset (Literal at bytes) = writes_from (length bytes) path (offset + at) bytes
-piece_commands store path offset (Carried at place len) = Clone path (offset + at) place.key.uuid place.key.ctransid (path_of store place) place.offset len ∷ []
+piece_commands store path offset (Carried at place len) =
+    Clone path (offset + at) place.key.uuid place.key.ctransid (path_of store place) place.offset len ∷ []
 
 -- ---- the list
 
@@ -58,16 +60,40 @@ version_of items = if list_any (λ item. item.version == 2) items then 2 else 1
 -- What stands for a CLONE: itself, itself with the new part's key, or its pieces.
 abbrev pub clone_commands : Store ℕ → List (List ℕ) → Key → State Traced → Option (List ℕ) → Command → List Command
 clone_commands store parts last state current (Clone path offset clone_uuid clone_ctransid clone_path clone_offset clone_len) =
+    let command : Command = Clone path offset clone_uuid clone_ctransid clone_path clone_offset clone_len in
     if is_own current clone_uuid then Clone path offset last.uuid last.ctransid clone_path clone_offset clone_len ∷ []
-    else (if is_redirected parts current (Clone path offset clone_uuid clone_ctransid clone_path clone_offset clone_len)
-    then flat_map (piece_commands store path offset) (pieces_of store (clone_range state (Clone path offset clone_uuid clone_ctransid clone_path clone_offset clone_len)))
-    else Clone path offset clone_uuid clone_ctransid clone_path clone_offset clone_len ∷ [])
-clone_commands store parts last state current command = command ∷ []
+    else (if is_redirected parts current command then flat_map (piece_commands store path offset) (pieces_of store (clone_range state command))
+    else command ∷ [])
+clone_commands store parts last state current (Subvol uuid ctransid path) = Subvol uuid ctransid path ∷ []
+clone_commands store parts last state current (Snapshot uuid ctransid path clone_uuid clone_ctransid) =
+    Snapshot uuid ctransid path clone_uuid clone_ctransid ∷ []
+clone_commands store parts last state current (MkFile path) = MkFile path ∷ []
+clone_commands store parts last state current (MkDir path) = MkDir path ∷ []
+clone_commands store parts last state current (MkNod mode rdev path) = MkNod mode rdev path ∷ []
+clone_commands store parts last state current (MkFifo path) = MkFifo path ∷ []
+clone_commands store parts last state current (MkSock path) = MkSock path ∷ []
+clone_commands store parts last state current (Symlink path path_link) = Symlink path path_link ∷ []
+clone_commands store parts last state current (Rename path path_to) = Rename path path_to ∷ []
+clone_commands store parts last state current (Link path path_link) = Link path path_link ∷ []
+clone_commands store parts last state current (Unlink path) = Unlink path ∷ []
+clone_commands store parts last state current (Rmdir path) = Rmdir path ∷ []
+clone_commands store parts last state current (SetXattr name value path) = SetXattr name value path ∷ []
+clone_commands store parts last state current (RemoveXattr name path) = RemoveXattr name path ∷ []
+clone_commands store parts last state current (Write path offset bytes) = Write path offset bytes ∷ []
+clone_commands store parts last state current (Truncate size path) = Truncate size path ∷ []
+clone_commands store parts last state current (Chmod mode path) = Chmod mode path ∷ []
+clone_commands store parts last state current (Chown uid gid path) = Chown uid gid path ∷ []
+clone_commands store parts last state current (Utimes mtime atime path) = Utimes mtime atime path ∷ []
+clone_commands store parts last state current End = End ∷ []
+clone_commands store parts last state current (UpdateExtent size path offset) = UpdateExtent size path offset ∷ []
+clone_commands store parts last state current (Fallocate size path offset mode) = Fallocate size path offset mode ∷ []
+clone_commands store parts last state current (FileAttr path flags) = FileAttr path flags ∷ []
 
 -- What stands for a command: nothing for a head or END.
 abbrev pub commands_for : Store ℕ → List (List ℕ) → Key → State Traced → Option (List ℕ) → Command → List Command
 commands_for store parts last state current End = []
-commands_for store parts last state current command = elim (head_of command) [ Some head ↦ [] | None ↦ clone_commands store parts last state current command ]
+commands_for store parts last state current command =
+    elim (head_of command) [ Some head ↦ [] | None ↦ clone_commands store parts last state current command ]
 
 unfoldable pub composed_from : Store ℕ → List (List ℕ) → Key → State Traced → Option (List ℕ) → List Item → List Command
 composed_from store parts last state current [] = []

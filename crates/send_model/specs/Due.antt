@@ -113,7 +113,8 @@ stop_due (AtLimit file) = TooLong file
 -- Each command as it is read, under guards; so a refusal comes before a later file that is too long.
 unfoldable pub audit_due : Store ℕ → List Guard → List (List ℕ) → Due
 audit_due store guards files = let read = limited_from 1 files in
-    let ran : Ran (Watched (State ℕ)) = run_by (watched_step (λ s item. step 0 (byte_cells item) s item.command)) (record { guards = guards; state = start_of store }) read.items in
+    let start : Watched (State ℕ) = record { guards = guards; state = start_of store } in
+    let ran : Ran (Watched (State ℕ)) = run_by (watched_step (λ s item. step 0 (byte_cells item) s item.command)) start read.items in
     elim ran.refused [ Some verdict ↦ RefusedAt verdict | None ↦ stop_due read.stop ]
 
 -- What it prints where all is accepted: the parts and the commands of all files.

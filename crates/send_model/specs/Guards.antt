@@ -161,7 +161,8 @@ watched_step does w item = elim (guarded w.guards item.command) [
 -- Receiving what was read into a store under guards.
 unfoldable pub receive_watched : {C : Type 0} → C → (Item → List C) → Store C → List Guard → Reading → Ran (Watched (State C))
 receive_watched zero_cell cells store guards reading =
-    with_fault (run_by (watched_step (λ s item. step zero_cell (cells item) s item.command)) (record { guards = guards; state = start_of store }) reading.items) reading.end
+    let start : Watched (State _) = record { guards = guards; state = start_of store } in
+    with_fault (run_by (watched_step (λ s item. step zero_cell (cells item) s item.command)) start reading.items) reading.end
 
 -- Receiving files into a store of bytes under guards.
 unfoldable pub receive_under : Store ℕ → List Guard → List (List ℕ) → Ran (Watched (State ℕ))

@@ -93,7 +93,8 @@ HasFault image (suc groups) = IsTorn image groups
 
 -- A new store: 736e6473746f7265 02000000 0000000000010000 00.
 new_store : List ℕ
-new_store = 0x73 ∷ 0x6e ∷ 0x64 ∷ 0x73 ∷ 0x74 ∷ 0x6f ∷ 0x72 ∷ 0x65 ∷ 0x02 ∷ 0 ∷ 0 ∷ 0 ∷ 0 ∷ 0 ∷ 0 ∷ 0 ∷ 0 ∷ 0x01 ∷ 0 ∷ 0 ∷ 0 ∷ []
+new_store =
+    0x73 ∷ 0x6e ∷ 0x64 ∷ 0x73 ∷ 0x74 ∷ 0x6f ∷ 0x72 ∷ 0x65 ∷ 0x02 ∷ 0 ∷ 0 ∷ 0 ∷ 0 ∷ 0 ∷ 0 ∷ 0 ∷ 0 ∷ 0x01 ∷ 0 ∷ 0 ∷ 0 ∷ []
 
 example_new : header_of usual_header ++ 0 ∷ [] ≡ new_store
 unfolding new_store
@@ -114,14 +115,16 @@ example_no_gate = record {
 }
 
 -- a group of two bytes without a checksum, published, and then a closed gate
-example_group : front_of (record { format = 1; number = 2 ^ 40 }) ((7 ∷ 8 ∷ []) ∷ []) ++ 0 ∷ [] ≡ header_of (record { format = 1; number = 2 ^ 40 }) ++ 1 ∷ 2 ∷ 0 ∷ 0 ∷ 0 ∷ 0 ∷ 0 ∷ 0 ∷ 0 ∷ 7 ∷ 8 ∷ 0 ∷ []
+example_group : front_of (record { format = 1; number = 2 ^ 40 }) ((7 ∷ 8 ∷ []) ∷ []) ++ 0 ∷ []
+    ≡ header_of (record { format = 1; number = 2 ^ 40 }) ++ 1 ∷ 2 ∷ 0 ∷ 0 ∷ 0 ∷ 0 ∷ 0 ∷ 0 ∷ 0 ∷ 7 ∷ 8 ∷ 0 ∷ []
 example_group = refl
 
 -- the nine digits, of which the checksum with no inversion is 58e3fa20, as a new group
 nine_digits : List ℕ
 nine_digits = 0x31 ∷ 0x32 ∷ 0x33 ∷ 0x34 ∷ 0x35 ∷ 0x36 ∷ 0x37 ∷ 0x38 ∷ 0x39 ∷ []
 
-example_sealed : group_of (sealed nine_digits) ≡ 1 ∷ 13 ∷ 0 ∷ 0 ∷ 0 ∷ 0 ∷ 0 ∷ 0 ∷ 0 ∷ (nine_digits ++ 0x20 ∷ 0xfa ∷ 0xe3 ∷ 0x58 ∷ [])
+example_sealed : group_of (sealed nine_digits)
+    ≡ 1 ∷ 13 ∷ 0 ∷ 0 ∷ 0 ∷ 0 ∷ 0 ∷ 0 ∷ 0 ∷ (nine_digits ++ 0x20 ∷ 0xfa ∷ 0xe3 ∷ 0x58 ∷ [])
 unfolding nine_digits shift shifts crc_byte crc_of
 example_sealed = refl
 

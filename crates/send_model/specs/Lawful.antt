@@ -46,7 +46,8 @@ EditsKeepSayable = (version : ℕ) (c : Command) (s after : Subvolume ℕ) → I
 -- Whatever is received into a lawful store leaves a lawful one, wherever it ends.
 abbrev pub ReceivedIsLawful : Type 0
 ReceivedIsLawful = (store : Store ℕ) (items : List Item) → IsLawfulStore store → AllByRecursion (λ item. IsSpellable item.version item.command) items
-    → IsLawfulStore (completed (run_items 0 byte_cells (start_of store) items).state) × IsLawfulStore (run_items 0 byte_cells (start_of store) items).state.store
+    → IsLawfulStore (completed (run_items 0 byte_cells (start_of store) items).state)
+    × IsLawfulStore (run_items 0 byte_cells (start_of store) items).state.store
 
 -- So it is of files of bytes.
 abbrev pub FilesLeaveLawful : Type 0

@@ -5,7 +5,7 @@ use Rattle.std.specs.List.{AllByRecursion}
 use Rattle.send_model.specs.Attribute.{IsBytes}
 use Rattle.send_model.specs.Command.{Command, Write, End, row, kind_of}
 use Rattle.send_model.specs.Spelling.{Attribute, body_of, Spells, IsSpellable, stream_header, canonical, canonical_all}
-use Rattle.send_model.specs.Reading.{Item, Reading, Frame, Front, Whole, is_version, frame_at, attributes_at, command_of, reads, input, taken, front_of, data_place}
+use Rattle.send_model.specs.Reading.{Item, Reading, Frame, Front, Whole, is_version, frame_at, attributes_at, command_of, reads, input, taken, item_at, front_of}
 use Rattle.send_model.specs.Map.{bytes_cmp}
 use Rattle.send_model.specs.Subvolume.{Subvolume, IsNameable, walk, first_path, is_nameable}
 use Rattle.send_model.specs.Edit.{edit}
@@ -38,7 +38,7 @@ SpelledIsRead = (version : ℕ) (bytes rest : List ℕ) (c : Command) (s : Spell
 abbrev pub SpelledIsFront : Type 0
 SpelledIsFront = (file version number offset : ℕ) (bytes rest : List ℕ) (c : Command) (s : Spells version bytes c)
     → taken version (row (kind_of c)).number ≡ Ok tt
-    → front_of file version number offset (bytes ++ rest) ≡ Ok (record { item = record { file = file; number = number; offset = offset; version = version; data_at = data_place version offset s.attributes; command = c }; rest = rest })
+    → front_of file version number offset (bytes ++ rest) ≡ Ok (record { item = item_at file version number offset s.attributes c; rest = rest })
 
 -- What is in front was spelled: one frame for the item's command, which is taken, and then what follows it.
 pub record WasSpelled (file version number offset : ℕ) (bytes : List ℕ) (front : Front) : Type 0 where
@@ -46,7 +46,7 @@ pub record WasSpelled (file version number offset : ℕ) (bytes : List ℕ) (fro
   pub spells : Spells version frame front.item.command
   pub taken_kind : taken version (row (kind_of front.item.command)).number ≡ Ok tt
   pub whole : bytes ≡ frame ++ front.rest
-  pub item_is : front.item ≡ record { file = file; number = number; offset = offset; version = version; data_at = data_place version offset spells.attributes; command = front.item.command }
+  pub item_is : front.item ≡ item_at file version number offset spells.attributes front.item.command
 
 -- Where bytes are read as a command, they spell it.
 abbrev pub ReadWasSpelled : Type 0
@@ -147,7 +147,8 @@ PlainReadingsHold = (store : Store ℕ) (reading : Reading) → IsWhole reading 
 
 -- Files of bytes that hold a part and are read to a whole end are a whole reading.
 abbrev pub FilesAreWhole : Type 0
-FilesAreWhole = (files : List (List ℕ)) → AllByRecursion IsBytes files → (input files).end ≡ Whole → heads (input files).items ≢ [] → IsWhole (input files)
+FilesAreWhole = (files : List (List ℕ)) → AllByRecursion IsBytes files → (input files).end ≡ Whole
+    → heads (input files).items ≢ [] → IsWhole (input files)
 
 -- So it is of files of bytes that a base takes in order.
 abbrev pub FilesHold : Type 0
@@ -183,6 +184,9 @@ pub record FirstPathsAreLeast {C : Type 0} (s : Subvolume C) : Type 0 where
 
 -- From every state, the commands that stand for items carry the items' own bytes and the uncarried cells of the redirected
 -- ranges, and have the clones that are not redirected and one for each run of carried blocks.
-pub record AreCounted (store : Store ℕ) (parts : List (List ℕ)) (last : Key) (state : State Traced) (current : Option (List ℕ)) (items : List Item) : Type 0 where
-  pub bytes : literal (composed_from store parts last state current items) ≡ literal (commands_of items) + uncarried_in store (ranges_from parts state current items)
-  pub clone_count : clones (composed_from store parts last state current items) ≡ kept_from parts current (commands_of items) + runs_in store (ranges_from parts state current items)
+pub record AreCounted (store : Store ℕ) (parts : List (List ℕ)) (last : Key) (state : State Traced) (current : Option (List ℕ))
+    (items : List Item) : Type 0 where
+  pub bytes : literal (composed_from store parts last state current items)
+      ≡ literal (commands_of items) + uncarried_in store (ranges_from parts state current items)
+  pub clone_count : clones (composed_from store parts last state current items)
+      ≡ kept_from parts current (commands_of items) + runs_in store (ranges_from parts state current items)

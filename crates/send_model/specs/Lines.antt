@@ -31,7 +31,8 @@ value_text kind (Bytes bytes) = if is_one_of kind (XATTR_DATA ∷ DATA ∷ []) t
 
 -- Each value after a space, with its name.
 abbrev pub values_text : List ℕ → List Field → List ℕ
-values_text (kind ∷ kinds) (field ∷ fields) = 0x20 ∷ unwrap_or (value_at nat_cmp kind value_names) [] ++ 0x3d ∷ value_text kind field ++ values_text kinds fields
+values_text (kind ∷ kinds) (field ∷ fields) =
+    0x20 ∷ unwrap_or (value_at nat_cmp kind value_names) [] ++ 0x3d ∷ value_text kind field ++ values_text kinds fields
 values_text [] [] = []
 values_text [] (field ∷ fields) = []
 values_text (kind ∷ kinds) [] = []

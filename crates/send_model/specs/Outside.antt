@@ -3,7 +3,7 @@ use Rattle.std.specs.Prelude.{◌≡◌, ◌⊎◌, ℕ, Bool, ◌≤◌, not, L
 use Rattle.std.specs.List.{list_any, filter, flat_map, AllByRecursion}
 use Rattle.std.specs.Str.{bytes_eq}
 use Rattle.send_model.specs.Attribute.{IsBytes}
-use Rattle.send_model.specs.Command.{Command, Snapshot, Clone}
+use Rattle.send_model.specs.Command.{Command, Subvol, Snapshot, MkFile, MkDir, MkNod, MkFifo, MkSock, Symlink, Rename, Link, Unlink, Rmdir, SetXattr, RemoveXattr, Write, Clone, Truncate, Chmod, Chown, Utimes, End, UpdateExtent, Fallocate, FileAttr}
 use Rattle.send_model.specs.Reading.{Item, input}
 use Rattle.send_model.specs.Subvolume.{Subvolume, IsLawful}
 use Rattle.send_model.specs.Edit.{greatest_end}
@@ -33,7 +33,28 @@ base store files = base_of store (input files).items
 abbrev pub keys_named : Command → List Key
 keys_named (Snapshot uuid ctransid path clone_uuid clone_ctransid) = record { uuid = clone_uuid; ctransid = clone_ctransid } ∷ []
 keys_named (Clone path offset clone_uuid clone_ctransid clone_path clone_offset clone_len) = record { uuid = clone_uuid; ctransid = clone_ctransid } ∷ []
-keys_named _ = []
+keys_named (Subvol uuid ctransid path) = []
+keys_named (MkFile path) = []
+keys_named (MkDir path) = []
+keys_named (MkNod mode rdev path) = []
+keys_named (MkFifo path) = []
+keys_named (MkSock path) = []
+keys_named (Symlink path path_link) = []
+keys_named (Rename path path_to) = []
+keys_named (Link path path_link) = []
+keys_named (Unlink path) = []
+keys_named (Rmdir path) = []
+keys_named (SetXattr name value path) = []
+keys_named (RemoveXattr name path) = []
+keys_named (Write path offset bytes) = []
+keys_named (Truncate size path) = []
+keys_named (Chmod mode path) = []
+keys_named (Chown uid gid path) = []
+keys_named (Utimes mtime atime path) = []
+keys_named End = []
+keys_named (UpdateExtent size path offset) = []
+keys_named (Fallocate size path offset mode) = []
+keys_named (FileAttr path flags) = []
 
 abbrev pub all_keys_named : List Command → List Key
 all_keys_named commands = flat_map keys_named commands

@@ -4,7 +4,7 @@
 use Rattle.std.specs.Prelude.{ℕ, zero, suc, ◌+◌, ◌%◌, ◌==◌, Bool, true, false, not, ◌&&◌, ◌||◌, List, [], ◌∷◌, ◌++◌, map, length, take, drop, Option, None, Some, Ok, Err, if◌then◌else◌}
 use Rattle.std.specs.List.{sum_by, count_by}
 use Rattle.std.specs.Str.{bytes_eq}
-use Rattle.send_model.specs.Command.{Command, Clone, End}
+use Rattle.send_model.specs.Command.{Command, Subvol, Snapshot, MkFile, MkDir, MkNod, MkFifo, MkSock, Symlink, Rename, Link, Unlink, Rmdir, SetXattr, RemoveXattr, Write, Clone, Truncate, Chmod, Chown, Utimes, End, UpdateExtent, Fallocate, FileAttr}
 use Rattle.send_model.specs.Reading.{Item, input}
 use Rattle.send_model.specs.Subvolume.{Inode, Subvolume, is_file, is_nameable}
 use Rattle.send_model.specs.Clone.{block_len, cells_of, cloned}
@@ -32,10 +32,23 @@ fresh byte = record { byte = byte; place = None }
 -- The cells of a file of a complete subvolume, each at its own place.
 abbrev pub traced_from : Key → ℕ → ℕ → List ℕ → List Traced
 traced_from key ino offset [] = []
-traced_from key ino offset (byte ∷ bytes) = record { byte = byte; place = Some (record { key = key; ino = ino; offset = offset }) } ∷ traced_from key ino (offset + 1) bytes
+traced_from key ino offset (byte ∷ bytes) =
+    record { byte = byte; place = Some (record { key = key; ino = ino; offset = offset }) } ∷ traced_from key ino (offset + 1) bytes
 
 abbrev pub inode_with : {C D : Type 0} → Inode C → List D → Inode D
-inode_with inode cells = record { kind = inode.kind; mode = inode.mode; uid = inode.uid; gid = inode.gid; atime = inode.atime; mtime = inode.mtime; rdev = inode.rdev; flags = inode.flags; target = inode.target; xattrs = inode.xattrs; cells = cells }
+inode_with inode cells = record {
+  kind = inode.kind;
+  mode = inode.mode;
+  uid = inode.uid;
+  gid = inode.gid;
+  atime = inode.atime;
+  mtime = inode.mtime;
+  rdev = inode.rdev;
+  flags = inode.flags;
+  target = inode.target;
+  xattrs = inode.xattrs;
+  cells = cells;
+}
 
 -- A subvolume with other cells in its files, by their inode numbers.
 abbrev pub with_cells : {C D : Type 0} → (ℕ → List C → List D) → Subvolume C → Subvolume D
@@ -45,7 +58,12 @@ unfoldable pub traced_subvolume : Key → Subvolume ℕ → Subvolume Traced
 traced_subvolume key s = with_cells (λ ino cells. traced_from key ino 0 cells) s
 
 abbrev pub traced_entry : Entry (Subvolume ℕ) → Entry (Subvolume Traced)
-traced_entry e = record { name = e.name; key = e.key; parent = e.parent; contents = elim e.contents [ None ↦ None | Some s ↦ Some (traced_subvolume e.key s) ] }
+traced_entry e = record {
+  name = e.name;
+  key = e.key;
+  parent = e.parent;
+  contents = elim e.contents [ None ↦ None | Some s ↦ Some (traced_subvolume e.key s) ];
+}
 
 -- A store whose bytes are traced to their own places.
 unfoldable pub traced_store : Store ℕ → Store Traced
@@ -68,19 +86,65 @@ is_own (Some own) uuid = bytes_eq own uuid
 
 -- A clone is redirected where its source is another part of the same files.
 abbrev pub is_redirected : List (List ℕ) → Option (List ℕ) → Command → Bool
-is_redirected parts current (Clone path offset clone_uuid clone_ctransid clone_path clone_offset clone_len) = is_among parts clone_uuid && not (is_own current clone_uuid)
-is_redirected parts current _ = false
+is_redirected parts current (Clone path offset clone_uuid clone_ctransid clone_path clone_offset clone_len) =
+    is_among parts clone_uuid && not (is_own current clone_uuid)
+is_redirected parts current (Subvol uuid ctransid path) = false
+is_redirected parts current (Snapshot uuid ctransid path clone_uuid clone_ctransid) = false
+is_redirected parts current (MkFile path) = false
+is_redirected parts current (MkDir path) = false
+is_redirected parts current (MkNod mode rdev path) = false
+is_redirected parts current (MkFifo path) = false
+is_redirected parts current (MkSock path) = false
+is_redirected parts current (Symlink path path_link) = false
+is_redirected parts current (Rename path path_to) = false
+is_redirected parts current (Link path path_link) = false
+is_redirected parts current (Unlink path) = false
+is_redirected parts current (Rmdir path) = false
+is_redirected parts current (SetXattr name value path) = false
+is_redirected parts current (RemoveXattr name path) = false
+is_redirected parts current (Write path offset bytes) = false
+is_redirected parts current (Truncate size path) = false
+is_redirected parts current (Chmod mode path) = false
+is_redirected parts current (Chown uid gid path) = false
+is_redirected parts current (Utimes mtime atime path) = false
+is_redirected parts current End = false
+is_redirected parts current (UpdateExtent size path offset) = false
+is_redirected parts current (Fallocate size path offset mode) = false
+is_redirected parts current (FileAttr path flags) = false
 
 -- The cells that a CLONE puts at its place in the current part; none where it is refused.
 unfoldable pub clone_range : State Traced → Command → List Traced
 clone_range state (Clone path offset clone_uuid clone_ctransid clone_path clone_offset clone_len) = elim state.part [
   | None ↦ []
-  | Some part ↦ elim (cloned part.subvolume (clone_source state.store part (record { uuid = clone_uuid; ctransid = clone_ctransid })) (bytes_eq clone_uuid part.key.uuid) path offset clone_path clone_offset clone_len) [
+  | Some part ↦ elim (cloned part.subvolume (clone_source state.store part (record { uuid = clone_uuid; ctransid = clone_ctransid }))
+      (bytes_eq clone_uuid part.key.uuid) path offset clone_path clone_offset clone_len) [
     | Err refusal ↦ []
     | Ok range ↦ range.cells
   ]
 ]
-clone_range state _ = []
+clone_range state (Subvol uuid ctransid path) = []
+clone_range state (Snapshot uuid ctransid path clone_uuid clone_ctransid) = []
+clone_range state (MkFile path) = []
+clone_range state (MkDir path) = []
+clone_range state (MkNod mode rdev path) = []
+clone_range state (MkFifo path) = []
+clone_range state (MkSock path) = []
+clone_range state (Symlink path path_link) = []
+clone_range state (Rename path path_to) = []
+clone_range state (Link path path_link) = []
+clone_range state (Unlink path) = []
+clone_range state (Rmdir path) = []
+clone_range state (SetXattr name value path) = []
+clone_range state (RemoveXattr name path) = []
+clone_range state (Write path offset bytes) = []
+clone_range state (Truncate size path) = []
+clone_range state (Chmod mode path) = []
+clone_range state (Chown uid gid path) = []
+clone_range state (Utimes mtime atime path) = []
+clone_range state End = []
+clone_range state (UpdateExtent size path offset) = []
+clone_range state (Fallocate size path offset mode) = []
+clone_range state (FileAttr path flags) = []
 
 abbrev pub traced_step : State Traced → Item → Stepped Traced
 traced_step state item = step (fresh 0) (fresh_cells item) state item.command

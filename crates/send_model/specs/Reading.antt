@@ -8,7 +8,7 @@ use Rattle.std.specs.Int.{w16, w32, from_le_bytes}
 use Rattle.send_model.specs.Refusal.{Refusal, BadMagic, BadVersion, Truncated, LongCommand, BadChecksum, UnknownCommand, BadAttribute, MissingAttribute, BadTime, Encoded, NotBuilt}
 use Rattle.send_model.specs.Chain.{◌>>=◌, ◌>>◌, require, refuse_if, found}
 use Rattle.send_model.specs.Attribute.{Form, AnIdentifier, ANumber, AShortNumber, AMoment, AnyBytes, NoForm, form_of, second, last_attribute, takes_rest, DATA, is_one_of}
-use Rattle.send_model.specs.Command.{Kind, SUBVOL, SNAPSHOT, MKFILE, MKDIR, MKNOD, MKFIFO, MKSOCK, SYMLINK, RENAME, LINK, UNLINK, RMDIR, SET_XATTR, REMOVE_XATTR, WRITE, CLONE, TRUNCATE, CHMOD, CHOWN, UTIMES, END, UPDATE_EXTENT, FALLOCATE, FILEATTR, Command, End, row, is_encoded, kind_of_number, command_with, time_in}
+use Rattle.send_model.specs.Command.{Kind, SUBVOL, SNAPSHOT, MKFILE, MKDIR, MKNOD, MKFIFO, MKSOCK, SYMLINK, RENAME, LINK, UNLINK, RMDIR, SET_XATTR, REMOVE_XATTR, WRITE, CLONE, TRUNCATE, CHMOD, CHOWN, UTIMES, END, UPDATE_EXTENT, FALLOCATE, FILEATTR, Command, Subvol, Snapshot, MkFile, MkDir, MkNod, MkFifo, MkSock, Symlink, Rename, Link, Unlink, Rmdir, SetXattr, RemoveXattr, Write, Clone, Truncate, Chmod, Chown, Utimes, End, UpdateExtent, Fallocate, FileAttr, row, is_encoded, kind_of_number, command_with, time_in}
 use Rattle.send_model.specs.Spelling.{Attribute, magic, value_of, frame_checksum, greatest_body}
 
 -- Numbers of two and four bytes at the front of a list.
@@ -227,13 +227,24 @@ pub record Front : Type 0 where
   pub item : Item
   pub rest : List ℕ
 
+-- An item, from its command's attributes.
+abbrev pub item_at : (file version number offset : ℕ) (attributes : List Attribute) (command : Command) → Item
+item_at file version number offset attributes command = record {
+  file = file;
+  number = number;
+  offset = offset;
+  version = version;
+  data_at = data_place version offset attributes;
+  command = command;
+}
+
 unfoldable pub front_of : ℕ → ℕ → ℕ → ℕ → List ℕ → Result Front Refusal
 front_of file version number offset bytes = do
   frame ← frame_at bytes
   attributes ← attributes_at version frame.body
   taken version frame.number
   command ← command_of version frame.number attributes
-  Ok (record { item = record { file = file; number = number; offset = offset; version = version; data_at = data_place version offset attributes; command = command }; rest = frame.rest })
+  Ok (record { item = item_at file version number offset attributes command; rest = frame.rest })
 
 -- What is due: a stream's header, or a command of a stream of a version.
 pub data Due : Type 0 where
@@ -243,7 +254,29 @@ pub data Due : Type 0 where
 -- What is due after a command.
 abbrev pub due_after : ℕ → Command → Due
 due_after version End = HeaderDue
-due_after version _ = CommandDue version
+due_after version (Subvol uuid ctransid path) = CommandDue version
+due_after version (Snapshot uuid ctransid path clone_uuid clone_ctransid) = CommandDue version
+due_after version (MkFile path) = CommandDue version
+due_after version (MkDir path) = CommandDue version
+due_after version (MkNod mode rdev path) = CommandDue version
+due_after version (MkFifo path) = CommandDue version
+due_after version (MkSock path) = CommandDue version
+due_after version (Symlink path path_link) = CommandDue version
+due_after version (Rename path path_to) = CommandDue version
+due_after version (Link path path_link) = CommandDue version
+due_after version (Unlink path) = CommandDue version
+due_after version (Rmdir path) = CommandDue version
+due_after version (SetXattr name value path) = CommandDue version
+due_after version (RemoveXattr name path) = CommandDue version
+due_after version (Write path offset bytes) = CommandDue version
+due_after version (Clone path offset clone_uuid clone_ctransid clone_path clone_offset clone_len) = CommandDue version
+due_after version (Truncate size path) = CommandDue version
+due_after version (Chmod mode path) = CommandDue version
+due_after version (Chown uid gid path) = CommandDue version
+due_after version (Utimes mtime atime path) = CommandDue version
+due_after version (UpdateExtent size path offset) = CommandDue version
+due_after version (Fallocate size path offset mode) = CommandDue version
+due_after version (FileAttr path flags) = CommandDue version
 
 abbrev pub with_item : Item → Reading → Reading
 with_item item r = record { items = item ∷ r.items; end = r.end }
@@ -254,7 +287,8 @@ faulty file number offset refusal = record { items = []; end = Faulty (record { 
 -- The file may end after an END.
 abbrev pub may_end : Due → List ℕ → Bool
 may_end HeaderDue [] = true
-may_end _ _ = false
+may_end HeaderDue (byte ∷ rest) = false
+may_end (CommandDue version) rest = false
 
 -- Nothing more is due, and nothing more is there.
 abbrev pub ended : Reading
@@ -270,7 +304,8 @@ go_on more stop (Err refusal) = stop refusal
 unfoldable pub reads_from : ℕ → ℕ → Due → ℕ → ℕ → List ℕ → Reading
 reads_from zero file due number offset bytes = faulty file number offset Truncated
 reads_from (suc n) file HeaderDue number offset bytes =
-    go_on (λ version. reads_from n file (CommandDue version) number (offset + header_len) (drop header_len bytes)) (faulty file number offset) (stream_version bytes)
+    go_on (λ version. reads_from n file (CommandDue version) number (offset + header_len) (drop header_len bytes))
+    (faulty file number offset) (stream_version bytes)
 reads_from (suc n) file (CommandDue version) number offset bytes =
     go_on (λ front. with_item front.item (
     if may_end (due_after version front.item.command) front.rest then ended

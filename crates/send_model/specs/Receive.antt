@@ -2,14 +2,36 @@
 -- Source: the btrfs-receive manual, and do_receive in cmds/receive.c of btrfs-progs.
 use Rattle.std.specs.Prelude.{◌≡◌, ℕ, List, [], ◌∷◌, Option, None, Some}
 use Rattle.send_model.specs.Refusal.{Refusal}
-use Rattle.send_model.specs.Command.{Command, Write}
+use Rattle.send_model.specs.Command.{Command, Subvol, Snapshot, MkFile, MkDir, MkNod, MkFifo, MkSock, Symlink, Rename, Link, Unlink, Rmdir, SetXattr, RemoveXattr, Write, Clone, Truncate, Chmod, Chown, Utimes, End, UpdateExtent, Fallocate, FileAttr}
 use Rattle.send_model.specs.Reading.{Item, Verdict, Ending, Whole, Faulty, Reading, input}
 use Rattle.send_model.specs.Store.{Store, State, After, step}
 
 -- What an item's WRITE puts into a file: its bytes, or cells that stand for them.
 abbrev pub bytes_of : Command → List ℕ
 bytes_of (Write path offset bytes) = bytes
-bytes_of _ = []
+bytes_of (Subvol uuid ctransid path) = []
+bytes_of (Snapshot uuid ctransid path clone_uuid clone_ctransid) = []
+bytes_of (MkFile path) = []
+bytes_of (MkDir path) = []
+bytes_of (MkNod mode rdev path) = []
+bytes_of (MkFifo path) = []
+bytes_of (MkSock path) = []
+bytes_of (Symlink path path_link) = []
+bytes_of (Rename path path_to) = []
+bytes_of (Link path path_link) = []
+bytes_of (Unlink path) = []
+bytes_of (Rmdir path) = []
+bytes_of (SetXattr name value path) = []
+bytes_of (RemoveXattr name path) = []
+bytes_of (Clone path offset clone_uuid clone_ctransid clone_path clone_offset clone_len) = []
+bytes_of (Truncate size path) = []
+bytes_of (Chmod mode path) = []
+bytes_of (Chown uid gid path) = []
+bytes_of (Utimes mtime atime path) = []
+bytes_of End = []
+bytes_of (UpdateExtent size path offset) = []
+bytes_of (Fallocate size path offset mode) = []
+bytes_of (FileAttr path flags) = []
 
 abbrev pub byte_cells : Item → List ℕ
 byte_cells item = bytes_of item.command

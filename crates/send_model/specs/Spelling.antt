@@ -61,7 +61,8 @@ greatest_body = 262_144
 -- The wanted attributes of a command with its values, in rising order of their numbers.
 abbrev pub with_fields : List ℕ → List Field → List Attribute
 with_fields (kind ∷ kinds) (field ∷ fields) = record { kind = kind; bytes = field_bytes field } ∷ with_fields kinds fields
-with_fields _ _ = []
+with_fields [] fields = []
+with_fields (kind ∷ kinds) [] = []
 
 unfoldable pub attributes_of : Command → List Attribute
 attributes_of command = with_fields (row (kind_of command)).wanted (fields_of command)

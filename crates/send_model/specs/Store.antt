@@ -6,7 +6,7 @@ use Rattle.std.specs.Str.{bytes_eq}
 use Rattle.send_model.specs.Refusal.{Refusal, NoSubvolume, BadName, NameThere, UuidThere, NoParent}
 use Rattle.send_model.specs.Chain.{◌>>◌, require, refuse_if, found}
 use Rattle.send_model.specs.Path.{is_name}
-use Rattle.send_model.specs.Command.{Command, Subvol, Snapshot, Clone, End}
+use Rattle.send_model.specs.Command.{Command, Subvol, Snapshot, MkFile, MkDir, MkNod, MkFifo, MkSock, Symlink, Rename, Link, Unlink, Rmdir, SetXattr, RemoveXattr, Write, Clone, Truncate, Chmod, Chown, Utimes, End, UpdateExtent, Fallocate, FileAttr}
 use Rattle.send_model.specs.Subvolume.{Subvolume, root_alone}
 use Rattle.send_model.specs.Edit.{edit}
 use Rattle.send_model.specs.Clone.{clone}
@@ -72,10 +72,36 @@ pub record Head : Type 0 where
   pub key : Key
   pub parent : Option Key
 
+abbrev pub key_of : (uuid : List ℕ) (ctransid : ℕ) → Key
+key_of uuid ctransid = record { uuid = uuid; ctransid = ctransid }
+
+-- The head that a command is, if it is one.
 abbrev pub head_of : Command → Option Head
-head_of (Subvol uuid ctransid path) = Some (record { name = path; key = record { uuid = uuid; ctransid = ctransid }; parent = None })
-head_of (Snapshot uuid ctransid path clone_uuid clone_ctransid) = Some (record { name = path; key = record { uuid = uuid; ctransid = ctransid }; parent = Some (record { uuid = clone_uuid; ctransid = clone_ctransid }) })
-head_of _ = None
+head_of (Subvol uuid ctransid path) = Some (record { name = path; key = key_of uuid ctransid; parent = None })
+head_of (Snapshot uuid ctransid path clone_uuid clone_ctransid) =
+    Some (record { name = path; key = key_of uuid ctransid; parent = Some (key_of clone_uuid clone_ctransid) })
+head_of (MkFile path) = None
+head_of (MkDir path) = None
+head_of (MkNod mode rdev path) = None
+head_of (MkFifo path) = None
+head_of (MkSock path) = None
+head_of (Symlink path path_link) = None
+head_of (Rename path path_to) = None
+head_of (Link path path_link) = None
+head_of (Unlink path) = None
+head_of (Rmdir path) = None
+head_of (SetXattr name value path) = None
+head_of (RemoveXattr name path) = None
+head_of (Write path offset bytes) = None
+head_of (Clone path offset clone_uuid clone_ctransid clone_path clone_offset clone_len) = None
+head_of (Truncate size path) = None
+head_of (Chmod mode path) = None
+head_of (Chown uid gid path) = None
+head_of (Utimes mtime atime path) = None
+head_of End = None
+head_of (UpdateExtent size path offset) = None
+head_of (Fallocate size path offset mode) = None
+head_of (FileAttr path flags) = None
 
 -- The subvolume that a part starts from: a root alone, or its parent's.
 abbrev pub start_from : {C : Type 0} → Store C → Option Key → Result (Subvolume C) Refusal
@@ -108,7 +134,10 @@ unfinished head = record { name = head.name; key = head.key; parent = head.paren
 -- What stands after a head: a new part that starts from a subvolume, or no part and the refusal.
 abbrev pub entered : {C : Type 0} → Store C → Head → Result (Subvolume C) Refusal → Stepped C
 entered store head (Err refusal) = record { state = record { store = store; part = None }; refusal = Some refusal }
-entered store head (Ok start) = record { state = record { store = store ++ unfinished head ∷ []; part = Some (record { key = head.key; subvolume = start }) }; refusal = None }
+entered store head (Ok start) = record {
+  state = record { store = store ++ unfinished head ∷ []; part = Some (record { key = head.key; subvolume = start }) };
+  refusal = None;
+}
 
 -- A head completes the part before it; then it begins the new one, or is refused and there is no part.
 unfoldable pub step_head : {C : Type 0} → State C → Head → Stepped C

@@ -1,7 +1,7 @@
 -- A subvolume over any type of cell: its inodes, its names, and the number that the next inode gets. A cell is what stands
 -- at one place of a file: a byte, or a byte with where it came from. Source: the btrfs-receive manual, inode(7).
 use Rattle.std.specs.Prelude.{◌≡◌, ◌≢◌, ℕ, zero, suc, ◌+◌, ◌<◌, ◌≤◌, ◌==◌, Bool, true, false, List, [], ◌∷◌, ◌++◌, length, Option, None, Some, Result, Ok, nat_le, IsTrue, is_some, if◌then◌else◌}
-use Rattle.std.specs.declared.cmp.Ordering.TheVariants.{Greater}
+use Rattle.std.specs.declared.cmp.Ordering.TheVariants.{Less, Equal, Greater}
 use Rattle.std.specs.Ordering.{nat_cmp}
 use Rattle.std.specs.List.{AllByRecursion, filter}
 use Rattle.send_model.specs.Refusal.{Refusal, BadPath, NoEntry, NotDirectory, IsRoot}
@@ -21,11 +21,21 @@ pub data NodeKind : Type 0 where
 
 abbrev pub is_directory_kind : NodeKind → Bool
 is_directory_kind Directory = true
-is_directory_kind _ = false
+is_directory_kind File = false
+is_directory_kind SymbolicLink = false
+is_directory_kind CharacterDevice = false
+is_directory_kind BlockDevice = false
+is_directory_kind Fifo = false
+is_directory_kind Socket = false
 
 abbrev pub is_file_kind : NodeKind → Bool
 is_file_kind File = true
-is_file_kind _ = false
+is_file_kind Directory = false
+is_file_kind SymbolicLink = false
+is_file_kind CharacterDevice = false
+is_file_kind BlockDevice = false
+is_file_kind Fifo = false
+is_file_kind Socket = false
 
 -- An inode. The target is a symbolic link's, rdev a device's, the cells a file's.
 pub record Inode (C : Type 0) : Type 0 where
@@ -55,7 +65,19 @@ epoch = record { secs = 0; nanos = 0 }
 
 -- A new inode: nothing set but its kind, mode, device number and target.
 abbrev pub new_inode : {C : Type 0} → NodeKind → ℕ → ℕ → List ℕ → Inode C
-new_inode kind mode rdev target = record { kind = kind; mode = mode; uid = 0; gid = 0; atime = epoch; mtime = epoch; rdev = rdev; flags = 0; target = target; xattrs = []; cells = [] }
+new_inode kind mode rdev target = record {
+  kind = kind;
+  mode = mode;
+  uid = 0;
+  gid = 0;
+  atime = epoch;
+  mtime = epoch;
+  rdev = rdev;
+  flags = 0;
+  target = target;
+  xattrs = [];
+  cells = [];
+}
 
 abbrev pub new_directory : {C : Type 0} → Inode C
 new_directory = new_inode Directory 0o700 0 []
@@ -171,7 +193,7 @@ all_paths s = paths_from 2_048 s.names (record { path = []; ino = root } ∷ [])
 -- The lesser path by bytes.
 abbrev pub lesser : List ℕ → Option (List ℕ) → Option (List ℕ)
 lesser path None = Some path
-lesser path (Some other) = elim (bytes_cmp path other) [ Greater ↦ Some other | _ ↦ Some path ]
+lesser path (Some other) = elim (bytes_cmp path other) [ Less ↦ Some path | Equal ↦ Some path | Greater ↦ Some other ]
 
 abbrev pub least_path : ℕ → List Reached → Option (List ℕ)
 least_path ino [] = None

@@ -57,7 +57,8 @@ pub fn edits_look_at_their_part<C, D>()
 pub fn edits_keep_subvolumes_lawful<C>()
     ensures start { IsLawful {C = C} root_alone }
     ensures edits { (zero_cell : C) (put : List C) (c : Command) → KeepsLawfulness (edit zero_cell put c) }
-    ensures clones { (zero_cell : C) (source : Option (Subvolume C)) (is_own : Bool) (path : List ℕ) (offset : ℕ) (clone_path : List ℕ) (from len : ℕ) → KeepsLawfulness (λ part. clone zero_cell part source is_own path offset clone_path from len) }
+    ensures clones { (zero_cell : C) (source : Option (Subvolume C)) (is_own : Bool) (path : List ℕ) (offset : ℕ)
+        (clone_path : List ℕ) (from len : ℕ) → KeepsLawfulness (λ part. clone zero_cell part source is_own path offset clone_path from len) }
 {}
 
 /// Whatever is received into a lawful store leaves a lawful one, wherever it ends; and over such a store the headline holds of all
@@ -87,7 +88,8 @@ pub fn guards_only_refuse()
 /// The composed commands, from every state, carry the bytes of the commands themselves and the cells of redirected clones
 /// that no outside subvolume carries; their clones are those that are not redirected, and one for each run of carried blocks.
 pub fn composed_commands_are_counted()
-    ensures counted { (store : Store ℕ) (parts : List (List ℕ)) (last : Key) (state : State Traced) (current : Option (List ℕ)) (items : List Item) → AreCounted store parts last state current items }
+    ensures counted { (store : Store ℕ) (parts : List (List ℕ)) (last : Key) (state : State Traced) (current : Option (List ℕ))
+        (items : List Item) → AreCounted store parts last state current items }
 {}
 
 /// The headline, for all commands: the composed ones name only outside subvolumes, and every store that holds these, and neither
