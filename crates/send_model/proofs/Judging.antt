@@ -79,7 +79,7 @@ judge_nothing : (state : State ℕ) (previous : Option Key) → judge_items 0 by
 unfolding judge_items
 judge_nothing state previous = refl
 
-judged_all : (items : List Item) (end : State ℕ) → Takes (start_of empty_store) (commands_of items) end → AreOrdered None items → judge_items 0 byte_cells (start_of empty_store) None items ≡ None
+pub judged_all : (items : List Item) (end : State ℕ) → Takes (start_of empty_store) (commands_of items) end → AreOrdered None items → judge_items 0 byte_cells (start_of empty_store) None items ≡ None
 judged_all items end t o = ap (judge_items 0 byte_cells (start_of empty_store) None) (sym (append-nil items)) ∙ judge_done items [] None (start_of empty_store) end t o ∙ judge_nothing end (previous_after None items)
 
 -- The verdict where all commands were taken: the fault with which the reading ended, or no part at all, or none.

@@ -72,7 +72,7 @@ entries_contents uuid s (e ∷ store) h all = one (bytes_eq e.key.uuid uuid) (en
     one false more = (all.0, more)
 
 -- One entry more, of a new name and a new uuid.
-none_last : (test : Entry (Subvolume ℕ) → Bool) (store : Store ℕ) (last : Entry (Subvolume ℕ)) → list_any test store ≡ false → test last ≡ false → list_any test (store ++ last ∷ []) ≡ false
+pub none_last : (test : Entry (Subvolume ℕ) → Bool) (store : Store ℕ) (last : Entry (Subvolume ℕ)) → list_any test store ≡ false → test last ≡ false → list_any test (store ++ last ∷ []) ≡ false
 none_last test [] last none own = ap (λ (b : Bool). b || false) own
 none_last test (e ∷ store) last none own =
     let p = or_parts (test e) (list_any test store) none in

@@ -78,3 +78,5 @@ mod HeadlineExample
 pub mod Exporting
 pub mod ExportedStreams
 mod ReceivableExamples
+pub mod EightFiles
+pub mod GeneratedChains

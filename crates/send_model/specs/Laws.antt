@@ -11,11 +11,12 @@ use Rattle.send_model.specs.Subvolume.{Subvolume, IsNameable, walk, first_path, 
 use Rattle.send_model.specs.Edit.{edit}
 use Rattle.send_model.specs.Store.{Key, Store, Part, State, step, edit_part, head_of}
 use Rattle.send_model.specs.Receive.{IsAccepted, run_items, byte_cells, start_of, receive_of, receive}
-use Rattle.send_model.specs.Order.{heads, commands_of, IsConsecutive}
+use Rattle.send_model.specs.Order.{heads, commands_of, IsConsecutive, judge_of}
 use Rattle.send_model.specs.Outside.{base_of, base, keys_outside, outside, FindsLawful, FindsSayable}
 use Rattle.send_model.specs.Provenance.{Traced, ranges_from, uncarried_in, runs_in}
 use Rattle.send_model.specs.Counts.{literal, clones, is_clone, is_end, kept_from}
 use Rattle.send_model.specs.Composed.{version_of, composed_from, composed_of}
+use Rattle.send_model.specs.Generated.{chain_items}
 use Rattle.send_model.specs.Cells.{recelled_state, recelled_step}
 use Rattle.send_model.specs.Headline.{AreComposed, IsComposedOf, IsComposed, IsUnfinished, output_of, output_for}
 
@@ -190,3 +191,9 @@ pub record AreCounted (store : Store ℕ) (parts : List (List ℕ)) (last : Key)
       ≡ literal (commands_of items) + uncarried_in store (ranges_from parts state current items)
   pub clone_count : clones (composed_from store parts last state current items)
       ≡ kept_from parts current (commands_of items) + runs_in store (ranges_from parts state current items)
+
+-- ---- generated chains
+
+-- The chain that a number gives is lawful: over no store, its commands are taken, and its parts follow each other.
+abbrev pub ChainIsLawful : Type 0
+ChainIsLawful = (seed count : ℕ) → 1 ≤ count → count ≤ 4_096 → judge_of [] (record { items = chain_items seed count; end = Whole }) ≡ None

@@ -11,7 +11,7 @@ ghost use Rattle.send_model.specs.GuardLaws.{NoGuardsChangeNothing, AllowedIsAcc
 ghost use Rattle.send_model.specs.Due.{IsJudgedOf, IsJudged};
 ghost use Rattle.send_model.specs.Lawful.{KeepsLawfulness, EditsKeepSayable, ReceivedIsLawful, FilesLeaveLawful, LawfulFindsSayable, LawfulStoresHold};
 ghost use Rattle.send_model.specs.Receivable.{ReceivableSpells, ReceivableRises, ExportedIsSame, ExportedIsComposed};
-ghost use Rattle.send_model.specs.Laws.{SpelledIsRead, SpelledIsFront, FrameHasOneReading, ReadWasSpelled, RulesWereSpelled, DataIsThere, CanonicalSpells, SpelledIsSpellable, SecondSaysMore, AreInner, StreamIsRead, CutIsUnfinished, EditLooksAtItsPart, StepKeepsCells, FirstPathsAreLeast, AreCounted, ItemsHold, ItemsSpelled, ReadingsHold, PlainReadingsHold, FilesAreWhole, FilesHold, PlainFilesHold};
+ghost use Rattle.send_model.specs.Laws.{SpelledIsRead, SpelledIsFront, FrameHasOneReading, ReadWasSpelled, RulesWereSpelled, DataIsThere, CanonicalSpells, SpelledIsSpellable, SecondSaysMore, AreInner, StreamIsRead, CutIsUnfinished, EditLooksAtItsPart, StepKeepsCells, FirstPathsAreLeast, AreCounted, ItemsHold, ItemsSpelled, ReadingsHold, PlainReadingsHold, FilesAreWhole, FilesHold, PlainFilesHold, ChainIsLawful};
 
 /// Whatever spells a command is read as that command, whatever follows it, and spells no other; what is read was spelled. So it is
 /// of every command of either version, and of the item in front for those that the program takes; the data of a WRITE stand where
@@ -111,4 +111,10 @@ pub fn composed_streams_are_accepted()
 pub fn answers_are_judged()
     ensures judged { (long : Option ℕ) (base : Store ℕ) (reading : Reading) → IsJudgedOf long base reading }
     ensures files { (base : Store ℕ) (files : List (List ℕ)) → IsJudged base files }
+{}
+
+/// The chain of streams that a number gives, with up to 4,096 parts, is lawful: over no store, its commands are taken, and its
+/// parts follow each other.
+pub fn generated_chains_are_lawful()
+    ensures lawful { ChainIsLawful }
 {}
