@@ -345,7 +345,7 @@ later_built seed count low k =
       taken = Takes-append old now (start_of []) (start_of k.store) (start_of t.0) k.taken t.1.0;
       ready = t.1.1;
       ordered = subst (λ (xs : List Item). AreOrdered None xs) (sym items) (AreOrdered-append None (map item_of old) (map item_of now) k.ordered
-      (subst (λ (p : Option Key). AreOrdered p (map item_of now)) (sym (k.previous ∙ ap (λ (m : ℕ). Some (part_key seed m)) same)) (later_ordered seed n p a b put c d e g)));
+          (subst (λ (p : Option Key). AreOrdered p (map item_of now)) (sym (k.previous ∙ ap (λ (m : ℕ). Some (part_key seed m)) same)) (later_ordered seed n p a b put c d e g)));
       previous = ap (previous_after None) items ∙ previous_after-append None (map item_of old) (map item_of now) ∙ ap (λ (p : Option Key). previous_after p (map item_of now)) k.previous;
       rest = k.rest ++ now;
       begins = ap (λ (cs : List Command). cs ++ now) k.begins;

@@ -118,9 +118,9 @@ clone_range state (Clone path offset clone_uuid clone_ctransid clone_path clone_
   | None ↦ []
   | Some part ↦ elim (cloned part.subvolume (clone_source state.store part (record { uuid = clone_uuid; ctransid = clone_ctransid }))
       (bytes_eq clone_uuid part.key.uuid) path offset clone_path clone_offset clone_len) [
-    | Err refusal ↦ []
-    | Ok range ↦ range.cells
-  ]
+        | Err refusal ↦ []
+        | Ok range ↦ range.cells
+      ]
 ]
 clone_range state (Subvol uuid ctransid path) = []
 clone_range state (Snapshot uuid ctransid path clone_uuid clone_ctransid) = []
