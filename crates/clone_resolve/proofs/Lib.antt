@@ -1,6 +1,4 @@
-mod EntryLemmas
-mod FileLemmas
-mod FlatLemmas
-mod IndexLemmas
-mod NameLemmas
-mod StepLemmas
+mod HeadLaws
+mod StepLaws
+mod EditLaws
+mod Searches

@@ -1,6 +1,2 @@
-pub mod Answers
-pub mod Entries
-pub mod Flat
-pub mod Indexes
-pub mod Places
+pub mod Heads
 pub mod Steps

@@ -1,27 +1,50 @@
--- What a command leaves of the core and of the part, by the definition of a step.
-use Rattle.std.specs.Prelude.{◌≡◌, Bool, ◌&&◌, List, [], ◌∷◌, ◌++◌, map, Option, None, Some, Result, Ok, Err, IsTrue, is_none}
+-- What a command leaves of the core and of the part, by the definition of a step. Source: this program's own.
+use Rattle.std.specs.Prelude.{◌≡◌, ℕ, Bool, true, false, ◌&&◌, List, length, Option, None, Some, Result, Ok, Err, IsTrue, is_none}
 use Rattle.std.specs.List.{list_any}
-use Rattle.send_model.specs.Refusal as meant
-use Rattle.send_model.specs.Command.{Command, Subvol, Snapshot, End}
+use Rattle.send_model.specs.Command as meant
 use Rattle.send_model.specs.Receive.{bytes_of}
-use Rattle.send_model.specs.Store.{Key, same_key, Entry, Store, Part, State, Stepped, Head, begun, unfinished, step_edit}
+use Rattle.send_model.specs.Store.{Key, same_key, Entry, Store, Part, State, Stepped}
+use Rattle.extent_map.specs.Pieces.{run_cells}
 use Rattle.sx_base.specs.declared.stop.Stop.{Stop}
 use Rattle.sx_base.specs.declared.stop.Stop.TheVariants as stop
 use Rattle.sx_base.specs.Refusals.{refusal_of}
 use Rattle.clone_resolve.specs.declared.done.Done.{Done}
 use Rattle.clone_resolve.specs.declared.done.Done.TheVariants as done
-use Rattle.clone_resolve.specs.Flat.{Blank, blank}
 
--- The blank cells that a command puts: as many as it has bytes of data.
-abbrev pub cells_of : Command → List Blank
-cells_of command = map (λ _. blank) (bytes_of command)
+-- How many bytes of data a command puts.
+abbrev pub data_len : meant.Command → ℕ
+data_len command = length (bytes_of command)
+
+-- The cells that a command puts: a run from an origin, as long as its data.
+abbrev pub cells_put : {O : Type 0} → (O → ℕ → O) → O → meant.Command → List (Option O)
+cells_put advanced origin command = run_cells advanced origin (data_len command)
 
 -- What was done: a head begins a part, END ends one, and any other command edits one.
-abbrev pub done_by : Command → Done
-done_by (Subvol uuid ctransid path) = done.Began
-done_by (Snapshot uuid ctransid path clone_uuid clone_ctransid) = done.Began
-done_by End = done.Ended
-done_by _ = done.Edited
+abbrev pub done_by : meant.Command → Done
+done_by (meant.Subvol uuid ctransid path) = done.Began
+done_by (meant.Snapshot uuid ctransid path clone_uuid clone_ctransid) = done.Began
+done_by (meant.MkFile path) = done.Edited
+done_by (meant.MkDir path) = done.Edited
+done_by (meant.MkNod mode rdev path) = done.Edited
+done_by (meant.MkFifo path) = done.Edited
+done_by (meant.MkSock path) = done.Edited
+done_by (meant.Symlink path path_link) = done.Edited
+done_by (meant.Rename path path_to) = done.Edited
+done_by (meant.Link path path_link) = done.Edited
+done_by (meant.Unlink path) = done.Edited
+done_by (meant.Rmdir path) = done.Edited
+done_by (meant.SetXattr name value path) = done.Edited
+done_by (meant.RemoveXattr name path) = done.Edited
+done_by (meant.Write path offset bytes) = done.Edited
+done_by (meant.Clone path offset clone_uuid clone_ctransid clone_path clone_offset clone_len) = done.Edited
+done_by (meant.Truncate size path) = done.Edited
+done_by (meant.Chmod mode path) = done.Edited
+done_by (meant.Chown uid gid path) = done.Edited
+done_by (meant.Utimes mtime atime path) = done.Edited
+done_by meant.End = done.Ended
+done_by (meant.UpdateExtent size path offset) = done.Edited
+done_by (meant.Fallocate size path offset mode) = done.Edited
+done_by (meant.FileAttr path flags) = done.Edited
 
 -- An unfinished entry of a key.
 abbrev pub is_open : {S : Type 0} → Key → Entry S → Bool
@@ -38,18 +61,9 @@ Answers (Ok _) new stepped = stepped ≡ record { state = new; refusal = None }
 Answers (Err (stop.Refused refusal)) new stepped = stepped ≡ record { state = new; refusal = Some (refusal_of refusal) }
 Answers (Err stop.NoMemory) new stepped = Unit {0}
 
--- What a part starts from, or the refusal.
-abbrev pub Starts : {S : Type 0} → Result S Stop → Result S meant.Refusal → Type 0
-Starts (Ok s) said = said ≡ Ok s
-Starts (Err (stop.Refused refusal)) said = said ≡ Err (refusal_of refusal)
-Starts (Err stop.NoMemory) said = Unit {0}
-
--- A head begins an entry and its part, or it is refused and nothing is changed.
-abbrev pub Begins : {C : Type 0} → Result (Part C) Stop → Head → Store C → Store C → Type 0
-Begins (Ok part) head old new = (begun old head ≡ Ok part.subvolume) × (part.key ≡ head.key) × (new ≡ old ++ unfinished head ∷ [])
-Begins (Err (stop.Refused refusal)) head old new = (begun old head ≡ Err (refusal_of refusal)) × (new ≡ old)
-Begins (Err stop.NoMemory) head old new = Unit {0}
-
--- An edit of the part, if there is one, whatever the store is.
-abbrev pub Edits : {A : Type 0} → Result A Stop → Command → Option (Part Blank) → Option (Part Blank) → Type 0
-Edits result command old new = (store : Store Blank) → Answers result (record { store = store; part = new }) (step_edit blank (cells_of command) (record { store = store; part = old }) command)
+-- A command that changes the contents of one file by its own values alone.
+abbrev pub is_of_contents : meant.Command → Bool
+is_of_contents (meant.Write path offset bytes) = true
+is_of_contents (meant.Truncate size path) = true
+is_of_contents (meant.Fallocate size path offset mode) = true
+is_of_contents _ = false

@@ -1,132 +1,302 @@
 // The core.
-ghost use Rattle.std.specs.Prelude.{◌≡◌, ◌++◌, ◌∷◌, [], List, IsTrue, IfOk, OnOk, OnErr, MatchResult, None, Some, position};
+ghost use Rattle.std.specs.Prelude.{◌≡◌, ◌≤◌, [], None, IsTrue, IfOk, IfSome, is_some};
 ghost use Rattle.std.specs.Option.{option_map};
 ghost use Rattle.std.specs.Str.{bytes_eq};
-ghost use Rattle.send_model.specs.Command.{kind_of};
-ghost use Rattle.send_model.specs.Reading.{is_taken};
-ghost use Rattle.send_model.specs.Store.{has_name, has_uuid, find, with_contents, completed, begun, step_head, step, unfinished, start_from};
+ghost use Rattle.send_model.specs.Refusal.{NoParent};
+ghost use Rattle.send_model.specs.Chain.{found};
+ghost use Rattle.send_model.specs.Clone.{clone};
+ghost use Rattle.send_model.specs.Store.{has_name, with_contents, start_from, head_of, clone_source, edit_part, completed, step_head, step_edit, step};
 ghost use Rattle.send_commands.specs.Meaning.{meaning_of};
-ghost use Rattle.clone_resolve.specs.Entries.{key_of, head_with};
+ghost use Rattle.inode_tree.specs.Answers.{MayChange};
+ghost use Rattle.subvol_catalog.specs.Entries.{key_of, entry_of};
+ghost use Rattle.subvol_catalog.specs.Admission.{is_new, Adds, without_name, without_uuid};
 ghost use Rattle.clone_resolve.specs.declared.done.Done.TheVariants as did;
-ghost use Rattle.clone_resolve.specs.Flat.{blank};
-ghost use Rattle.clone_resolve.specs.Steps.{cells_of, done_by, Fits, Answers, Starts, Begins, Edits};
+ghost use Rattle.clone_resolve.specs.Heads.{head_meant, Begins, is_unfinished, unfinished_at, Resumes};
+ghost use Rattle.clone_resolve.specs.Steps.{data_len, cells_put, done_by, Fits, Answers};
 
 use crate::done::Done;
-use crate::key::Key;
+use crate::head::{Head, head_of, key_with};
 use crate::part::Part;
-use crate::tree::FlatTree;
-use path_rules::name_ok;
+use crate::tree_edits::edit_tree;
+use extent_map::Origin;
+use path_rules::split;
 use send_commands::Command;
-use std::alloc::Global;
-use std::collections::BTreeMap;
+use std::alloc::{AllocError, Global};
 use std::marker::Model;
+use subvol::Subvol;
+use subvol_catalog::{Catalog, Entry, Key};
 use sx_base::{Blob, Refusal, Stop};
 use uuid::Uuid;
 
-// A subvolume of the core. It has no tree while it is unfinished.
-#[derive(Drop)]
-struct Entry {
-    name: Blob,
+// What a CLONE takes: so many bytes from a place of a file on, of the subvolume of a key.
+#[derive(Clone, Copy)]
+struct Source<'a> {
     key: Key,
-    parent: Option<Key>,
-    tree: Option<FlatTree>,
+    path: &'a [u8],
+    offset: u64,
+    len: u64,
 }
 
-/// The subvolumes that were received, in the order in which they began.
+/// The subvolumes that were received, in the order in which they began, seen as the store of the definitions over cells that are
+/// an origin or zero.
 #[derive(Drop)]
-pub struct EditCore {
-    entries: Vec<Entry>,
-    // The place of each entry by its name, and by its UUID. A head for which memory ran out may leave its own here: a place
-    // counts only if the entry there has the name or the UUID.
-    by_name: BTreeMap<Vec<u8>, usize>,
-    by_uuid: BTreeMap<Uuid, usize>,
+pub struct EditCore<O: Origin> {
+    catalog: Catalog<Subvol<O>>,
+    alloc: Global,
 }
 
-impl Model for EditCore {
+impl<O: Origin> Model for EditCore<O> {
+    ghost use Rattle.std.specs.Prelude.{Option};
     ghost use Rattle.send_model.specs.Store as meant;
-    ghost use Rattle.clone_resolve.specs.Flat.{Blank};
 
-    ghost Value = { meant.Store Blank };
+    ghost Value = { meant.Store (Option O) };
 
-    ghost use Rattle.clone_resolve.specs.Entries.{store_of};
-
-    ghost view = { λ c. store_of c.entries.items };
-
-    ghost use Rattle.clone_resolve.specs.Indexes.{AreIndexed};
-
-    ghost invariant = { λ c. AreIndexed c.by_name.entries c.by_uuid.entries c.entries.items };
+    ghost view = { λ c. c.catalog };
 }
 
-impl EditCore {
+impl<O: Origin> EditCore<O> {
     /// A core without subvolumes. Takes no memory.
-    pub fn new(alloc: Global) -> EditCore
-        ensures empty { result ≡ [] }
+    pub fn new(alloc: Global) -> EditCore<O>
+        ensures { result ≡ [] }
     {
         EditCore {
-            entries: Vec::new(alloc),
-            by_name: BTreeMap::new(alloc),
-            by_uuid: BTreeMap::new(alloc),
+            catalog: Catalog::new(alloc),
+            alloc,
         }
     }
 
-    // Whether an entry has the name.
-    fn has_name(&self, name: &[u8]) -> bool
-        ensures { result ≡ has_name name.now self.now }
+    /// The subvolumes by name and by key. Takes no memory.
+    pub fn catalog(&self) -> &Catalog<Subvol<O>>
+        ensures { result.now ≡ self.now }
     {
-        let Some(at) = self.by_name.get(name) else {
-            return false;
-        };
-        let Some(entry) = self.entries.get(*at) else {
-            return false;
-        };
-        entry.name.as_slice() == name
+        &self.catalog
     }
 
-    // Whether an entry has the UUID.
-    fn has_uuid(&self, uuid: Uuid) -> bool
-        ensures { result ≡ has_uuid uuid self.now }
+    /// Takes out the entry of a UUID, if there is one. The others keep their order. Takes no memory.
+    pub fn hide(&mut self, uuid: Uuid)
+        ensures { self.new ≡ without_uuid uuid self.old }
     {
-        self.place_of(uuid).is_some()
+        let _there = self.catalog.drop_uuid(uuid);
     }
 
-    // The place of the entry with the UUID.
-    fn place_of(&self, uuid: Uuid) -> Option<usize>
-        ensures { result ≡ position (λ e. bytes_eq e.key.uuid uuid) self.now }
+    /// Takes out the entry of a name, and answers whether there was one. The others keep their order. Takes no memory.
+    pub fn drop_name(&mut self, name: &[u8]) -> bool
+        ensures there { result ≡ has_name name.now self.old }
+        ensures dropped { self.new ≡ without_name name.now self.old }
     {
-        let at = *self.by_uuid.get(&uuid)?;
-        let entry = self.entries.get(at)?;
-        if entry.key.uuid == uuid {
-            Some(at)
-        } else {
-            None
+        self.catalog.drop_name(name)
+    }
+
+    /// Adds an entry behind the others, unfinished where it has no subvolume. The parent is not looked at.
+    ///
+    /// # Errors
+    /// `BadName`, `NameThere` and `UuidThere`: the first of these that holds. After an error nothing is changed.
+    pub fn add(
+        &mut self,
+        name: &[u8],
+        key: Key,
+        parent: Option<Key>,
+        sub: Option<Subvol<O>>,
+    ) -> Result<(), Stop>
+        ensures added { Adds result (is_new self.old name.now key.uuid)
+            (record { name = name.now; key = key_of key; parent = option_map key_of parent; contents = sub }) self.old self.new }
+    {
+        let name = Blob::from(Vec::from_slice(self.alloc, name)?);
+        self.catalog.add(Entry {
+            name,
+            key,
+            parent,
+            value: sub,
+        })
+    }
+
+    /// Begins the entry of a head, unfinished, and its part, which starts as a root alone or as the parent's subvolume.
+    ///
+    /// # Errors
+    /// `BadName`, `NameThere`, `UuidThere` and `NoParent`: the first of these that holds. After an error nothing is changed.
+    pub fn begin(&mut self, head: &Command) -> Result<Part<O>, Stop>
+        requires head { IsTrue (is_some (head_of (meaning_of head.now))) }
+        ensures begun { IfSome (head_of (meaning_of head.now)) (λ h. Begins result h self.old self.new) }
+    {
+        let Some(head) = head_of(head) else {
+            return Err(Stop::NoMemory);
+        };
+        self.begin_head(&head)
+    }
+
+    // The same for the head itself. The catalogue refuses a head whose parent is not found, as it does all others.
+    fn begin_head(&mut self, head: &Head<'_>) -> Result<Part<O>, Stop>
+        ensures { Begins result (head_meant head.now) self.old self.new }
+    {
+        let start = self.start(head.parent)?;
+        let name = Blob::from(Vec::from_slice(self.alloc, head.name)?);
+        self.catalog.begin(name, head.key, head.parent)?;
+        let Some(sub) = start else {
+            return Err(Stop::Refused(Refusal::NoParent));
+        };
+        Ok(Part { key: head.key, sub })
+    }
+
+    // The subvolume that a part starts from, none where its parent is not found. Fails for want of memory alone.
+    fn start(&self, parent: Option<Key>) -> Result<Option<Subvol<O>>, AllocError>
+        ensures { IfOk result (λ start. start_from self.now (option_map key_of parent) ≡ found start NoParent) }
+    {
+        let Some(key) = parent else {
+            return Ok(Some(Subvol::new_root(self.alloc)?));
+        };
+        let Some(sub) = self.catalog.by_key(key) else {
+            return Ok(None);
+        };
+        Ok(Some(sub.copy()?))
+    }
+
+    /// One command on the part, neither a head nor END; a WRITE puts a run from the origin. After `NoMemory` nothing is said of the
+    /// part.
+    ///
+    /// # Errors
+    /// The refusals of the command, after which the part is unchanged.
+    pub fn edit(&self, part: &mut Part<O>, c: &Command, origin: O) -> Result<(), Stop>
+        requires edits { done_by (meaning_of c.now) ≡ did.Edited }
+        requires reach { data_len (meaning_of c.now) ≤ O.reach origin }
+        ensures key { part.new.key ≡ part.old.key }
+        ensures edited { MayChange result part.old.subvolume part.new.subvolume
+            (edit_part None (cells_put O.advanced origin (meaning_of c.now)) self.now part.old (meaning_of c.now)) }
+    {
+        match c {
+            Command::Write {
+                path,
+                offset,
+                bytes,
+            } => {
+                let len = bytes.as_slice().len() as u64;
+                part.sub.write(path.as_slice(), *offset, origin, len)
+            }
+            Command::Truncate { size, path } => part.sub.truncate(path.as_slice(), *size),
+            Command::Fallocate {
+                size,
+                path,
+                offset,
+                mode,
+            } => part.sub.fallocate(path.as_slice(), *mode, *offset, *size),
+            Command::Clone {
+                path,
+                offset,
+                clone_uuid,
+                clone_ctransid,
+                clone_path,
+                clone_offset,
+                clone_len,
+            } => {
+                let source = Source {
+                    key: key_with(*clone_uuid, *clone_ctransid),
+                    path: clone_path.as_slice(),
+                    offset: *clone_offset,
+                    len: *clone_len,
+                };
+                self.clone_range(part, path.as_slice(), *offset, &source)
+            }
+            _ => edit_tree(part.sub.tree_mut(), c),
         }
     }
 
-    // The complete subvolume of a key.
-    fn find(&self, key: Key) -> Option<&FlatTree>
-        ensures { option_map (λ tree. tree.now) result ≡ find self.now (key_of key) }
+    // Puts a range of a file of the part itself, or of a complete subvolume, at the place `at` of a file of the part.
+    fn clone_range(
+        &self,
+        part: &mut Part<O>,
+        path: &[u8],
+        at: u64,
+        source: &Source<'_>,
+    ) -> Result<(), Stop>
+        ensures key { part.new.key ≡ part.old.key }
+        ensures cloned { MayChange result part.old.subvolume part.new.subvolume
+            (clone None part.old.subvolume (clone_source self.now part.old (key_of source.now.key)) (bytes_eq source.now.key.uuid part.old.key.uuid)
+            path.now at source.now.path.now source.now.offset source.now.len) }
     {
-        let at = self.place_of(key.uuid)?;
-        let entry = &self.entries[at];
-        if entry.key.ctransid != key.ctransid {
-            return None;
+        if source.key.uuid == part.key.uuid {
+            return part
+                .sub
+                .clone_here(path, at, source.path, source.offset, source.len);
         }
-        entry.tree.as_ref()
+        let Ok(_names) = split(path) else {
+            return Err(Stop::Refused(Refusal::BadPath));
+        };
+        let Ok(_names) = split(source.path) else {
+            return Err(Stop::Refused(Refusal::BadPath));
+        };
+        let Some(other) = self.catalog.by_key(source.key) else {
+            return Err(Stop::Refused(Refusal::NoSource));
+        };
+        part.sub
+            .clone_from(path, at, other, source.path, source.offset, source.len)
     }
 
-    // The unfinished entry of a part takes its subvolume. Takes no memory.
-    fn complete(&mut self, part: Part)
-        ensures complete { self.new ≡ with_contents part.key.uuid part.subvolume self.old }
+    /// The entry of the part's UUID takes its subvolume, and is complete; where there is none, nothing changes. Takes no memory.
+    pub fn complete(&mut self, part: Part<O>)
+        ensures { self.new ≡ with_contents part.key.uuid part.subvolume self.old }
     {
-        let Some(at) = self.place_of(part.key().uuid) else {
-            return;
+        self.catalog.complete(part.key.uuid, part.sub);
+    }
+
+    /// The part of the unfinished entry of a UUID, as it began: a root alone or the parent's subvolume.
+    ///
+    /// # Errors
+    /// `NoParent` where the entry has a parent that no complete entry has as its key now.
+    pub fn resume(&self, uuid: Uuid) -> Result<Part<O>, Stop>
+        requires there { IsTrue (is_some (unfinished_at uuid self.now)) }
+        ensures resumed { IfSome (unfinished_at uuid self.now) (λ entry. Resumes result entry self.now) }
+    {
+        let Some(entry) = self.unfinished_at(uuid) else {
+            return Err(Stop::NoMemory);
         };
-        self.entries[at].tree = Some(part.into_tree());
+        let Some(sub) = self.start(entry.parent)? else {
+            return Err(Stop::Refused(Refusal::NoParent));
+        };
+        Ok(Part {
+            key: entry.key,
+            sub,
+        })
+    }
+
+    // The first unfinished entry of a UUID.
+    fn unfinished_at(&self, uuid: Uuid) -> Option<&Entry<Subvol<O>>>
+        ensures { option_map (λ e. entry_of e.now) result ≡ unfinished_at uuid self.now }
+    {
+        for i in 0..self.catalog.len() {
+            let entry = self.catalog.at(i)?;
+            if is_unfinished(entry, uuid) {
+                return Some(entry);
+            }
+        }
+        None
+    }
+
+    /// One command on the core and the part, if there is one; a WRITE puts a run from the origin. A head completes the part before
+    /// it and begins a new one; after a refused head the part before is complete and there is no part. After `NoMemory` nothing is
+    /// said of either.
+    ///
+    /// # Errors
+    /// `NoSubvolume` for an edit without a part, else the refusals of the command. After that of an edit nothing is changed.
+    pub fn step(&mut self, part: &mut Option<Part<O>>, c: &Command, origin: O) -> Result<Done, Stop>
+        requires fits { Fits self.old part.old }
+        requires reach { data_len (meaning_of c.now) ≤ O.reach origin }
+        ensures fits { Fits self.new part.new }
+        ensures done { IfOk result (λ d. d ≡ done_by (meaning_of c.now)) }
+        ensures stepped { Answers result (record { store = self.new; part = part.new })
+            (step None (cells_put O.advanced origin (meaning_of c.now)) (record { store = self.old; part = part.old }) (meaning_of c.now)) }
+    {
+        if let Command::End = c {
+            self.complete_open(part);
+            return Ok(Done::Ended);
+        }
+        match head_of(c) {
+            Some(head) => self.enter(part, &head),
+            None => self.edit_open(part, c, origin),
+        }
     }
 
     // The part, if there is one, is complete. Takes no memory.
     #[tactic(auto, unfolding(send_model::specs::Store::completed))]
-    fn complete_open(&mut self, part: &mut Option<Part>)
+    fn complete_open(&mut self, part: &mut Option<Part<O>>)
         ensures complete { self.new ≡ completed (record { store = self.old; part = part.old }) }
         ensures none { part.new ≡ None }
     {
@@ -135,130 +305,39 @@ impl EditCore {
         }
     }
 
-    // The subvolume that a part starts from.
-    fn start(&self, parent: Option<Key>) -> Result<FlatTree, Stop>
-        ensures { Starts result (start_from self.now (option_map key_of parent)) }
-    {
-        match parent {
-            None => Ok(FlatTree::root_alone(*self.entries.allocator())),
-            Some(key) => {
-                let Some(tree) = self.find(key) else {
-                    return Err(Stop::Refused(Refusal::NoParent));
-                };
-                Ok(tree.copy()?)
-            }
-        }
-    }
-
-    // Begins an entry and its part, or refuses the head and changes nothing.
-    fn begin(&mut self, name: &[u8], key: Key, parent: Option<Key>) -> Result<Part, Stop>
-        ensures begun { Begins result (head_with name.now key parent) self.old self.new }
-    {
-        if !name_ok(name) {
-            return Err(Stop::Refused(Refusal::BadName));
-        }
-        if self.has_name(name) {
-            return Err(Stop::Refused(Refusal::NameThere));
-        }
-        if self.has_uuid(key.uuid) {
-            return Err(Stop::Refused(Refusal::UuidThere));
-        }
-        let tree = self.start(parent)?;
-        let alloc = *self.entries.allocator();
-        let at = self.entries.len();
-        let indexed = Vec::from_slice(alloc, name)?;
-        let name = Blob::from(Vec::from_slice(alloc, name)?);
-        self.by_name.insert(indexed, at)?;
-        self.by_uuid.insert(key.uuid, at)?;
-        self.entries.push(Entry {
-            name,
-            key,
-            parent,
-            tree: None,
-        })?;
-        Ok(Part::new(key, tree))
-    }
-
     // A head: the part before it is complete, and then the new part begins, or there is none.
-    fn enter(
-        &mut self,
-        part: &mut Option<Part>,
-        name: &[u8],
-        key: Key,
-        parent: Option<Key>,
-    ) -> Result<Done, Stop>
+    fn enter(&mut self, part: &mut Option<Part<O>>, head: &Head<'_>) -> Result<Done, Stop>
         ensures fits { Fits self.new part.new }
         ensures done { IfOk result (λ d. d ≡ did.Began) }
-        ensures entered { Answers result (record { store = self.new; part = part.new }) (step_head (record { store = self.old; part = part.old }) (head_with name.now key parent)) }
+        ensures entered { Answers result (record { store = self.new; part = part.new })
+            (step_head (record { store = self.old; part = part.old }) (head_meant head.now)) }
     {
         self.complete_open(part);
-        let begun = self.begin(name, key, parent)?;
+        let begun = self.begin_head(head)?;
         *part = Some(begun);
         Ok(Done::Began)
     }
 
-    /// One command on the core and the part, if there is one. A head completes the part before it and begins a new one;
-    /// after a refused head the part before is complete and there is no part. After `NoMemory` nothing is said of either.
-    ///
-    /// # Errors
-    /// The refusal of the command's step. After that of an edit nothing is changed.
-    pub fn step(&mut self, part: &mut Option<Part>, c: &Command) -> Result<Done, Stop>
-        requires fits { Fits self.old part.old }
-        requires taken { IsTrue (is_taken (kind_of (meaning_of c.now))) }
-        ensures fits { Fits self.new part.new }
-        ensures done { IfOk result (λ d. d ≡ done_by (meaning_of c.now)) }
-        ensures stepped { Answers result (record { store = self.new; part = part.new }) (step blank (cells_of (meaning_of c.now)) (record { store = self.old; part = part.old }) (meaning_of c.now)) }
+    // An edit of the part, if there is one.
+    fn edit_open(&self, part: &mut Option<Part<O>>, c: &Command, origin: O) -> Result<Done, Stop>
+        requires edits { done_by (meaning_of c.now) ≡ did.Edited }
+        requires reach { data_len (meaning_of c.now) ≤ O.reach origin }
+        ensures key { option_map (λ p. p.key) part.new ≡ option_map (λ p. p.key) part.old }
+        ensures done { IfOk result (λ d. d ≡ did.Edited) }
+        ensures edited { Answers result (record { store = self.now; part = part.new })
+            (step_edit None (cells_put O.advanced origin (meaning_of c.now)) (record { store = self.now; part = part.old }) (meaning_of c.now)) }
     {
-        match c {
-            Command::Subvol {
-                uuid,
-                ctransid,
-                path,
-            } => {
-                let key = Key {
-                    uuid: *uuid,
-                    ctransid: *ctransid,
-                };
-                self.enter(part, path.as_slice(), key, None)
-            }
-            Command::Snapshot {
-                uuid,
-                ctransid,
-                path,
-                clone_uuid,
-                clone_ctransid,
-            } => {
-                let key = Key {
-                    uuid: *uuid,
-                    ctransid: *ctransid,
-                };
-                let parent = Key {
-                    uuid: *clone_uuid,
-                    ctransid: *clone_ctransid,
-                };
-                self.enter(part, path.as_slice(), key, Some(parent))
-            }
-            Command::End => {
-                self.complete_open(part);
-                Ok(Done::Ended)
-            }
-            _ => edit_open(part, c),
-        }
+        let Some(open) = part else {
+            return Err(Stop::Refused(Refusal::NoSubvolume));
+        };
+        self.edit(open, c, origin)?;
+        Ok(Done::Edited)
     }
 }
 
-// An edit of the part, if there is one.
-fn edit_open(part: &mut Option<Part>, c: &Command) -> Result<Done, Stop>
-    requires taken { IsTrue (is_taken (kind_of (meaning_of c.now))) }
-    ensures key { option_map (λ p. p.key) part.new ≡ option_map (λ p. p.key) part.old }
-    ensures done { IfOk result (λ d. d ≡ did.Edited) }
-    ensures edited { Edits result (meaning_of c.now) part.old part.new }
+// Whether an entry of a UUID is unfinished.
+fn is_unfinished<O: Origin>(entry: &Entry<Subvol<O>>, uuid: Uuid) -> bool
+    ensures { result ≡ is_unfinished uuid (entry_of entry.now) }
 {
-    match part {
-        None => Err(Stop::Refused(Refusal::NoSubvolume)),
-        Some(open) => {
-            open.edit(c)?;
-            Ok(Done::Edited)
-        }
-    }
+    entry.key.uuid == uuid && entry.value.is_none()
 }

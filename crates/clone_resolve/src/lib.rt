@@ -1,15 +1,17 @@
-//! The core that holds the parts: the subvolumes of a chain of streams, and one command's step on them.
+//! The core that holds the parts: the subvolumes of a chain of streams over any origin of their contents, and one command's
+//! step on them.
 #![tactic(auto)]
 
 mod done;
 mod edit_core;
-mod key;
+mod head;
 mod part;
 #[cfg(test)]
 mod tests;
-mod tree;
+mod tree_edits;
 
 pub use done::Done;
 pub use edit_core::EditCore;
-pub use key::Key;
+pub use head::{Head, head_of};
 pub use part::Part;
+pub use subvol_catalog::Key;
