@@ -6,7 +6,7 @@ use Rattle.std.proofs.Common.{refl, sym, ap, subst, ◌∙◌}
 use Rattle.send_model.specs.Refusal.{Refusal, NotConsecutive}
 use Rattle.send_model.specs.Attribute.{Identifier, Number, FieldFits, UUID, CTRANSID}
 use Rattle.send_model.specs.Command.{Command, Subvol, Snapshot, End, row, kind_of_number}
-use Rattle.send_model.specs.Spelling.{stream_header, IsSpellable, canonical, canonical_all}
+use Rattle.send_model.specs.Spelling.{stream_header, canonical, canonical_all}
 use Rattle.send_model.specs.Reading.{Item, Verdict, Ending, Whole, Faulty, Reading, input, is_taken, taken}
 use Rattle.send_model.specs.Store.{Key, Head, head_of}
 use Rattle.send_model.specs.Receive.{fault_of, first_of, start_of, verdict_of}

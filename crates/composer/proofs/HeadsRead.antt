@@ -252,7 +252,9 @@ stop_of_files : (files : List (List ℕ)) (number : ℕ) (bytes : List ℕ) (las
 stop_of_files files number bytes last ended_by.NoMemory here s h = tt
 stop_of_files files number bytes last ended_by.InputFault here s h = tt
 stop_of_files files number bytes last (ended_by.InputTooLong file) here s h = long_here files number bytes (drop (number + 1) files) here s.long h.1 ∙ ap (λ (n : ℕ). Some n) (sym h.0)
-stop_of_files files number bytes last outcome here s h = elim h [ ]
+stop_of_files files number bytes last ended_by.Done here s h = elim h [ ]
+stop_of_files files number bytes last (ended_by.Refused verdict) here s h = elim h [ ]
+stop_of_files files number bytes last ended_by.OutputFault here s h = elim h [ ]
 
 -- The next file could not be read.
 pub files_stop : {Z : Type 0} (told told_now : Option (List (List ℕ × List ℕ))) (names : List (String Z)) (number : ℕ) (name : String Z) (spelled : List ℕ) (last now : Option Head) (result : Result Bool Outcome) (outcome : Outcome)

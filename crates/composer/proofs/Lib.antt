@@ -10,3 +10,4 @@ pub mod FileWriting
 pub mod FilesWriting
 pub mod HeadsRead
 pub mod Versions
+mod Answering

@@ -5,7 +5,7 @@ use Rattle.std.proofs.Common.{refl, sym, ap, subst, ◌∙◌, append_assoc, app
 use Rattle.std.proofs.lemmas.Bool.{false≢true}
 use Rattle.send_model.specs.Refusal.{Refusal, NotConsecutive}
 use Rattle.send_model.specs.Command.{Command, Subvol, Snapshot, End, row}
-use Rattle.send_model.specs.Spelling.{IsSpellable, stream_header, canonical, canonical_all}
+use Rattle.send_model.specs.Spelling.{stream_header, canonical, canonical_all}
 use Rattle.send_model.specs.Reading.{Item, Verdict, Ending, Whole, Faulty, Reading, CommandDue, Front, header_len, with_item, ended, faulty, go_on, stream_version, front_of, reads_from, reads, joined, input_from, input}
 use Rattle.send_model.specs.Store.{Head, head_of, State}
 use Rattle.send_model.specs.Receive.{verdict_of, start_of, first_of}

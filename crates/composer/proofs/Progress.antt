@@ -23,7 +23,7 @@ use Rattle.send_model.proofs.Merging.{NoClones, edit_in, edits_of}
 use Rattle.send_model.proofs.CellSteps.{step-cells}
 use Rattle.send_model.proofs.Judging.{previous_after, AreOrdered, AreOrdered-append, previous_after-append, empty_store, judge_refused, judge_unordered}
 use Rattle.send_model.proofs.Writing.{written_so_far, written-more, written-first, heads_of-append, edits_of-append, quiet}
-use Rattle.composer.specs.Advance.{Composing, blank_step, accepted, with_head, with_command, with_taken, advance}
+use Rattle.composer.specs.Advance.{Composing, blanked, blank_step, accepted, with_head, with_command, with_taken, advance}
 
 -- The values of a head fit the format.
 pub record HeadFits (head : Head) : Type 0 where
@@ -50,9 +50,6 @@ blank_step-bytes : (state : State ℕ) (c : Command) → is_clone c ≡ false �
 blank_step-bytes state c no_clone = step-cells (λ (b : ℕ). tt) c no_clone 0 (bytes_of c) state
 
 -- ---- steps that are taken
-
-abbrev blanked : State ℕ → State (Unit {0})
-blanked state = recelled_state (λ b. tt) state
 
 accepted_ok : {B : Type 0} (state : State ℕ) (o : Option Refusal) (k : State (Unit {0}) → Result B Refusal) (new : B) → (accepted (record { state = blanked state; refusal = o }) >>= k) ≡ Ok new → (o ≡ None) × (k (blanked state) ≡ Ok new)
 accepted_ok state None k new e = (refl, e)

@@ -1,50 +1,18 @@
--- A command that was read is one that is taken.
-use Rattle.std.specs.Prelude.{◌≡◌, ℕ, true, Option, None, Some, Result, Ok, Err}
-use Rattle.std.proofs.Common.{refl, subst}
-use Rattle.send_model.specs.Refusal.{Refusal}
-use Rattle.send_model.specs.Command.{kind_of, kind_of_number, Kind, SUBVOL, SNAPSHOT, MKFILE, MKDIR, MKNOD, MKFIFO, MKSOCK, SYMLINK, RENAME, LINK, UNLINK, RMDIR, SET_XATTR, REMOVE_XATTR, WRITE, CLONE, TRUNCATE, CHMOD, CHOWN, UTIMES, END, UPDATE_EXTENT, FALLOCATE, FILEATTR, row}
-use Rattle.send_model.specs.Reading.{taken, is_taken}
-use Rattle.send_model.specs.Spelling.{IsKnown}
+-- A command that was read is one that can be written.
+use Rattle.std.specs.Prelude.{◌≡◌, ℕ, ◌^◌, ◌<◌, ◌≤◌, length, Option, Some, Ok}
+use Rattle.std.proofs.Common.{refl, subst, arith, zero-le}
+use Rattle.send_model.specs.Command.{Command, Subvol, Snapshot, Write, row}
+use Rattle.send_model.specs.Store.{Head, head_of}
 use Rattle.send_model.specs.Laws.{CanWrite}
+use Rattle.send_model.proofs.Sorts.{same_inside}
 use Rattle.send_commands.specs.Meaning.{meaning_of}
 use Rattle.send_commands.specs.Writing.{IsWritable}
+use Rattle.clone_resolve.specs.Steps.{data_len}
+use Rattle.composer.specs.Taking.{IsShort}
 use Rattle.composer.proofs.Versions.{first_version}
 use Rattle.cmd_reader.specs.declared.item.Item as read
 use Rattle.cmd_reader.specs.Left.{Reader}
 use Rattle.cmd_reader.specs.Next.{ItemFits, IfItem}
-
-not_built : {r : Refusal} → ◌≡◌ {A = Result (Unit {0}) Refusal} (Err r) (Ok tt) → ⊥
-not_built e = cc
-
-unknown : {k : Kind} → ◌≡◌ {A = Option Kind} None (Some k) → ⊥
-unknown e = cc
-
-pub taken_kind_is : (k : Kind) → IsKnown 1 k → taken 1 (row k).number ≡ Ok tt → is_taken k ≡ true
-unfolding taken kind_of_number is_taken row
-taken_kind_is SUBVOL known e = refl
-taken_kind_is SNAPSHOT known e = refl
-taken_kind_is MKFILE known e = refl
-taken_kind_is WRITE known e = refl
-taken_kind_is TRUNCATE known e = refl
-taken_kind_is END known e = refl
-taken_kind_is UPDATE_EXTENT known e = refl
-taken_kind_is MKDIR known e = absurd (not_built e)
-taken_kind_is MKNOD known e = absurd (not_built e)
-taken_kind_is MKFIFO known e = absurd (not_built e)
-taken_kind_is MKSOCK known e = absurd (not_built e)
-taken_kind_is SYMLINK known e = absurd (not_built e)
-taken_kind_is RENAME known e = absurd (not_built e)
-taken_kind_is LINK known e = absurd (not_built e)
-taken_kind_is UNLINK known e = absurd (not_built e)
-taken_kind_is RMDIR known e = absurd (not_built e)
-taken_kind_is SET_XATTR known e = absurd (not_built e)
-taken_kind_is REMOVE_XATTR known e = absurd (not_built e)
-taken_kind_is CLONE known e = absurd (not_built e)
-taken_kind_is CHMOD known e = absurd (not_built e)
-taken_kind_is CHOWN known e = absurd (not_built e)
-taken_kind_is UTIMES known e = absurd (not_built e)
-taken_kind_is FALLOCATE known e = absurd (unknown known)
-taken_kind_is FILEATTR known e = absurd (unknown known)
 
 -- What holds of the item that was read.
 pub item_fits : (o : Option read.Item) (item : read.Item) (old new : Reader) → o ≡ Some item → IfItem (Ok o) (ItemFits old new) → ItemFits old new item
@@ -56,5 +24,15 @@ item_can_write o item old new e fits = let f = item_fits o item old new e fits i
 pub item_writable : (o : Option read.Item) (item : read.Item) (old new : Reader) → o ≡ Some item → IfItem (Ok o) (ItemFits old new) → IsWritable 1 (meaning_of item.command)
 item_writable o item old new e fits = let f = item_fits o item old new e fits in subst (λ (v : ℕ). IsWritable v (meaning_of item.command)) (first_version item.version f.version) f.writable
 
-pub item_taken : (o : Option read.Item) (item : read.Item) (old new : Reader) → o ≡ Some item → IfItem (Ok o) (ItemFits old new) → is_taken (kind_of (meaning_of item.command)) ≡ true
-item_taken o item old new e fits = let can = item_can_write o item old new e fits in taken_kind_is (kind_of (meaning_of item.command)) can.spellable.known can.taken_kind
+-- The name of a head that can be written is short.
+pub short_name : (m : Command) (head : Head) → head_of m ≡ Some head → IsWritable 1 m → IsShort head.name
+unfolding IsWritable row
+short_name (Subvol uuid ctransid path) head e w = subst (λ (h : Head). IsShort h.name) (same_inside e) (w.1.1.0 refl)
+short_name (Snapshot uuid ctransid path clone_uuid clone_ctransid) head e w = subst (λ (h : Head). IsShort h.name) (same_inside e) (w.1.1.0 refl)
+short_name c head e w = cc
+
+-- So is the data of a command.
+pub short_data : (m : Command) → IsWritable 1 m → data_len m ≤ 2 ^ 64
+unfolding IsWritable row
+short_data (Write path offset bytes) w = let short : length bytes < 2 ^ 16 = w.1.1.0 refl in omega (arith, short)
+short_data m w = zero-le

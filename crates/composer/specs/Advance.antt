@@ -7,6 +7,7 @@ use Rattle.send_model.specs.Command.{Command, End}
 use Rattle.send_model.specs.Spelling.{stream_header, canonical}
 use Rattle.send_model.specs.Store.{Key, Head, head_of, State, Stepped, step}
 use Rattle.send_model.specs.Receive.{bytes_of}
+use Rattle.send_model.specs.Cells.{recelled_state}
 use Rattle.send_model.specs.Order.{breaks_order}
 use Rattle.send_model.specs.Composed.{head_command}
 
@@ -18,6 +19,10 @@ pub record Composing : Type 0 where
   pub last : Option Head
   pub begun : Bool
   pub pending : List ℕ
+
+-- A state whose cells carry nothing any more.
+abbrev pub blanked : {C : Type 0} → State C → State (Unit {0})
+blanked state = recelled_state (λ c. tt) state
 
 -- A command's step over cells that carry nothing.
 abbrev pub blank_step : State (Unit {0}) → Command → Stepped (Unit {0})

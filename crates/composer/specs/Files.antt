@@ -1,5 +1,5 @@
 -- What is said of whole files: the files of names, what composing one file and all files ends with, and why it stops.
-use Rattle.std.specs.Prelude.{◌≡◌, ◌≢◌, ◌⊎◌, ⊤, ℕ, Bool, true, false, List, [], ◌++◌, map, Option, None, Some, Result, Ok, Err}
+use Rattle.std.specs.Prelude.{◌≡◌, ◌≢◌, ◌⊎◌, ⊤, ℕ, Bool, true, false, List, [], ◌++◌, Option, None, Some, Result, Ok, Err}
 use Rattle.std.specs.Io.KnownBytes.{Appends}
 use Rattle.send_model.specs.Refusal as meant
 use Rattle.send_model.specs.Command.{Command}
@@ -13,7 +13,7 @@ use Rattle.send_model.specs.Composed.{last_head, composed}
 use Rattle.send_model.specs.Headline.{IsComposed, IsStopped}
 use Rattle.send_model.specs.Laws.{CanWrite}
 use Rattle.sx_base.specs.Causes.{Rose}
-use Rattle.sx_base.specs.Outside.{file_at, AppendsPart}
+use Rattle.sx_base.specs.Outside.{AppendsPart}
 use Rattle.sx_base.specs.declared.outcome.Verdict.{Verdict}
 use Rattle.sx_base.specs.declared.outcome.Outcome.{Outcome}
 use Rattle.sx_base.specs.declared.outcome.Outcome.TheVariants as ended
@@ -35,7 +35,9 @@ abbrev pub StopSays : List (List ℕ) → List ℕ → Outcome → Type 0
 StopSays files written ended.Done = ⊥
 StopSays files written (ended.Refused verdict) = IsStopped nothing files written × (judge nothing files ≡ Some (verdict_meant verdict)) × (too_long files ≡ None)
 StopSays files written (ended.InputTooLong number) = IsStopped nothing files written × (too_long files ≡ Some number)
-StopSays files written _ = IsStopped nothing files written
+StopSays files written ended.InputFault = IsStopped nothing files written
+StopSays files written ended.OutputFault = IsStopped nothing files written
+StopSays files written ended.NoMemory = IsStopped nothing files written
 
 -- The files are composed: what was written is the composed stream, which the headline holds of. None of them is too long.
 pub record DoneSays (files : List (List ℕ)) (written : List ℕ) : Type 0 where
@@ -46,7 +48,11 @@ pub record DoneSays (files : List (List ℕ)) (written : List ℕ) : Type 0 wher
 
 abbrev pub EndSays : List (List ℕ) → List ℕ → Outcome → Type 0
 EndSays files written ended.Done = DoneSays files written
-EndSays files written outcome = StopSays files written outcome
+EndSays files written (ended.Refused verdict) = StopSays files written (ended.Refused verdict)
+EndSays files written (ended.InputTooLong number) = StopSays files written (ended.InputTooLong number)
+EndSays files written ended.InputFault = StopSays files written ended.InputFault
+EndSays files written ended.OutputFault = StopSays files written ended.OutputFault
+EndSays files written ended.NoMemory = StopSays files written ended.NoMemory
 
 -- What composing files answers, where it answers Ok only at the end.
 abbrev pub FilesEnd : Option (List ℕ) → Option (List ℕ) → Result (Unit {0}) Outcome → List (List ℕ) → Type 0
@@ -79,7 +85,9 @@ abbrev pub HeadsStop : ℕ → Outcome → List ℕ → Type 0
 HeadsStop file ended.NoMemory bytes = ⊤
 HeadsStop file ended.InputFault bytes = ⊤
 HeadsStop file (ended.InputTooLong number) bytes = (number ≡ file) × (is_too_long file bytes ≡ true)
-HeadsStop file outcome bytes = ⊥
+HeadsStop file ended.Done bytes = ⊥
+HeadsStop file (ended.Refused verdict) bytes = ⊥
+HeadsStop file ended.OutputFault bytes = ⊥
 
 abbrev pub HeadsEnd : ℕ → Option Head → Option Head → Result Bool Outcome → List ℕ → Type 0
 HeadsEnd file old new (Ok whole) bytes = HeadsRead file whole old new bytes
@@ -95,7 +103,9 @@ abbrev pub LastStop : Outcome → List (List ℕ) → Type 0
 LastStop ended.NoMemory files = ⊤
 LastStop ended.InputFault files = ⊤
 LastStop (ended.InputTooLong number) files = too_long files ≡ Some number
-LastStop outcome files = ⊥
+LastStop ended.Done files = ⊥
+LastStop (ended.Refused verdict) files = ⊥
+LastStop ended.OutputFault files = ⊥
 
 abbrev pub LastEnd : Result (Option Head) Outcome → List (List ℕ) → Type 0
 LastEnd (Ok last) files = LastRead last files
@@ -107,7 +117,11 @@ LastEnd (Err outcome) files = LastStop outcome files
 abbrev pub SendEnd : Composing → Composing → Option (List ℕ) → Option (List ℕ) → ℕ → ℕ → Result (Unit {0}) Outcome → Type 0
 SendEnd old new out_old out_new before now (Ok done) = (new ≡ record old { pending = [] }) × Appends out_old out_new old.pending
 SendEnd old new out_old out_new before now (Err ended.OutputFault) = Rose before now × AppendsPart out_old out_new old.pending
-SendEnd old new out_old out_new before now (Err outcome) = ⊥
+SendEnd old new out_old out_new before now (Err ended.Done) = ⊥
+SendEnd old new out_old out_new before now (Err (ended.Refused verdict)) = ⊥
+SendEnd old new out_old out_new before now (Err ended.InputFault) = ⊥
+SendEnd old new out_old out_new before now (Err ended.NoMemory) = ⊥
+SendEnd old new out_old out_new before now (Err (ended.InputTooLong number)) = ⊥
 
 -- The outcome stays, or what is pending was to be written first and the output failed; but where the inputs have failed, or
 -- there is no memory, nothing was. A front part of what is pending was written.
@@ -136,7 +150,9 @@ abbrev pub CommandWhy : Composing → Composing → Command → Place → Outcom
 CommandWhy old next c place (ended.Refused verdict) = (next ≡ old) × Refuses old c place verdict
 CommandWhy old next c place ended.NoMemory = next ≡ old
 CommandWhy old next c place ended.OutputFault = (next ≡ old) ⊎ (advance old c ≡ Ok next)
-CommandWhy old next c place outcome = ⊥
+CommandWhy old next c place ended.Done = ⊥
+CommandWhy old next c place ended.InputFault = ⊥
+CommandWhy old next c place (ended.InputTooLong number) = ⊥
 
 pub record CommandStops (old : Composing) (c : Command) (place : Place) (outcome : Outcome) (out_old out_new : Option (List ℕ)) : Type 0 where
   pub next : Composing
@@ -185,7 +201,9 @@ abbrev pub FileWhy : ℕ → Composing → Reading → Outcome → List ℕ → 
 FileWhy file now rest (ended.Refused verdict) bytes = (rest ≡ record { items = []; end = Faulty (verdict_meant verdict) }) ⊎ NextRefused now rest verdict
 FileWhy file now rest (ended.InputTooLong number) bytes = (number ≡ file) × (is_too_long file bytes ≡ true)
 FileWhy file now rest ended.Done bytes = ⊥
-FileWhy file now rest outcome bytes = ⊤
+FileWhy file now rest ended.InputFault bytes = ⊤
+FileWhy file now rest ended.OutputFault bytes = ⊤
+FileWhy file now rest ended.NoMemory bytes = ⊤
 
 -- Some commands of the file were taken, and a front part of the bytes was written that were then to be written.
 pub record FileStops (file : ℕ) (old : Composing) (out_old out_new : Option (List ℕ)) (outcome : Outcome) (bytes : List ℕ) : Type 0 where

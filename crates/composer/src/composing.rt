@@ -1,18 +1,18 @@
 // Composing, command by command.
-ghost use Rattle.std.specs.Prelude.{◌≡◌, ◌++◌, List, [], ℕ, None, Some, not, IsTrue, false, OnOk, OnErr};
+ghost use Rattle.std.specs.Prelude.{◌≡◌, ℕ, ◌++◌, List, [], None, Some, not, false, OnOk, OnErr};
 ghost use Rattle.std.specs.Option.{option_map};
-ghost use Rattle.send_model.specs.Command.{kind_of, End};
+ghost use Rattle.send_model.specs.Command.{End};
 ghost use Rattle.send_model.specs.Spelling.{canonical};
-ghost use Rattle.send_model.specs.Reading.{is_taken};
 ghost use Rattle.send_model.specs.Order.{breaks_order};
 ghost use Rattle.send_commands.specs.Meaning.{meaning_of};
 ghost use Rattle.send_commands.specs.Writing.{IsWritable};
-ghost use Rattle.clone_resolve.specs.Entries.{key_of, head_with};
+ghost use Rattle.subvol_catalog.specs.Entries.{key_of, head_with};
 ghost use Rattle.composer.specs.Advance.{advance};
 ghost use Rattle.composer.specs.Taking.{Takes, after_head};
 
+use crate::nowhere::Nowhere;
 use crate::part_head::PartHead;
-use clone_resolve::{EditCore, Key, Part};
+use clone_resolve::{EditCore, Key, Part, head_of};
 use send_commands::{Command, encode};
 use std::alloc::{AllocError, Global};
 use std::marker::Model;
@@ -22,8 +22,8 @@ use sx_base::{Blob, Refusal, Stop};
 /// last, then the edits of all, then END.
 #[derive(Drop)]
 pub struct Composer {
-    core: EditCore,
-    part: Option<Part>,
+    core: EditCore<Nowhere>,
+    part: Option<Part<Nowhere>>,
     previous: Option<Key>,
     last: Option<PartHead>,
     begun: bool,
@@ -32,14 +32,14 @@ pub struct Composer {
 
 impl Model for Composer {
     ghost use Rattle.std.specs.Option.{option_map};
-    ghost use Rattle.clone_resolve.specs.Entries.{key_of};
+    ghost use Rattle.subvol_catalog.specs.Entries.{key_of};
     ghost use Rattle.clone_resolve.specs.Steps.{Fits};
-    ghost use Rattle.composer.specs.Advance.{Composing};
+    ghost use Rattle.composer.specs.Advance.{Composing, blanked};
 
     ghost Value = { Composing };
 
     ghost view = { λ c. record {
-      state = record { store = c.core; part = c.part };
+      state = blanked (record { store = c.core; part = c.part });
       previous = option_map key_of c.previous;
       last = c.last;
       begun = c.begun;
@@ -52,7 +52,13 @@ impl Model for Composer {
 impl Composer {
     /// Composing before the first command, where `last` is the head of the last part. Takes no memory.
     pub fn new(alloc: Global, last: Option<PartHead>) -> Composer
-        ensures empty { result ≡ record { state = record { store = []; part = None }; previous = None; last = last; begun = false; pending = [] } }
+        ensures empty { result ≡ record {
+          state = record { store = []; part = None };
+          previous = None;
+          last = last;
+          begun = false;
+          pending = [];
+        } }
     {
         Composer {
             core: EditCore::new(alloc),
@@ -70,36 +76,14 @@ impl Composer {
     /// The refusal of the command's step, or `NotConsecutive` at a head that does not name the part before it as its parent
     /// or where no last head was given.
     pub fn take(&mut self, c: &Command) -> Result<(), Stop>
-        requires taken { IsTrue (is_taken (kind_of (meaning_of c.now))) }
         requires writable { IsWritable 1 (meaning_of c.now) }
         ensures taken { Takes result self.old self.new (advance self.old (meaning_of c.now)) }
     {
-        self.core.step(&mut self.part, c)?;
+        self.core.step(&mut self.part, c, Nowhere)?;
+        if let Some(head) = head_of(c) {
+            return self.enter(head.key, head.parent);
+        }
         match c {
-            Command::Subvol { uuid, ctransid, .. } => {
-                let key = Key {
-                    uuid: *uuid,
-                    ctransid: *ctransid,
-                };
-                self.enter(key, None)
-            }
-            Command::Snapshot {
-                uuid,
-                ctransid,
-                clone_uuid,
-                clone_ctransid,
-                ..
-            } => {
-                let key = Key {
-                    uuid: *uuid,
-                    ctransid: *ctransid,
-                };
-                let parent = Key {
-                    uuid: *clone_uuid,
-                    ctransid: *clone_ctransid,
-                };
-                self.enter(key, Some(parent))
-            }
             Command::End => Ok(()),
             _ => Ok(encode(c, 1, &mut self.pending)?),
         }
@@ -159,7 +143,8 @@ impl Composer {
 
 // Whether a head with this parent follows the part before it.
 fn follows(previous: &Option<Key>, parent: &Option<Key>) -> bool
-    ensures { (name : List ℕ) → (key : Key) → result ≡ not (breaks_order (option_map key_of previous.now) (Some (head_with name key parent.now))) }
+    ensures { (name : List ℕ) → (key : Key)
+        → result ≡ not (breaks_order (option_map key_of previous.now) (Some (head_with name key parent.now))) }
 {
     match (previous, parent) {
         (None, _) => true,

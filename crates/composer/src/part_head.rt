@@ -6,9 +6,9 @@ ghost use Rattle.send_model.specs.Store.{head_of};
 ghost use Rattle.send_model.specs.Composed.{head_command};
 ghost use Rattle.send_commands.specs.Meaning.{meaning_of};
 ghost use Rattle.send_commands.specs.Writing.{IsWritable};
-ghost use Rattle.clone_resolve.specs.Entries.{key_of};
+ghost use Rattle.subvol_catalog.specs.Entries.{key_of};
 
-use clone_resolve::Key;
+use clone_resolve::{Key, head_of};
 use send_commands::{Command, encode};
 use std::alloc::{AllocError, Global};
 use std::marker::Model;
@@ -27,7 +27,7 @@ pub struct PartHead {
 
 impl Model for PartHead {
     ghost use Rattle.send_model.specs.Store as meant;
-    ghost use Rattle.clone_resolve.specs.Entries.{head_with};
+    ghost use Rattle.subvol_catalog.specs.Entries.{head_with};
     ghost use Rattle.composer.specs.Taking.{IsShort};
 
     ghost Value = { meant.Head };
@@ -42,58 +42,26 @@ impl PartHead {
     ///
     /// # Errors
     /// There is no memory.
-    #[tactic(auto, unfolding(send_commands::specs::Writing::IsWritable, send_model::specs::Command::row))]
     pub fn of(alloc: Global, c: &Command) -> Result<Option<PartHead>, AllocError>
         requires writable { IsWritable 1 (meaning_of c.now) }
         ensures head { IfOk result (λ h. h ≡ head_of (meaning_of c.now)) }
     {
-        match c {
-            Command::Subvol {
-                uuid,
-                ctransid,
-                path,
-            } => {
-                let name = Blob::from(Vec::from_slice(alloc, path.as_slice())?);
-                let key = Key {
-                    uuid: *uuid,
-                    ctransid: *ctransid,
-                };
-                Ok(Some(PartHead {
-                    name,
-                    key,
-                    parent: None,
-                }))
-            }
-            Command::Snapshot {
-                uuid,
-                ctransid,
-                path,
-                clone_uuid,
-                clone_ctransid,
-            } => {
-                let name = Blob::from(Vec::from_slice(alloc, path.as_slice())?);
-                let key = Key {
-                    uuid: *uuid,
-                    ctransid: *ctransid,
-                };
-                let parent = Key {
-                    uuid: *clone_uuid,
-                    ctransid: *clone_ctransid,
-                };
-                Ok(Some(PartHead {
-                    name,
-                    key,
-                    parent: Some(parent),
-                }))
-            }
-            _ => Ok(None),
-        }
+        let Some(head) = head_of(c) else {
+            return Ok(None);
+        };
+        let name = Blob::from(Vec::from_slice(alloc, head.name)?);
+        Ok(Some(PartHead {
+            name,
+            key: head.key,
+            parent: head.parent,
+        }))
     }
 
     // The command that begins a part of this name and key and of the given parent.
     #[tactic(auto, unfolding(send_commands::specs::Writing::IsWritable, send_model::specs::Command::row))]
     fn command(&self, parent: Option<Key>) -> Result<Command, AllocError>
-        ensures command { IfOk result (λ c. meaning_of c ≡ head_command self.now.name self.now.key (option_map key_of parent)) }
+        ensures command { IfOk result
+            (λ c. meaning_of c ≡ head_command self.now.name self.now.key (option_map key_of parent)) }
         ensures writable { IfOk result (λ c. IsWritable 1 (meaning_of c)) }
     {
         let path = self.name.copy()?;
@@ -118,7 +86,8 @@ impl PartHead {
     // Appends the header of a stream and the command that begins a part of this name and key and of the given parent.
     #[tactic(auto, unfolding(send_model::specs::Spelling::stream_header))]
     pub(crate) fn begin_stream(&self, parent: Option<Key>, to: &mut Blob) -> Result<(), AllocError>
-        ensures begun { OnOk result (to.new ≡ to.old ++ (stream_header 1 ++ canonical 1 (head_command self.now.name self.now.key (option_map key_of parent)))) }
+        ensures begun { OnOk result (to.new ≡ to.old ++ (stream_header 1
+            ++ canonical 1 (head_command self.now.name self.now.key (option_map key_of parent)))) }
     {
         let head = self.command(parent)?;
         to.push_all(&STREAM_HEADER)?;

@@ -26,7 +26,12 @@ impl Place {
     }
 
     pub(crate) fn refused(self, refusal: Refusal) -> Verdict
-        ensures verdict { verdict_meant result ≡ record { file = self.file; command = self.command; offset = self.offset; refusal = refusal_of refusal } }
+        ensures verdict { verdict_meant result ≡ record {
+          file = self.file;
+          command = self.command;
+          offset = self.offset;
+          refusal = refusal_of refusal;
+        } }
     {
         Verdict {
             file: self.file,

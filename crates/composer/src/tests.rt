@@ -1,7 +1,5 @@
 // A chain that is composed, and what is refused. UUIDs are sixteen times the same byte.
-ghost use Rattle.std.specs.Prelude.{◌≡◌, length, IfOk, IsTrue};
-ghost use Rattle.send_model.specs.Command.{kind_of};
-ghost use Rattle.send_model.specs.Reading.{is_taken};
+ghost use Rattle.std.specs.Prelude.{◌≡◌, length, IfOk};
 ghost use Rattle.send_commands.specs.Meaning.{meaning_of};
 ghost use Rattle.send_commands.specs.Writing.{IsWritable};
 
@@ -32,9 +30,8 @@ fn blob(alloc: Global, byte: u8) -> Result<Blob, AllocError>
     Ok(Blob::from(Vec::from_slice(alloc, &[byte])?))
 }
 
-#[tactic(auto, unfolding(send_model::specs::Reading::is_taken, send_commands::specs::Writing::IsWritable, send_model::specs::Command::row))]
+#[tactic(auto, unfolding(send_commands::specs::Writing::IsWritable, send_model::specs::Command::row))]
 fn command(alloc: Global, row: Row) -> Result<Command, AllocError>
-    ensures taken { IfOk result (λ c. IsTrue (is_taken (kind_of (meaning_of c)))) }
     ensures writable { IfOk result (λ c. IsWritable 1 (meaning_of c)) }
 {
     match row {

@@ -1,14 +1,13 @@
 // Composing files: once over all of them for the last head, and once more to write.
-ghost use Rattle.std.specs.Prelude.{◌≡◌, ◌≢◌, ◌≤◌, [], map, IsTrue};
+ghost use Rattle.std.specs.Prelude.{◌≡◌, ◌≢◌, ◌≤◌, [], map};
 ghost use Rattle.std.specs.Io.KnownBytes.{Appends};
 ghost use Rattle.std.specs.String.{string_bytes};
-ghost use Rattle.send_model.specs.Command.{kind_of};
-ghost use Rattle.send_model.specs.Reading.{is_taken};
+ghost use Rattle.send_model.specs.Words.{Compose};
 ghost use Rattle.send_commands.specs.Meaning.{meaning_of};
 ghost use Rattle.send_commands.specs.Writing.{IsWritable};
 ghost use Rattle.cmd_reader.specs.Places.{IfTold};
 ghost use Rattle.composer.specs.Files.{EndSays, FilesEnd, FileEnd, CommandEnd, SendEnd, StopEnd};
-ghost use Rattle.sx_base.specs.Calls.{IfAllTold, Caused, ErrCaused, Wrote};
+ghost use Rattle.sx_base.specs.Calls.{IfAllTold, Caused, ErrCaused, Wrote, Ends};
 
 use crate::composing::Composer;
 use crate::heads::last_head;
@@ -34,7 +33,10 @@ pub fn compose<I: Inputs, O: Sink>(
     requires some { files.now ≢ [] }
     ensures same { I.told inputs.new ≡ I.told inputs.old }
     ensures cause { Caused (I.faults inputs.old) (I.faults inputs.new) (O.faults out.old) (O.faults out.new) result }
-    ensures composed { IfAllTold (I.told inputs.old) (map string_bytes files.now) (λ files. Wrote (O.taken out.old) (O.taken out.new) (λ written. EndSays files written result)) }
+    ensures composed { IfAllTold (I.told inputs.old) (map string_bytes files.now)
+        (λ files. Wrote (O.taken out.old) (O.taken out.new) (λ written. EndSays files written result)) }
+    ensures ends { IfAllTold (I.told inputs.old) (map string_bytes files.now)
+        (λ bytes. Wrote (O.taken out.old) (O.taken out.new) (λ written. Ends (Compose 1 2) [] bytes result written)) }
 {
     match compose_files(alloc, inputs, files, out) {
         Ok(()) => Outcome::Done,
@@ -51,7 +53,8 @@ fn compose_files<I: Inputs, O: Sink>(
     requires some { files.now ≢ [] }
     ensures same { I.told inputs.new ≡ I.told inputs.old }
     ensures cause { ErrCaused (I.faults inputs.old) (I.faults inputs.new) (O.faults out.old) (O.faults out.new) result }
-    ensures composed { IfAllTold (I.told inputs.old) (map string_bytes files.now) (FilesEnd (O.taken out.old) (O.taken out.new) result) }
+    ensures composed { IfAllTold (I.told inputs.old) (map string_bytes files.now)
+        (FilesEnd (O.taken out.old) (O.taken out.new) result) }
 {
     let last = match last_head(alloc, inputs, files) {
         Ok(last) => last,
@@ -98,7 +101,8 @@ fn write_file<I: Inputs, O: Sink>(
     ensures later { I.faults inputs.old ≤ I.faults inputs.new }
     ensures out_later { O.faults out.old ≤ O.faults out.new }
     ensures cause { ErrCaused (I.faults inputs.old) (I.faults inputs.new) (O.faults out.old) (O.faults out.new) result }
-    ensures wrote { IfTold (I.told inputs.old) name.now (FileEnd file composer.old composer.new (O.taken out.old) (O.taken out.new) before result) }
+    ensures wrote { IfTold (I.told inputs.old) name.now
+        (FileEnd file composer.old composer.new (O.taken out.old) (O.taken out.new) before result) }
 {
     let Ok(mut reader) = CmdReader::new(alloc, file, name) else {
         return Err(Outcome::NoMemory);
@@ -131,11 +135,11 @@ fn write_command<O: Sink>(
     command: &Command,
     place: Place,
 ) -> Result<(), Outcome>
-    requires taken { IsTrue (is_taken (kind_of (meaning_of command.now))) }
     requires writable { IsWritable 1 (meaning_of command.now) }
     ensures later { O.faults out.old ≤ O.faults out.new }
     ensures cause { ErrCaused 0 0 (O.faults out.old) (O.faults out.new) result }
-    ensures composed { CommandEnd composer.old composer.new (meaning_of command.now) place (O.taken out.old) (O.taken out.new) result }
+    ensures composed { CommandEnd composer.old composer.new (meaning_of command.now) place
+        (O.taken out.old) (O.taken out.new) result }
 {
     match composer.take(command) {
         Ok(()) => {
@@ -155,7 +159,8 @@ fn write_command<O: Sink>(
 // refusal; but where the inputs have failed, or there is no memory, nothing more is asked of the output.
 fn stopped<O: Sink>(out: &mut O, composer: &mut Composer, outcome: Outcome) -> Outcome
     ensures later { O.faults out.old ≤ O.faults out.new }
-    ensures stopped { StopEnd composer.old.pending (O.taken out.old) (O.taken out.new) (O.faults out.old) (O.faults out.new) outcome result }
+    ensures stopped { StopEnd composer.old.pending (O.taken out.old) (O.taken out.new)
+        (O.faults out.old) (O.faults out.new) outcome result }
 {
     if let Outcome::InputFault | Outcome::NoMemory = outcome {
         return outcome;
@@ -169,7 +174,8 @@ fn stopped<O: Sink>(out: &mut O, composer: &mut Composer, outcome: Outcome) -> O
 // Writes what is pending.
 fn send<O: Sink>(composer: &mut Composer, out: &mut O) -> Result<(), Outcome>
     ensures later { O.faults out.old ≤ O.faults out.new }
-    ensures sent { SendEnd composer.old composer.new (O.taken out.old) (O.taken out.new) (O.faults out.old) (O.faults out.new) result }
+    ensures sent { SendEnd composer.old composer.new (O.taken out.old) (O.taken out.new)
+        (O.faults out.old) (O.faults out.new) result }
 {
     if write_whole(out, composer.pending()).is_err() {
         return Err(Outcome::OutputFault);

@@ -32,7 +32,36 @@ const MKFILE_TWICE: &[u8] =
 
 const MKFILE_BARE: &[u8] = b"\x00\x00\x00\x00\x03\x00\xda\xcb\xbc4";
 
+const MKFILE_Y: &[u8] = b"\x05\x00\x00\x00\x03\x00,\t]\x81\x0f\x00\x01\x00y";
+
+const MKFILE_IN_E: &[u8] = b"\x07\x00\x00\x00\x03\x001\x06\xf4\x12\x0f\x00\x03\x00e/f";
+
 const MKDIR: &[u8] = b"\x05\x00\x00\x00\x04\x00\xc4\xdeJ\xc4\x0f\x00\x01\x00d";
+
+const MKDIR_E: &[u8] = b"\x05\x00\x00\x00\x04\x00\xc7]!6\x0f\x00\x01\x00e";
+
+const MKNOD: &[u8] =
+    b"\x1f\x00\x00\x00\x05\x00\x92\xf5A\xc3\x05\x00\x08\x00\xb0!\x00\x00\x00\x00\x00\x00\x08\x00\x08\x00\x01\x05\x00\x00\x00\x00\x00\x00\x0f\x00\x03\x00d/n";
+
+const SYMLINK: &[u8] =
+    b"\x11\x00\x00\x00\x08\x00\xc2\xa3\x96\x14\x0f\x00\x03\x00d/s\x11\x00\x06\x00../x y";
+
+const SET_XATTR: &[u8] =
+    b"\x15\x00\x00\x00\x0d\x00Vj\xee9\x0d\x00\x06\x00user.k\x0e\x00\x02\x00\x00\xff\x0f\x00\x01\x00d";
+
+const LINK: &[u8] = b"\x0a\x00\x00\x00\x0a\x00d\xe1\x01\xe0\x0f\x00\x01\x00y\x11\x00\x01\x00x";
+
+// Of two names of one file: nothing is done.
+const RENAME_SAME: &[u8] =
+    b"\x0a\x00\x00\x00\x09\x00!\x06\xb3\xd6\x0f\x00\x01\x00x\x10\x00\x01\x00y";
+
+const RENAME_ONTO_E: &[u8] =
+    b"\x0a\x00\x00\x00\x09\x00\xc8\x11Q\x99\x0f\x00\x01\x00d\x10\x00\x01\x00e";
+
+const RENAME_INTO_D: &[u8] = b"\x0c\x00\x00\x00\x09\x00a`\xf8N\x0f\x00\x01\x00d\x10\x00\x03\x00d/g";
+
+const CLONE: &[u8] =
+    b"N\x00\x00\x00\x10\x00\x1a~\x9b\xe0\x0f\x00\x01\x00y\x12\x00\x08\x00\x00\x00\x00\x00\x00\x00\x00\x00\x14\x00\x10\x00\x11\x11\x11\x11\x11\x11\x11\x11\x11\x11\x11\x11\x11\x11\x11\x11\x15\x00\x08\x00\x01\x00\x00\x00\x00\x00\x00\x00\x16\x00\x01\x00x\x17\x00\x08\x00\x00\x00\x00\x00\x00\x00\x00\x00\x18\x00\x08\x00\x02\x00\x00\x00\x00\x00\x00\x00";
 
 const WRITE_HI: &[u8] =
     b"\x17\x00\x00\x00\x0f\x00C~\xee_\x0f\x00\x01\x00x\x12\x00\x08\x00\x00\x00\x00\x00\x00\x00\x00\x00\x13\x00\x02\x00hi";
@@ -242,9 +271,9 @@ fn commands_are_refused(rt: HostRuntime) -> Result<(), Fail> {
             &[HEADER, SUBVOL_A],
         ),
         (
-            &[HEADER, SUBVOL_A, MKDIR, END],
-            refused(1, 2, 64, Refusal::NotBuilt(4)),
-            &[HEADER, SUBVOL_A],
+            &[HEADER, SUBVOL_A, MKFILE, WRITE_HI, MKFILE_Y, CLONE, END],
+            refused(1, 5, 127, Refusal::NotBuilt(16)),
+            &[HEADER, SUBVOL_A, MKFILE, WRITE_HI, MKFILE_Y],
         ),
         (
             &[HEADER, SUBVOL_A, MKFILE, TRUNCATE_LAST, TRUNCATE_PAST, END],
@@ -257,6 +286,67 @@ fn commands_are_refused(rt: HostRuntime) -> Result<(), Fail> {
             ],
             refused(1, 5, 142, Refusal::FileTooBig),
             &[HEADER, SUBVOL_A, MKFILE, WRITE_NONE, WRITE_LAST],
+        ),
+    ];
+    for (file, outcome, written) in table {
+        expect(&rt, rt.alloc(), &[file], outcome, written)?;
+    }
+    Ok(())
+}
+
+// A directory with a file beside one without, and a file of two names.
+const TREE: &[&[u8]] = &[
+    HEADER,
+    SUBVOL_A,
+    MKFILE,
+    LINK,
+    RENAME_SAME,
+    MKDIR,
+    MKDIR_E,
+    MKFILE_IN_E,
+];
+
+#[test]
+fn trees_are_composed(rt: HostRuntime) -> Result<(), Fail> {
+    let nodes: &[&[u8]] = &[HEADER, SUBVOL_A, MKDIR, SYMLINK, MKNOD, SET_XATTR, END];
+    let table: [(&[&[u8]], Outcome, &[&[u8]]); 4] = [
+        (nodes, Outcome::Done, nodes),
+        (
+            &[
+                HEADER,
+                SUBVOL_A,
+                MKFILE,
+                LINK,
+                RENAME_SAME,
+                MKDIR,
+                MKDIR_E,
+                MKFILE_IN_E,
+                RENAME_ONTO_E,
+                END,
+            ],
+            refused(1, 8, 166, Refusal::NotEmpty),
+            TREE,
+        ),
+        (
+            &[
+                HEADER,
+                SUBVOL_A,
+                MKFILE,
+                LINK,
+                RENAME_SAME,
+                MKDIR,
+                MKDIR_E,
+                MKFILE_IN_E,
+                RENAME_INTO_D,
+                END,
+            ],
+            refused(1, 8, 166, Refusal::IntoItself),
+            TREE,
+        ),
+        (
+            &[HEADER, SUBVOL_A, MKFILE, LINK, RENAME_SAME, MKFILE, END],
+            refused(1, 5, 119, Refusal::EntryThere),
+            &[HEADER, SUBVOL_A, MKFILE, LINK, RENAME_SAME],
         ),
     ];
     for (file, outcome, written) in table {

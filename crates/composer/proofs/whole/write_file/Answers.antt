@@ -1,6 +1,6 @@
 use Rattle.std.proofs.Common.{refl, ap, ◌∙◌, arith}
 use Rattle.cmd_reader.specs.Left.{Reader}
-use Rattle.composer.proofs.Takes.{item_taken, item_writable}
+use Rattle.composer.proofs.Takes.{item_writable}
 use Rattle.composer.proofs.FileWriting.{stands_at_start, stands_after, file_unopened, file_ends, file_stops, command_stops}
 use Rattle.composer.proofs.whole.write_file.Goals as goal
 
@@ -23,9 +23,6 @@ pub returns-in-Ok-None-clause-wrote : goal.returns-in-Ok-None-clause-wrote
 returns-in-Ok-None-clause-wrote g c =
     let i = c.loop-reader.invariant in
     file_ends _ _ c.args.file c.args.name.now c.args.composer.now _ c.loop-reader.reader c.next.new.self c.loop-reader.composer _ c.args.before c.loop-reader.place 0 0 c.in-Ok-None.field-0 c.in-Ok-None.field-0-is i.same i.name c.in-Ok-None.ensures.read i.stands
-
-pub write_command-written-requires-clause-taken : goal.write_command-written-requires-clause-taken
-write_command-written-requires-clause-taken g c = item_taken c.in-Ok-Some.field-0 c.in-Ok-Some.item _ _ c.in-Ok-Some.field-0-is c.in-Ok-Some.ensures.fits
 
 pub returns-in-Err-written-clause-wrote : goal.returns-in-Err-written-clause-wrote
 returns-in-Err-written-clause-wrote g c =
@@ -53,5 +50,5 @@ returns-in-Err-clause-wrote g c =
     let i = c.loop-reader.invariant in
     file_stops _ _ c.args.file c.args.name.now c.args.composer.now _ c.loop-reader.reader c.next.new.self c.loop-reader.composer _ _ c.args.before c.loop-reader.place _ _ _ _ c.in-Err.stop c.outcome_of.result c.stopped.result i.same i.name c.in-Err.ensures.read c.outcome_of.ensures.outcome c.stopped.ensures.stopped i.stands
 
-pub write_command-written-requires-clause-writable : goal.write_command-written-requires-clause-writable
-write_command-written-requires-clause-writable g c = item_writable c.in-Ok-Some.field-0 c.in-Ok-Some.item _ _ c.in-Ok-Some.field-0-is c.in-Ok-Some.ensures.fits
+pub write_command-written-requires : goal.write_command-written-requires
+write_command-written-requires g c = record { writable = item_writable c.in-Ok-Some.field-0 c.in-Ok-Some.item _ _ c.in-Ok-Some.field-0-is c.in-Ok-Some.ensures.fits }
