@@ -5,14 +5,15 @@ use Rattle.std.proofs.Common.{refl, sym, ap, subst, ◌∙◌, arith, zero-le}
 use Rattle.std.proofs.lemmas.Bool.{ltb-false}
 use Rattle.std.proofs.lemmas.List.Sums.{sum_by-cons}
 use Rattle.send_model.specs.Refusal.{Refusal}
-use Rattle.send_model.specs.Reading.{Item, Verdict, Reading}
+use Rattle.send_model.specs.Reading.{Item, Verdict, Reading, input}
+use Rattle.send_model.specs.Lengths.{too_long}
 use Rattle.send_model.specs.Store.{Key, Store, State, Stepped, head_of, step}
 use Rattle.send_model.specs.Receive.{bytes_of, byte_cells, first_of, fault_of, start_of}
 use Rattle.send_model.specs.Order.{heads, breaks_order, part_after, then_judge, judge_items, judge_reading, judge_of, without_parts}
 use Rattle.send_model.specs.Outside.{part_uuids}
 use Rattle.send_model.specs.Provenance.{Traced, fresh, Piece, traced_store, traced_step, uuid_after, is_redirected, clone_range, ranges_from, pieces_of, literal_len, uncarried_in, uncarried_cells}
 use Rattle.send_model.specs.Cells.{recelled_state, recelled_step}
-use Rattle.send_model.specs.Due.{Due, DoneWhole, RefusedAt, TooLong, TooMuch, most_literal, uncarried_of, then_due, due_from, refused_due, or_due, reading_due, IsJudgedOf}
+use Rattle.send_model.specs.Due.{Due, DoneWhole, RefusedAt, TooLong, TooMuch, most_literal, uncarried_of, then_due, due_from, refused_due, or_due, reading_due, IsJudgedOf, IsJudged}
 use Rattle.send_model.proofs.CellClones.{all_steps-cells}
 use Rattle.send_model.proofs.Tracing.{byte_of, bytes_fresh, untraced_store}
 
@@ -146,3 +147,7 @@ reading_ends base reading = ends due (judge_items 0 byte_cells (start_of base) N
 pub is_judged_of : (long : Option ℕ) (base : Store ℕ) (reading : Reading) → IsJudgedOf long base reading
 is_judged_of None base reading = let e = reading_ends base reading in record { done = e.done; refused = e.refused; long = λ file d. absurd (e.never file d) }
 is_judged_of (Some file) base reading = record { done = λ d. cc; refused = λ v d. cc; long = λ other d. ap Some (same_file file other d) }
+
+-- And of files.
+pub is_judged : (base : Store ℕ) (files : List (List ℕ)) → IsJudged base files
+is_judged base files = is_judged_of (too_long files) base (input files)
