@@ -73,10 +73,9 @@ by_long files None = let items : List Item = (input files).items in
     or_due (due_from nothing (part_uuids items) (start_of (traced_store nothing)) None None 0 items) (refused_due (first_of (fault_of (input files).end) (without_parts items (heads items))))
 
 due_by : (files : List (List ℕ)) (o : Option ℕ) → too_long files ≡ o → compose_due nothing files ≡ by_long files o
-unfolding compose_due
-due_by files o e = one (too_long files) ∙ ap (by_long files) e
+due_by files o e = ap (λ (x : Option ℕ). compose_due_of x nothing (input files)) e ∙ one o
   where
-    one : (x : Option ℕ) → (elim x as (λ y. Due) [ Some file ↦ TooLong file | None ↦ by_long files None ]) ≡ by_long files x
+    one : (x : Option ℕ) → compose_due_of x nothing (input files) ≡ by_long files x
     one None = refl
     one (Some file) = refl
 

@@ -110,7 +110,6 @@ some_heads hs last e none = let l : None ≡ Some last = ap last_head (sym none)
 -- All that is written, with END, is what the files are composed to, where they are read as whole and hold a part.
 pub composed : (files : List (List ℕ)) (items : List Item) (now : Composing) (sent : List ℕ) (last : Head) → input files ≡ record { items = items; end = Whole } → Progress items now sent
     → last_head (heads items) ≡ Some last → now.last ≡ Some last → IsComposed empty_store files ((sent ++ now.pending) ++ canonical 1 End)
-unfolding base
 composed files items now sent last is p last_is l =
     let some : heads items ≢ [] = some_heads (heads items) last last_is in
     let first = first_there (heads items) some in
