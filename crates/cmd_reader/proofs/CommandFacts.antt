@@ -1,16 +1,16 @@
 -- Facts of a command that was read from a body.
-use Rattle.std.specs.Prelude.{◌≡◌, slice_index_or, ℕ, zero, suc, ◌+◌, ◌-◌, ◌^◌, ◌≤◌, ◌<◌, Bool, true, false, ◌&&◌, min, ◌==◌, List, [], ◌∷◌, ◌++◌, length, take, drop, Option, None, Some, Result, Ok, Err, if◌then◌else◌}
+use Rattle.std.specs.Prelude.{◌≡◌, map, slice_index_or, ℕ, zero, suc, ◌+◌, ◌-◌, ◌^◌, ◌≤◌, ◌<◌, Bool, true, false, ◌&&◌, min, ◌==◌, List, [], ◌∷◌, ◌++◌, length, drop, Option, None, Some, Result, Ok, Err, if◌then◌else◌}
 use Rattle.std.proofs.Common.{w8, Fits}
 use Rattle.std.proofs.Math.Facts.{Fits-lt-pow}
 use Rattle.std.specs.Option.{unwrap_or}
-use Rattle.std.specs.List.{list_all, find}
+use Rattle.std.specs.List.{list_all, find, AllByRecursion}
 use Rattle.std.specs.Int.{w16, w32, to_le_bytes}
-use Rattle.std.proofs.Common.{refl, sym, ap, subst, ◌∙◌, arith, length-take, length-drop, leb-true, zero-le, le_refl, eqb-true}
+use Rattle.std.proofs.Common.{refl, sym, ap, subst, ◌∙◌, arith, length-take, length-drop, length-append, leb-true, zero-le, le_refl, eqb-true}
 use Rattle.send_model.specs.Refusal.{Refusal, BadAttribute, UnknownCommand, BadTime, Encoded}
 use Rattle.send_model.specs.Chain.{◌>>=◌, ◌>>◌, found, require}
 use Rattle.send_model.specs.Attribute.{DATA, IsBytes}
-use Rattle.send_model.specs.Command.{Kind, SUBVOL, SNAPSHOT, MKFILE, MKDIR, MKNOD, MKFIFO, MKSOCK, SYMLINK, RENAME, LINK, UNLINK, RMDIR, SET_XATTR, REMOVE_XATTR, WRITE, CLONE, TRUNCATE, CHMOD, CHOWN, UTIMES, END, UPDATE_EXTENT, FALLOCATE, FILEATTR, kinds_of, is_encoded, Command, row, kind_of, kind_of_number, command_with}
-use Rattle.send_model.specs.Spelling.{Attribute, value_of, frame_of, frame_checksum, greatest_body}
+use Rattle.send_model.specs.Command.{Kind, SUBVOL, SNAPSHOT, MKFILE, MKDIR, MKNOD, MKFIFO, MKSOCK, SYMLINK, RENAME, LINK, UNLINK, RMDIR, SET_XATTR, REMOVE_XATTR, WRITE, CLONE, TRUNCATE, CHMOD, CHOWN, UTIMES, END, UPDATE_EXTENT, FALLOCATE, FILEATTR, kinds_of, is_encoded, Command, row, kind_of, kind_of_number, command_with, fields_of}
+use Rattle.send_model.specs.Spelling.{Attribute, value_of, frame_of, frame_checksum, greatest_body, attributes_of, body_of, AreAttributes}
 use Rattle.send_model.specs.Receive.{bytes_of}
 use Rattle.send_model.specs.Reading.{Frame, number16, attribute_head, attribute_len, attribute_end, attribute_in, attribute_lawful, attribute_number, attributes_from, attributes_at, bytes_at, command_of, taken, place_of, data_place, frame_header_len, wanted_there, moment_lawful}
 use Rattle.send_model.specs.Laws.{CanWrite}
@@ -18,6 +18,9 @@ use Rattle.send_model.proofs.Sound.{found_is}
 use Rattle.send_model.proofs.Canonical.{bytes_append, le2_bytes, le4_bytes, checksum_small, spelled_spellable}
 use Rattle.send_model.proofs.Frames.{frame_read_back}
 use Rattle.send_model.proofs.ReadSpelled.{rules_were_spelled}
+use Rattle.tlv_frame.specs.Table.{Table, StandsFor}
+use Rattle.cmd_reader.specs.Alone.{stand, stand_of}
+use Rattle.cmd_reader.proofs.Alone.{Follow, follow_same, stand_follow, alone_stand, kinds_with, body_size, total as size_of}
 use Rattle.send_model.proofs.Fuel.{bound, tested, required, not_refused, ok_same}
 
 -- How many bytes attributes take.
@@ -207,3 +210,40 @@ data_at_some version at attributes place e = ap (place_after at) e
 
 pub data_at_none : (version at : ℕ) (attributes : List Attribute) → place_of version DATA attributes ≡ None → data_place version at attributes ≡ 0
 data_at_none version at attributes e = ap (place_after at) e
+
+-- Attributes that stand alone are those of the command.
+pub stands_alone : (version number : ℕ) (body : List ℕ) (attributes : List Attribute) (c : Command) (table : Table) → number < 2 ^ 16 → length body ≤ greatest_body → IsBytes body → attributes_at version body ≡ Ok attributes
+    → command_of version number attributes ≡ Ok c → table.version ≡ version → StandsFor table attributes → stand_of table (length body) (kind_of_number version number) ≡ true → attributes ≡ attributes_of c
+unfolding attributes_of frame_of
+stands_alone version number body attributes c table small short are read e same_version sf alone =
+    let back = frame_read_back body [] number small short (checksum_small number body are) in
+    let frame : Frame = record { number = number; body = body; rest = [] } in
+    let s = rules_were_spelled version (frame_of number body ++ []) frame attributes c (bytes_append (frame_of number body) [] (frame_bytes number body are) tt) back read e in
+    let all = subst (λ (l : List Attribute). AllByRecursion (λ (a : Attribute). value_of a.kind l ≡ Some a.bytes) (attributes_of c)) s.3 s.1.wanted in
+    let kinds = kinds_with version (row (kind_of c)).wanted (fields_of c) s.1.values in
+    let known : kind_of_number version number ≡ Some (kind_of c) = ap (kind_of_number version) (sym (kind_is version number attributes c e)) ∙ s.1.known in
+    let here : stand table (length body) (row (kind_of c)).wanted 0 ≡ true = subst (λ (o : Option Kind). stand_of table (length body) o ≡ true) known alone in
+    let tried = subst (λ (l : List ℕ). stand table (length body) l 0 ≡ true) (sym kinds) here in
+    let follow = stand_follow table attributes sf (length body) (attributes_of c) 0 all tried in
+    let framed : frame_of number body ++ [] ≡ frame_of (row (kind_of c)).number (body_of version attributes) ++ [] =
+    s.2 ∙ ap (λ (l : List ℕ). l ++ []) (s.1.frame ∙ ap (λ (l : List Attribute). frame_of (row (kind_of c)).number (body_of version l)) s.3) in
+    let size : length body ≡ size_of version attributes = omega (arith, ap (λ (l : List ℕ). length l) framed, length-append body [], length-append (body_of version attributes) [], body_size version attributes) in
+    follow_same version attributes (attributes_of c) (subst (λ (n : ℕ). Follow version attributes n (attributes_of c) 0) size (subst (λ (v : ℕ). Follow v attributes (length body) (attributes_of c) 0) same_version follow))
+
+-- And those of the command stand alone.
+pub alone_stands : (version number : ℕ) (body : List ℕ) (attributes : List Attribute) (c : Command) (table : Table) → number < 2 ^ 16 → length body ≤ greatest_body → IsBytes body → attributes_at version body ≡ Ok attributes
+    → command_of version number attributes ≡ Ok c → table.version ≡ version → StandsFor table attributes → attributes ≡ attributes_of c → stand_of table (length body) (kind_of_number version number) ≡ true
+unfolding attributes_of frame_of
+alone_stands version number body attributes c table small short are read e same_version sf same =
+    let back = frame_read_back body [] number small short (checksum_small number body are) in
+    let frame : Frame = record { number = number; body = body; rest = [] } in
+    let s = rules_were_spelled version (frame_of number body ++ []) frame attributes c (bytes_append (frame_of number body) [] (frame_bytes number body are) tt) back read e in
+    let lawful : AreAttributes table.version attributes = subst (λ (v : ℕ). AreAttributes v attributes) (sym same_version) (subst (λ (l : List Attribute). AreAttributes version l) s.3 s.1.lawful) in
+    let known : kind_of_number version number ≡ Some (kind_of c) = ap (kind_of_number version) (sym (kind_is version number attributes c e)) ∙ s.1.known in
+    let kinds : map (λ (a : Attribute). a.kind) attributes ≡ (row (kind_of c)).wanted = ap (λ (l : List Attribute). map (λ (a : Attribute). a.kind) l) same ∙ kinds_with version (row (kind_of c)).wanted (fields_of c) s.1.values in
+    let framed : frame_of number body ++ [] ≡ frame_of (row (kind_of c)).number (body_of version attributes) ++ [] =
+    s.2 ∙ ap (λ (l : List ℕ). l ++ []) (s.1.frame ∙ ap (λ (l : List Attribute). frame_of (row (kind_of c)).number (body_of version l)) s.3) in
+    let size : length body ≡ size_of version attributes = omega (arith, ap (λ (l : List ℕ). length l) framed, length-append body [], length-append (body_of version attributes) [], body_size version attributes) in
+    let here = alone_stand table attributes sf lawful in
+    let sized = subst (λ (n : ℕ). stand table n (map (λ (a : Attribute). a.kind) attributes) 0 ≡ true) (ap (λ (v : ℕ). size_of v attributes) same_version ∙ sym size) here in
+    subst (λ (o : Option Kind). stand_of table (length body) o ≡ true) (sym known) (subst (λ (l : List ℕ). stand table (length body) l 0 ≡ true) kinds sized)

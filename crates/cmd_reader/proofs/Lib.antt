@@ -1,8 +1,10 @@
 pub mod Told
 mod Uncut
-mod Fillings
-mod Headers
 mod Lefts
+mod Alone
+mod LastFrames
 mod CommandFacts
-mod FrontFacts
+mod Sourcing
 mod Goings
+mod Steps
+pub mod Aheads

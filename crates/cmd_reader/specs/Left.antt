@@ -1,16 +1,22 @@
 -- A reader that stands somewhere in a file, and what is left to read from there.
-use Rattle.std.specs.Prelude.{◌≡◌, ◌≤◌, ⊤, Option, None, Some, ℕ, suc, ◌+◌, Bool, true, false, ◌&&◌, List, [], ◌∷◌, length, drop, nat_lt, if◌then◌else◌}
-use Rattle.send_model.specs.Command.{Command}
-use Rattle.send_model.specs.Reading.{Reading, Due, HeaderDue, CommandDue, due_after, header_len, ended, is_version, reads_from}
-use Rattle.send_model.specs.Lengths.{limit}
+use Rattle.std.specs.Prelude.{◌≡◌, ◌≤◌, ℕ, suc, ◌+◌, Bool, true, false, ◌&&◌, List, [], ◌∷◌, length, drop, if◌then◌else◌}
+use Rattle.send_model.specs.Reading.{Reading, Due, HeaderDue, CommandDue, ended, reads_from}
+use Rattle.tlv_frame.specs.Feeding.{Fed, unfed}
+use Rattle.cmd_reader.specs.declared.source.Source.{Source}
+use Rattle.cmd_reader.specs.Sources.{IsSource, IsAhead}
 
--- The file's number and name, what is due, the number of the next command, and the place in the file.
+-- The file's number and name, the number of the next command, the place in the file, and the bytes that were given from there on,
+-- with what is due.
 pub record Reader : Type 0 where
   pub file : ℕ
   pub name : List ℕ
-  pub due : Due
   pub number : ℕ
   pub offset : ℕ
+  pub fed : Fed
+
+-- A reader at the start of a file.
+abbrev pub at_start : ℕ → List ℕ → Reader
+at_start file name = record { file = file; name = name; number = 1; offset = 0; fed = unfed }
 
 abbrev pub is_header_due : Due → Bool
 is_header_due HeaderDue = true
@@ -20,35 +26,22 @@ abbrev pub is_empty : List ℕ → Bool
 is_empty [] = true
 is_empty (b ∷ bytes) = false
 
--- A stream has ended here, so the file may end.
-abbrev pub may_end_here : Reader → Bool
-may_end_here r = is_header_due r.due && nat_lt 1 r.number
+-- What is left to read of a file from a place on. It may end where a stream has ended.
+abbrev pub left_from : ℕ → Due → Bool → ℕ → ℕ → List ℕ → Reading
+left_from number_of_file due has_ended number offset file = if (is_header_due due && has_ended) && is_empty (drop offset file) then ended
+    else reads_from (suc (length (drop offset file))) number_of_file due number offset (drop offset file)
 
--- What is left to read of a file.
+-- What is left to a reader.
 unfoldable pub left : Reader → List ℕ → Reading
-left r file = if may_end_here r && is_empty (drop r.offset file) then ended
-    else reads_from (suc (length (drop r.offset file))) r.file r.due r.number r.offset (drop r.offset file)
+left r file = left_from r.file r.fed.due r.fed.ended r.number r.offset file
 
--- What is due, as the code keeps it.
-abbrev pub due_of : Option ℕ → Due
-due_of None = HeaderDue
-due_of (Some version) = CommandDue version
+-- The bytes that a reader was given are the file's from its place on.
+abbrev pub HasAhead : Reader → List ℕ → Type 0
+HasAhead r file = IsAhead r.offset r.fed file
 
-abbrev pub VersionIs : Option ℕ → Type 0
-VersionIs None = ⊤
-VersionIs (Some version) = is_version version ≡ true
-
--- A reader's numbers: commands are counted from 1 and none is empty, and it has not passed the limit.
-pub record IsReader (due : Option ℕ) (number offset : ℕ) : Type 0 where
+-- A reader's numbers: commands are counted from 1 and none is empty; and a header is due where a stream has ended.
+pub record IsReader (source : Source) (number : ℕ) : Type 0 where
   pub first : 1 ≤ number
-  pub count : number ≤ offset + 1
-  pub within : offset ≤ limit
-  pub version : VersionIs due
-
--- A reader after a header.
-abbrev pub after_header : Reader → ℕ → Reader
-after_header r version = record { file = r.file; name = r.name; due = CommandDue version; number = r.number; offset = r.offset + header_len }
-
--- A reader after a command.
-abbrev pub after_command : Reader → ℕ → Command → ℕ → Reader
-after_command r version command offset = record { file = r.file; name = r.name; due = due_after version command; number = r.number + 1; offset = offset }
+  pub count : number ≤ source.at + 1
+  pub source_is : IsSource source
+  pub at_end : source.feed.ended ≡ true → source.feed.due ≡ HeaderDue

@@ -1,6 +1,8 @@
 pub mod Places
-pub mod Faults
 pub mod Fronts
+pub mod Sources
 pub mod Left
-pub mod Next
+pub mod Alone
 pub mod Commands
+pub mod Next
+pub mod Items

@@ -1,152 +1,118 @@
 // Reading commands one at a time.
 ghost use Rattle.std.specs.Prelude.{◌≡◌, ◌≤◌, IfOk};
-ghost use Rattle.send_model.specs.Reading.{HeaderDue, CommandDue, is_version};
-ghost use Rattle.send_commands.specs.Meaning.{meaning_of};
-ghost use Rattle.send_model.specs.Lengths.{limit};
-ghost use Rattle.cmd_reader.specs.Left.{Reader, after_command};
-ghost use Rattle.cmd_reader.specs.Next.{item_of, FrontFits, Begins, StopAt, NextSays, ItemFits, IfItem};
+ghost use Rattle.cmd_reader.specs.Places.{IfTold};
+ghost use Rattle.cmd_reader.specs.Left.{Reader, at_start, HasAhead};
+ghost use Rattle.cmd_reader.specs.Next.{NextSays, ItemFits, IfItem, EndsAfterEnd, StepSays};
 
 use crate::fault::Fault;
-use crate::frames::stream_version;
-use crate::front::{Front, read_front};
+use crate::front::{body_in, item_in, stop_at};
 use crate::item::{Item, ReadStop};
-use send_commands::Command;
+use crate::source::Source;
 use std::alloc::{AllocError, Global};
 use std::marker::Model;
-use sx_base::{Inputs, Verdict};
+use sx_base::{Inputs, Refusal};
+use tlv_frame::Passed;
 
-const HEADER_LEN: u64 = 17;
-
-/// Reads the commands of one file in order, one for each call. It is seen as its place in the file.
+/// Reads the commands of one file in order, one for each call. It is seen as its place in the
+/// file, with the bytes that it was given from there on. It asks the inputs for 65,536 bytes at a
+/// time, and only where it has no whole header or frame. Once made, it takes memory for the values
+/// of commands alone.
 #[derive(Drop)]
 pub struct CmdReader {
     alloc: Global,
     file: u64,
-    name: String,
-    due: Option<u32>,
     number: u64,
-    offset: u64,
-    body: Vec<u8>,
+    source: Source,
 }
 
 impl Model for CmdReader {
     ghost use Rattle.std.specs.String.{string_bytes};
-    ghost use Rattle.cmd_reader.specs.Left.{Reader, due_of, IsReader};
+    ghost use Rattle.cmd_reader.specs.Left.{Reader, IsReader};
 
     ghost Value = { Reader };
 
-    ghost view = { λ r. record { file = r.file; name = string_bytes r.name; due = due_of r.due; number = r.number; offset = r.offset } };
+    ghost view = { λ r. record { file = r.file; name = string_bytes r.source.name; number = r.number; offset = r.source.at; fed = r.source.feed } };
 
-    ghost invariant = { λ r. IsReader r.due r.number r.offset };
+    ghost invariant = { λ r. IsReader r.source r.number };
 }
 
 impl CmdReader {
     /// A reader at the start of the named file, which is the given one of several, counted from 1.
     pub fn new(alloc: Global, file: u64, name: &str) -> Result<CmdReader, AllocError>
-        ensures start { IfOk result (λ r. r ≡ record { file = file; name = name.now; due = HeaderDue; number = 1; offset = 0 }) }
+        ensures start { IfOk result (λ r. r ≡ at_start file name.now) }
     {
-        let name = String::from_str(alloc, name)?;
+        let source = Source::new(alloc, name)?;
         Ok(CmdReader {
             alloc,
             file,
-            name,
-            due: None,
             number: 1,
-            offset: 0,
-            body: Vec::new(alloc),
+            source,
         })
     }
 
-    /// The next command, or None where the file ends after END. Refused, with the place, exactly where the bytes break a
-    /// rule of reading, by the first rule that they break; InputFault only where the inputs count another fault;
-    /// InputTooLong exactly where the file has 2^62 bytes or more and what is left of the first 2^62 ends at once, whole or
-    /// cut short.
+    /// The next command, or None where the file ends after END. Refused, with the place, exactly
+    /// where the bytes break a rule of reading, by the first rule that they break; InputFault only
+    /// where the inputs count another fault; InputTooLong exactly where the file has 2^62 bytes or
+    /// more and what is left of the first 2^62 ends at once, whole or cut short. Where the inputs
+    /// tell, they are those that gave the reader its bytes, and it has not stopped before.
     pub fn next<I: Inputs>(&mut self, inputs: &mut I) -> Result<Option<Item>, ReadStop>
+        requires ahead { IfTold (I.told inputs.old) self.old.name (HasAhead self.old) }
         ensures same { I.told inputs.new ≡ I.told inputs.old }
         ensures later { I.faults inputs.old ≤ I.faults inputs.new }
         ensures file { self.new.file ≡ self.old.file }
         ensures name { self.new.name ≡ self.old.name }
         ensures fits { IfItem result (ItemFits self.old self.new) }
+        ensures end { EndsAfterEnd self.old result }
         ensures read { NextSays (I.told inputs.old) self.old self.new (I.faults inputs.old) (I.faults inputs.new) result }
     {
-        let version = match self.begin(inputs) {
-            Ok(Some(version)) => version,
-            Ok(None) => return Ok(None),
-            Err(fault) => return Err(self.stop_of(fault)),
-        };
-        let front = match read_front(
-            self.alloc,
-            inputs,
-            self.name.as_str(),
-            self.offset,
-            version,
-            &mut self.body,
-        ) {
-            Ok(front) => front,
-            Err(fault) => return Err(self.stop_of(fault)),
-        };
-        Ok(Some(self.pass(front, version)))
+        loop {
+            match self.step(inputs) {
+                Some(answer) => return answer,
+                None => {}
+            }
+        }
     }
 
-    // The version of the stream that the next command stands in, None where the file has ended. Reads a header where one
-    // is due.
-    fn begin<I: Inputs>(&mut self, inputs: &mut I) -> Result<Option<u32>, Fault>
+    /// The bytes of the frame of the command that was read last, as they stand in the file. Takes
+    /// no memory.
+    pub fn last_frame(&self) -> &[u8]
+        ensures bytes { result.now ≡ self.now.fed.last }
+    {
+        self.source.feed.last()
+    }
+
+    // Goes past the next header or frame. None where it was a header.
+    fn step<I: Inputs>(&mut self, inputs: &mut I) -> Option<Result<Option<Item>, ReadStop>>
+        requires ahead { IfTold (I.told inputs.old) self.old.name (HasAhead self.old) }
         ensures same { I.told inputs.new ≡ I.told inputs.old }
         ensures later { I.faults inputs.old ≤ I.faults inputs.new }
-        ensures begun { Begins (I.told inputs.old) self.old self.new (I.faults inputs.old) (I.faults inputs.new) result }
-    {
-        if let Some(version) = self.due {
-            return Ok(Some(version));
-        }
-        let may_end = self.number > 1;
-        match stream_version(inputs, self.name.as_str(), self.offset, may_end) {
-            Ok(None) => Ok(None),
-            Ok(Some(version)) => {
-                self.due = Some(version);
-                self.offset += HEADER_LEN;
-                Ok(Some(version))
-            }
-            Err(fault) => Err(fault),
-        }
-    }
-
-    // Goes past a command.
-    fn pass(&mut self, front: Front, version: u32) -> Item
-        requires due { self.old.due ≡ CommandDue version }
-        requires fits { FrontFits self.old.offset version front }
-        ensures passed { self.new ≡ after_command self.old version (meaning_of front.command) front.next }
-        ensures item { item_of self.old.file result ≡ record { file = self.old.file; number = self.old.number; offset = self.old.offset; version = version; data_at = front.data_at; command = meaning_of front.command } }
+        ensures file { self.new.file ≡ self.old.file }
+        ensures name { self.new.name ≡ self.old.name }
+        ensures says { StepSays (I.told inputs.old) self.old self.new (I.faults inputs.old) (I.faults inputs.new) result }
     {
         let number = self.number;
-        let offset = self.offset;
-        if matches!(front.command, Command::End) {
-            self.due = None;
-        }
-        self.number += 1;
-        self.offset = front.next;
-        Item {
-            command: front.command,
-            number,
-            offset,
-            data_at: front.data_at,
-            version,
-        }
-    }
-
-    // The answer that no command was read.
-    fn stop_of(&self, fault: Fault) -> ReadStop
-        ensures stop { StopAt self.now fault result }
-    {
-        match fault {
-            Fault::Refused(refusal) => ReadStop::Refused(Verdict {
-                file: self.file,
-                command: self.number,
-                offset: self.offset,
-                refusal,
-            }),
-            Fault::NoMemory => ReadStop::NoMemory,
-            Fault::InputFault => ReadStop::InputFault,
-            Fault::InputTooLong => ReadStop::InputTooLong,
+        let offset = self.source.at;
+        let unit = match self.source.pass(inputs) {
+            Ok(Some(unit)) => unit,
+            Ok(None) => {
+                if self.source.feed.whole() {
+                    return Some(Ok(None));
+                }
+                let cut = Fault::Refused(Refusal::Truncated);
+                return Some(Err(stop_at(self.file, number, offset, cut)));
+            }
+            Err(fault) => return Some(Err(stop_at(self.file, number, offset, fault))),
+        };
+        match unit {
+            Passed::Head(_) => None,
+            Passed::Frame { head, version } => {
+                self.number += 1;
+                let body = body_in(self.source.feed.last());
+                let item = item_in(
+                    self.alloc, self.file, number, offset, version, head.cmd, body,
+                );
+                Some(item)
+            }
         }
     }
 }

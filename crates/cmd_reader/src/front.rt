@@ -1,83 +1,98 @@
-// The command at a place of a file.
-ghost use Rattle.std.specs.Prelude.{◌≡◌, ◌≤◌, true, length, IfOk};
+// The command of a frame.
+ghost use Rattle.std.specs.Prelude.{◌≡◌, ◌≤◌, true, length, drop, IfOk};
 ghost use Rattle.send_model.specs.Attribute.{IsBytes};
 ghost use Rattle.send_model.specs.Spelling.{greatest_body};
 ghost use Rattle.send_model.specs.Reading.{is_version};
 ghost use Rattle.send_model.specs.Lengths.{limit};
 ghost use Rattle.cmd_reader.specs.Commands.{ReadsCommand, CommandFits};
-ghost use Rattle.cmd_reader.specs.Next.{ReadsFront, FrontFits};
+ghost use Rattle.cmd_reader.specs.Items.{ItemSays, StopAt};
 
 use crate::fault::Fault;
-use crate::frames::{frame_body, frame_head};
+use crate::item::{Item, ReadStop};
+use crate::spelled::is_canonical;
 use send_commands::{Command, check_taken, decode};
 use std::alloc::Global;
-use sx_base::{Inputs, Stop};
+use sx_base::{Stop, Verdict};
 use tlv_frame::attrs;
 
 const FRAME_HEAD_LEN: u64 = 10;
-// The number of the attribute DATA.
-const DATA: u16 = 19;
 
-// A command, the place of its data, and the place after its frame.
+const FRAME_HEAD: usize = 10;
+// The number of the attribute DATA.
+pub(crate) const DATA: u16 = 19;
+
+// A command with what its frame says of it.
 #[derive(Drop)]
 pub(crate) struct Front {
-    pub(crate) command: Command,
-    pub(crate) data_at: u64,
-    pub(crate) next: u64,
+    command: Command,
+    // The place in the file of the first byte of its data, 0 where it has no data.
+    data_at: u64,
+    // Whether the frame has the wanted attributes alone, in rising order.
+    canonical: bool,
 }
 
-// The command at the place of the named file. The buffer has room for its body, or gets it.
-pub(crate) fn read_front<I: Inputs>(
-    alloc: Global,
-    inputs: &mut I,
-    name: &str,
-    at: u64,
-    version: u32,
-    room: &mut Vec<u8>,
-) -> Result<Front, Fault>
-    requires place { at ≤ limit }
-    requires version { is_version version ≡ true }
-    ensures same { I.told inputs.new ≡ I.told inputs.old }
-    ensures later { I.faults inputs.old ≤ I.faults inputs.new }
-    ensures fits { IfOk result (FrontFits at version) }
-    ensures read { ReadsFront (I.told inputs.old) name.now at version (I.faults inputs.old) (I.faults inputs.new) result }
+// The body of a frame.
+pub(crate) fn body_in(frame: &[u8]) -> &[u8]
+    requires long { 10 ≤ length frame.now }
+    ensures body { result.now ≡ drop 10 frame.now }
+    ensures bytes { IsBytes frame.now }
 {
-    let head = match frame_head(inputs, name, at) {
-        Ok(head) => head,
-        Err(fault) => return Err(fault),
-    };
-    let len = head.len as usize;
-    if room.len() < len && room.resize(len, 0).is_err() {
-        return Err(Fault::NoMemory);
-    }
-    let body = &mut room.as_mut_slice()[..len];
-    if let Err(fault) = frame_body(inputs, name, at + FRAME_HEAD_LEN, &head, body) {
-        return Err(fault);
-    }
-    let (command, data_at) = match command_in(alloc, at, version, head.cmd, body) {
-        Ok(found) => found,
-        Err(fault) => return Err(fault),
-    };
-    let next = at + FRAME_HEAD_LEN + head.len as u64;
-    Ok(Front {
-        command,
-        data_at,
-        next,
-    })
+    &frame[FRAME_HEAD..]
 }
 
-// The command of a number whose attributes are these, in a frame at the place, and the place of its data.
-fn command_in(
+// The item that a frame at the place is, of a stream of the version, by its command's number and
+// its body.
+pub(crate) fn item_in(
     alloc: Global,
-    at: u64,
+    file: u64,
+    number: u64,
+    offset: u64,
     version: u32,
     cmd: u16,
     body: &[u8],
-) -> Result<(Command, u64), Fault>
+) -> Result<Option<Item>, ReadStop>
+    requires place { offset ≤ limit }
+    requires short { length body.now ≤ greatest_body }
+    requires version { is_version version ≡ true }
+    ensures says { ItemSays file number offset version cmd body.now result }
+{
+    match command_in(alloc, offset, version, cmd, body) {
+        Ok(front) => Ok(Some(Item {
+            command: front.command,
+            number,
+            offset,
+            data_at: front.data_at,
+            version,
+            canonical: front.canonical,
+        })),
+        Err(fault) => Err(stop_at(file, number, offset, fault)),
+    }
+}
+
+// The answer that no command was read, for a fault at this place.
+pub(crate) fn stop_at(file: u64, number: u64, offset: u64, fault: Fault) -> ReadStop
+    ensures stop { StopAt file number offset fault result }
+{
+    match fault {
+        Fault::Refused(refusal) => ReadStop::Refused(Verdict {
+            file,
+            command: number,
+            offset,
+            refusal,
+        }),
+        Fault::NoMemory => ReadStop::NoMemory,
+        Fault::InputFault => ReadStop::InputFault,
+        Fault::InputTooLong => ReadStop::InputTooLong,
+    }
+}
+
+// The command of a number whose attributes are these, in a frame at the place, and the place of
+// its data.
+fn command_in(alloc: Global, at: u64, version: u32, cmd: u16, body: &[u8]) -> Result<Front, Fault>
     requires place { at ≤ limit }
     requires short { length body.now ≤ greatest_body }
     requires version { is_version version ≡ true }
-    ensures fits { IfOk result (λ x. CommandFits at version body.now x) }
+    ensures fits { IfOk result (CommandFits at version body.now) }
     ensures read { ReadsCommand at version cmd body.now result }
 {
     let table = match attrs(body, version) {
@@ -91,8 +106,13 @@ fn command_in(
         Some(place) => at + FRAME_HEAD_LEN + place as u64,
         None => 0,
     };
+    let canonical = is_canonical(version, cmd, &table, body.len());
     match decode(alloc, cmd, &table) {
-        Ok(command) => Ok((command, data_at)),
+        Ok(command) => Ok(Front {
+            command,
+            data_at,
+            canonical,
+        }),
         Err(Stop::Refused(refusal)) => Err(Fault::Refused(refusal)),
         Err(Stop::NoMemory) => Err(Fault::NoMemory),
     }

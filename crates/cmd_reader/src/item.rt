@@ -15,6 +15,9 @@ pub struct Item {
     pub data_at: u64,
     /// The version of its stream.
     pub version: u32,
+    /// Whether the bytes of its frame are the canonical spelling of the command: the wanted
+    /// attributes alone, in rising order of their numbers.
+    pub canonical: bool,
 }
 
 /// Why a reader stops.

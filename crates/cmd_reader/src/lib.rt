@@ -3,10 +3,10 @@
 
 mod command_reader;
 mod fault;
-mod frames;
 mod front;
 mod item;
-mod places;
+mod source;
+mod spelled;
 #[cfg(test)]
 mod tests;
 

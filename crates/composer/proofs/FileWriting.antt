@@ -5,7 +5,7 @@ use Rattle.std.proofs.Common.{refl, sym, ap, subst, ◌∙◌, append_assoc, app
 use Rattle.std.proofs.Math.Seq.{take-append-add}
 use Rattle.std.proofs.lemmas.List.{length-append}
 use Rattle.std.proofs.KnownBytes.{Appends-nil, Appends-trans}
-use Rattle.send_model.specs.Reading.{Item, Reading, HeaderDue, Whole, with_item, reads}
+use Rattle.send_model.specs.Reading.{Item, Reading, Whole, with_item, reads}
 use Rattle.send_model.specs.Receive.{verdict_of}
 use Rattle.send_model.specs.Order.{last_item}
 use Rattle.send_model.specs.Laws.{CanWrite}
@@ -20,7 +20,7 @@ use Rattle.cmd_reader.specs.declared.item.ReadStop.{ReadStop}
 use Rattle.cmd_reader.specs.declared.item.ReadStop.TheVariants as stop
 use Rattle.cmd_reader.specs.Places.{IfTold}
 use Rattle.cmd_reader.specs.Fronts.{IsRefused, IsLongAt}
-use Rattle.cmd_reader.specs.Left.{Reader, left}
+use Rattle.cmd_reader.specs.Left.{Reader, at_start, left}
 use Rattle.cmd_reader.specs.Next.{item_of, HasEnded, IsFaulty, OnlyEnds, IsNext, NextSays, ItemFits, IfItem}
 use Rattle.cmd_reader.proofs.Told.{Here, told_map, told_both, told_always, told_here, told_moved}
 use Rattle.composer.proofs.Takes.{item_can_write}
@@ -45,10 +45,6 @@ pub record Stands (file : ℕ) (old : Composing) (out_old : Option (List ℕ)) (
   appends : Appends out_old out_now sent
   last : IsLastPlace before place (last_item items)
   reached : reader.offset ≤ length bytes
-
--- A reader at the start of a file.
-abbrev pub at_start : ℕ → List ℕ → Reader
-at_start file name = record { file = file; name = name; due = HeaderDue; number = 1; offset = 0 }
 
 left_fresh : (file : ℕ) (name bytes : List ℕ) → left (at_start file name) bytes ≡ reads file bytes
 unfolding left reads

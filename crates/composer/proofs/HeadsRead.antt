@@ -4,7 +4,7 @@ use Rattle.std.specs.String.{string_bytes}
 use Rattle.std.proofs.Common.{refl, sym, ap, subst, ◌∙◌, append-nil, arith}
 use Rattle.std.proofs.lemmas.List.{drop_all}
 use Rattle.send_model.specs.Reading as reading
-use Rattle.send_model.specs.Reading.{Item, Reading, HeaderDue, Whole, Faulty, ended, reads, input}
+use Rattle.send_model.specs.Reading.{Item, Reading, Whole, Faulty, ended, reads, input}
 use Rattle.send_model.specs.Store.{Head, head_of}
 use Rattle.send_model.specs.Receive.{first_of}
 use Rattle.send_model.specs.Order.{heads, heads_of, onto_heads}
@@ -23,7 +23,7 @@ use Rattle.cmd_reader.specs.declared.item.ReadStop.{ReadStop}
 use Rattle.cmd_reader.specs.declared.item.ReadStop.TheVariants as stop
 use Rattle.cmd_reader.specs.Places.{IfTold}
 use Rattle.cmd_reader.specs.Fronts.{IsRefused, IsLongAt}
-use Rattle.cmd_reader.specs.Left.{Reader, left}
+use Rattle.cmd_reader.specs.Left.{Reader, at_start, left}
 use Rattle.cmd_reader.specs.Next.{item_of, HasEnded, IsFaulty, OnlyEnds, IsNext, NextSays, ItemFits, IfItem}
 use Rattle.sx_base.specs.Calls.{verdict_meant}
 use Rattle.cmd_reader.proofs.Told.{Here, told_both, told_always, told_here, told_moved}
@@ -85,15 +85,15 @@ pub record HeadsSoFar (file : ℕ) (reader : Reader) (old now : Option Head) (by
   pub last : now ≡ last_of items old
   pub within : reader.offset ≤ length bytes
 
-start_of_file : (file : ℕ) (name : List ℕ) (last : Option Head) (bytes : List ℕ) → HeadsSoFar file (record { file = file; name = name; due = HeaderDue; number = 1; offset = 0 }) last last bytes
+start_of_file : (file : ℕ) (name : List ℕ) (last : Option Head) (bytes : List ℕ) → HeadsSoFar file (at_start file name) last last bytes
 unfolding left reads heads_of
 start_of_file file name last bytes = record { items = []; read = refl; writable = tt; last = refl; within = omega arith }
 
 -- Before the first command.
-pub heads_start : (told : Option (List (List ℕ × List ℕ))) (file : ℕ) (name : List ℕ) (reader : Reader) (last : Option Head) → reader ≡ record { file = file; name = name; due = HeaderDue; number = 1; offset = 0 } → IfTold told name (HeadsSoFar file reader last last)
+pub heads_start : (told : Option (List (List ℕ × List ℕ))) (file : ℕ) (name : List ℕ) (reader : Reader) (last : Option Head) → reader ≡ at_start file name → IfTold told name (HeadsSoFar file reader last last)
 heads_start told file name reader last is =
     let S : Reader → Type 0 = λ r. IfTold told name (HeadsSoFar file r last last) in
-    let fresh : Reader = record { file = file; name = name; due = HeaderDue; number = 1; offset = 0 } in
+    let fresh : Reader = at_start file name in
     subst S (sym is) (told_always told name (HeadsSoFar file fresh last last) (λ bytes. start_of_file file name last bytes))
 
 next_of_file : (file : ℕ) (old new : Reader) (item : read.Item) (before last now : Option Head) (bytes : List ℕ) → old.file ≡ file → CanWrite 1 (meaning_of item.command) → now ≡ first_of (head_of (meaning_of item.command)) last

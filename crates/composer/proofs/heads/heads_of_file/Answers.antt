@@ -1,5 +1,6 @@
 use Rattle.std.proofs.Common.{refl, ap, arith, ◌∙◌}
 use Rattle.cmd_reader.specs.Left.{Reader}
+use Rattle.cmd_reader.proofs.Aheads.{start_ahead, next_ahead}
 use Rattle.composer.proofs.HeadsRead.{heads_start, heads_next, heads_whole, heads_fault, heads_stop}
 use Rattle.composer.proofs.Takes.{item_writable}
 use Rattle.composer.proofs.heads.heads_of_file.Goals as goal
@@ -11,6 +12,7 @@ loop-item-init g c = record {
   file = ap (λ (r : Reader). r.file) c.in-Ok.ensures.start;
   name = ap (λ (r : Reader). r.name) c.in-Ok.ensures.start;
   heads = heads_start _ c.args.file c.args.name.now c.in-Ok.reader c.args.last.now c.in-Ok.ensures.start;
+  ahead = start_ahead _ c.args.file c.args.name.now c.in-Ok.reader c.in-Ok.ensures.start;
 }
 
 pub loop-item-preserved : goal.loop-item-preserved
@@ -23,6 +25,7 @@ loop-item-preserved g c =
       name = c.next.ensures.name ∙ kept.name;
       heads = heads_next _ _ c.args.file c.args.name.now c.loop-item.reader c.next.new.self c.in-Ok-Some.field-0 c.in-Ok-Some.item c.args.last.now c.loop-item.last c.keep_head.new.last 0 0
           kept.same kept.file kept.name c.in-Ok-Some.field-0-is c.in-Ok-Some.ensures.fits c.in-Ok-keep_head.ensures.kept kept.heads c.in-Ok-Some.ensures.read;
+      ahead = next_ahead _ _ c.loop-item.reader c.next.new.self 0 0 c.in-Ok-Some.field-0 c.in-Ok-Some.item c.in-Ok-Some.field-0-is c.next.ensures.same c.next.ensures.name c.in-Ok-Some.ensures.read;
     }
 
 pub returns-in-Ok-None-clause-heads : goal.returns-in-Ok-None-clause-heads

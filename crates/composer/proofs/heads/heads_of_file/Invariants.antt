@@ -1,6 +1,7 @@
 use Rattle.std.proofs.Common.{◌≡◌, ◌≤◌, ◌-◌}
 use Rattle.send_model.specs.Lengths.{limit}
 use Rattle.cmd_reader.specs.Places.{IfTold}
+use Rattle.cmd_reader.specs.Left.{HasAhead}
 use Rattle.composer.proofs.HeadsRead.{HeadsSoFar}
 use Rattle.composer.proofs.heads.heads_of_file.Given as goal
 
@@ -16,4 +17,5 @@ invariant-loop-item g l = record {
   file : l.reader.file ≡ l.file;
   name : l.reader.name ≡ l.name;
   heads : IfTold (g.I.Inputs.told l.fn.inputs) l.name (HeadsSoFar l.file l.reader l.fn.last l.last);
+  ahead : IfTold (g.I.Inputs.told l.inputs) l.reader.name (HasAhead l.reader);
 }

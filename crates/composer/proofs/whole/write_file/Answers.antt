@@ -1,6 +1,7 @@
 use Rattle.std.proofs.Common.{refl, ap, ◌∙◌, arith}
 use Rattle.cmd_reader.specs.Left.{Reader}
 use Rattle.composer.proofs.Takes.{item_writable}
+use Rattle.cmd_reader.proofs.Aheads.{start_ahead, next_ahead}
 use Rattle.composer.proofs.FileWriting.{stands_at_start, stands_after, file_unopened, file_ends, file_stops, command_stops}
 use Rattle.composer.proofs.whole.write_file.Goals as goal
 
@@ -17,6 +18,7 @@ loop-reader-init g c =
       file = ap (λ (r : Reader). r.file) fresh;
       name = ap (λ (r : Reader). r.name) fresh;
       stands = stands_at_start (g.I.Inputs.told c.args.inputs.now) c.args.file c.args.name.now c.in-Ok.reader c.args.composer.now (g.O.Sink.taken c.args.out.now) c.args.before fresh;
+      ahead = start_ahead _ c.args.file c.args.name.now c.in-Ok.reader fresh;
     }
 
 pub returns-in-Ok-None-clause-wrote : goal.returns-in-Ok-None-clause-wrote
@@ -43,6 +45,7 @@ loop-reader-preserved g c =
       name = e.name ∙ i.name;
       stands = stands_after _ _ c.args.file c.args.name.now c.args.composer.now _ c.loop-reader.reader c.next.new.self c.loop-reader.composer c.write_command-written.new.composer _ _ c.args.before c.loop-reader.place (record { file = c.args.file; command = c.in-Ok-Some.item.number; offset = c.in-Ok-Some.item.offset }) 0 0
           c.in-Ok-Some.field-0 c.in-Ok-Some.item c.in-Ok-Some.field-0-is i.same i.name i.file refl e.fits e.read c.in_default-written.ensures.composed i.stands;
+      ahead = next_ahead _ _ c.loop-reader.reader c.next.new.self 0 0 c.in-Ok-Some.field-0 c.in-Ok-Some.item c.in-Ok-Some.field-0-is e.same e.name e.read;
     }
 
 pub returns-in-Err-clause-wrote : goal.returns-in-Err-clause-wrote

@@ -1,6 +1,7 @@
 use Rattle.std.proofs.Common.{◌≡◌, ◌-◌, ◌≤◌}
 use Rattle.send_model.specs.Lengths.{limit}
 use Rattle.cmd_reader.specs.Places.{IfTold}
+use Rattle.cmd_reader.specs.Left.{HasAhead}
 use Rattle.composer.proofs.FileWriting.{Stands}
 use Rattle.composer.proofs.whole.write_file.Given as goal
 
@@ -13,6 +14,7 @@ invariant-loop-reader g l = record {
   file : l.reader.file ≡ l.fn.file;
   name : l.reader.name ≡ l.fn.name;
   stands : IfTold (g.I.Inputs.told l.fn.inputs) l.fn.name (Stands l.fn.file l.fn.composer (g.O.Sink.taken l.fn.out) l.reader l.composer (g.O.Sink.taken l.out) l.fn.before l.place);
+  ahead : IfTold (g.I.Inputs.told l.inputs) l.reader.name (HasAhead l.reader);
 }
 
 -- Each command brings the reader nearer to the limit.

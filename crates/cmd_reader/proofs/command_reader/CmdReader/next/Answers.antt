@@ -1,13 +1,34 @@
-use Rattle.std.proofs.Common.{sym}
-use Rattle.cmd_reader.proofs.Goings.{begun_version, stopped, passed}
+use Rattle.std.proofs.Common.{refl, ◌∙◌, arith}
+use Rattle.cmd_reader.proofs.Goings.{begun_at_start, begun_further, begun_ahead, answered}
 use Rattle.cmd_reader.proofs.command_reader.CmdReader.next.Goals as goal
 
-pub returns-in-Err-read_front-clause-read : goal.returns-in-Err-read_front-clause-read
-returns-in-Err-read_front-clause-read g c =
-    let begun = begun_version _ c.args.self.now c.begin.new.self _ 0 0 c.in-Ok-Some.version c.in-Ok-Some.field-0 c.in-Ok-Some.field-0-is c.self.view_is c.in-Ok-Some.ensures.begun in
-    stopped _ _ c.args.self.now _ c.args.self.now _ c.in-Ok-Some.version _ _ _ c.in-Err-read_front.fault c.stop_of-in-Err-read_front.result c.in-Ok-Some.ensures.same (sym c.as_str.ensures.value) begun.0 begun.1 c.in-Ok-Some.ensures.later c.in-Err-read_front.ensures.read c.stop_of-in-Err-read_front.ensures.stop
+pub loop-answer-init : goal.loop-answer-init
+loop-answer-init g c = record { same = refl; later = omega (arith); begun = begun_at_start (g.I.Inputs.told c.args.inputs.now) c.args.self.now c.requires.ahead; ahead = c.requires.ahead }
 
-pub returns-clause-read : goal.returns-clause-read
-returns-clause-read g c =
-    let begun = begun_version _ c.args.self.now c.begin.new.self _ 0 0 c.in-Ok-Some.version c.in-Ok-Some.field-0 c.in-Ok-Some.field-0-is c.self.view_is c.in-Ok-Some.ensures.begun in
-    passed _ _ c.args.self.now _ _ _ c.in-Ok-Some.version c.in-Ok.front c.pass.result c.in-Ok-Some.ensures.same (sym c.as_str.ensures.value) begun.0 c.self.invariant.first begun.1 c.in-Ok.ensures.fits c.in-Ok.ensures.read c.pass.ensures.passed c.pass.ensures.item
+pub loop-answer-preserved : goal.loop-answer-preserved
+loop-answer-preserved g c =
+    let i = c.loop-answer.invariant in
+    let begun = begun_further (g.I.Inputs.told c.args.inputs.now) (g.I.Inputs.told c.loop-answer.inputs) c.args.self.now c.loop-answer.self c.step.new.self 0 0 i.same i.begun.0 i.begun.1 c.in-None.ensures.says in
+    let same = c.step.ensures.same ∙ i.same in
+    let later = c.step.ensures.later in
+    record {
+      same = same;
+      later = omega (arith, i.later, later);
+      begun = begun;
+      ahead = begun_ahead (g.I.Inputs.told c.args.inputs.now) (g.I.Inputs.told c.step.new.inputs) c.args.self.now c.step.new.self same begun;
+    }
+
+pub returns-in-Some : goal.returns-in-Some
+returns-in-Some g c =
+    let i = c.loop-answer.invariant in
+    let says = answered (g.I.Inputs.told c.args.inputs.now) (g.I.Inputs.told c.loop-answer.inputs) c.args.self.now c.loop-answer.self c.step.new.self _ _ _ c.in-Some.answer i.same i.later i.begun.0 i.begun.1 c.in-Some.ensures.says in
+    let e = c.in-Some.ensures in
+    record {
+      same = e.same ∙ i.same;
+      later = omega (arith, i.later, e.later);
+      file = e.file ∙ i.begun.0.file;
+      name = e.name ∙ i.begun.0.name;
+      fits = says.0.0;
+      end = says.0.1;
+      read = says.1;
+    }

@@ -1,0 +1,19 @@
+use Rattle.std.proofs.Common.{◌≡◌, ◌≤◌, ◌-◌}
+use Rattle.send_model.specs.Lengths.{limit}
+use Rattle.cmd_reader.specs.Places.{IfTold}
+use Rattle.cmd_reader.specs.Left.{HasAhead}
+use Rattle.cmd_reader.specs.Next.{HasBegun, BeginsAt}
+use Rattle.cmd_reader.proofs.command_reader.CmdReader.next.Given as goal
+
+-- Headers were passed, and no command was read.
+abbrev pub invariant-loop-answer : goal.invariant-loop-answer
+invariant-loop-answer g l = record {
+  same : g.I.Inputs.told l.inputs ≡ g.I.Inputs.told l.fn.inputs;
+  later : g.I.Inputs.faults l.fn.inputs ≤ g.I.Inputs.faults l.inputs;
+  begun : HasBegun l.fn.self l.self × IfTold (g.I.Inputs.told l.fn.inputs) l.fn.self.name (BeginsAt l.fn.self l.self);
+  ahead : IfTold (g.I.Inputs.told l.inputs) l.self.name (HasAhead l.self);
+}
+
+-- Each header brings the reader nearer to the limit.
+abbrev pub decreases-loop-answer : goal.decreases-loop-answer
+decreases-loop-answer g l = limit - l.self.offset

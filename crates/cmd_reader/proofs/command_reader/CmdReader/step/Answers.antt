@@ -1,0 +1,27 @@
+use Rattle.std.proofs.Common.{List, ℕ, drop, subst, refl, ap, sym, ◌∙◌, arith}
+use Rattle.send_model.specs.Attribute.{IsBytes}
+use Rattle.std.specs.String.{string_bytes}
+use Rattle.cmd_reader.proofs.Steps.{fault_said, head_said, frame_said, whole_said, cut_said}
+use Rattle.cmd_reader.proofs.command_reader.CmdReader.step.Goals as goal
+
+pub returns-then-whole-clause-says : goal.returns-then-whole-clause-says
+returns-then-whole-clause-says g c = whole_said _ _ _ c.args.self.now 0 0 _ _ c.in-Ok-None.field-0 c.self.view_is c.in-Ok-None.field-0-is (sym c.whole.ensures.whole ∙ c.if-whole.true) c.self.invariant.at_end c.in-Ok-None.ensures.says
+
+pub returns-in-Ok-None-clause-says : goal.returns-in-Ok-None-clause-says
+returns-in-Ok-None-clause-says g c = cut_said _ _ _ c.args.self.now _ _ _ _ c.in-Ok-None.field-0 _ c.self.view_is c.in-Ok-None.field-0-is (sym c.whole.ensures.whole ∙ c.if-whole.false) c.in-Ok-None.ensures.says c.stop_at.ensures.stop
+
+pub returns-in-Err-clause-says : goal.returns-in-Err-clause-says
+returns-in-Err-clause-says g c = fault_said _ _ _ c.args.self.now _ _ _ _ _ _ c.self.view_is c.in-Err.ensures.says c.stop_at-in-Err.ensures.stop
+
+pub returns-in-Head-clause-says : goal.returns-in-Head-clause-says
+returns-in-Head-clause-says g c =
+    let e = c.in-Ok-Some.ensures in
+    head_said _ _ _ _ 0 0 c.in-Head.field-0 c.in-Ok-Some.unit c.in-Ok-Some.field-0 c.self.view_is c.in-Ok-Some.field-0-is c.in-Head.is refl (ap string_bytes e.name) refl (omega (arith, e.source.up_to, e.source.within)) e.says
+
+pub returns-in-Frame-clause-says : goal.returns-in-Frame-clause-says
+returns-in-Frame-clause-says g c =
+    let e = c.in-Ok-Some.ensures in
+    let body = c.body_in-body.ensures.body ∙ ap (λ (l : List ℕ). drop 10 l) c.last.ensures.bytes in
+    let are = subst IsBytes c.last.ensures.bytes c.body_in-body.ensures.bytes in
+    frame_said _ _ _ _ _ _ c.in-Frame.head c.in-Frame.version c.in-Ok-Some.unit c.in-Ok-Some.field-0 _ c.item_in-item.result c.self.view_is c.in-Ok-Some.field-0-is c.in-Frame.is refl (ap string_bytes e.name) refl (omega (arith, e.source.up_to, e.source.within)) body are e.says
+    c.item_in-item.ensures.says
