@@ -10,9 +10,9 @@ ghost use Rattle.subvol_catalog.specs.Entries.{key_of, head_with};
 ghost use Rattle.composer.specs.Advance.{advance};
 ghost use Rattle.composer.specs.Taking.{Takes, after_head};
 
-use crate::nowhere::Nowhere;
 use crate::part_head::PartHead;
 use clone_resolve::{EditCore, Key, Part, head_of};
+use extent_map::Nowhere;
 use send_commands::{Command, encode};
 use std::alloc::{AllocError, Global};
 use std::marker::Model;

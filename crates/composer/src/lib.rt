@@ -5,7 +5,6 @@
 mod call_tests;
 mod composing;
 mod heads;
-mod nowhere;
 mod part_head;
 mod places;
 #[cfg(test)]

@@ -2,6 +2,7 @@
 #![tactic(auto)]
 
 mod extents;
+mod nowhere;
 mod origin;
 mod pieces;
 #[cfg(test)]
@@ -11,5 +12,6 @@ mod run;
 mod table;
 
 pub use extents::Extents;
+pub use nowhere::Nowhere;
 pub use origin::Origin;
 pub use pieces::Pieces;

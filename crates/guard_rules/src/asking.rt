@@ -1,5 +1,5 @@
 // Guards in general, and asking several of them.
-ghost use Rattle.std.specs.Prelude.{◌≡◌, not, map};
+ghost use Rattle.std.specs.Prelude.{◌≡◌, ◌<◌, not, map, length, IfSome};
 ghost use Rattle.send_model.specs.Guards as meant;
 ghost use Rattle.send_model.specs.Guards.{guard_refuses, looked};
 ghost use Rattle.send_commands.specs.Meaning.{meaning_of};
@@ -33,6 +33,7 @@ pub trait Guard: Drop {
 /// the first that refuses it, counted from 0: the guards before that one have counted it, and it and those after it are as
 /// before.
 pub fn look_all(guards: &mut [Box<dyn Guard>], command: &Command) -> Option<usize>
+    ensures within { IfSome result (λ place. place < length guards.new) }
     ensures refused { IsRefusedAt (map (λ g. kept g) guards.old) (map (λ g. kept g) guards.new) (meaning_of command.now) result }
     ensures counted { map (λ g. kept g) guards.new ≡ looked (map (λ g. kept g) guards.old) (meaning_of command.now) }
 {

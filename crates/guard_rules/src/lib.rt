@@ -13,4 +13,4 @@ mod words;
 pub use asking::{Guard, look_all};
 pub use kinds::GuardSpec;
 pub use limits::{ByteGuard, CommandGuard, DeviceGuard, EndGuard};
-pub use words::parse_guard;
+pub use words::{number_of, parse_guard};

@@ -9,7 +9,7 @@ use send_commands::Command;
 use std::marker::Model;
 
 /// Allows so many bytes in WRITE commands, and counts them.
-#[derive(Drop)]
+#[derive(Debug, Drop)]
 pub struct ByteGuard {
     most: u64,
     used: u64,
@@ -59,7 +59,7 @@ impl Guard for ByteGuard {
 }
 
 /// Allows so many commands, and counts them.
-#[derive(Drop)]
+#[derive(Debug, Drop)]
 pub struct CommandGuard {
     most: u64,
     used: u64,
@@ -104,7 +104,7 @@ impl Guard for CommandGuard {
 }
 
 /// Allows no MKNOD, and counts nothing.
-#[derive(Drop)]
+#[derive(Debug, Drop)]
 pub struct DeviceGuard {}
 
 impl DeviceGuard {
@@ -134,7 +134,7 @@ impl Guard for DeviceGuard {
 }
 
 /// Allows no WRITE of a byte or more, CLONE or TRUNCATE that ends above a place, and keeps the greatest end.
-#[derive(Drop)]
+#[derive(Debug, Drop)]
 pub struct EndGuard {
     most: u64,
     used: u64,

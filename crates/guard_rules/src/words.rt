@@ -28,8 +28,8 @@ pub fn parse_guard(word: &str) -> Option<GuardSpec>
     Some(GuardSpec::End(number_of(digits)?))
 }
 
-// The number of 64 bits that one to twenty decimal digits say.
-fn number_of(digits: &[u8]) -> Option<u64>
+/// The number of 64 bits that one to twenty decimal digits say; None exactly for all other bytes. Takes no memory.
+pub fn number_of(digits: &[u8]) -> Option<u64>
     ensures { result ≡ number_word digits.now }
 {
     if digits.is_empty() || digits.len() > MOST_DIGITS {

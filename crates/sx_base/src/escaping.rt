@@ -1,7 +1,7 @@
 // The escaped form of bytes.
 ghost use Rattle.std.specs.Prelude.{◌≡◌, ℕ, ◌<◌, ◌++◌, OnOk, OnErr, false};
 ghost use Rattle.sx_base.specs.Bytes.{IsFront};
-ghost use Rattle.send_model.specs.Printed.{is_plain, hex_digit, escaped_byte, escaped};
+ghost use Rattle.send_model.specs.Printed.{is_plain, hex_digit, hex_bytes, escaped_byte, escaped};
 
 use crate::blob::Blob;
 use std::alloc::AllocError;
@@ -18,6 +18,31 @@ pub fn escape_into(bytes: &[u8], to: &mut Blob) -> Result<(), AllocError>
         to.cut(start);
     }
     answer
+}
+
+/// Appends two lower hexadecimal digits for each byte, or changes nothing where there is no memory.
+pub fn hex_into(bytes: &[u8], to: &mut Blob) -> Result<(), AllocError>
+    ensures appended { OnOk result (to.new ≡ to.old ++ hex_bytes bytes.now) }
+    ensures same { OnErr result (to.new ≡ to.old) }
+{
+    let before = to.as_slice().len();
+    let answer = push_all_digits(bytes, to);
+    if answer.is_err() {
+        to.cut(before);
+    }
+    answer
+}
+
+// Without memory some of the digits may be there.
+fn push_all_digits(bytes: &[u8], to: &mut Blob) -> Result<(), AllocError>
+    ensures appended { OnOk result (to.new ≡ to.old ++ hex_bytes bytes.now) }
+    ensures kept { IsFront to.old to.new }
+{
+    for place in 0..bytes.len() {
+        let byte = bytes[place];
+        to.push_all(&[digit(byte / 16), digit(byte % 16)])?;
+    }
+    Ok(())
 }
 
 // Bytes that stand for themselves are pushed in whole runs. Without memory some of the form may be there.

@@ -23,7 +23,7 @@ mod whole;
 
 pub use blob::Blob;
 pub use disk::Disk;
-pub use escaping::escape_into;
+pub use escaping::{escape_into, hex_into};
 pub use failed::Failed;
 pub use inputs::Inputs;
 pub use lost::Lost;

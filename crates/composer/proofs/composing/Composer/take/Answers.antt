@@ -6,7 +6,7 @@ use Rattle.send_commands.specs.declared.command.Command as code
 use Rattle.send_commands.specs.Meaning.{meaning_of}
 use Rattle.clone_resolve.specs.Heads.{head_meant}
 use Rattle.clone_resolve.specs.declared.done.Done.{Done}
-use Rattle.composer.specs.declared.nowhere.Nowhere.{Nowhere}
+use Rattle.extent_map.specs.declared.nowhere.Nowhere.{Nowhere}
 use Rattle.composer.specs.Advance.{Composing, blanked, with_taken}
 use Rattle.composer.proofs.Takes.{short_data}
 use Rattle.composer.proofs.Advancing.{answers_blanked, goes_on, stops, at_head, adds_itself, no_head}

@@ -1,10 +1,10 @@
-// What the cells of the composer's core come from: a composed stream says nothing of them.
+// An origin that points nowhere.
 ghost use Rattle.std.specs.Prelude.{◌^◌};
 
-use extent_map::Origin;
+use crate::origin::Origin;
 
-/// An origin that points nowhere: a file's contents are their size and no more.
-#[derive(Clone, Copy)]
+/// An origin that points nowhere: contents over it keep which cells were written and no more.
+#[derive(Debug, Clone, Copy, PartialEq, Eq)]
 pub struct Nowhere;
 
 impl Origin for Nowhere {
@@ -14,13 +14,14 @@ impl Origin for Nowhere {
 
     ghost advanced = { λ o k. o };
 
-    fn advance(&self, _k: u64) -> Nowhere {
+    fn advance(&self, k: u64) -> Nowhere {
+        let _ = k;
         Nowhere
     }
 
     ghost advanced_by_none = { λ o. refl };
 
-    ghost reach_is_left = { λ o j k h. Prim.omega arith };
+    ghost reach_is_left = { λ o j k h. Prim.omega (arith, h) };
 
     ghost advanced_twice = { λ o j k h. refl };
 }
