@@ -306,15 +306,15 @@ impl<O: Origin> EditCore<O> {
     }
 
     // A head: the part before it is complete, and then the new part begins, or there is none.
-    fn enter(&mut self, part: &mut Option<Part<O>>, head: &Head<'_>) -> Result<Done, Stop>
-        ensures fits { Fits self.new part.new }
+    fn enter(&mut self, open: &mut Option<Part<O>>, head: &Head<'_>) -> Result<Done, Stop>
+        ensures fits { Fits self.new open.new }
         ensures done { IfOk result (λ d. d ≡ did.Began) }
-        ensures entered { Answers result (record { store = self.new; part = part.new })
-            (step_head (record { store = self.old; part = part.old }) (head_meant head.now)) }
+        ensures entered { Answers result (record { store = self.new; part = open.new })
+            (step_head (record { store = self.old; part = open.old }) (head_meant head.now)) }
     {
-        self.complete_open(part);
+        self.complete_open(open);
         let begun = self.begin_head(head)?;
-        *part = Some(begun);
+        *open = Some(begun);
         Ok(Done::Began)
     }
 
