@@ -1,5 +1,5 @@
 -- What RENAME says, from what its tests give.
-use Rattle.std.specs.Prelude.{◌≡◌, ℕ, ◌-◌, Bool, true, false, cond, not, ◌&&◌, ◌||◌, List, [], ◌∷◌, Option, None, Some, Result, Ok, Err, nat_le, ◌==◌, if◌then◌else◌}
+use Rattle.std.specs.Prelude.{◌≡◌, ℕ, ◌-◌, Bool, true, false, not, ◌&&◌, ◌||◌, List, [], ◌∷◌, Option, None, Some, Result, Ok, Err, ◌==◌, if◌then◌else◌}
 use Rattle.std.proofs.Common.{refl, sym, ap, subst, ◌∙◌}
 use Rattle.std.specs.List.{list_any}
 use Rattle.send_model.specs.Refusal.{Refusal, NoEntry, NotDirectory, IsDirectory, NotEmpty, IntoItself}
@@ -8,10 +8,8 @@ use Rattle.send_model.specs.Command.{Rename}
 use Rattle.send_model.specs.Path.{path_names}
 use Rattle.send_model.specs.Map.{Map, named_cmp, value_at, with_value, without}
 use Rattle.send_model.specs.Subvolume.{Subvolume, Spot, root, spot, named, is_directory, is_empty_directory, all_but_last, inodes_on_way, name_count, IsSound}
-use Rattle.send_model.specs.Edit.{rename, rename_onto, can_replace, lies_below, move_name, take_name, remove_name, remove_inode, at_spot, edit}
-use Rattle.send_model.proofs.Fuel.{not_refused}
+use Rattle.send_model.specs.Edit.{rename, rename_onto, can_replace, lies_below, move_name, take_name, at_spot, edit}
 use Rattle.send_model.proofs.MapLaws.{named_cmp_total, named_cmp_exact, without-here, without-other, count-with_value, count-without}
-use Rattle.send_model.proofs.SoundEdits.{file_is_leaf, empty_is_leaf}
 use Rattle.send_model.proofs.SoundRenames.{edit_keeps_sound, taken_names}
 use Rattle.inode_tree.proofs.Chains.{goes_on, stops, finds, misses, spares, refuses}
 use Rattle.inode_tree.specs.Places.{spot_of}

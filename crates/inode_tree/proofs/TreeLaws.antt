@@ -1,5 +1,5 @@
 -- What a tree keeps through changes of its names and inodes.
-use Rattle.std.specs.Prelude.{◌≡◌, ℕ, ◌+◌, ◌-◌, ◌<◌, ◌≤◌, Bool, true, false, cond, List, [], ◌∷◌, Option, None, Some, Result, Ok, Err, IsTrue, is_some, ◌==◌, if◌then◌else◌}
+use Rattle.std.specs.Prelude.{◌≡◌, ℕ, ◌+◌, ◌-◌, ◌<◌, ◌≤◌, Bool, true, false, cond, List, [], ◌∷◌, Option, None, Some, Result, Ok, Err, is_some, ◌==◌, if◌then◌else◌}
 use Rattle.std.specs.Option.{unwrap_or}
 use Rattle.std.specs.Ordering.{nat_cmp}
 use Rattle.std.specs.Cmp.{nat_cmp_total}
@@ -7,17 +7,13 @@ use Rattle.std.proofs.Common.{refl, sym, ap, subst, ◌∙◌, arith, inl, inr}
 use Rattle.std.proofs.lemmas.Bool.{cases_eq, cases_lt, eq-eqb, ne_eqb, le-leb, lt-leb, true≢false}
 use Rattle.std.specs.FinMap.Entries.{same_entries}
 use Rattle.std.proofs.lemmas.Map.Lookups.{exact_unsigned}
-use Rattle.send_model.specs.Refusal.{Refusal, BadPath, NoNumber}
-use Rattle.send_model.specs.Chain.{found}
+use Rattle.send_model.specs.Refusal.{Refusal, NoNumber}
 use Rattle.send_model.specs.Path.{path_names}
 use Rattle.send_model.specs.Map.{Map, IsMap, named_cmp, value_at, with_value, without}
 use Rattle.send_model.specs.Subvolume.{Inode, Subvolume, Spot, root, root_alone, new_directory, inode_at, named, is_directory, name_count, walk, spot, IsSound}
 use Rattle.send_model.specs.Edit.{make, add_inode, link, add_name, take_name, remove_name, remove_inode, at_spot, greatest_number, set_inode, change_inode}
 use Rattle.send_model.specs.Clone.{cells_of}
 use Rattle.send_model.proofs.MapLaws.{named_cmp_total, named_cmp_exact, with_value-here, with_value-other, without-other, with_value-order, without-order, count-with_value, count-without, count-found, count-key, counts_one}
-use Rattle.send_model.proofs.Fuel.{bound}
-use Rattle.send_model.proofs.WalkLaws.{Leads, Step, leads_from_walk}
-use Rattle.send_model.proofs.Soundness.{directory_is_there}
 use Rattle.send_model.proofs.SoundChanges.{root_alone_is_sound, changed_is_sound}
 use Rattle.send_model.proofs.SoundEdits.{make_is_sound, link_is_sound, walk_there}
 use Rattle.send_model.proofs.SoundRemovals.{taken_is_sound}

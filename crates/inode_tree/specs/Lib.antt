@@ -2,4 +2,5 @@ pub mod Answers
 pub mod Changes
 pub mod Kinds
 pub mod Places
+pub mod Retraced
 pub mod Trees

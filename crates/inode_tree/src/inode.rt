@@ -1,5 +1,7 @@
 // The inodes of a tree.
-ghost use Rattle.std.specs.Prelude.{◌≡◌, IfOk, OnOk};
+ghost use Rattle.std.specs.Prelude.{◌≡◌, ◌<◌, ◌≤◌, ◌^◌, length, IfOk, OnOk};
+ghost use Rattle.extent_map.specs.Pieces.{run_cells};
+ghost use Rattle.send_model.specs.Provenance.{inode_with};
 ghost use Rattle.inode_tree.specs.Changes.{changed};
 ghost use Rattle.inode_tree.specs.Kinds.{kind_of, time_of, new_of_kind, mode_of};
 
@@ -179,6 +181,31 @@ impl<O: Origin> Inode<O> {
         Ok(())
     }
 
+    // The same inode, whose contents are one run of their size from an origin. Fails for want of memory alone.
+    pub(crate) fn retraced<P: Origin>(
+        &self,
+        alloc: Global,
+        start: P,
+    ) -> Result<Inode<P>, AllocError>
+        requires { length self.now.cells < 2 ^ 63 → length self.now.cells ≤ P.reach start }
+        ensures { IfOk result (λ i. i ≡ inode_with self.now (run_cells P.advanced start (length self.now.cells))) }
+    {
+        let contents = one_run(alloc, start, self.contents.size())?;
+        Ok(Inode {
+            kind: self.kind,
+            mode: self.mode,
+            uid: self.uid,
+            gid: self.gid,
+            atime: self.atime,
+            mtime: self.mtime,
+            rdev: self.rdev,
+            flags: self.flags,
+            target: self.target.copy()?,
+            xattrs: self.xattrs.copy()?,
+            contents,
+        })
+    }
+
     // Exchanges the contents with the given ones.
     pub(crate) fn swap_contents(&mut self, contents: &mut Extents<O>)
         ensures mine { self.new ≡ record self.old { cells = contents.old } }
@@ -204,6 +231,17 @@ impl<O: Origin> Copied for Inode<O> {
             contents: self.contents.copy()?,
         })
     }
+}
+
+// Contents that are one run. Fails for want of memory alone.
+fn one_run<P: Origin>(alloc: Global, start: P, len: u64) -> Result<Extents<P>, AllocError>
+    requires fits { len < 2 ^ 63 }
+    requires reaches { len ≤ P.reach start }
+    ensures { IfOk result (λ contents. contents ≡ run_cells P.advanced start len) }
+{
+    let mut contents = Extents::new(alloc);
+    contents.put_run(0, start, len)?;
+    Ok(contents)
 }
 
 // The mode of a new inode.

@@ -3,12 +3,16 @@
 
 mod attributes;
 mod change;
+#[cfg(test)]
+mod edits;
 mod inode;
 mod kind;
 mod making;
 mod name;
 mod removing;
 mod renaming;
+mod retracing;
+mod starts;
 #[cfg(test)]
 mod tests;
 mod time;
@@ -17,5 +21,6 @@ mod tree;
 pub use inode::Inode;
 pub use kind::NodeKind;
 pub use name::Bytes;
+pub use starts::Starts;
 pub use time::Timestamp;
 pub use tree::Tree;

@@ -8,7 +8,7 @@ use sx_base::{Refusal, Stop};
 
 // The place of a byte in a file.
 #[derive(Clone, Copy, Debug, PartialEq, Eq)]
-struct Mark {
+pub(crate) struct Mark {
     place: u64,
 }
 
@@ -80,17 +80,27 @@ fn refusal_of(tree: &mut Tree<Mark>, call: Call) -> Result<Option<Refusal>, Stop
     }
 }
 
-// A tree after these calls, each with its refusal.
+// Makes these calls on a tree, each with its refusal.
+fn call_all(
+    rt: &impl Abort,
+    tree: &mut Tree<Mark>,
+    calls: &[(Call, Option<Refusal>)],
+) -> Result<(), Fail> {
+    for (call, want) in calls {
+        let answer = refusal_of(tree, *call)?;
+        assert_eq!(rt; answer, *want);
+    }
+    Ok(())
+}
+
+// A tree after these calls.
 fn tree_after(
     rt: &impl Abort,
     alloc: Global,
     calls: &[(Call, Option<Refusal>)],
 ) -> Result<Tree<Mark>, Fail> {
     let mut tree = Tree::new(alloc)?;
-    for (call, want) in calls {
-        let answer = refusal_of(&mut tree, *call)?;
-        assert_eq!(rt; answer, *want);
-    }
+    call_all(rt, &mut tree, calls)?;
     Ok(tree)
 }
 
@@ -126,13 +136,17 @@ fn names_are_found(rt: HostRuntime) -> Result<(), Fail> {
     Ok(())
 }
 
+const REMOVALS: [(Call, Option<Refusal>); 3] = [
+    (Call::Unlink(b"d/x"), None),
+    (Call::Unlink(b"y"), None),
+    (Call::Rmdir(b"d"), None),
+];
+
 #[test]
 fn a_copy_keeps_what_goes(rt: HostRuntime) -> Result<(), Fail> {
     let mut tree = tree_after(&rt, rt.alloc(), &NAMES)?;
     let copy = tree.copy()?;
-    for call in [Call::Unlink(b"d/x"), Call::Unlink(b"y"), Call::Rmdir(b"d")] {
-        assert_eq!(rt; refusal_of(&mut tree, call)?, None);
-    }
+    call_all(&rt, &mut tree, &REMOVALS)?;
     leads(&rt, &tree, &[(b"d", Err(Refusal::NoEntry))]);
     leads(&rt, &copy, &[(b"d/x", Ok(258)), (b"y", Ok(258))]);
     assert_eq!(rt; tree.inode_after(256), None);
@@ -166,59 +180,73 @@ fn names_move(rt: HostRuntime) -> Result<(), Fail> {
     Ok(())
 }
 
-#[test]
-fn a_snapshot_changes_alone(rt: HostRuntime) -> Result<(), Fail> {
-    let made: [(Call, Option<Refusal>); 2] = [
-        (Call::Make(b"n", NodeKind::CharacterDevice), None),
-        (Call::SetXattr(b"n", b"user.k"), None),
-    ];
-    let before = tree_after(&rt, rt.alloc(), &made)?;
-    let mut after = before.copy()?;
-    let moment = Timestamp { secs: 7, nanos: 8 };
-    for (call, want) in [
-        (Call::SetMode(b"n", 0o123_755), None),
-        (Call::SetOwner(b"n", 1_000, 1_001), None),
-        (Call::SetTimes(b"n", moment), None),
-        (Call::SetFlags(b"n", 16), None),
-        (Call::RemoveXattr(b"n", b"user.k"), None),
-        (Call::RemoveXattr(b"n", b"user.k"), Some(Refusal::NoXattr)),
-        (Call::SetXattr(b"n", b""), Some(Refusal::BadXattr)),
-    ] {
-        assert_eq!(rt; refusal_of(&mut after, call)?, want);
-    }
-    let Some(old) = before.inode(257) else {
-        panic!(rt; "an inode is missing");
-    };
-    let Some(new) = after.inode(257) else {
-        panic!(rt; "an inode is missing");
-    };
-    assert_eq!(rt;
-        (old.mode(), old.uid(), old.gid(), old.flags()),
-        (0o600, 0, 0, 0)
-    );
-    assert_eq!(rt;
-        (new.mode(), new.uid(), new.gid(), new.flags()),
-        (0o3_755, 1_000, 1_001, 16)
-    );
-    assert_eq!(rt;
-        (new.atime(), new.mtime(), new.rdev()),
-        (moment, moment, 1_281)
-    );
-    assert_eq!(rt; (old.xattrs().len(), new.xattrs().len()), (1, 0));
-    Ok(())
+const MOMENT: Timestamp = Timestamp { secs: 7, nanos: 8 };
+
+const DEVICE: [(Call, Option<Refusal>); 2] = [
+    (Call::Make(b"n", NodeKind::CharacterDevice), None),
+    (Call::SetXattr(b"n", b"user.k"), None),
+];
+
+const CHANGES: [(Call, Option<Refusal>); 7] = [
+    (Call::SetMode(b"n", 0o123_755), None),
+    (Call::SetOwner(b"n", 1_000, 1_001), None),
+    (Call::SetTimes(b"n", MOMENT), None),
+    (Call::SetFlags(b"n", 16), None),
+    (Call::RemoveXattr(b"n", b"user.k"), None),
+    (Call::RemoveXattr(b"n", b"user.k"), Some(Refusal::NoXattr)),
+    (Call::SetXattr(b"n", b""), Some(Refusal::BadXattr)),
+];
+
+// The mode, the owner and the group of an inode, and its flags.
+fn says(tree: &Tree<Mark>, ino: u64) -> Option<(u16, u64, u64, u64)> {
+    let inode = tree.inode(ino)?;
+    Some((inode.mode(), inode.uid(), inode.gid(), inode.flags()))
+}
+
+// The times of an inode, the number of its device, and how many extended attributes it has.
+fn has(tree: &Tree<Mark>, ino: u64) -> Option<(Timestamp, Timestamp, u64, u64)> {
+    let inode = tree.inode(ino)?;
+    Some((
+        inode.atime(),
+        inode.mtime(),
+        inode.rdev(),
+        inode.xattrs().len(),
+    ))
 }
 
 #[test]
-fn contents_are_exchanged(rt: HostRuntime) -> Result<(), Fail> {
-    let mut tree = tree_after(&rt, rt.alloc(), &[(Call::Make(b"x", NodeKind::File), None)])?;
-    let mut contents = Extents::new(rt.alloc());
+fn a_snapshot_changes_alone(rt: HostRuntime) -> Result<(), Fail> {
+    let before = tree_after(&rt, rt.alloc(), &DEVICE)?;
+    let mut after = before.copy()?;
+    call_all(&rt, &mut after, &CHANGES)?;
+    assert_eq!(rt; says(&before, 257), Some((0o600, 0, 0, 0)));
+    assert_eq!(rt; says(&after, 257), Some((0o3_755, 1_000, 1_001, 16)));
+    let epoch = Timestamp { secs: 0, nanos: 0 };
+    assert_eq!(rt; has(&before, 257), Some((epoch, epoch, 1_281, 1)));
+    assert_eq!(rt; has(&after, 257), Some((MOMENT, MOMENT, 1_281, 0)));
+    Ok(())
+}
+
+// Contents of three cells.
+fn three_cells(alloc: Global) -> Result<Extents<Mark>, Fail> {
+    let mut contents = Extents::new(alloc);
     contents.put_run(0, Mark { place: 5 }, 3)?;
+    Ok(contents)
+}
+
+fn size_of(tree: &Tree<Mark>, ino: u64) -> Option<u64> {
+    Some(tree.inode(ino)?.contents().size())
+}
+
+const FILE: [(Call, Option<Refusal>); 1] = [(Call::Make(b"x", NodeKind::File), None)];
+
+#[test]
+fn contents_are_exchanged(rt: HostRuntime) -> Result<(), Fail> {
+    let mut tree = tree_after(&rt, rt.alloc(), &FILE)?;
+    let mut contents = three_cells(rt.alloc())?;
     assert_eq!(rt; tree.swap_contents(257, &mut contents)?, true);
     assert_eq!(rt; contents.size(), 0);
     assert_eq!(rt; tree.swap_contents(256, &mut contents)?, false);
-    let Some(inode) = tree.inode(257) else {
-        panic!(rt; "an inode is missing");
-    };
-    assert_eq!(rt; inode.contents().size(), 3);
+    assert_eq!(rt; size_of(&tree, 257), Some(3));
     Ok(())
 }

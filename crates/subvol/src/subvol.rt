@@ -2,11 +2,12 @@
 ghost use Rattle.std.specs.Prelude.{◌≡◌, IfOk};
 ghost use Rattle.std.specs.Borrow.{Lends, sem};
 ghost use Rattle.send_model.specs.Subvolume.{root_alone};
+ghost use Rattle.inode_tree.specs.Retraced.{retraced, AreReached};
 ghost use Rattle.inode_tree.specs.contracts.tree.Tree.{the_row as tree_row};
 ghost use Rattle.subvol.specs.contracts.subvol.Subvol.{the_row};
 
 use extent_map::Origin;
-use inode_tree::Tree;
+use inode_tree::{Starts, Tree};
 use std::alloc::{AllocError, Global};
 use std::marker::Model;
 
@@ -44,6 +45,18 @@ impl<O: Origin> Subvol<O> {
     {
         Ok(Subvol {
             tree: self.tree.copy()?,
+            alloc: self.alloc,
+        })
+    }
+
+    /// A subvolume of the same inodes and names, where the contents of each inode are one run of their old size from the start of
+    /// its number. It shares the names, and no inode. Fails for want of memory alone.
+    pub fn retraced<P: Origin, S: Starts<P>>(&self, starts: &S) -> Result<Subvol<P>, AllocError>
+        requires { AreReached P.reach (S.starts starts.now) self.now.inodes }
+        ensures { IfOk result (λ subvol. subvol ≡ retraced P.advanced (S.starts starts.now) self.now) }
+    {
+        Ok(Subvol {
+            tree: self.tree.retraced(starts)?,
             alloc: self.alloc,
         })
     }

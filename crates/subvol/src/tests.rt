@@ -2,7 +2,7 @@
 
 use crate::Subvol;
 use extent_map::Origin;
-use inode_tree::NodeKind;
+use inode_tree::{NodeKind, Starts};
 use std::alloc::Global;
 use std::test::Fail;
 use sx_base::{Refusal, Stop};
@@ -32,6 +32,19 @@ impl Origin for Mark {
     ghost reach_is_left = { λ o j k h. Prim.omega arith };
 
     ghost advanced_twice = { λ o j k h. ap (λ n. record o { place = n }) (add_assoc o.place j k) };
+}
+
+// Places by the numbers of inodes.
+struct Numbers;
+
+impl Starts<Mark> for Numbers {
+    ghost use Rattle.std.specs.Prelude.{◌%◌};
+
+    ghost starts = { λ s ino. record { place = ino % 1_024 } };
+
+    fn start(&self, ino: u64) -> Mark {
+        Mark { place: ino % 1_024 }
+    }
 }
 
 // The refusal of a call, if it was refused.
@@ -136,5 +149,18 @@ fn a_snapshot_copies_what_it_changes(rt: HostRuntime) -> Result<(), Fail> {
         assert_eq!(rt; next.copied(), 1);
         subvol = next;
     }
+    Ok(())
+}
+
+#[test]
+fn contents_get_places_of_their_own(rt: HostRuntime) -> Result<(), Fail> {
+    let mut subvol = with_file(rt.alloc(), 2)?;
+    subvol.fallocate(b"x", 3, 0, 1)?;
+    let other = subvol.retraced(&Numbers)?;
+    assert_eq!(rt; other.tree().find(b"x"), Ok(257));
+    let run = Some((Some(Mark { place: 257 }), 2));
+    assert_eq!(rt; piece(&other, 257, 0), run);
+    assert_eq!(rt; piece(&other, 257, 1), None);
+    assert_eq!(rt; piece(&subvol, 257, 0), Some((None, 1)));
     Ok(())
 }
