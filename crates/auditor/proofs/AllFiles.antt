@@ -1,0 +1,210 @@
+-- Following files one after the other: what the loop over them keeps, and each of its ends.
+use Rattle.std.specs.Prelude.{◌≡◌, ℕ, ◌+◌, ◌<◌, ◌≤◌, Bool, true, false, List, [], ◌∷◌, ◌++◌, map, length, drop, slice_index_or, String, Option, None, Some, Result, Ok, Err}
+use Rattle.std.specs.String.{string_bytes}
+use Rattle.std.proofs.Common.{refl, sym, ap, subst, ◌∙◌, append_assoc, append-nil, length-append, arith, add-one, drop-cons}
+use Rattle.std.proofs.lemmas.List.{length-map, drop-map, drop_all, map-append}
+use Rattle.send_model.specs.Reading.{Item, Ending, Whole, Faulty, Reading, reads, joined, input, input_from}
+use Rattle.send_model.specs.Order.{heads, heads_of, commands_of}
+use Rattle.send_model.specs.Lengths.{is_too_long}
+use Rattle.send_model.specs.Due.{Due, Limited, Stop, AtEnd, AtFault, AtLimit, limited_from, then_limited}
+use Rattle.send_model.proofs.Writing.{heads_of-append}
+use Rattle.sx_base.specs.Outside.{file_at}
+use Rattle.sx_base.specs.Calls.{contents, IfAllTold, verdict_meant}
+use Rattle.sx_base.specs.declared.outcome.Outcome.{Outcome}
+use Rattle.sx_base.specs.declared.outcome.Outcome.TheVariants as ended_by
+use Rattle.cmd_reader.specs.Places.{IfTold}
+use Rattle.cmd_reader.proofs.Told.{told_moved}
+use Rattle.auditor.specs.declared.counts.Counts.{Counts}
+use Rattle.auditor.specs.declared.counts.Totals.{Totals}
+use Rattle.auditor.specs.Following.{Followed, follow, AreAccepted, due_from_here, then_read, file_read, read_whole}
+use Rattle.auditor.specs.Answers.{Stops, AreCounted, FileAccepted, FileEnds, AllAccepted, AllEnd}
+use Rattle.auditor.proofs.Runs.{none, run_on, refused_still}
+use Rattle.auditor.proofs.TooLong.{by_length, nothing_more, read_is}
+use Rattle.auditor.proofs.Dues.{due_stop, due_refused, refused_is, never_long, due_on}
+
+-- ---- what is read of files
+
+-- What is read of a file, and what is read of the others if that is all of it.
+abbrev then_others : Limited → Limited → Limited
+then_others first more = elim first.stop [
+  | AtEnd ↦ then_read first.items more
+  | AtFault verdict ↦ first
+  | AtLimit file ↦ first
+]
+
+split : (file : ℕ) (bytes : List ℕ) (files : List (List ℕ)) → limited_from file (bytes ∷ files) ≡ then_others (file_read file bytes) (limited_from (file + 1) files)
+unfolding limited_from
+split file bytes files =
+    read_is file bytes files ∙ by_long (is_too_long file bytes) ∙ ap (λ (l : Limited). then_others l more) (sym (read_is file bytes []))
+  where
+    more : Limited
+    more = limited_from (file + 1) files
+
+    by_end : (items : List Item) (ending : Ending) → then_limited items ending more ≡ then_others (then_limited items ending nothing_more) more
+    by_end items Whole = ap (λ (is : List Item). then_read is more) (sym (append-nil items))
+    by_end items (Faulty verdict) = refl
+
+    by_long : (b : Bool) → by_length b file bytes more ≡ then_others (by_length b file bytes nothing_more) more
+    by_long true = refl
+    by_long false = by_end (reads file bytes).items (reads file bytes).end
+
+-- Where all is read to the end, it is what the files give.
+pub input_is : (number : ℕ) (files : List (List ℕ)) → (limited_from number files).stop ≡ AtEnd → input_from number files ≡ record { items = (limited_from number files).items; end = Whole }
+unfolding limited_from input_from
+input_is number [] e = refl
+input_is number (bytes ∷ files) e =
+    by_long (input_is (number + 1) files) (is_too_long number bytes) (sym (ap (λ (l : Limited). l.stop) (read_is number bytes files)) ∙ e)
+    ∙ ap (λ (l : Limited). record { items = l.items; end = Whole }) (sym (read_is number bytes files))
+  where
+    more : Limited
+    more = limited_from (number + 1) files
+
+    Others : Type 0
+    Others = more.stop ≡ AtEnd → input_from (number + 1) files ≡ record { items = more.items; end = Whole }
+
+    by_end : Others → (items : List Item) (ending : Ending) → (then_limited items ending more).stop ≡ AtEnd
+        → joined (record { items = items; end = ending }) (input_from (number + 1) files) ≡ record { items = (then_limited items ending more).items; end = Whole }
+    by_end others items Whole e = ap (λ (x : Reading). record { items = items ++ x.items; end = x.end }) (others e)
+    by_end others items (Faulty verdict) e = cc
+
+    by_long : Others → (b : Bool) → (by_length b number bytes more).stop ≡ AtEnd → joined (reads number bytes) (input_from (number + 1) files) ≡ record { items = (by_length b number bytes more).items; end = Whole }
+    by_long others true e = cc
+    by_long others false e = by_end others (reads number bytes).items (reads number bytes).end e
+
+-- ---- what the loop keeps
+
+-- The commands of the files up to one with this number were read, accepted and counted.
+pub record AllStand (start : Followed) (number : ℕ) (now : Followed) (parts commands : ℕ) (files : List (List ℕ)) : Type 0 where
+  items : List Item
+  read : limited_from 1 files ≡ then_read items (limited_from (number + 1) (drop number files))
+  all : AreAccepted start items now
+  counted : AreCounted parts commands items
+
+none_counted : AreCounted 0 0 []
+unfolding heads_of
+none_counted = record { parts_are = refl; commands_are = refl }
+
+pub all_start : (told : Option (List (List ℕ × List ℕ))) (names : List (List ℕ)) (now : Followed) (parts commands : ℕ) → parts ≡ 0 → commands ≡ 0 → IfAllTold told names (AllStand now 0 now parts commands)
+all_start None names now parts commands p c = tt
+all_start (Some table) names now parts commands p c = record {
+  items = [];
+  read = refl;
+  all = none follow now;
+  counted = record { parts_are = p ∙ none_counted.parts_are; commands_are = c ∙ none_counted.commands_are };
+}
+
+counted_both : (items more : List Item) (p c q d : ℕ) → AreCounted p c items → AreCounted q d more → AreCounted (p + q) (c + d) (items ++ more)
+counted_both items more p c q d a b =
+    let cs : commands_of (items ++ more) ≡ commands_of items ++ commands_of more = map-append (λ (i : Item). i.command) items more in
+    let hs : heads (items ++ more) ≡ heads items ++ heads more = ap heads_of cs ∙ heads_of-append (commands_of items) (commands_of more) in
+    record {
+      parts_are = omega (arith, a.parts_are, b.parts_are, ap length hs, length-append (heads items) (heads more));
+      commands_are = omega (arith, a.commands_are, b.commands_are, length-append items more);
+    }
+
+then_then : (items more : List Item) (l : Limited) → then_read items (then_read more l) ≡ then_read (items ++ more) l
+then_then items more l = ap (λ (is : List Item). record { items = is; stop = l.stop }) (sym (append_assoc items more l.items))
+
+-- The next file is accepted.
+next_file : (start : Followed) (number : ℕ) (now next : Followed) (parts commands : ℕ) (counts : Counts) (bytes : List ℕ) (files : List (List ℕ)) → drop number files ≡ bytes ∷ drop (number + 1) files
+    → AllStand start number now parts commands files → FileAccepted (number + 1) now next counts bytes → AllStand start (number + 1) next (parts + counts.parts) (commands + counts.commands) files
+next_file start number now next parts commands counts bytes files here s f =
+    let more : Limited = limited_from (number + 1 + 1) (drop (number + 1) files) in
+    record {
+      items = s.items ++ f.items;
+      read = s.read ∙ ap (λ (fs : List (List ℕ)). then_read s.items (limited_from (number + 1) fs)) here
+          ∙ ap (then_read s.items) (split (number + 1) bytes (drop (number + 1) files) ∙ ap (λ (l : Limited). then_others l more) f.read)
+          ∙ then_then s.items f.items more;
+      all = run_on follow s.items f.items start now s.all ∙ f.all;
+      counted = counted_both s.items f.items parts commands counts.parts counts.commands s.counted f.counted;
+    }
+
+-- What is due to a file stays due, whatever files follow it, unless it is accepted.
+due_stays : (now : Followed) (first more : Limited) (outcome : Outcome) → Stops (due_from_here now first) outcome → Stops (due_from_here now (then_others first more)) outcome
+due_stays now first more outcome stops = by_stop first.items first.stop outcome stops
+  where
+    by_stop : (items : List Item) (stop : Stop) (o : Outcome) → Stops (due_from_here now (record { items = items; stop = stop })) o → Stops (due_from_here now (then_others (record { items = items; stop = stop }) more)) o
+    by_stop items (AtFault verdict) o stops = stops
+    by_stop items (AtLimit file) o stops = stops
+    by_stop items AtEnd (ended_by.Refused verdict) stops =
+        due_refused now (then_read items more) (verdict_meant verdict) (refused_still follow items more.items now (verdict_meant verdict) (refused_is now items (verdict_meant verdict) stops))
+    by_stop items AtEnd (ended_by.InputTooLong file) stops = absurd (never_long now items file stops)
+    by_stop items AtEnd ended_by.InputFault stops = tt
+    by_stop items AtEnd ended_by.NoMemory stops = tt
+    by_stop items AtEnd ended_by.OutputFault stops = absurd stops
+    by_stop items AtEnd ended_by.Done stops = absurd stops
+
+stops_here : (start : Followed) (number : ℕ) (now : Followed) (parts commands : ℕ) (bytes : List ℕ) (files : List (List ℕ)) (outcome : Outcome) → drop number files ≡ bytes ∷ drop (number + 1) files
+    → AllStand start number now parts commands files → Stops (due_from_here now (file_read (number + 1) bytes)) outcome → Stops (due_from_here start (limited_from 1 files)) outcome
+stops_here start number now parts commands bytes files outcome here s stops =
+    let more : Limited = limited_from (number + 1 + 1) (drop (number + 1) files) in
+    let read : due_from_here start (limited_from 1 files) ≡ due_from_here now (then_others (file_read (number + 1) bytes) more) =
+    ap (due_from_here start) s.read ∙ due_on start now s.items (limited_from (number + 1) (drop number files)) s.all
+    ∙ ap (due_from_here now) (ap (limited_from (number + 1)) here ∙ split (number + 1) bytes (drop (number + 1) files)) in
+    subst (λ (d : Due). Stops d outcome) (sym read) (due_stays now (file_read (number + 1) bytes) more outcome stops)
+
+-- After the last file.
+all_done : (start : Followed) (number : ℕ) (now : Followed) (totals : Totals) (files : List (List ℕ)) → drop number files ≡ [] → AllStand start number now totals.parts totals.commands files → AllAccepted start totals files
+unfolding limited_from input
+all_done start number now totals files past s =
+    let read : limited_from 1 files ≡ read_whole s.items =
+    s.read ∙ ap (λ (fs : List (List ℕ)). then_read s.items (limited_from (number + 1) fs)) past ∙ ap read_whole (append-nil s.items) in
+    let items_are : (input files).items ≡ s.items = ap (λ (r : Reading). r.items) (input_is 1 files (ap (λ (l : Limited). l.stop) read)) ∙ ap (λ (l : Limited). l.items) read in
+    record {
+      done = ap (due_from_here start) read ∙ due_stop start now (read_whole s.items) s.all;
+      counted = subst (λ (is : List Item). AreCounted totals.parts totals.commands is) (sym items_are) s.counted;
+    }
+
+-- ---- the files of names
+
+file_there : {Z : Type 0} (table : List (List ℕ × List ℕ)) (names : List (String Z)) (n : ℕ) (name : String Z) → n < length names → name ≡ slice_index_or names n name
+    → drop n (contents table (map string_bytes names)) ≡ file_at table (string_bytes name) ∷ drop (n + 1) (contents table (map string_bytes names))
+file_there {Z} table names n name less is =
+    let rest : List (String Z) = drop (n + 1) names in
+    let next : drop n names ≡ slice_index_or names n name ∷ rest = rw (add-one, drop-cons names n name) in
+    let here : drop n names ≡ name ∷ rest = next ∙ ap (λ (s : String Z). s ∷ rest) (sym is) in
+    drop_contents names n ∙ ap (λ (l : List (String Z)). contents table (map string_bytes l)) here
+    ∙ ap (λ (l : List (List ℕ)). file_at table (string_bytes name) ∷ l) (sym (drop_contents names (n + 1)))
+  where
+    drop_contents : (names : List (String Z)) (k : ℕ) → drop k (contents table (map string_bytes names)) ≡ contents table (map string_bytes (drop k names))
+    drop_contents names k = drop-map (file_at table) k (map string_bytes names) ∙ ap (contents table) (drop-map string_bytes k names)
+
+count_of_files : {Z : Type 0} (table : List (List ℕ × List ℕ)) (names : List (String Z)) → length (contents table (map string_bytes names)) ≡ length names
+count_of_files table names = length-map (map string_bytes names) (file_at table) ∙ length-map names string_bytes
+
+-- What a call on the next file says of it, as of a table of files.
+told_next : {Z : Type 0} (table : List (List ℕ × List ℕ)) (inputs : Option (List (List ℕ × List ℕ))) (name : String Z) (spelled : List ℕ) (P : List ℕ → Type 0)
+    → inputs ≡ Some table → spelled ≡ string_bytes name → IfTold inputs spelled P → P (file_at table (string_bytes name))
+told_next table inputs name spelled P same is p = told_moved (Some table) inputs (string_bytes name) spelled P same is p (file_at table (string_bytes name)) refl
+
+-- The next file is accepted, of those that are told.
+pub all_next : {Z : Type 0} (told inputs : Option (List (List ℕ × List ℕ))) (names : List (String Z)) (start : Followed) (number : ℕ) (now next : Followed) (parts commands parts_now commands_now : ℕ) (name : String Z) (spelled : List ℕ) (r : Result Counts Outcome) (counts : Counts)
+    → inputs ≡ told → number < length names → name ≡ slice_index_or names number name → spelled ≡ string_bytes name
+    → r ≡ Ok counts → IfTold inputs spelled (FileEnds (number + 1) now next r) → parts_now ≡ parts + counts.parts → commands_now ≡ commands + counts.commands
+    → IfAllTold told (map string_bytes names) (AllStand start number now parts commands) → IfAllTold told (map string_bytes names) (AllStand start (number + 1) next parts_now commands_now)
+all_next None inputs names start number now next parts commands parts_now commands_now name spelled r counts same less is spelling was ends p c s = tt
+all_next (Some table) inputs names start number now next parts commands parts_now commands_now name spelled r counts same less is spelling was ends p c s =
+    let files : List (List ℕ) = contents table (map string_bytes names) in
+    let said = told_next table inputs name spelled (FileEnds (number + 1) now next (Ok counts)) same spelling (subst (λ (x : Result Counts Outcome). IfTold inputs spelled (FileEnds (number + 1) now next x)) was ends) in
+    subst (λ (k : ℕ). AllStand start (number + 1) next k commands_now files) (sym p) (
+    subst (λ (k : ℕ). AllStand start (number + 1) next (parts + counts.parts) k files) (sym c)
+    (next_file start number now next parts commands counts (file_at table (string_bytes name)) files (file_there table names number name less is) s said))
+
+-- The next file ends the audit.
+pub all_stop : {Z : Type 0} (told inputs : Option (List (List ℕ × List ℕ))) (names : List (String Z)) (start : Followed) (number : ℕ) (now next : Followed) (parts commands : ℕ) (name : String Z) (spelled : List ℕ) (r : Result Counts Outcome) (outcome : Outcome)
+    → inputs ≡ told → number < length names → name ≡ slice_index_or names number name → spelled ≡ string_bytes name
+    → r ≡ Err outcome → IfTold inputs spelled (FileEnds (number + 1) now next r)
+    → IfAllTold told (map string_bytes names) (AllStand start number now parts commands) → IfAllTold told (map string_bytes names) (AllEnd start (Err outcome))
+all_stop None inputs names start number now next parts commands name spelled r outcome same less is spelling was ends s = tt
+all_stop (Some table) inputs names start number now next parts commands name spelled r outcome same less is spelling was ends s =
+    let said = told_next table inputs name spelled (FileEnds (number + 1) now next (Err outcome)) same spelling (subst (λ (x : Result Counts Outcome). IfTold inputs spelled (FileEnds (number + 1) now next x)) was ends) in
+    stops_here start number now parts commands (file_at table (string_bytes name)) (contents table (map string_bytes names)) outcome (file_there table names number name less is) s said
+
+-- After the last.
+pub all_end : {Z : Type 0} (told : Option (List (List ℕ × List ℕ))) (names : List (String Z)) (start : Followed) (number : ℕ) (now : Followed) (totals : Totals) → length names ≤ number
+    → IfAllTold told (map string_bytes names) (AllStand start number now totals.parts totals.commands) → IfAllTold told (map string_bytes names) (AllEnd start (Ok totals))
+all_end None names start number now totals past s = tt
+all_end (Some table) names start number now totals past s =
+    let files : List (List ℕ) = contents table (map string_bytes names) in
+    let over : length files ≤ number = omega (arith, count_of_files table names, past) in
+    all_done start number now totals files (drop_all number files over) s

@@ -1,0 +1,28 @@
+use Rattle.std.proofs.Common.{◌≡◌, ◌≤◌, ◌-◌, ◌+◌, map}
+use Rattle.send_model.specs.Lengths.{limit}
+use Rattle.cmd_reader.specs.Places.{IfTold}
+use Rattle.cmd_reader.specs.Left.{HasAhead}
+use Rattle.auditor.specs.Following.{beside}
+use Rattle.auditor.proofs.OneFile.{Stands}
+use Rattle.auditor.proofs.files.follow_file.Given as goal
+
+-- The commands that were read were accepted and counted; the inputs tell the same files, and no count fell.
+abbrev pub invariant-loop-reader : goal.invariant-loop-reader
+invariant-loop-reader g l = record {
+  same : g.I.Inputs.told l.inputs ≡ g.I.Inputs.told l.fn.inputs;
+  later : g.I.Inputs.faults l.fn.inputs ≤ g.I.Inputs.faults l.inputs;
+  file : l.reader.file ≡ l.fn.file;
+  name : l.reader.name ≡ l.fn.name;
+  number : l.reader.number ≡ l.counts.commands + 1;
+  near : l.reader.number ≤ l.reader.offset + 1;
+  within : l.reader.offset ≤ limit;
+  fewer : l.counts.parts ≤ l.counts.commands;
+  stands : IfTold (g.I.Inputs.told l.fn.inputs) l.fn.name (Stands l.fn.file
+      (beside (map (λ b. (goal.Guard-dyn g (b.vtable, b.value)).kept b.value) l.fn.guards) l.fn.follower) l.reader
+      (beside (map (λ b. (goal.Guard-dyn g (b.vtable, b.value)).kept b.value) l.guards) l.follower) l.counts.parts l.counts.commands);
+  ahead : IfTold (g.I.Inputs.told l.inputs) l.reader.name (HasAhead l.reader);
+}
+
+-- Each command brings the reader nearer to the limit.
+abbrev pub decreases-loop-reader : goal.decreases-loop-reader
+decreases-loop-reader g l = limit - l.reader.offset

@@ -1,0 +1,23 @@
+use Rattle.std.specs.Prelude.{map}
+use Rattle.std.specs.String.{string_bytes}
+use Rattle.std.proofs.Common.{◌≡◌, ◌≤◌, ◌-◌, ◌*◌, length}
+use Rattle.sx_base.specs.Calls.{IfAllTold}
+use Rattle.auditor.specs.Following.{beside}
+use Rattle.auditor.proofs.AllFiles.{AllStand}
+use Rattle.auditor.proofs.files.follow_files.Given as goal
+
+-- The commands of the files so far were accepted and counted; the inputs tell the same files, and no count fell.
+abbrev pub invariant-loop-file : goal.invariant-loop-file
+invariant-loop-file g l = record {
+  within : l.file ≤ length l.fn.files;
+  same : g.I.Inputs.told l.inputs ≡ g.I.Inputs.told l.fn.inputs;
+  later : g.I.Inputs.faults l.fn.inputs ≤ g.I.Inputs.faults l.inputs;
+  parts : l.totals.parts ≤ l.file * 18446744073709551616;
+  commands : l.totals.commands ≤ l.file * 18446744073709551616;
+  stand : IfAllTold (g.I.Inputs.told l.fn.inputs) (map string_bytes l.fn.files) (AllStand
+      (beside (map (λ b. (goal.Guard-dyn g (b.vtable, b.value)).kept b.value) l.fn.guards) l.fn.follower) l.file
+      (beside (map (λ b. (goal.Guard-dyn g (b.vtable, b.value)).kept b.value) l.guards) l.follower) l.totals.parts l.totals.commands);
+}
+
+abbrev pub decreases-loop-file : goal.decreases-loop-file
+decreases-loop-file g l = length l.files - l.file

@@ -1,0 +1,109 @@
+// Following commands: each is looked at by the guards, and then it is one step of the core.
+ghost use Rattle.std.specs.Prelude.{◌≡◌, ◌≤◌, ◌^◌, ℕ, map, None, IfOk};
+ghost use Rattle.send_commands.specs.Meaning.{meaning_of};
+ghost use Rattle.clone_resolve.specs.Steps.{data_len, done_by, Answers};
+ghost use Rattle.cmd_reader.specs.Next.{item_of};
+ghost use Rattle.auditor.specs.Following.{blank, blank_step, beside, follow};
+ghost use Rattle.auditor.specs.Answers.{Follows, ItemEnds};
+
+use clone_resolve::{Done, EditCore, Part};
+use cmd_reader::Item;
+use extent_map::Origin;
+use guard_rules::{Guard, look_all};
+use send_commands::Command;
+use std::marker::Model;
+use sx_base::{Outcome, Refusal, Stop, Verdict};
+
+// The subvolumes and the part so far, seen without their cells, and the origin of every WRITE.
+#[derive(Drop)]
+pub(crate) struct Follower<R: Origin> {
+    core: EditCore<R>,
+    part: Option<Part<R>>,
+    origin: R,
+}
+
+impl<R: Origin> Model for Follower<R> {
+    ghost use Rattle.std.specs.Prelude.{◌≤◌, ◌^◌};
+    ghost use Rattle.send_model.specs.Store as meant;
+    ghost use Rattle.send_model.specs.Cells.{recelled_state};
+    ghost use Rattle.clone_resolve.specs.Steps.{Fits};
+
+    ghost Value = { meant.State (Unit {0}) };
+
+    ghost view = { λ f. recelled_state (λ _. tt) (record { store = f.core; part = f.part }) };
+
+    ghost invariant = { λ f. (2 ^ 18 ≤ R.reach f.origin) × Fits f.core f.part };
+}
+
+impl<R: Origin> Follower<R> {
+    // No part yet. The origin reaches as far as the data of any command.
+    pub(crate) fn new(core: EditCore<R>, origin: R) -> Follower<R>
+        requires reach { 2 ^ 18 ≤ R.reach origin }
+        ensures start { result ≡ record { store = blank core; part = None } }
+    {
+        Follower {
+            core,
+            part: None,
+            origin,
+        }
+    }
+
+    // One command.
+    fn step(&mut self, command: &Command) -> Result<Done, Stop>
+        requires short { data_len (meaning_of command.now) ≤ 2 ^ 18 }
+        ensures done { IfOk result (λ done. done ≡ done_by (meaning_of command.now)) }
+        ensures stepped { Answers result self.new (blank_step self.old (meaning_of command.now)) }
+    {
+        self.core.step(&mut self.part, command, self.origin)
+    }
+}
+
+// One command under guards. After an error it is not said what they and the part are.
+fn look_and_step<R: Origin>(
+    follower: &mut Follower<R>,
+    guards: &mut [Box<dyn Guard>],
+    item: &Item,
+) -> Result<Done, Stop>
+    requires short { data_len (meaning_of item.now.command) ≤ 2 ^ 18 }
+    ensures followed { (file : ℕ) → Follows result
+        (beside (map (λ g. kept g) guards.new) follower.new) (item_of file item.now)
+        (follow (beside (map (λ g. kept g) guards.old) follower.old) (item_of file item.now)) }
+{
+    if let Some(place) = look_all(guards, &item.command) {
+        return Err(Stop::Refused(Refusal::Guarded {
+            guard: place as u64,
+            used: count_of(&guards[place]),
+        }));
+    }
+    follower.step(&item.command)
+}
+
+// What a guard has counted.
+fn count_of(guard: &Box<dyn Guard>) -> u64
+    ensures { result ≡ (kept guard.now).used }
+{
+    guard.used()
+}
+
+// The next command of a file, which is the given one of several: it is accepted, or its outcome ends the audit.
+pub(crate) fn follow_item<R: Origin>(
+    follower: &mut Follower<R>,
+    guards: &mut [Box<dyn Guard>],
+    file: u64,
+    item: &Item,
+) -> Result<Done, Outcome>
+    requires short { data_len (meaning_of item.now.command) ≤ 2 ^ 18 }
+    ensures followed { ItemEnds (beside (map (λ g. kept g) guards.old) follower.old)
+        (beside (map (λ g. kept g) guards.new) follower.new) (item_of file item.now) result }
+{
+    match look_and_step(follower, guards, item) {
+        Ok(done) => Ok(done),
+        Err(Stop::NoMemory) => Err(Outcome::NoMemory),
+        Err(Stop::Refused(refusal)) => Err(Outcome::Refused(Verdict {
+            file,
+            command: item.number,
+            offset: item.offset,
+            refusal,
+        })),
+    }
+}

@@ -1,0 +1,11 @@
+//! Auditing streams: which command is the first that would be refused, where nothing is received.
+#![tactic(auto)]
+
+mod auditing;
+mod counts;
+mod files;
+mod following;
+#[cfg(test)]
+mod tests;
+
+pub use auditing::audit;

@@ -1,0 +1,280 @@
+// Files that are audited over objects in memory. The frames and the answers are from other programs.
+
+use crate::audit;
+use clone_resolve::EditCore;
+use extent_map::Origin;
+use guard_rules::{ByteGuard, CommandGuard, DeviceGuard, Guard};
+use std::alloc::{AllocError, Global};
+use std::process::Abort;
+use std::test::Fail;
+use sx_base::{MemInputs, MemSink, Outcome, Refusal, Verdict};
+
+// The origin of bytes that nobody looks at.
+#[derive(Clone, Copy)]
+struct Nowhere {}
+
+impl Origin for Nowhere {
+    ghost use Rattle.std.specs.Prelude.{◌^◌};
+    ghost use Rattle.std.proofs.Common.{refl, arith};
+
+    ghost reach = { λ _. 2 ^ 64 };
+
+    ghost advanced = { λ o k. o };
+
+    fn advance(&self, _k: u64) -> Nowhere {
+        *self
+    }
+
+    ghost advanced_by_none = { λ o. refl };
+
+    ghost reach_is_left = { λ o j k h. Prim.omega (arith, h) };
+
+    ghost advanced_twice = { λ o j k h. refl };
+}
+
+// The pieces of which the files are made. UUIDs are sixteen times the same byte.
+const HEADER: &[u8] = b"btrfs-stream\x00\x01\x00\x00\x00";
+
+const SUBVOL_A: &[u8] =
+    b"%\x00\x00\x00\x01\x0033C\xee\x01\x00\x10\x00\x11\x11\x11\x11\x11\x11\x11\x11\x11\x11\x11\x11\x11\x11\x11\x11\x02\x00\x08\x00\x01\x00\x00\x00\x00\x00\x00\x00\x0f\x00\x01\x00a";
+
+const SNAPSHOT_B: &[u8] =
+    b"E\x00\x00\x00\x02\x00\xca\x93\xbf\xed\x01\x00\x10\x00\"\"\"\"\"\"\"\"\"\"\"\"\"\"\"\"\x02\x00\x08\x00\x02\x00\x00\x00\x00\x00\x00\x00\x0f\x00\x01\x00b\x14\x00\x10\x00\x11\x11\x11\x11\x11\x11\x11\x11\x11\x11\x11\x11\x11\x11\x11\x11\x15\x00\x08\x00\x01\x00\x00\x00\x00\x00\x00\x00";
+
+const SNAPSHOT_C: &[u8] =
+    b"E\x00\x00\x00\x02\x00\xec\xb7\x18l\x01\x00\x10\x003333333333333333\x02\x00\x08\x00\x03\x00\x00\x00\x00\x00\x00\x00\x0f\x00\x01\x00c\x14\x00\x10\x00\"\"\"\"\"\"\"\"\"\"\"\"\"\"\"\"\x15\x00\x08\x00\x02\x00\x00\x00\x00\x00\x00\x00";
+
+const MKFILE_X: &[u8] = b"\x05\x00\x00\x00\x03\x00/\x8a6s\x0f\x00\x01\x00x";
+
+const MKFILE_Y: &[u8] = b"\x05\x00\x00\x00\x03\x00,\x09]\x81\x0f\x00\x01\x00y";
+
+const LINK: &[u8] = b"\x0a\x00\x00\x00\x0a\x00d\xe1\x01\xe0\x0f\x00\x01\x00y\x11\x00\x01\x00x";
+
+const RENAME: &[u8] = b"\x0a\x00\x00\x00\x09\x00!\x06\xb3\xd6\x0f\x00\x01\x00x\x10\x00\x01\x00y";
+
+const MKDIR_D: &[u8] = b"\x05\x00\x00\x00\x04\x00\xc4\xdeJ\xc4\x0f\x00\x01\x00d";
+
+const MKDIR_E: &[u8] = b"\x05\x00\x00\x00\x04\x00\xc7]!6\x0f\x00\x01\x00e";
+
+const MKFILE_F: &[u8] = b"\x07\x00\x00\x00\x03\x001\x06\xf4\x12\x0f\x00\x03\x00e/f";
+
+const RENAME_OVER: &[u8] =
+    b"\x0a\x00\x00\x00\x09\x00\xc8\x11Q\x99\x0f\x00\x01\x00d\x10\x00\x01\x00e";
+
+const RENAME_INTO: &[u8] = b"\x0c\x00\x00\x00\x09\x00a`\xf8N\x0f\x00\x01\x00d\x10\x00\x03\x00d/g";
+
+const WRITE_HI: &[u8] =
+    b"\x17\x00\x00\x00\x0f\x00C~\xee_\x0f\x00\x01\x00x\x12\x00\x08\x00\x00\x00\x00\x00\x00\x00\x00\x00\x13\x00\x02\x00hi";
+
+const WRITE_MORE: &[u8] =
+    b"\x16\x00\x00\x00\x0f\x00\x95\xb7Kw\x0f\x00\x01\x00x\x12\x00\x08\x00\x02\x00\x00\x00\x00\x00\x00\x00\x13\x00\x01\x00!";
+
+const WRITE_EIGHT: &[u8] =
+    b"\x1d\x00\x00\x00\x0f\x00/\xc8\x0be\x0f\x00\x01\x00x\x12\x00\x08\x00\x00\x00\x00\x00\x00\x00\x00\x00\x13\x00\x08\x0012345678";
+
+const WRITE_NINTH: &[u8] =
+    b"\x16\x00\x00\x00\x0f\x00&\xed\x15\x0f\x0f\x00\x01\x00x\x12\x00\x08\x00\x08\x00\x00\x00\x00\x00\x00\x00\x13\x00\x01\x009";
+
+const END: &[u8] = b"\x00\x00\x00\x00\x15\x00Pl\xc9\x9d";
+
+const END_OF_WRONG_SUM: &[u8] = b"\x00\x00\x00\x00\x15\x00\x00\x00\x00\x00";
+
+const END_CUT: &[u8] = b"\x00\x00\x00\x00\x15\x00Pl\xc9";
+
+// A full stream, and those that go on from it and from the second.
+const FIRST: &[&[u8]] = &[HEADER, SUBVOL_A, MKFILE_X, WRITE_HI, END];
+
+const SECOND: &[&[u8]] = &[HEADER, SNAPSHOT_B, WRITE_MORE, END];
+
+const THIRD: &[&[u8]] = &[HEADER, SNAPSHOT_C, END];
+
+const TWO_WRITES: &[&[u8]] = &[HEADER, SUBVOL_A, MKFILE_X, WRITE_EIGHT, WRITE_NINTH, END];
+
+const NAMES: [&str; 3] = ["first", "second", "third"];
+
+fn refused(file: u64, command: u64, offset: u64, refusal: Refusal) -> Outcome {
+    Outcome::Refused(Verdict {
+        file,
+        command,
+        offset,
+        refusal,
+    })
+}
+
+// Audits up to three files, given by their pieces, where one call of the inputs and one of the output may fail, and expects the
+// outcome and what is written. A file of no pieces is missing.
+fn expect(
+    rt: &impl Abort,
+    alloc: Global,
+    files: &[&[&[u8]]],
+    failing: [u64; 2],
+    guards: &mut [Box<dyn Guard>],
+    outcome: Outcome,
+    written: &[u8],
+) -> Result<(), AllocError> {
+    let mut inputs = MemInputs::new(alloc);
+    inputs.fail_call(failing[0])?;
+    let mut names = Vec::new(alloc);
+    for (name, pieces) in NAMES.iter().zip(files) {
+        let mut bytes = Vec::new(alloc);
+        for piece in *pieces {
+            bytes.extend_from_slice(piece)?;
+        }
+        if !bytes.is_empty() {
+            inputs.add(name, bytes.as_slice())?;
+        }
+        names.push(String::from_str(alloc, name)?)?;
+    }
+    let mut out = MemSink::new(alloc);
+    out.fail_call(failing[1])?;
+    let core = EditCore::new(alloc);
+    let answer = audit(
+        alloc,
+        core,
+        Nowhere {},
+        &mut inputs,
+        &names,
+        guards,
+        &mut out,
+    );
+    assert_eq!(rt; answer, outcome);
+    assert_eq!(rt; out.bytes(), written);
+    Ok(())
+}
+
+#[test]
+fn files_without_guards(rt: HostRuntime) -> Result<(), Fail> {
+    let table: [(&[&[&[u8]]], [u64; 2], Outcome, &[u8]); 14] = [
+        (&[&[HEADER, END]], [0, 0], Outcome::Done, b"accepted 0 1\n"),
+        (&[FIRST, SECOND], [0, 0], Outcome::Done, b"accepted 2 7\n"),
+        (
+            &[&[HEADER, END_OF_WRONG_SUM]],
+            [0, 0],
+            refused(
+                1,
+                1,
+                17,
+                Refusal::BadChecksum {
+                    stored: 0,
+                    computed: 0x9dc9_6c50,
+                },
+            ),
+            b"",
+        ),
+        (
+            &[&[HEADER, END_CUT]],
+            [0, 0],
+            refused(1, 1, 17, Refusal::Truncated),
+            b"",
+        ),
+        (&[&[]], [0, 0], refused(1, 1, 0, Refusal::Truncated), b""),
+        (
+            &[FIRST, FIRST],
+            [0, 0],
+            refused(2, 1, 17, Refusal::NameThere),
+            b"",
+        ),
+        (
+            &[FIRST, THIRD],
+            [0, 0],
+            refused(2, 1, 17, Refusal::NoParent),
+            b"",
+        ),
+        (
+            &[FIRST, SECOND, THIRD],
+            [0, 0],
+            Outcome::Done,
+            b"accepted 3 9\n",
+        ),
+        (
+            &[&[
+                HEADER,
+                SUBVOL_A,
+                MKFILE_X,
+                LINK,
+                RENAME,
+                MKDIR_D,
+                MKDIR_E,
+                MKFILE_F,
+                RENAME_OVER,
+                END,
+            ]],
+            [0, 0],
+            refused(1, 8, 166, Refusal::NotEmpty),
+            b"",
+        ),
+        (
+            &[&[
+                HEADER,
+                SUBVOL_A,
+                MKFILE_X,
+                LINK,
+                RENAME,
+                MKDIR_D,
+                MKDIR_E,
+                MKFILE_F,
+                RENAME_INTO,
+                END,
+            ]],
+            [0, 0],
+            refused(1, 8, 166, Refusal::IntoItself),
+            b"",
+        ),
+        (
+            &[&[HEADER, SUBVOL_A, MKFILE_X, LINK, RENAME, MKFILE_X, END]],
+            [0, 0],
+            refused(1, 5, 119, Refusal::EntryThere),
+            b"",
+        ),
+        (
+            &[&[HEADER, SUBVOL_A, MKFILE_X, LINK, RENAME, MKFILE_Y, END]],
+            [0, 0],
+            refused(1, 5, 119, Refusal::EntryThere),
+            b"",
+        ),
+        (&[FIRST, SECOND], [2, 0], Outcome::InputFault, b""),
+        (&[FIRST, SECOND], [0, 1], Outcome::OutputFault, b""),
+    ];
+    for (files, failing, outcome, written) in table {
+        let guards: &mut [Box<dyn Guard>] = &mut [];
+        expect(&rt, rt.alloc(), files, failing, guards, outcome, written)?;
+    }
+    Ok(())
+}
+
+#[test]
+fn files_under_guards(rt: HostRuntime) -> Result<(), Fail> {
+    let table: [(u64, u64, &[&[u8]], Outcome, &[u8]); 3] = [
+        (
+            8,
+            9,
+            TWO_WRITES,
+            refused(1, 4, 118, Refusal::Guarded { guard: 0, used: 8 }),
+            b"",
+        ),
+        (
+            8,
+            3,
+            FIRST,
+            refused(1, 4, 112, Refusal::Guarded { guard: 2, used: 3 }),
+            b"",
+        ),
+        (9, 5, TWO_WRITES, Outcome::Done, b"accepted 1 5\n"),
+    ];
+    for (bytes, commands, file, outcome, written) in table {
+        let mut guards: Vec<Box<dyn Guard>> = Vec::new(rt.alloc());
+        guards.push(Box::new(rt.alloc(), ByteGuard::new(bytes))?)?;
+        guards.push(Box::new(rt.alloc(), DeviceGuard::new())?)?;
+        guards.push(Box::new(rt.alloc(), CommandGuard::new(commands))?)?;
+        expect(
+            &rt,
+            rt.alloc(),
+            &[file],
+            [0, 0],
+            &mut guards,
+            outcome,
+            written,
+        )?;
+    }
+    Ok(())
+}

@@ -1,0 +1,6 @@
+pub mod CommandLines
+pub mod Dumps
+pub mod Lengths
+pub mod Octal
+pub mod Standing
+pub mod ValueLines

@@ -1,0 +1,66 @@
+use Rattle.std.proofs.Common.{refl, ap, ◌∙◌, arith}
+use Rattle.sx_base.specs.declared.outcome.Outcome.TheVariants as ended
+use Rattle.cmd_reader.specs.Left.{Reader}
+use Rattle.cmd_reader.proofs.Aheads.{start_ahead, next_ahead}
+use Rattle.stream_dump.proofs.Standing.{unopened, stands_first, stands_next, ends_whole, ends_early, item_stops, caused_end, caused_stop, caused_item}
+use Rattle.stream_dump.proofs.file_writing.write_file.Goals as goal
+
+pub returns-in_default-clause-written : goal.returns-in_default-clause-written
+returns-in_default-clause-written g c = unopened g.F.ItemForm.piece (g.I.Inputs.told c.args.inputs.now) c.args.file.now (g.O.Sink.taken c.args.out.now)
+
+pub loop-item-init : goal.loop-item-init
+loop-item-init g c =
+    let fresh = c.in-Ok.ensures.start in
+    record {
+      same = refl;
+      later = omega arith;
+      out_later = omega arith;
+      file = ap (λ (r : Reader). r.file) fresh;
+      name = ap (λ (r : Reader). r.name) fresh;
+      stands = stands_first g.F.ItemForm.piece (g.I.Inputs.told c.args.inputs.now) c.args.file.now c.in-Ok.reader c.new-gathered.result (g.O.Sink.taken c.args.out.now) fresh c.new-gathered.ensures.empty;
+      ahead = start_ahead _ 1 c.args.file.now c.in-Ok.reader fresh;
+    }
+
+pub loop-item-preserved : goal.loop-item-preserved
+loop-item-preserved g c =
+    let i = c.loop-item.invariant in
+    let e = c.in-Ok-Some.ensures in
+    record {
+      same = e.same ∙ i.same;
+      later = omega (arith, i.later, e.later);
+      out_later = omega (arith, i.out_later, c.in_default-written.ensures.later);
+      file = e.file ∙ i.file;
+      name = e.name ∙ i.name;
+      stands = stands_next g.F.ItemForm.piece _ _ c.args.file.now c.loop-item.reader c.next.new.self c.in-Ok-Some.field-0 c.in-Ok-Some.item c.loop-item.gathered c.write_item-written.new.gathered _ _ _ 0 0
+          i.same i.file i.name c.in-Ok-Some.field-0-is c.in_default-written.ensures.ends e.read i.stands;
+      ahead = next_ahead _ _ c.loop-item.reader c.next.new.self 0 0 c.in-Ok-Some.field-0 c.in-Ok-Some.item c.in-Ok-Some.field-0-is e.same e.name e.read;
+    }
+
+pub returns-in-Err-written-clause-written : goal.returns-in-Err-written-clause-written
+returns-in-Err-written-clause-written g c =
+    let i = c.loop-item.invariant in
+    let e = c.in-Ok-Some.ensures in
+    item_stops g.F.ItemForm.piece _ _ c.args.file.now c.loop-item.reader c.next.new.self c.in-Ok-Some.field-0 c.in-Ok-Some.item c.loop-item.gathered c.write_item-written.new.gathered _ (g.O.Sink.taken c.loop-item.out) _ 0 0
+    (g.O.Sink.faults c.loop-item.out) (g.O.Sink.faults c.write_item-written.new.out) c.in-Err-written.outcome
+    i.same i.file i.name c.in-Ok-Some.field-0-is c.in-Err-written.ensures.ends e.read i.stands
+
+pub returns-in-Err-written-clause-cause : goal.returns-in-Err-written-clause-cause
+returns-in-Err-written-clause-cause g c =
+    caused_item _ _ _ (g.O.Sink.faults c.loop-item.out) _ c.in-Err-written.outcome c.loop-item.invariant.out_later c.in-Err-written.ensures.ends.0
+
+pub returns-in-Ok-None-clause-written : goal.returns-in-Ok-None-clause-written
+returns-in-Ok-None-clause-written g c =
+    let i = c.loop-item.invariant in
+    ends_whole g.F.ItemForm.piece _ _ c.args.file.now c.loop-item.reader c.next.new.self c.in-Ok-None.field-0 c.loop-item.gathered _ (g.O.Sink.taken c.loop-item.out) _ 0 0
+    (g.O.Sink.faults c.loop-item.out) (g.O.Sink.faults c.finish.new.out) c.finish.result i.same i.name c.in-Ok-None.field-0-is c.in-Ok-None.ensures.read c.finish.ensures.ends i.stands
+
+pub returns-in-Ok-None-clause-cause : goal.returns-in-Ok-None-clause-cause
+returns-in-Ok-None-clause-cause g c =
+    caused_end _ _ _ (g.O.Sink.faults c.loop-item.out) _ c.loop-item.gathered.bytes ended.Done c.finish.result _ _ c.loop-item.invariant.out_later c.finish.ensures.ends tt
+
+pub returns-in-Err-clause-written : goal.returns-in-Err-clause-written
+returns-in-Err-clause-written g c =
+    let i = c.loop-item.invariant in
+    ends_early g.F.ItemForm.piece _ _ c.args.file.now c.loop-item.reader c.next.new.self c.in-Err.stop c.outcome_of.result c.loop-item.gathered _ (g.O.Sink.taken c.loop-item.out) _
+    (g.I.Inputs.faults c.loop-item.inputs) (g.I.Inputs.faults c.next.new.inputs) (g.O.Sink.faults c.loop-item.out) (g.O.Sink.faults c.finish-in-Err.new.out) c.finish-in-Err.result
+    i.same i.name c.outcome_of.ensures.outcome c.in-Err.ensures.read c.finish-in-Err.ensures.ends i.stands

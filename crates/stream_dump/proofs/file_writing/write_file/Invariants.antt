@@ -1,0 +1,22 @@
+use Rattle.std.proofs.Common.{◌≡◌, ◌-◌, ◌≤◌}
+use Rattle.send_model.specs.Lengths.{limit}
+use Rattle.cmd_reader.specs.Places.{IfTold}
+use Rattle.cmd_reader.specs.Left.{HasAhead}
+use Rattle.stream_dump.proofs.Standing.{Stands}
+use Rattle.stream_dump.proofs.file_writing.write_file.Given as goal
+
+-- What was written and gathered are the bytes of what was read; the inputs tell the same files, and no count fell.
+abbrev pub invariant-loop-item : goal.invariant-loop-item
+invariant-loop-item g l = record {
+  same : g.I.Inputs.told l.inputs ≡ g.I.Inputs.told l.fn.inputs;
+  later : g.I.Inputs.faults l.fn.inputs ≤ g.I.Inputs.faults l.inputs;
+  out_later : g.O.Sink.faults l.fn.out ≤ g.O.Sink.faults l.out;
+  file : l.reader.file ≡ 1;
+  name : l.reader.name ≡ l.fn.file;
+  stands : IfTold (g.I.Inputs.told l.fn.inputs) l.fn.file (Stands g.F.ItemForm.piece l.reader l.gathered (g.O.Sink.taken l.fn.out) (g.O.Sink.taken l.out));
+  ahead : IfTold (g.I.Inputs.told l.inputs) l.reader.name (HasAhead l.reader);
+}
+
+-- Each command brings the reader nearer to the limit.
+abbrev pub decreases-loop-item : goal.decreases-loop-item
+decreases-loop-item g l = limit - l.reader.offset

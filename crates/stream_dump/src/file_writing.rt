@@ -1,0 +1,112 @@
+// Writing all commands of a file in some form.
+ghost use Rattle.std.specs.Prelude.{◌≡◌, ◌≤◌, [], ◌∷◌, true, Ok, Err};
+ghost use Rattle.send_model.specs.Laws.{CanWrite};
+ghost use Rattle.send_model.specs.Words.{first_file};
+ghost use Rattle.sx_base.specs.Calls.{Caused, IfAllTold, Wrote};
+ghost use Rattle.send_commands.specs.Meaning.{meaning_of};
+ghost use Rattle.send_commands.specs.Writing.{IsWritable};
+ghost use Rattle.cmd_reader.specs.Next.{item_of};
+ghost use Rattle.stream_dump.specs.Written.{WritesFile};
+ghost use Rattle.stream_dump.specs.Steps.{outcome_at, Sends, ItemEnds, EndsWith};
+
+use crate::gathering::Gathered;
+use crate::item_form::ItemForm;
+use cmd_reader::{CmdReader, Item, ReadStop};
+use std::alloc::Global;
+use sx_base::{Inputs, Outcome, Sink, write_whole};
+
+// How many bytes are gathered before they are written.
+const PIECE: usize = 65_536;
+
+/// Writes all commands of the file that can be read, in this form. The file is read once, in order. `Done` says that it is whole, and
+/// `Refused` gives its first fault; with both `out` got the bytes of all commands before, and with every other outcome a front part
+/// of them. `InputTooLong` comes exactly where the file is too long.
+pub fn write_file<F: ItemForm, I: Inputs, O: Sink>(
+    alloc: Global,
+    form: &mut F,
+    inputs: &mut I,
+    file: &str,
+    out: &mut O,
+) -> Outcome
+    ensures same { I.told inputs.new ≡ I.told inputs.old }
+    ensures later { I.faults inputs.old ≤ I.faults inputs.new }
+    ensures out_later { O.faults out.old ≤ O.faults out.new }
+    ensures cause { Caused (I.faults inputs.old) (I.faults inputs.new) (O.faults out.old) (O.faults out.new) result }
+    ensures written { IfAllTold (I.told inputs.old) (file.now ∷ []) (λ files. Wrote (O.taken out.old) (O.taken out.new) (WritesFile F.piece (first_file files) result)) }
+{
+    let Ok(mut reader) = CmdReader::new(alloc, 1, file) else {
+        return Outcome::NoMemory;
+    };
+    let mut gathered = Gathered::new(alloc);
+    loop {
+        match reader.next(inputs) {
+            Ok(Some(item)) => {
+                let written = write_item(form, &mut gathered, item, out);
+                if let Err(outcome) = written {
+                    return outcome;
+                }
+            }
+            Ok(None) => return finish(&mut gathered, out, Outcome::Done),
+            Err(stop) => return finish(&mut gathered, out, outcome_of(stop)),
+        }
+    }
+}
+
+// Adds the bytes of an item, and writes what was gathered where it is much.
+fn write_item<F: ItemForm, O: Sink>(
+    form: &mut F,
+    gathered: &mut Gathered,
+    item: Item,
+    out: &mut O,
+) -> Result<(), Outcome>
+    requires writable { IsWritable item.version (meaning_of item.command) }
+    requires sayable { CanWrite item.version (meaning_of item.command) }
+    ensures later { O.faults out.old ≤ O.faults out.new }
+    ensures ends { ItemEnds F.piece gathered.old gathered.new (item_of 1 item) (O.taken out.old) (O.taken out.new) (O.faults out.old) (O.faults out.new) result }
+{
+    let Ok(()) = gathered.add(form, &item) else {
+        return Err(Outcome::NoMemory);
+    };
+    if gathered.bytes.as_slice().len() >= PIECE {
+        return send(gathered, out);
+    }
+    Ok(())
+}
+
+// Writes what was gathered.
+fn send<O: Sink>(gathered: &mut Gathered, out: &mut O) -> Result<(), Outcome>
+    ensures later { O.faults out.old ≤ O.faults out.new }
+    ensures sent { Sends gathered.old gathered.new (O.taken out.old) (O.taken out.new) (O.faults out.old) (O.faults out.new) result }
+{
+    let Ok(()) = write_whole(out, gathered.bytes.as_slice()) else {
+        return Err(Outcome::OutputFault);
+    };
+    gathered.bytes.clear();
+    Ok(())
+}
+
+// The outcome of a file that ends here. What was gathered is written first, but not where the inputs failed or there is no memory.
+fn finish<O: Sink>(gathered: &mut Gathered, out: &mut O, outcome: Outcome) -> Outcome
+    ensures later { O.faults out.old ≤ O.faults out.new }
+    ensures ends { EndsWith gathered.old.bytes outcome (O.taken out.old) (O.taken out.new) (O.faults out.old) (O.faults out.new) result }
+{
+    if let Outcome::InputFault | Outcome::NoMemory = outcome {
+        return outcome;
+    }
+    match send(gathered, out) {
+        Ok(()) => outcome,
+        Err(fault) => fault,
+    }
+}
+
+// The outcome of a file that could not be read on.
+fn outcome_of(stop: ReadStop) -> Outcome
+    ensures outcome { result ≡ outcome_at stop }
+{
+    match stop {
+        ReadStop::Refused(verdict) => Outcome::Refused(verdict),
+        ReadStop::NoMemory => Outcome::NoMemory,
+        ReadStop::InputFault => Outcome::InputFault,
+        ReadStop::InputTooLong => Outcome::InputTooLong { file: 1 },
+    }
+}

@@ -1,0 +1,18 @@
+//! Printing the commands of a file of streams: a line for each stream and one for each command. The loop that does it writes the
+//! commands of a file in any form.
+#![tactic(auto)]
+
+mod commands;
+mod dumping;
+mod file_writing;
+mod gathering;
+mod item_form;
+mod lines;
+mod numbers;
+#[cfg(test)]
+mod tests;
+mod values;
+
+pub use dumping::dump;
+pub use file_writing::write_file;
+pub use item_form::ItemForm;

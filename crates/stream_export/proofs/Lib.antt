@@ -1,0 +1,2 @@
+pub mod AskedFrames
+pub mod Exports

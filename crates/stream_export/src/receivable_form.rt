@@ -1,0 +1,117 @@
+// Commands in the receivable spelling.
+ghost use Rattle.std.specs.Prelude.{◌≡◌, ◌++◌, ◌≤◌, OnOk, [], length};
+ghost use Rattle.std.specs.Int.{w32, w64, to_le_bytes};
+ghost use Rattle.send_model.specs.Command.{row};
+ghost use Rattle.send_model.specs.Spelling.{stream_header, attribute_bytes, frame_of, greatest_body, canonical};
+ghost use Rattle.send_model.specs.Receivable.{receivable};
+ghost use Rattle.send_model.specs.Laws.{CanWrite};
+ghost use Rattle.send_commands.specs.Meaning.{meaning_of};
+ghost use Rattle.send_commands.specs.Writing.{IsWritable};
+ghost use Rattle.stream_export.specs.Asking.{attribute_of, kind_asked, export_bytes};
+
+use crate::asked::{Asked, asked_of};
+use cmd_reader::Item;
+use send_commands::{Command, Time, encode};
+use std::alloc::{AllocError, Global};
+use stream_dump::ItemForm;
+use sx_base::Blob;
+use tlv_frame::FrameWriter;
+
+const INO: u16 = 3;
+
+const CTIME: u16 = 9;
+
+// The length of a frame's header in bytes.
+const HEAD_LEN: usize = 10;
+
+/// The receivable spelling, each stream behind its header. It keeps the canonical frame of the command at hand.
+#[derive(Drop)]
+pub struct ReceivableForm {
+    frame: Blob,
+}
+
+impl ItemForm for ReceivableForm {
+    ghost piece = { export_bytes };
+
+    fn add(&mut self, begins: bool, item: &Item, to: &mut Blob) -> Result<(), AllocError> {
+        if begins {
+            push_header(item.version, to)?;
+        }
+        self.push_receivable(&item.command, item.version, to)
+    }
+}
+
+impl ReceivableForm {
+    /// A form before the first command. Takes no memory.
+    pub fn new(alloc: Global) -> ReceivableForm
+        ensures empty { result.frame ≡ [] }
+    {
+        ReceivableForm {
+            frame: Blob::new(alloc),
+        }
+    }
+
+    // Appends the receivable spelling of a command: the canonical one where nothing more is asked for.
+    fn push_receivable(
+        &mut self,
+        command: &Command,
+        version: u32,
+        to: &mut Blob,
+    ) -> Result<(), AllocError>
+        requires writable { IsWritable version (meaning_of command.now) }
+        requires sayable { CanWrite version (meaning_of command.now) }
+        ensures added { OnOk result (to.new ≡ to.old ++ receivable version (meaning_of command.now)) }
+    {
+        let Some(asked) = asked_of(command) else {
+            return encode(command, version, to);
+        };
+        self.frame.clear();
+        encode(command, version, &mut self.frame)?;
+        let (_, body) = self.frame.as_slice().split_at(HEAD_LEN);
+        push_frame(asked, version, body, to)
+    }
+}
+
+// Appends the header of a stream.
+#[tactic(auto, unfolding(send_model::specs::Spelling::stream_header))]
+fn push_header(version: u32, to: &mut Blob) -> Result<(), AllocError>
+    ensures added { OnOk result (to.new ≡ to.old ++ stream_header version) }
+{
+    to.push_all(b"btrfs-stream\x00")?;
+    to.push_all(&version.to_le_bytes())
+}
+
+// Appends a frame with what is asked for and, behind it, these attributes.
+fn push_frame(asked: Asked, version: u32, body: &[u8], to: &mut Blob) -> Result<(), AllocError>
+    requires short { length body.now ≤ greatest_body }
+    ensures added { OnOk result (to.new ≡ to.old ++ frame_of (row (kind_asked asked)).number (attribute_bytes version (attribute_of asked) ++ body.now)) }
+{
+    let mut writer = FrameWriter::begin(to, asked.number(), version)?;
+    push_asked(&mut writer, asked, to)?;
+    to.push_all(body)?;
+    writer.finish(to);
+    Ok(())
+}
+
+// Appends what is asked for as an attribute.
+fn push_asked(writer: &mut FrameWriter, asked: Asked, to: &mut Blob) -> Result<(), AllocError>
+    ensures appended { OnOk result (to.new ≡ to.old ++ attribute_bytes writer.old.version (attribute_of asked)) }
+    ensures writer { writer.new ≡ writer.old }
+{
+    match asked {
+        Asked::Number(_) => writer.attr_u64(to, INO, 0),
+        Asked::ChangeTime(time) => writer.attr_bytes(to, CTIME, &moment_bytes(time)),
+    }
+}
+
+// Eight bytes of seconds and four of nanoseconds.
+fn moment_bytes(time: Time) -> [u8; 12]
+    ensures { result ≡ to_le_bytes w64 time.secs ++ to_le_bytes w32 time.nanos }
+{
+    let secs = time.secs.to_le_bytes();
+    let nanos = time.nanos.to_le_bytes();
+    [
+        secs[0], secs[1], secs[2], secs[3], secs[4], secs[5], secs[6], secs[7], nanos[0], nanos[1],
+        nanos[2], nanos[3],
+    ]
+}

@@ -1,0 +1,18 @@
+use Rattle.std.proofs.Common.{◌≡◌, ◌∷◌, ◌++◌, [], OnOk, ℕ, List, map, replicate, ap, subst, ◌∙◌}
+use Rattle.send_model.specs.Command.{Subvol, MkFile, Write, End}
+use Rattle.send_model.specs.Spelling.{stream_header, canonical, canonical_all}
+use Rattle.send_model.specs.Generated.{part_name, file_name, files}
+use Rattle.stream_gen.proofs.EachFile.{first_spelled}
+use Rattle.stream_gen.proofs.parts.push_first_part.Goals as goal
+
+pub returns : goal.returns
+returns c =
+    record {
+      appended = subst (λ (l : List ℕ). OnOk c.push_end.result (c.push_end.new.to ≡ l))
+          (ap (λ (l : List ℕ). l ++ canonical 1 End) (c.in_ok-push_contents.ensures.appended
+          ∙ ap (λ (l : List ℕ). l ++ canonical_all 1 (map (λ file. Write (file_name file) 0 (replicate 12_288 file)) files)) (c.in_ok-push_files.ensures.appended
+          ∙ ap (λ (l : List ℕ). l ++ canonical_all 1 (map (λ file. MkFile (file_name file)) files)) (c.in_ok-push_subvol.ensures.appended
+          ∙ ap (λ (l : List ℕ). l ++ canonical 1 (Subvol c.args.uuid 1 (part_name 1))) c.in_ok-push_header.ensures.appended)))
+          ∙ first_spelled c.args.to.now (stream_header 1) (Subvol c.args.uuid 1 (part_name 1)) (map (λ file. MkFile (file_name file)) files) (map (λ file. Write (file_name file) 0 (replicate 12_288 file)) files))
+          c.push_end.ensures.appended;
+    }

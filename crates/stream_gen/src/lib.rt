@@ -1,0 +1,13 @@
+//! Chains of consecutive streams that a number gives, for trying and measuring.
+#![tactic(auto)]
+
+mod chain;
+mod commands;
+mod draws;
+mod generating;
+mod parts;
+#[cfg(test)]
+mod tests;
+
+pub use chain::Chain;
+pub use generating::{generate, write_chain};
