@@ -12,6 +12,7 @@ use sx_base::{Inputs, Outcome, Sink};
 /// file is read once, in order. `Done` says that it is whole, and `Refused` gives its first fault; with both `out` got all commands
 /// before, and with every other outcome a front part of them: END is written only where the file has it. `InputTooLong` comes
 /// exactly where the file is too long.
+#[tactic(auto, using(crate::proofs::Exports::was_exported))]
 pub fn export<I: Inputs, O: Sink>(alloc: Global, inputs: &mut I, file: &str, out: &mut O) -> Outcome
     ensures same { I.told inputs.new ≡ I.told inputs.old }
     ensures later { I.faults inputs.old ≤ I.faults inputs.new }
