@@ -13,7 +13,7 @@ use Rattle.send_model.specs.Outside.{part_uuids}
 use Rattle.send_model.specs.Provenance.{Traced, traced_store, traced_step, uuid_after, is_redirected}
 use Rattle.send_model.specs.Composed.{composed}
 use Rattle.send_model.specs.Counts.{is_clone}
-use Rattle.send_model.specs.Due.{Due, DoneWhole, RefusedAt, TooLong, TooMuch, most_literal, uncarried_of, then_due, due_from, refused_due, or_due, compose_due}
+use Rattle.send_model.specs.Due.{Due, DoneWhole, RefusedAt, TooLong, TooMuch, most_literal, uncarried_of, then_due, due_from, refused_due, or_due, compose_due, compose_due_of}
 use Rattle.send_model.specs.Words.{Compose, due, whole_of}
 use Rattle.send_model.proofs.Merging.{NoClones}
 use Rattle.send_model.proofs.Dues.{is_judged}
