@@ -1,32 +1,45 @@
 // The texts that --help and --version write.
 
 pub(crate) const HELP: &str = "\
-btrsend checks Btrfs send streams and merges a chain of them into one.
+btrsend checks Btrfs send streams, merges a chain of them into one, and prints them. It needs no Btrfs.
 
-usage: btrsend compose none FILE.. > MERGED
+usage: btrsend audit [GUARD..] none FILE..
+       btrsend compose none FILE.. > MERGED
+       btrsend export FILE > STREAM
+       btrsend dump FILE
+       btrsend gen COUNT SEED > CHAIN
+       btrsend --help | --version
 
-  compose   reads the streams of all FILEs in order, checks each command as a receiver would, and writes one
-            stream to standard output that makes the last subvolume in a single part
-  none      where the subvolumes are that the streams stand on: nowhere, so the first stream is a full one,
-            and each later one is an incremental one on the one before
-  FILE      a file that `btrfs send` wrote. Each is read twice, so it can not be a pipe
-  --help    writes this text
-  --version writes the version
+  audit     checks each command of all FILEs in order, as a receiver would, and names the first that it would
+            refuse; where there is none it writes `accepted PARTS COMMANDS`. Each FILE is read once: a pipe serves
+  compose   writes one stream that makes the last subvolume of a chain in a single part. The first FILE is a full
+            stream, and each later part is an incremental one on the part before. Each FILE is read twice, so it
+            can not be a pipe
+  export    writes the streams of FILE in the spelling that `btrfs receive` takes; what `compose` writes is not
+  dump      prints the commands of FILE, a line each
+  gen       writes a lawful chain of COUNT parts, 1 to 4096, that SEED gives
 
-A full stream and two incremental ones, merged into one:
+  none      where the subvolumes are that the streams stand on: nowhere
+  FILE      a file that `btrfs send` wrote, with one stream or several
+  GUARD     guard:bytes=N, guard:commands=N, guard:nodev or guard:end=N: refuses more bytes of data, more
+            commands, device nodes, and data or sizes that end above N
+
+A full stream and two incremental ones, checked, merged and restored:
 
   btrfs send /snapshots/monday > full
   btrfs send -p /snapshots/monday /snapshots/tuesday > second
   btrfs send -p /snapshots/tuesday /snapshots/wednesday > third
+  btrsend audit none full second third
   btrsend compose none full second third > merged
+  btrsend export merged | btrfs receive /restored
 
-The merged stream has the attributes that each command needs and no others. btrfs receive of btrfs-progs 6.2 asks for two
-more, INO and CTIME, and so does not take it yet.
+Clones between files, and streams of protocol version 2, are not taken yet: a clone is refused as NotBuilt 16, and
+such a stream as BadVersion 2.
 
 The exit status is 0 where all was done. Else a line on standard error says why:
 
    1  refused FILE COMMAND OFFSET NUMBER NAME ..   a command that is refused, and why: both counted from 1, the
-      offset in bytes. Commands that are not taken yet are refused as NotBuilt, with their number
+      offset in bytes
    2  usage             the words mean nothing
    3  input fault       a file could not be read
    4  output fault      standard output could not be written

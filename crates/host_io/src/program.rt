@@ -2,7 +2,9 @@
 use crate::help::{HELP, VERSION};
 use crate::out_sink::OutSink;
 use crate::path_inputs::PathInputs;
+use guard_rules::{ByteGuard, CommandGuard, DeviceGuard, EndGuard, Guard, GuardSpec, parse_guard};
 use send_top::{Answer, run, status, write_note};
+use std::alloc::AllocError;
 use std::io::ErrorKind;
 use std::process::ExitCode;
 use std::{env, io};
@@ -27,9 +29,47 @@ pub fn start(rt: &HostRuntime) -> ExitCode {
             Err(_) => answered(&Answer::Ended(Outcome::OutputFault), &mut notes),
         };
     }
+    match run_words(rt, &words, &mut out, &mut notes) {
+        Ok(status) => ExitCode::from(status),
+        Err(AllocError) => answered(&Answer::Ended(Outcome::NoMemory), &mut notes),
+    }
+}
+
+// Runs the words, with one guard for each guard word of `audit`.
+fn run_words<O: Sink, N: Sink>(
+    rt: &HostRuntime,
+    words: &[String],
+    out: &mut O,
+    notes: &mut N,
+) -> Result<u8, AllocError> {
+    let mut guards: Vec<Box<dyn Guard>> = Vec::new(rt.alloc());
+    for word in guard_words(words) {
+        match parse_guard(word.as_str()) {
+            Some(GuardSpec::Bytes(most)) => {
+                guards.push(Box::new(rt.alloc(), ByteGuard::new(most))?)?;
+            }
+            Some(GuardSpec::Commands(most)) => {
+                guards.push(Box::new(rt.alloc(), CommandGuard::new(most))?)?;
+            }
+            Some(GuardSpec::NoDevices) => {
+                guards.push(Box::new(rt.alloc(), DeviceGuard::new())?)?;
+            }
+            Some(GuardSpec::End(most)) => {
+                guards.push(Box::new(rt.alloc(), EndGuard::new(most))?)?;
+            }
+            None => break,
+        }
+    }
     let mut inputs = PathInputs::new(rt, rt.alloc());
-    let status = run(rt.alloc(), &words, &mut inputs, &mut out, &mut notes);
-    ExitCode::from(status)
+    Ok(run(rt.alloc(), words, guards, &mut inputs, out, notes))
+}
+
+// The words behind `audit`, of which the first are guard words; none of any other request.
+fn guard_words(words: &[String]) -> &[String] {
+    match words.first() {
+        Some(word) if word.as_str() == "audit" => &words[1..],
+        _ => &[],
+    }
 }
 
 // The words after the program's name. An error where there is no memory, or a word is not UTF-8.

@@ -1,4 +1,7 @@
 pub mod Hexadecimal
 pub mod Notes
 pub mod Statuses
-pub mod Endings
+pub mod GuardPlaces
+pub mod AuditWords
+pub mod Asked
+pub mod OtherWords

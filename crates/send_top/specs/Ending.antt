@@ -1,22 +1,18 @@
--- What an answer says of the files that the words name.
-use Rattle.std.specs.Prelude.{◌≡◌, ⊤, ℕ, List, [], drop, Option, None, Some, IfSome}
-use Rattle.send_model.specs.Answer.{Request, Compose, Answer, Done, Refused, InputTooLong, request}
-use Rattle.send_model.specs.Order.{judge}
-use Rattle.send_model.specs.Lengths.{too_long}
-use Rattle.sx_base.specs.Calls.{IfAllTold}
+-- What an answer says of a request, of the files that it names, and of what was written.
+use Rattle.std.specs.Prelude.{◌≡◌, ℕ, List}
+use Rattle.send_model.specs.Store.{Store}
+use Rattle.send_model.specs.Due.{DoneWhole, RefusedAt, TooLong}
+use Rattle.send_model.specs.Answer.{Answer, Done, Refused, Usage, InputFault, OutputFault, NoMemory, InputTooLong}
+use Rattle.send_model.specs.Words.{Request, due, EndSays, StandsBefore, StandsCut}
 
--- The names of the files that a request is for.
-abbrev pub names_asked : Request → List (List ℕ) → List (List ℕ)
-names_asked (Compose store files) words = drop files words
-
--- A fact about the bytes of the files that the words name, where these mean something and the inputs tell their files.
-abbrev pub OfFiles : Option (List (List ℕ × List ℕ)) → List (List ℕ) → (List (List ℕ) → Type 0) → Type 0
-OfFiles told words P = IfSome (request words) (λ asked. IfAllTold told (names_asked asked words) P)
-
--- An answer is right about files: none of their commands is unlawful; or the one that it names is the first; or the file
--- that it names is the first that is too long. Where it is one of the first two, none is too long.
-abbrev pub IsRight : List (List ℕ) → Answer → Type 0
-IsRight files Done = (judge [] files ≡ None) × (too_long files ≡ None)
-IsRight files (Refused verdict) = (judge [] files ≡ Some verdict) × (too_long files ≡ None)
-IsRight files (InputTooLong number) = too_long files ≡ Some number
-IsRight files _ = ⊤
+-- An answer that the files decide is the one that is due to the request over a base, and standard output has what it says. Where
+-- an object of the outside failed or there was no memory, standard output has what stands before an end. A request that is
+-- asked for is never answered as one that means nothing.
+abbrev pub Answers : Request → Store ℕ → List (List ℕ) → Answer → List ℕ → Type 0
+Answers request base files Done written = (due request base files ≡ DoneWhole) × EndSays request base files DoneWhole written
+Answers request base files (Refused verdict) written = (due request base files ≡ RefusedAt verdict) × EndSays request base files (RefusedAt verdict) written
+Answers request base files (InputTooLong file) written = (due request base files ≡ TooLong file) × EndSays request base files (TooLong file) written
+Answers request base files InputFault written = StandsBefore request base files written
+Answers request base files OutputFault written = StandsCut request base files written
+Answers request base files NoMemory written = StandsBefore request base files written
+Answers request base files Usage written = ⊥

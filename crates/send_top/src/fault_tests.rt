@@ -52,7 +52,14 @@ fn status_with(alloc: Global, file: &[u8], read: u64, write: u64) -> Result<u8, 
     let mut out = MemSink::new(alloc);
     out.fail_call(write)?;
     let mut notes = MemSink::new(alloc);
-    Ok(run(alloc, &words, &mut inputs, &mut out, &mut notes))
+    Ok(run(
+        alloc,
+        &words,
+        Vec::new(alloc),
+        &mut inputs,
+        &mut out,
+        &mut notes,
+    ))
 }
 
 // How many calls of the inputs come before the given call of the output, or in a whole run where there is no such call.

@@ -3,6 +3,7 @@
 
 #[cfg(test)]
 mod fault_tests;
+mod fitting;
 mod noting;
 mod one_line;
 #[cfg(test)]

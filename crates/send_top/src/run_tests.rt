@@ -1,13 +1,14 @@
 // Runs over objects in memory. The expected bytes and notes are not this program's own.
 use crate::test_streams::{
-    END, END_CUT, END_WITHOUT_SUM, FRAME_26, FRAME_TOO_LONG, HEADER, HEADER_OF_VERSION_3, MKDIR_D,
+    CLONE_X, END, END_CUT, END_WITHOUT_SUM, FRAME_26, FRAME_TOO_LONG, HEADER, HEADER_OF_VERSION_3,
     MKFILE_BELOW_X, MKFILE_NO_PATH, MKFILE_ROOT, MKFILE_UP, MKFILE_X, MKFILE_X_TWO_PATHS,
-    SNAPSHOT_A, SNAPSHOT_B, SNAPSHOT_B_OF_LATER, SNAPSHOT_B_SAME_UUID, SNAPSHOT_C_OF_A, SUBVOL_A,
-    SUBVOL_A_LATER, SUBVOL_B, SUBVOL_B_SAME_UUID, SUBVOL_C, SUBVOL_DOT, TRUNCATE_1,
-    TRUNCATE_GREATEST, TRUNCATE_PAST, UPDATE_EXTENT_X, WRITE_HI, WRITE_LAST, WRITE_MARK,
-    WRITE_NOTHING, WRITE_PAST_LAST, WRITE_ROOT, WRITE_Y,
+    MKFILE_X_WITH_INO, SNAPSHOT_A, SNAPSHOT_B, SNAPSHOT_B_OF_LATER, SNAPSHOT_B_SAME_UUID,
+    SNAPSHOT_C_OF_A, SUBVOL_A, SUBVOL_A_LATER, SUBVOL_B, SUBVOL_B_SAME_UUID, SUBVOL_C, SUBVOL_DOT,
+    TRUNCATE_1, TRUNCATE_GREATEST, TRUNCATE_PAST, UPDATE_EXTENT_X, WRITE_HI, WRITE_LAST,
+    WRITE_MARK, WRITE_NOTHING, WRITE_PAST_LAST, WRITE_ROOT, WRITE_Y,
 };
 use crate::top_call::run;
+use guard_rules::{CommandGuard, Guard};
 use std::alloc::{AllocError, Global};
 use std::process::Abort;
 use std::test::Fail;
@@ -66,9 +67,9 @@ const REFUSED: [(&[Pieces], Pieces, &[u8]); 28] = [
         b"refused 1 2 64 8 MissingAttribute 15\n",
     ),
     (
-        &[&[HEADER, SUBVOL_A, MKDIR_D, END]],
+        &[&[HEADER, SUBVOL_A, CLONE_X, END]],
         &[HEADER, SUBVOL_A],
-        b"refused 1 2 64 36 NotBuilt 4\n",
+        b"refused 1 2 64 36 NotBuilt 16\n",
     ),
     (
         &[&[HEADER, MKFILE_X, END]],
@@ -197,7 +198,7 @@ fn compose_files(
         inputs.add(name, joined(alloc, pieces)?.as_slice())?;
         words.push(String::from_str(alloc, name)?)?;
     }
-    Ok(run(alloc, &words, inputs, out, notes))
+    Ok(run(alloc, &words, Vec::new(alloc), inputs, out, notes))
 }
 
 #[test]
@@ -325,14 +326,25 @@ fn a_failed_note_leaves_the_status(rt: HostRuntime) -> Result<(), Fail> {
 
 #[test]
 fn other_words_mean_nothing(rt: HostRuntime) -> Result<(), Fail> {
-    let table: [&[&str]; 7] = [
+    let table: [&[&str]; 18] = [
         &[],
         &["compose"],
         &["compose", "none"],
         &["compose", "store", "first"],
         &["compose", "", "first"],
         &["Compose", "none", "first"],
-        &["audit", "none", "first"],
+        &["audit", "none"],
+        &["audit", "store", "first"],
+        &["audit", "guard:bits=1", "none", "first"],
+        &["audit", "guard:nodev", "none", "first"],
+        &["dump"],
+        &["dump", "first", "first"],
+        &["export"],
+        &["gen", "0", "1"],
+        &["gen", "4097", "1"],
+        &["gen", "1"],
+        &["gen", "1", "18446744073709551616"],
+        &["trial", "1", "1"],
     ];
     for words in table {
         let words = words_of(rt.alloc(), words)?;
@@ -341,11 +353,98 @@ fn other_words_mean_nothing(rt: HostRuntime) -> Result<(), Fail> {
         let mut out = MemSink::new(rt.alloc());
         let mut notes = MemSink::new(rt.alloc());
         assert_eq!(rt;
-            run(rt.alloc(), &words, &mut inputs, &mut out, &mut notes),
+            run(
+                rt.alloc(),
+                &words,
+                Vec::new(rt.alloc()),
+                &mut inputs,
+                &mut out,
+                &mut notes
+            ),
             2
         );
         assert_eq!(rt; out.bytes(), b"".as_slice());
         assert_eq!(rt; notes.bytes(), b"usage\n".as_slice());
     }
+    Ok(())
+}
+
+// The lines of the first file.
+const DUMPED: &[u8] = b"stream 1
+1 17 SUBVOL uuid=11111111-1111-1111-1111-111111111111 ctransid=1 path=a
+2 64 MKFILE path=x
+3 79 WRITE path=x offset=0 data=2
+4 112 END
+";
+
+#[test]
+fn files_are_checked_and_printed(rt: HostRuntime) -> Result<(), Fail> {
+    let exported = joined(
+        rt.alloc(),
+        &[HEADER, SUBVOL_A, MKFILE_X_WITH_INO, WRITE_HI, END],
+    )?;
+    let table: [(&[&str], u8, &[u8], &[u8]); 6] = [
+        (&["audit", "none", "first"], 0, b"accepted 1 4\n", b""),
+        (
+            &["audit", "none", "first", "second"],
+            0,
+            b"accepted 2 7\n",
+            b"",
+        ),
+        (
+            &["audit", "none", "second"],
+            1,
+            b"",
+            b"refused 1 1 17 13 NoParent\n",
+        ),
+        (&["dump", "first"], 0, DUMPED, b""),
+        (&["export", "first"], 0, exported.as_slice(), b""),
+        (&["export", "none"], 1, b"", b"refused 1 1 0 3 Truncated\n"),
+    ];
+    for (words, status, written, note) in table {
+        let words = words_of(rt.alloc(), words)?;
+        let mut inputs = MemInputs::new(rt.alloc());
+        inputs.add("first", joined(rt.alloc(), FIRST)?.as_slice())?;
+        inputs.add("second", joined(rt.alloc(), SECOND)?.as_slice())?;
+        let mut out = MemSink::new(rt.alloc());
+        let mut notes = MemSink::new(rt.alloc());
+        let guards: Vec<Box<dyn Guard>> = Vec::new(rt.alloc());
+        let answered = run(
+            rt.alloc(),
+            &words,
+            guards,
+            &mut inputs,
+            &mut out,
+            &mut notes,
+        );
+        assert_eq!(rt; out.bytes(), written);
+        assert_eq!(rt; notes.bytes(), note);
+        assert_eq!(rt; answered, status);
+    }
+    Ok(())
+}
+
+#[test]
+fn guards_are_asked(rt: HostRuntime) -> Result<(), Fail> {
+    let words = words_of(rt.alloc(), &["audit", "guard:commands=3", "none", "first"])?;
+    let mut guards: Vec<Box<dyn Guard>> = Vec::new(rt.alloc());
+    guards.push(Box::new(rt.alloc(), CommandGuard::new(3))?)?;
+    let mut inputs = MemInputs::new(rt.alloc());
+    inputs.add("first", joined(rt.alloc(), FIRST)?.as_slice())?;
+    let mut out = MemSink::new(rt.alloc());
+    let mut notes = MemSink::new(rt.alloc());
+    let status = run(
+        rt.alloc(),
+        &words,
+        guards,
+        &mut inputs,
+        &mut out,
+        &mut notes,
+    );
+    assert_eq!(rt;
+        notes.bytes(),
+        b"refused 1 4 112 33 Guarded 0 3\n".as_slice()
+    );
+    assert_eq!(rt; status, 1);
     Ok(())
 }

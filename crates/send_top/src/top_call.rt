@@ -1,51 +1,59 @@
 // What a run does with its words.
-ghost use Rattle.std.specs.Prelude.{◌≡◌, ◌≢◌, ◌↔◌, IsTrue, [], ◌++◌, map, None};
-ghost use Rattle.std.specs.Io.KnownBytes.{Appends};
+ghost use Rattle.std.specs.Prelude.{◌≡◌, ◌≢◌, ◌↔◌, ◌<◌, [], map, length, drop, slice_index_or};
 ghost use Rattle.std.specs.String.{string_bytes};
 ghost use Rattle.send_model.specs.Answer as meant;
-ghost use Rattle.send_model.specs.Answer.{Done, InputFault, OutputFault, Usage, request};
-ghost use Rattle.send_model.specs.Composed.{composed};
-ghost use Rattle.send_model.specs.Headline.{IsComposed, IsStopped};
-ghost use Rattle.send_model.specs.Spelling.{stream_header, canonical_all};
+ghost use Rattle.send_model.specs.Answer.{InputFault, OutputFault, Usage};
+ghost use Rattle.send_model.specs.Words.{new_guards};
+ghost use Rattle.sx_base.specs.Calls.{Caused, IfAllTold, Wrote, Ends};
 ghost use Rattle.sx_base.specs.Causes.{Rose};
-ghost use Rattle.sx_base.specs.Calls.{Wrote};
-ghost use Rattle.send_top.specs.Answered.{IsGiven, answer_of, is_status};
-ghost use Rattle.send_top.specs.Ending.{OfFiles, IsRight};
+ghost use Rattle.sx_base.specs.declared.outcome.Outcome.TheVariants as ended;
+ghost use Rattle.send_top.specs.Answered.{IsGiven, answer_of};
+ghost use Rattle.send_top.specs.Requests.{AskNothing, IsWithin, request_meant, specs_of, names_asked};
+ghost use Rattle.send_top.specs.Run.{OfRequest, IsAnswered, IfComposes};
 
+use crate::fitting::guards_fit;
 use crate::noting::{Answer, status, write_note};
-use crate::words::read_words;
+use crate::words::{Request, read_words};
+use auditor::audit;
+use clone_resolve::EditCore;
 use composer::compose;
+use extent_map::Nowhere;
+use guard_rules::Guard;
 use std::alloc::Global;
-use sx_base::{Inputs, Sink};
+use stream_dump::dump;
+use stream_export::export;
+use stream_gen::write_chain;
+use sx_base::{Inputs, Outcome, Sink};
 
 /// Does what the words after the program's name ask for, and gives the exit status. Where it is not 0, `notes` get
-/// the line that says why; a line that fails leaves the status. Words that mean nothing are answered without memory,
-/// and then nothing is asked of `inputs` and `out`.
+/// the line that says why; a line that fails leaves the status. Words that mean nothing, and guards that are not those of the
+/// words, are answered without memory, and then nothing is asked of `inputs` and `out`.
 ///
-/// With status 0 `out` took the one stream that the files are composed into. With any other it took no whole stream, but
-/// a front part of what the commands before the first unlawful one are composed to. Where there was memory, no count of
-/// faults rose and no file is too long, the status is 0 if all commands of the files are lawful, and 1 if not; then the
-/// note names the first that is unlawful.
+/// With status 0 `out` took all that is asked for; of `compose` this is one stream that the headline holds of. Where there was
+/// memory, no count of faults rose and no file is too long, the status is 0 if all commands of the files are lawful, and 1 if
+/// not; then the note names the first that is unlawful.
 pub fn run<I: Inputs, O: Sink, N: Sink>(
     alloc: Global,
     words: &[String],
+    guards: Vec<Box<dyn Guard>>,
     inputs: &mut I,
     out: &mut O,
     notes: &mut N,
 ) -> u8
-    ensures statuses { IsTrue (is_status result) }
-    ensures usage { (result ≡ 2) ↔ (request (map string_bytes words.now) ≡ None) }
+    ensures usage { (result ≡ 2) ↔ AskNothing (map string_bytes words.now) (map (λ g. kept g) guards.items) }
     ensures untouched { result ≡ 2 → (inputs.new ≡ inputs.old) × (out.new ≡ out.old) }
     ensures same { I.told inputs.new ≡ I.told inputs.old }
     ensures input_fault { result ≡ 3 → Rose (I.faults inputs.old) (I.faults inputs.new) }
     ensures output_fault { result ≡ 4 → Rose (O.faults out.old) (O.faults out.new) }
-    ensures composed { result ≡ 0 → OfFiles (I.told inputs.old) (map string_bytes words.now) (λ files. Wrote (O.taken out.old) (O.taken out.new) (IsComposed [] files)) }
-    ensures spelled { result ≡ 0 → OfFiles (I.told inputs.old) (map string_bytes words.now) (λ files. Appends (O.taken out.old) (O.taken out.new) (stream_header 1 ++ canonical_all 1 (composed [] files))) }
-    ensures unfinished { result ≢ 0 → OfFiles (I.told inputs.old) (map string_bytes words.now) (λ files. Wrote (O.taken out.old) (O.taken out.new) (IsStopped [] files)) }
+    ensures composed { result ≡ 0 → OfRequest (I.told inputs.old) (map string_bytes words.now) (map (λ g. kept g) guards.items)
+        (λ request files. Wrote (O.taken out.old) (O.taken out.new) (IfComposes request files)) }
+    ensures answered { (answer : meant.Answer)
+        × IsAnswered (I.told inputs.old) (map string_bytes words.now) (map (λ g. kept g) guards.items) (O.taken out.old) (O.taken out.new) answer
+        × IsGiven answer (N.taken notes.old) (N.taken notes.new) (N.faults notes.old) (N.faults notes.new) result }
     ensures quiet { result ≡ 0 → notes.new ≡ notes.old }
-    ensures noted { (answer : meant.Answer) × IsGiven answer (N.taken notes.old) (N.taken notes.new) (N.faults notes.old) (N.faults notes.new) result × OfFiles (I.told inputs.old) (map string_bytes words.now) (λ files. IsRight files answer) }
 {
-    let answer = answer_to(alloc, words, inputs, out);
+    let mut guards = guards;
+    let answer = answer_to(alloc, words, &mut guards, inputs, out);
     let _ = write_note(&answer, notes);
     status(&answer)
 }
@@ -53,21 +61,74 @@ pub fn run<I: Inputs, O: Sink, N: Sink>(
 fn answer_to<I: Inputs, O: Sink>(
     alloc: Global,
     words: &[String],
+    guards: &mut [Box<dyn Guard>],
     inputs: &mut I,
     out: &mut O,
 ) -> Answer
-    ensures usage { (answer_of result ≡ Usage) ↔ (request (map string_bytes words.now) ≡ None) }
+    ensures usage { (answer_of result ≡ Usage) ↔ AskNothing (map string_bytes words.now) (map (λ g. kept g) guards.old) }
     ensures untouched { answer_of result ≡ Usage → (inputs.new ≡ inputs.old) × (out.new ≡ out.old) }
     ensures same { I.told inputs.new ≡ I.told inputs.old }
     ensures input_fault { answer_of result ≡ InputFault → Rose (I.faults inputs.old) (I.faults inputs.new) }
     ensures output_fault { answer_of result ≡ OutputFault → Rose (O.faults out.old) (O.faults out.new) }
-    ensures composed { answer_of result ≡ Done → OfFiles (I.told inputs.old) (map string_bytes words.now) (λ files. Wrote (O.taken out.old) (O.taken out.new) (IsComposed [] files)) }
-    ensures spelled { answer_of result ≡ Done → OfFiles (I.told inputs.old) (map string_bytes words.now) (λ files. Appends (O.taken out.old) (O.taken out.new) (stream_header 1 ++ canonical_all 1 (composed [] files))) }
-    ensures unfinished { answer_of result ≢ Done → OfFiles (I.told inputs.old) (map string_bytes words.now) (λ files. Wrote (O.taken out.old) (O.taken out.new) (IsStopped [] files)) }
-    ensures right { OfFiles (I.told inputs.old) (map string_bytes words.now) (λ files. IsRight files (answer_of result)) }
+    ensures composed { answer_of result ≡ meant.Done → OfRequest (I.told inputs.old) (map string_bytes words.now) (map (λ g. kept g) guards.old)
+        (λ request files. Wrote (O.taken out.old) (O.taken out.new) (IfComposes request files)) }
+    ensures answered { IsAnswered (I.told inputs.old) (map string_bytes words.now) (map (λ g. kept g) guards.old)
+        (O.taken out.old) (O.taken out.new) (answer_of result) }
 {
-    match read_words(words) {
-        None => Answer::Usage,
-        Some(asked) => Answer::Ended(compose(alloc, inputs, asked.files(words), out)),
+    let Some(request) = read_words(words) else {
+        return Answer::Usage;
+    };
+    if !guards_fit(words, request, guards) {
+        return Answer::Usage;
     }
+    Answer::Ended(end_of(alloc, words, request, guards, inputs, out))
+}
+
+// How a request ends that the words and guards ask for.
+fn end_of<I: Inputs, O: Sink>(
+    alloc: Global,
+    words: &[String],
+    request: Request,
+    guards: &mut [Box<dyn Guard>],
+    inputs: &mut I,
+    out: &mut O,
+) -> Outcome
+    requires within { IsWithin (length words.now) request }
+    requires fits { map (λ g. kept g) guards.old ≡ new_guards (specs_of (request_meant (map string_bytes words.now) request)) }
+    ensures same { I.told inputs.new ≡ I.told inputs.old }
+    ensures cause { Caused (I.faults inputs.old) (I.faults inputs.new) (O.faults out.old) (O.faults out.new) result }
+    ensures composed { result ≡ ended.Done
+        → IfAllTold (I.told inputs.old) (names_asked (request_meant (map string_bytes words.now) request) (map string_bytes words.now))
+        (λ files. Wrote (O.taken out.old) (O.taken out.new) (IfComposes (request_meant (map string_bytes words.now) request) files)) }
+    ensures ends { IfAllTold (I.told inputs.old) (names_asked (request_meant (map string_bytes words.now) request) (map string_bytes words.now))
+        (λ files. Wrote (O.taken out.old) (O.taken out.new) (Ends (request_meant (map string_bytes words.now) request) [] files result)) }
+{
+    match request {
+        Request::Compose { files, .. } => compose(alloc, inputs, names_from(words, files), out),
+        Request::Audit { files, .. } => {
+            let core = EditCore::new(alloc);
+            let names = names_from(words, files);
+            audit(alloc, core, Nowhere, inputs, names, guards, out)
+        }
+        Request::Dump { file } => dump(alloc, inputs, name_at(words, file), out),
+        Request::Export { file } => export(alloc, inputs, name_at(words, file), out),
+        Request::Gen { count, seed } => write_chain(alloc, count, seed, out),
+    }
+}
+
+// The words from a place on.
+fn names_from(words: &[String], at: usize) -> &[String]
+    requires within { at < length words.now }
+    ensures names { result.now ≡ drop at words.now }
+    ensures some { result.now ≢ [] }
+{
+    &words[at..]
+}
+
+// The word at a place.
+fn name_at(words: &[String], at: usize) -> &str
+    requires within { at < length words.now }
+    ensures name { result.now ≡ slice_index_or (map string_bytes words.now) at [] }
+{
+    words[at].as_str()
 }

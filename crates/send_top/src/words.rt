@@ -1,44 +1,174 @@
 // What the words of a call ask for.
-ghost use Rattle.std.specs.Prelude.{◌≡◌, ◌<◌, ◌≤◌, length, drop, map, option_map, IfSome};
+ghost use Rattle.std.specs.Prelude.{◌≡◌, ◌≤◌, length, drop, map, option_map, IfSome, None};
+ghost use Rattle.std.specs.Option.{IfNone};
 ghost use Rattle.std.specs.String.{string_bytes};
-ghost use Rattle.send_model.specs.Answer.{request};
-ghost use Rattle.send_top.specs.Requests.{request_of, files_from};
+ghost use Rattle.send_model.specs.Guards.{is_guard_word};
+ghost use Rattle.send_model.specs.Words.{Compose, Dump, Export, Gen, store_and_files, one_file, guards_and_files, count_and_seed};
+ghost use Rattle.send_top.specs.Requests.{request_meant, answered_request, if_answered, guard_words, AreGuardWords, IsWithin};
+ghost use Rattle.send_top.specs.AuditWords.{HasStore};
 
-/// What the words ask for.
+use guard_rules::{number_of, parse_guard};
+
+/// What the words ask for. Places among the words are counted from 0.
 #[derive(Debug, Clone, Copy, PartialEq, Eq)]
 pub enum Request {
     /// The streams of some files are to be composed over a store.
     Compose {
-        /// The place of the store among the words, from 0.
+        /// The place of the store.
         store: usize,
-        /// The place of the first file among the words, from 0. All words from there on are files.
+        /// The place of the first file. All words from there on are files.
         files: usize,
+    },
+    /// The streams of some files are to be checked over a store. Guard words stand between the first word and the store.
+    Audit {
+        /// The place of the store.
+        store: usize,
+        /// The place of the first file. All words from there on are files.
+        files: usize,
+    },
+    /// The commands of a file are to be printed.
+    Dump {
+        /// The place of the file.
+        file: usize,
+    },
+    /// The streams of a file are to be written as the real receiver asks for.
+    Export {
+        /// The place of the file.
+        file: usize,
+    },
+    /// A lawful chain is to be made from a number.
+    Gen {
+        /// How many parts it has, from 1 to 4,096.
+        count: u64,
+        /// The number that it is made from.
+        seed: u64,
     },
 }
 
-impl Request {
-    /// The files that it asks for, among the words.
-    pub fn files(self, words: &[String]) -> &[String]
-        requires within { files_from self ≤ length words.now }
-        ensures files { result.now ≡ drop (files_from self) words.now }
-    {
-        match self {
-            Request::Compose { files, .. } => &words[files..],
-        }
+// The word that stands for the store without subvolumes.
+const NO_STORE: &str = "none";
+
+// The most parts of a chain.
+const MOST_PARTS: u64 = 4_096;
+
+/// What the words after the program's name ask for; `None` exactly where they mean nothing. Takes no memory.
+#[tactic(auto, unfolding(send_model::specs::Words::request_of, crate::specs::Requests::answered_request))]
+pub fn read_words(words: &[String]) -> Option<Request>
+    ensures meaning { option_map (request_meant (map string_bytes words.now)) result ≡ answered_request (map string_bytes words.now) }
+    ensures within { IfSome result (IsWithin (length words.now)) }
+    ensures guards { IfSome result (λ request. AreGuardWords (guard_words (map string_bytes words.now) request)) }
+{
+    let command = words.first()?;
+    match command.as_str() {
+        "compose" => read_compose(words),
+        "audit" => read_audit(words),
+        "dump" => read_dump(words),
+        "export" => read_export(words),
+        "gen" => read_gen(words),
+        _ => None,
     }
 }
 
-/// What the words after the program's name ask for; `None` where they mean nothing. Takes no memory.
-#[tactic(auto, unfolding(send_model::specs::Answer::request))]
-pub fn read_words(words: &[String]) -> Option<Request>
-    ensures meaning { option_map request_of result ≡ request (map string_bytes words.now) }
-    ensures within { IfSome result (λ asked. files_from asked < length words.now) }
+// `compose STORE FILE..`
+fn read_compose(words: &[String]) -> Option<Request>
+    ensures meaning { option_map (request_meant (map string_bytes words.now)) result
+        ≡ if_answered (map string_bytes words.now) (store_and_files Compose 1 (drop 1 (map string_bytes words.now))) }
+    ensures within { IfSome result (IsWithin (length words.now)) }
+    ensures guards { IfSome result (λ request. AreGuardWords (guard_words (map string_bytes words.now) request)) }
 {
-    let [command, store, _, ..] = words else {
+    let [_, store, _, ..] = words else {
         return None;
     };
-    if command.as_str() == "compose" && store.as_str() == "none" {
+    if store.as_str() == NO_STORE {
         return Some(Request::Compose { store: 1, files: 2 });
     }
     None
+}
+
+// `audit [GUARD..] STORE FILE..`
+fn read_audit(words: &[String]) -> Option<Request>
+    requires some { 1 ≤ length words.now }
+    ensures meaning { option_map (request_meant (map string_bytes words.now)) result
+        ≡ if_answered (map string_bytes words.now) (guards_and_files 1 (drop 1 (map string_bytes words.now))) }
+    ensures within { IfSome result (IsWithin (length words.now)) }
+    ensures guards { IfSome result (λ request. AreGuardWords (guard_words (map string_bytes words.now) request)) }
+{
+    let store = store_place(words)?;
+    let files = store + 1;
+    if files == words.len() {
+        return None;
+    }
+    if words[store].as_str() != NO_STORE {
+        return None;
+    }
+    Some(Request::Audit { store, files })
+}
+
+// The place of the store behind the guard words. None where a guard word means no guard, or there is no store.
+fn store_place(words: &[String]) -> Option<usize>
+    requires some { 1 ≤ length words.now }
+    ensures found { IfSome result (HasStore (map string_bytes words.now)) }
+    ensures none { IfNone result (guards_and_files 1 (drop 1 (map string_bytes words.now)) ≡ None) }
+{
+    let mut store = 1;
+    while store < words.len() {
+        let word = words[store].as_str();
+        if !is_guard_word(word) {
+            return Some(store);
+        }
+        parse_guard(word)?;
+        store += 1;
+    }
+    None
+}
+
+// Whether a word is to be a guard's.
+fn is_guard_word(word: &str) -> bool
+    ensures { result ≡ is_guard_word word.now }
+{
+    word.as_bytes().starts_with(b"guard:")
+}
+
+// `dump FILE`
+fn read_dump(words: &[String]) -> Option<Request>
+    ensures meaning { option_map (request_meant (map string_bytes words.now)) result
+        ≡ if_answered (map string_bytes words.now) (one_file Dump (drop 1 (map string_bytes words.now))) }
+    ensures within { IfSome result (IsWithin (length words.now)) }
+    ensures guards { IfSome result (λ request. AreGuardWords (guard_words (map string_bytes words.now) request)) }
+{
+    let [_, _] = words else {
+        return None;
+    };
+    Some(Request::Dump { file: 1 })
+}
+
+// `export FILE`
+fn read_export(words: &[String]) -> Option<Request>
+    ensures meaning { option_map (request_meant (map string_bytes words.now)) result
+        ≡ if_answered (map string_bytes words.now) (one_file Export (drop 1 (map string_bytes words.now))) }
+    ensures within { IfSome result (IsWithin (length words.now)) }
+    ensures guards { IfSome result (λ request. AreGuardWords (guard_words (map string_bytes words.now) request)) }
+{
+    let [_, _] = words else {
+        return None;
+    };
+    Some(Request::Export { file: 1 })
+}
+
+// `gen COUNT SEED`
+fn read_gen(words: &[String]) -> Option<Request>
+    ensures meaning { option_map (request_meant (map string_bytes words.now)) result
+        ≡ if_answered (map string_bytes words.now) (count_and_seed Gen (drop 1 (map string_bytes words.now))) }
+    ensures within { IfSome result (IsWithin (length words.now)) }
+    ensures guards { IfSome result (λ request. AreGuardWords (guard_words (map string_bytes words.now) request)) }
+{
+    let [_, count, seed] = words else {
+        return None;
+    };
+    let count = number_of(count.as_bytes())?;
+    let seed = number_of(seed.as_bytes())?;
+    if count == 0 || count > MOST_PARTS {
+        return None;
+    }
+    Some(Request::Gen { count, seed })
 }

@@ -1,0 +1,108 @@
+-- What each word's call answers, as what the request is answered with.
+use Rattle.std.specs.Prelude.{◌≡◌, ⊤, ℕ, ◌<◌, List, [], ◌∷◌, length, map, drop, slice_index_or, Option, None, Some}
+use Rattle.std.proofs.Common.{refl, sym, ap, subst, ◌∙◌}
+use Rattle.send_model.specs.Store.{Store}
+use Rattle.send_model.specs.Guards.{GuardSpec, Guard}
+use Rattle.send_model.specs.Answer as meant
+use Rattle.send_model.specs.Words.{Request, Compose, Audit, Dump, Export, new_guards, due, whole_of, EndSays, StandsBefore, StandsCut}
+use Rattle.sx_base.specs.Outside.{file_at}
+use Rattle.sx_base.specs.Calls.{IfAllTold, Wrote, Ends}
+use Rattle.sx_base.specs.declared.outcome.Outcome.{Outcome}
+use Rattle.sx_base.specs.declared.outcome.Outcome.TheVariants as ended
+use Rattle.auditor.specs.Answers.{AuditEnds}
+use Rattle.composer.specs.Files as composing
+use Rattle.send_top.specs.Answered.{outcome_of}
+use Rattle.send_top.specs.Ending.{Answers}
+use Rattle.send_top.specs.Run.{IfComposes}
+
+-- What follows of files follows wherever the files are told.
+pub then_told : (told : Option (List (List ℕ × List ℕ))) (names : List (List ℕ)) (P Q : List (List ℕ) → Type 0)
+    → ((files : List (List ℕ)) → P files → Q files) → IfAllTold told names P → IfAllTold told names Q
+then_told None names P Q follows holds = tt
+then_told (Some table) names P Q follows holds = follows (map (file_at table) names) holds
+
+-- A fact of told files whose names are given in another way.
+pub of_names : (told : Option (List (List ℕ × List ℕ))) (names others : List (List ℕ)) (P : List (List ℕ) → Type 0) → names ≡ others → IfAllTold told names P → IfAllTold told others P
+of_names told names others P same holds = subst (λ (ns : List (List ℕ)). IfAllTold told ns P) same holds
+
+module _ (old new : Option (List ℕ)) (files : List (List ℕ)) where
+  -- The places of the store and the files play no part in an answer.
+  pub composes : (store at : ℕ) (outcome : Outcome) → Wrote old new (λ written. Ends (Compose 1 2) [] files outcome written) → Wrote old new (λ written. Ends (Compose store at) [] files outcome written)
+  unfolding due whole_of
+  composes store at ended.Done w = w
+  composes store at (ended.Refused verdict) w = w
+  composes store at (ended.InputTooLong file) w = w
+  composes store at ended.InputFault w = w
+  composes store at ended.OutputFault w = w
+  composes store at ended.NoMemory w = w
+
+  pub headline : (store at : ℕ) (outcome : Outcome) → outcome ≡ ended.Done → Wrote old new (λ written. composing.EndSays files written outcome) → Wrote old new (IfComposes (Compose store at) files)
+  headline store at ended.Done e w = (w.0, w.1, λ s a same. w.2.composed_is)
+  headline store at (ended.Refused verdict) e w = cc
+  headline store at (ended.InputTooLong file) e w = cc
+  headline store at ended.InputFault e w = cc
+  headline store at ended.OutputFault e w = cc
+  headline store at ended.NoMemory e w = cc
+
+  -- What another word wrote is not composed.
+  pub audit_wrote : (guards : List GuardSpec) (store at : ℕ) (P : List ℕ → Type 0) → Wrote old new P → Wrote old new (IfComposes (Audit guards store at) files)
+  audit_wrote guards store at P w = (w.0, w.1, λ s a same. cc)
+
+  -- Auditing under guards that are new ones of their kinds.
+  audits_new : (specs : List GuardSpec) (store at : ℕ) (outcome : Outcome) → Wrote old new (AuditEnds [] (new_guards specs) files outcome) → Wrote old new (λ written. Ends (Audit specs store at) [] files outcome written)
+  unfolding due whole_of
+  audits_new specs store at ended.Done w = w
+  audits_new specs store at (ended.Refused verdict) w = w
+  audits_new specs store at (ended.InputTooLong file) w = w
+  audits_new specs store at ended.InputFault w = w
+  audits_new specs store at ended.OutputFault w = w
+  audits_new specs store at ended.NoMemory w = w
+
+  pub audits : (guards : List Guard) (specs : List GuardSpec) (store at : ℕ) (outcome : Outcome) → guards ≡ new_guards specs
+      → Wrote old new (AuditEnds [] guards files outcome) → Wrote old new (λ written. Ends (Audit specs store at) [] files outcome written)
+  audits guards specs store at outcome fits w = audits_new specs store at outcome (subst (λ (gs : List Guard). Wrote old new (AuditEnds [] gs files outcome)) fits w)
+
+  pub dumps : (at : ℕ) (outcome : Outcome) → Wrote old new (λ written. Ends (Dump 1) [] files outcome written) → Wrote old new (λ written. Ends (Dump at) [] files outcome written)
+  unfolding due whole_of
+  dumps at ended.Done w = w
+  dumps at (ended.Refused verdict) w = w
+  dumps at (ended.InputTooLong file) w = w
+  dumps at ended.InputFault w = w
+  dumps at ended.OutputFault w = w
+  dumps at ended.NoMemory w = w
+
+  pub exports : (at : ℕ) (outcome : Outcome) → Wrote old new (λ written. Ends (Export 1) [] files outcome written) → Wrote old new (λ written. Ends (Export at) [] files outcome written)
+  unfolding due whole_of
+  exports at ended.Done w = w
+  exports at (ended.Refused verdict) w = w
+  exports at (ended.InputTooLong file) w = w
+  exports at ended.InputFault w = w
+  exports at ended.OutputFault w = w
+  exports at ended.NoMemory w = w
+
+-- What follows of files whose names are given in another way.
+pub following : (told : Option (List (List ℕ × List ℕ))) (names others : List (List ℕ)) (P Q : List (List ℕ) → Type 0) → names ≡ others
+    → ((files : List (List ℕ)) → P files → Q files) → IfAllTold told names P → IfAllTold told others Q
+following told names others P Q same follows holds = of_names told names others Q same (then_told told names P Q follows holds)
+
+-- ---- the answer
+
+pub same_request : {R : Type 0} (asked : Option R) (mine other : R) → Some mine ≡ asked → asked ≡ Some other → mine ≡ other
+same_request asked mine other e f = ap (λ (o : Option _). elim o [ None ↦ mine | Some request ↦ request ]) (e ∙ f)
+
+pub is_done : (outcome : Outcome) → outcome_of outcome ≡ meant.Done → outcome ≡ ended.Done
+is_done ended.Done e = refl
+is_done (ended.Refused verdict) e = cc
+is_done (ended.InputTooLong file) e = cc
+is_done ended.InputFault e = cc
+is_done ended.OutputFault e = cc
+is_done ended.NoMemory e = cc
+
+pub answers : (old new : Option (List ℕ)) (request : Request) (files : List (List ℕ)) (outcome : Outcome)
+    → Wrote old new (λ written. Ends request [] files outcome written) → Wrote old new (Answers request [] files (outcome_of outcome))
+answers old new request files ended.Done w = w
+answers old new request files (ended.Refused verdict) w = w
+answers old new request files (ended.InputTooLong file) w = w
+answers old new request files ended.InputFault w = w
+answers old new request files ended.OutputFault w = w
+answers old new request files ended.NoMemory w = w

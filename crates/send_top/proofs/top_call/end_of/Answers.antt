@@ -1,0 +1,82 @@
+use Rattle.std.specs.Prelude.{[], ◌∷◌, map, drop, List, ℕ, Option, slice_index_or}
+use Rattle.std.specs.String.{string_bytes}
+use Rattle.std.proofs.Common.{◌≡◌, refl, sym, ap, subst, ◌∙◌, arith}
+use Rattle.std.proofs.lemmas.List.{drop-map}
+use Rattle.sx_base.specs.Calls.{Wrote, Ends}
+use Rattle.send_model.specs.Store.{Store}
+use Rattle.send_model.specs.Guards.{GuardSpec}
+use Rattle.send_model.specs.Words.{Compose, Audit, Dump, Export, new_guards}
+use Rattle.extent_map.specs.declared.nowhere.Nowhere.{Nowhere}
+use Rattle.composer.specs.Files as composing
+use Rattle.auditor.specs.Following.{blank}
+use Rattle.auditor.specs.Answers.{AuditEnds}
+use Rattle.send_top.specs.Requests.{guards_in, before_store, specs_of, request_meant}
+use Rattle.send_top.specs.Run.{IfComposes}
+use Rattle.send_top.proofs.Asked.{following, composes, headline, audit_wrote, audits, dumps, exports}
+use Rattle.send_top.proofs.top_call.end_of.Goals as goal
+
+pub returns-in-Compose-clause-composed : goal.returns-in-Compose-clause-composed
+returns-in-Compose-clause-composed g c done =
+    let old = g.O.Sink.taken c.args.out.now in
+    let new = g.O.Sink.taken c.compose.new.out in
+    rw c.in-Compose.is (following (g.I.Inputs.told c.args.inputs.now) (map string_bytes c.names_from.result.now) (drop c.in-Compose.files (map string_bytes c.args.words.now))
+    (λ files. Wrote old new (λ written. composing.EndSays files written c.compose.result))
+    (λ files. Wrote old new (IfComposes (Compose c.in-Compose.store c.in-Compose.files) files))
+    (ap (map string_bytes) c.names_from.ensures.names ∙ sym (drop-map string_bytes c.in-Compose.files c.args.words.now))
+    (λ files. headline old new files c.in-Compose.store c.in-Compose.files c.compose.result done) c.compose.ensures.composed)
+
+pub returns-in-Compose-clause-ends : goal.returns-in-Compose-clause-ends
+returns-in-Compose-clause-ends g c =
+    let old = g.O.Sink.taken c.args.out.now in
+    let new = g.O.Sink.taken c.compose.new.out in
+    rw c.in-Compose.is (following (g.I.Inputs.told c.args.inputs.now) (map string_bytes c.names_from.result.now) (drop c.in-Compose.files (map string_bytes c.args.words.now))
+    (λ files. Wrote old new (λ written. Ends (Compose 1 2) [] files c.compose.result written))
+    (λ files. Wrote old new (λ written. Ends (Compose c.in-Compose.store c.in-Compose.files) [] files c.compose.result written))
+    (ap (map string_bytes) c.names_from.ensures.names ∙ sym (drop-map string_bytes c.in-Compose.files c.args.words.now))
+    (λ files. composes old new files c.in-Compose.store c.in-Compose.files c.compose.result) c.compose.ensures.ends)
+
+pub returns-in-Audit-clause-composed : goal.returns-in-Audit-clause-composed
+returns-in-Audit-clause-composed g c done =
+    let old = g.O.Sink.taken c.args.out.now in
+    let new = g.O.Sink.taken c.audit.new.out in
+    let specs : List GuardSpec = guards_in (before_store (map string_bytes c.args.words.now) c.in-Audit.store) in
+    let guards = map (λ b. (goal.Guard-dyn g (b.vtable, b.value)).kept b.value) c.args.guards.now in
+    rw c.in-Audit.is (following (g.I.Inputs.told c.args.inputs.now) (map string_bytes c.names_from-names.result.now) (drop c.in-Audit.files (map string_bytes c.args.words.now))
+    (λ files. Wrote old new (AuditEnds [] guards files c.audit.result))
+    (λ files. Wrote old new (IfComposes (Audit specs c.in-Audit.store c.in-Audit.files) files))
+    (ap (map string_bytes) c.names_from-names.ensures.names ∙ sym (drop-map string_bytes c.in-Audit.files c.args.words.now))
+    (λ files. audit_wrote old new files specs c.in-Audit.store c.in-Audit.files (AuditEnds [] guards files c.audit.result))
+    (c.audit.ensures.audited [] (ap (λ (s : Store (Option Nowhere)). blank s) c.new-core.ensures)))
+
+pub returns-in-Audit-clause-ends : goal.returns-in-Audit-clause-ends
+returns-in-Audit-clause-ends g c =
+    let old = g.O.Sink.taken c.args.out.now in
+    let new = g.O.Sink.taken c.audit.new.out in
+    let specs : List GuardSpec = guards_in (before_store (map string_bytes c.args.words.now) c.in-Audit.store) in
+    let guards = map (λ b. (goal.Guard-dyn g (b.vtable, b.value)).kept b.value) c.args.guards.now in
+    rw c.in-Audit.is (following (g.I.Inputs.told c.args.inputs.now) (map string_bytes c.names_from-names.result.now) (drop c.in-Audit.files (map string_bytes c.args.words.now))
+    (λ files. Wrote old new (AuditEnds [] guards files c.audit.result))
+    (λ files. Wrote old new (λ written. Ends (Audit specs c.in-Audit.store c.in-Audit.files) [] files c.audit.result written))
+    (ap (map string_bytes) c.names_from-names.ensures.names ∙ sym (drop-map string_bytes c.in-Audit.files c.args.words.now))
+    (λ files. audits old new files guards specs c.in-Audit.store c.in-Audit.files c.audit.result (subst (λ r. guards ≡ new_guards (specs_of (request_meant (map string_bytes c.args.words.now) r))) c.in-Audit.is c.requires.fits))
+    (c.audit.ensures.audited [] (ap (λ (s : Store (Option Nowhere)). blank s) c.new-core.ensures)))
+
+pub returns-in-Dump-clause-ends : goal.returns-in-Dump-clause-ends
+returns-in-Dump-clause-ends g c =
+    let old = g.O.Sink.taken c.args.out.now in
+    let new = g.O.Sink.taken c.dump.new.out in
+    rw c.in-Dump.is (following (g.I.Inputs.told c.args.inputs.now) (c.name_at.result.now ∷ []) (slice_index_or (map string_bytes c.args.words.now) c.in-Dump.file [] ∷ [])
+    (λ files. Wrote old new (λ written. Ends (Dump 1) [] files c.dump.result written))
+    (λ files. Wrote old new (λ written. Ends (Dump c.in-Dump.file) [] files c.dump.result written))
+    (ap (λ (w : List ℕ). w ∷ []) c.name_at.ensures.name)
+    (λ files. dumps old new files c.in-Dump.file c.dump.result) c.dump.ensures.dumped)
+
+pub returns-in-Export-clause-ends : goal.returns-in-Export-clause-ends
+returns-in-Export-clause-ends g c =
+    let old = g.O.Sink.taken c.args.out.now in
+    let new = g.O.Sink.taken c.export.new.out in
+    rw c.in-Export.is (following (g.I.Inputs.told c.args.inputs.now) (c.name_at-in-Export.result.now ∷ []) (slice_index_or (map string_bytes c.args.words.now) c.in-Export.file [] ∷ [])
+    (λ files. Wrote old new (λ written. Ends (Export 1) [] files c.export.result written))
+    (λ files. Wrote old new (λ written. Ends (Export c.in-Export.file) [] files c.export.result written))
+    (ap (λ (w : List ℕ). w ∷ []) c.name_at-in-Export.ensures.name)
+    (λ files. exports old new files c.in-Export.file c.export.result) c.export.ensures.exported)
