@@ -1,8 +1,9 @@
 #!/bin/sh
 # Tries the whole program against real faults: outputs that are full, closed or cut off, files that can not be read, that are
-# pipes, or that change between the two readings, short reads and short writes, many words and strange ones. The program is
-# the first word, or else the one that this repository has built; nothing is proved or built here. It prints a line for each
-# case, and ends with status 0 only where all are right. Needs python3, which makes the streams, and gcc.
+# pipes, or that change between the two readings, short reads and short writes, many words and strange ones. Most cases are of
+# `compose`, and some of each other word. The program is the first word, or else the one that this repository has built;
+# nothing is proved or built here. It prints a line for each case, and ends with status 0 only where all are right. Needs
+# python3, which makes the streams, and gcc.
 here=$(CDPATH='' cd -- "$(dirname -- "$0")" && pwd) || exit 2
 program=${1:-$here/../crates/btrsend/out/btrsend}
 [ -f "$program" ] && [ -x "$program" ] || { echo "there is no program $program" >&2; exit 2; }
@@ -29,7 +30,7 @@ def checksum(data):
         sum = (sum >> 8) ^ TABLE[(sum ^ byte) & 255]
     return sum
 
-NUMBERS = dict(uuid=1, ctransid=2, path=15, offset=18, data=19, clone_uuid=20, clone_ctransid=21)
+NUMBERS = dict(uuid=1, ctransid=2, ino=3, path=15, offset=18, data=19, clone_uuid=20, clone_ctransid=21)
 
 def command(number, **values):
     body = b''
@@ -64,13 +65,23 @@ long = file(b'long', *(bytes([65 + at]) * 49152 for at in range(20)))
 one, two, three, other = file(b'1', b'one'), file(b'2', b'two'), file(b'3', b'three'), file(b'2', b'other')
 second = later(b'b', 2, two)
 put('end', END)
+put('receivable', full(b'a', 1, command(3, ino=0, path=b'1') + command(15, path=b'1', offset=0, data=b'one')))
+put('printed', b'''stream 1
+1 17 SUBVOL uuid=00000000-0000-0001-0000-000000000001 ctransid=1 path=a
+2 64 MKFILE path=1
+3 79 WRITE path=1 offset=0 data=3
+4 113 END
+''')
 put('first', full(b'a', 1, long))
 put('small', full(b'a', 1, one))
 put('second', second)
 put('third', later(b'c', 3, three))
 put('same-head', later(b'b', 2, other))
 put('other-head', later(b'd', 2, other))
-put('damaged', second[:-11] + b'!' + second[-10:])
+damaged = second[:-11] + b'!' + second[-10:]
+put('damaged', damaged)
+stored, = struct.unpack('<I', damaged[117:121])
+put('damaged-note', b'refused 1 3 111 5 BadChecksum %08x %08x\n' % (stored, checksum(damaged[111:117] + bytes(4) + damaged[121:145])))
 put('small-second', full(b'b', 2, one + two))
 put('first-second', full(b'b', 2, long + two))
 put('first-third', full(b'c', 3, long + two + three))
@@ -181,6 +192,10 @@ run compose; refused 'no store' 2 usage
 run compose none; refused 'no files' 2 usage
 run compose some small; refused 'another store' 2 usage
 run --help --version; refused 'two words' 2 usage
+for words in 'audit none' 'audit some small' 'audit guard:bytes none small' 'audit guard:nodev' 'dump' 'dump small second' \
+    'export' 'gen 1' 'gen 0 1' 'gen 4097 1' 'gen 1 18446744073709551616' 'gen 1 x' 'compose guard:nodev none small'; do
+    run $words; refused "the words $words" 2 usage
+done
 run ''; refused 'an empty word' 2 usage
 run "$(printf '\377')"; refused 'a word that is not UTF-8' 2 usage
 run compose none "$(printf 'small\377')"; refused 'a file whose name is not UTF-8' 2 usage
@@ -189,6 +204,7 @@ run $(seq 1 20000); refused '20,000 words' 2 usage
 # ---- outputs. The device /dev/full is always full, and a limit of two blocks lets the first bytes through.
 
 : >out
+mkfifo nobody || exit 2
 for chain in 'small second' 'first second'; do
     timeout 20 "$program" compose none $chain >/dev/full 2>note; status=$?
     refused "a full device, $chain" 4 'output fault'
@@ -196,8 +212,10 @@ for chain in 'small second' 'first second'; do
     refused "a closed output, $chain" 4 'output fault'
     timeout 20 "$program" compose none $chain 2>note 1<second; status=$?
     refused "an output that is open for reading, $chain" 4 'output fault'
-    { timeout 20 "$program" compose none $chain 2>note; echo $? >status; } | :
-    status=$(cat status)
+    # The only reader is gone before the program begins.
+    exec 3<>nobody 4>nobody 3>&-
+    timeout 20 "$program" compose none $chain >&4 2>note; status=$?
+    exec 4>&-
     refused "an output that nobody reads, $chain" 4 'output fault'
 done
 (trap '' XFSZ; ulimit -f 2; exec timeout 20 "$program" compose none first second >out 2>note); status=$?
@@ -214,6 +232,43 @@ timeout 20 "$program" compose none damaged >out 2>/dev/full; status=$?
 refused 'a refusal, and the note fails' 1 ''
 timeout 20 "$program" compose none damaged >out 2>&-; status=$?
 refused 'a refusal, and standard error is closed' 1 ''
+
+# ---- the other words, whose files are read once
+
+# CASE TEXT: the last run ended with status 0 and this text, and nothing on standard error.
+wrote() { printf '%s\n' "$2" >text; composed "$1" text; }
+
+small='accepted 2 8'
+run audit none small second; wrote 'audit' "$small"
+(cat small second | timeout 20 "$program" audit none /dev/stdin >out 2>note); status=$?
+wrote 'audit of a pipe' "$small"
+run audit guard:bytes=6 guard:commands=8 guard:nodev guard:end=3 none small second; wrote 'audit at its limits' "$small"
+run audit guard:bytes=5 none small second; refused 'audit, too many bytes' 1 'refused 2 3 111 33 Guarded 0 3'
+run audit guard:nodev guard:commands=7 none small second; refused 'audit, too many commands' 1 'refused 2 4 145 33 Guarded 1 7'
+run audit guard:end=2 none small second; refused 'audit, too far an end' 1 'refused 1 3 79 33 Guarded 0 0'
+run audit none second; refused 'audit without the first stream' 1 'refused 1 1 17 13 NoParent'
+case_is 'audit of what is refused writes nothing' "$([ ! -s out ] || echo 'it wrote something')"
+run dump small; composed 'dump' printed
+run export small; composed 'export' receivable
+(timeout 20 "$program" dump /dev/stdin <small >out 2>note); status=$?
+composed 'dump of standard input' printed
+(cat small | timeout 20 "$program" export /dev/stdin >out 2>note); status=$?
+composed 'export of a pipe' receivable
+head -c 113 small >shorter
+run dump shorter; refused 'dump of a file that is cut' 1 'refused 1 4 113 3 Truncated'
+head -n 4 printed | cmp -s - out; case_is 'dump prints what it can' "$([ $? = 0 ] || echo 'it printed something else')"
+run export damaged; refused 'export of a damaged file' 1 "$(cat damaged-note)"
+for words in 'audit none small' 'dump small' 'export small' 'gen 3 1'; do
+    : >out
+    timeout 20 "$program" $words >/dev/full 2>note; status=$?
+    refused "a full device, $words" 4 'output fault'
+    timeout 20 "$program" $words 2>note >&-; status=$?
+    refused "a closed output, $words" 4 'output fault'
+done
+for words in 'audit none' 'dump' 'export'; do
+    run $words missing; refused "a missing file, $words" 3 'input fault'
+done
+run gen 4096 1; case_is 'the longest chain' "$([ "$status" = 0 ] && [ ! -s note ] || echo "status $status")"
 
 # ---- files
 
