@@ -17,7 +17,7 @@ usage: btrsend audit [GUARD..] none FILE..
             can not be a pipe
   export    writes the streams of FILE in the spelling that `btrfs receive` takes; what `compose` writes is not
   dump      prints the commands of FILE, a line each
-  gen       writes a lawful chain of COUNT parts, 1 to 4096, that SEED gives
+  gen       writes a lawful chain of COUNT parts, 1 to 4096, that SEED gives. Parts after the first have clones
 
   none      where the subvolumes are that the streams stand on: nowhere
   FILE      a file that `btrfs send` wrote, with one stream or several
@@ -38,8 +38,8 @@ such a stream as BadVersion 2.
 
 The exit status is 0 where all was done. Else a line on standard error says why:
 
-   1  refused FILE COMMAND OFFSET NUMBER NAME ..   a command that is refused, and why: both counted from 1, the
-      offset in bytes
+   1  refused FILE COMMAND OFFSET NUMBER NAME ..   a command that is refused, and why: FILE and COMMAND are counted
+      from 1, OFFSET in bytes from 0
    2  usage             the words mean nothing
    3  input fault       a file could not be read
    4  output fault      standard output could not be written
