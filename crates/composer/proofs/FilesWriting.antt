@@ -11,7 +11,7 @@ use Rattle.send_model.specs.Command.{End}
 use Rattle.send_model.specs.Spelling.{stream_header, canonical, canonical_all}
 use Rattle.send_model.specs.Reading as read
 use Rattle.send_model.specs.Reading.{Item, Reading, Whole, ended, joined, reads, input_from, input}
-use Rattle.send_model.specs.Store.{Head}
+use Rattle.send_model.specs.Store.{Key, Head}
 use Rattle.send_model.specs.Order.{heads, last_item, judge}
 use Rattle.send_model.specs.Composed.{first_head, last_head, composed}
 use Rattle.composer.proofs.Versions.{output_is_first}
@@ -26,14 +26,14 @@ use Rattle.sx_base.specs.declared.outcome.Outcome.TheVariants as over
 use Rattle.cmd_reader.specs.Places.{IfTold}
 use Rattle.sx_base.specs.Calls.{verdict_meant}
 use Rattle.composer.specs.declared.places.Place.{Place}
-use Rattle.composer.specs.Advance.{Composing}
+use Rattle.composer.specs.Advance.{Composing, is_last_part}
 use Rattle.composer.specs.Ahead.{IsAhead, then_reading}
 use Rattle.composer.specs.Folding.{TakesAll, unsent}
 use Rattle.composer.specs.Files.{nothing, StopSays, DoneSays, FilesEnd, SendEnd, LastRead, LastStop, IsLastPlace, FileTaken, NextRefused, FileWhy, FileStops}
 use Rattle.sx_base.specs.Calls.{contents, IfAllTold, Wrote}
 use Rattle.composer.proofs.Progress.{Progress}
 use Rattle.composer.proofs.Finish.{unfinished}
-use Rattle.composer.proofs.Loops.{LastFits, ahead_start, ahead_whole, input_some, last_item_none, judged_ahead, faulty_ahead, empty_ahead, composed_ahead, spelled_ahead, unfinished_ahead}
+use Rattle.composer.proofs.Loops.{key_after, previous_is_last, last_part_there, LastFits, ahead_start, ahead_whole, input_some, last_item_none, judged_ahead, faulty_ahead, empty_ahead, composed_ahead, spelled_ahead, unfinished_ahead}
 use Rattle.composer.proofs.Folds.{fresh, takes_none, takes_more, takes_unsent, takes_last, unsent_more, progress_from_start, last_head_fits, no_clone, advance_unsent_err}
 use Rattle.cmd_reader.proofs.Told.{told_moved}
 use Rattle.composer.proofs.FileWriting.{front_after}
@@ -270,6 +270,17 @@ at_end last old out0 number now out_now before place files start none known s =
       fits = known.fits;
     }
 
+-- The stream has begun exactly where the part that came last is the one that it is named after.
+by_last_part : (last : Option Head) (old : Composing) (out0 : Option (List ℕ)) (now : Composing) (out_now : Option (List ℕ)) (before place : Place) (files : List (List ℕ)) → AtEnd last old out0 now out_now before place files
+    → now.begun ≡ is_last_part now.previous now.last
+by_last_part last old out0 now out_now before place files e =
+    let whole = ahead_whole files e.items ended e.number e.ahead refl in
+    let same : heads (input files).items ≡ heads e.items = ap (λ (r : Reading). heads r.items) whole in
+    e.so_far.begun ∙ sym (
+    ap (λ (k : Option Key). is_last_part k now.last) (e.so_far.previous ∙ previous_is_last None e.items)
+    ∙ ap (λ (h : Option Head). is_last_part (key_after None (heads e.items)) h) (e.last_is ∙ ap last_head same)
+    ∙ last_part_there (heads e.items))
+
 -- No part has begun.
 none_begun : (last : Option Head) (old : Composing) (out0 : Option (List ℕ)) (now : Composing) (out_now : Option (List ℕ)) (before place : Place) (verdict : Verdict) (files : List (List ℕ)) → files ≢ [] → now.begun ≡ false
     → verdict_meant verdict ≡ record { file = place.file; command = place.command; offset = place.offset; refusal = NotConsecutive } → AtEnd last old out0 now out_now before place files
@@ -362,13 +373,13 @@ ends {Z} (Some table) names last old out0 number now out_now before place start 
 
 -- No part has begun.
 pub files_empty : {Z : Type 0} (told : Option (List (List ℕ × List ℕ))) (names : List (String Z)) (last : Option Head) (old : Composing) (out0 : Option (List ℕ)) (number : ℕ) (now : Composing) (out_now : Option (List ℕ)) (before place : Place) (verdict : Verdict)
-    → old ≡ fresh last → names ≢ [] → length names ≤ number → now.begun ≡ false → verdict_meant verdict ≡ record { file = place.file; command = place.command; offset = place.offset; refusal = NotConsecutive }
+    → old ≡ fresh last → names ≢ [] → length names ≤ number → is_last_part now.previous now.last ≡ false → verdict_meant verdict ≡ record { file = place.file; command = place.command; offset = place.offset; refusal = NotConsecutive }
     → IfAllTold told (map string_bytes names) (LastRead last) → IfAllTold told (map string_bytes names) (FilesStand old out0 number now out_now before place)
     → IfAllTold told (map string_bytes names) (λ files. Wrote out0 out_now (λ written. StopSays files written (over.Refused verdict)))
 unfolding Ended
 files_empty told names last old out0 number now out_now before place verdict start some over_all begun verdict_is known stands =
     all_map told (map string_bytes names) (Ended last old out0 now out_now before place) (λ files. Wrote out0 out_now (λ written. StopSays files written (over.Refused verdict)))
-    (λ files e. none_begun last old out0 now out_now before place verdict files e.1 begun verdict_is e.0) (ends told names last old out0 number now out_now before place start some over_all known stands)
+    (λ files e. none_begun last old out0 now out_now before place verdict files e.1 (by_last_part last old out0 now out_now before place files e.0 ∙ begun) verdict_is e.0) (ends told names last old out0 number now out_now before place start some over_all known stands)
 
 -- END was added, and all that was then pending was sent, or the output failed.
 end_sent : (last : Option Head) (old : Composing) (out0 : Option (List ℕ)) (now made new : Composing) (out_now out_next : Option (List ℕ)) (before place : Place) (f0 f1 : ℕ) (result : Result (Unit {0}) Outcome) (files : List (List ℕ))
@@ -392,12 +403,12 @@ no_error (Err x) P e p = cc
 
 -- All is written, with END, or the output failed before.
 pub files_sent : {Z : Type 0} (told : Option (List (List ℕ × List ℕ))) (names : List (String Z)) (last : Option Head) (old : Composing) (out0 : Option (List ℕ)) (number : ℕ) (now made new : Composing) (out_now out_next : Option (List ℕ)) (before place : Place) (f0 f1 : ℕ) (result : Result (Unit {0}) Outcome)
-    → old ≡ fresh last → names ≢ [] → length names ≤ number → now.begun ≡ true → IfAllTold told (map string_bytes names) (LastRead last) → IfAllTold told (map string_bytes names) (FilesStand old out0 number now out_now before place)
+    → old ≡ fresh last → names ≢ [] → length names ≤ number → is_last_part now.previous now.last ≡ true → IfAllTold told (map string_bytes names) (LastRead last) → IfAllTold told (map string_bytes names) (FilesStand old out0 number now out_now before place)
     → made ≡ record now { pending = now.pending ++ canonical 1 End } → SendEnd made new out_now out_next f0 f1 result → IfAllTold told (map string_bytes names) (FilesEnd out0 out_next result)
 unfolding Ended
 files_sent told names last old out0 number now made new out_now out_next before place f0 f1 result start some over_all begun known stands made_is sent =
     all_map told (map string_bytes names) (Ended last old out0 now out_now before place) (FilesEnd out0 out_next result)
-    (λ files e. end_sent last old out0 now made new out_now out_next before place f0 f1 result files begun e.0 made_is sent) (ends told names last old out0 number now out_now before place start some over_all known stands)
+    (λ files e. end_sent last old out0 now made new out_now out_next before place f0 f1 result files (by_last_part last old out0 now out_now before place files e.0 ∙ begun) e.0 made_is sent) (ends told names last old out0 number now out_now before place start some over_all known stands)
 
 -- There is no memory for END.
 pub files_unmade : {Z : Type 0} (told : Option (List (List ℕ × List ℕ))) (names : List (String Z)) (last : Option Head) (old : Composing) (out0 : Option (List ℕ)) (number : ℕ) (now : Composing) (out_now : Option (List ℕ)) (before place : Place)

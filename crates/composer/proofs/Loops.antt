@@ -7,9 +7,9 @@ use Rattle.send_model.specs.Refusal.{Refusal, NotConsecutive}
 use Rattle.send_model.specs.Command.{Command, Subvol, Snapshot, End, row}
 use Rattle.send_model.specs.Spelling.{stream_header, canonical, canonical_all}
 use Rattle.send_model.specs.Reading.{Item, Verdict, Ending, Whole, Faulty, Reading, CommandDue, Front, header_len, with_item, ended, faulty, go_on, stream_version, front_of, reads_from, reads, joined, input_from, input}
-use Rattle.send_model.specs.Store.{Head, head_of, State}
+use Rattle.send_model.specs.Store.{Key, Head, head_of, State}
 use Rattle.send_model.specs.Receive.{verdict_of, start_of, first_of}
-use Rattle.send_model.specs.Order.{heads, heads_of, onto_heads, breaks_order, commands_of, last_item, judge}
+use Rattle.send_model.specs.Order.{heads, heads_of, onto_heads, breaks_order, part_after, commands_of, last_item, judge}
 use Rattle.send_model.specs.Composed.{first_head, last_head, head_command, composed}
 use Rattle.send_model.specs.Counts.{is_clone}
 use Rattle.send_model.specs.Laws.{CanWrite}
@@ -19,8 +19,9 @@ use Rattle.send_model.proofs.Fuel.{not_refused, bound}
 use Rattle.send_model.proofs.Merging.{NoClones, edits_of}
 use Rattle.send_model.proofs.Writing.{written_so_far, whole_parts}
 use Rattle.send_model.proofs.Composed.{composed_list, last_there}
-use Rattle.send_model.proofs.Judging.{empty_store}
-use Rattle.composer.specs.Advance.{Composing, blank_step, accepted, with_head, with_command, with_taken, advance}
+use Rattle.send_model.proofs.Judging.{empty_store, previous_after}
+use Rattle.send_model.proofs.Stores.{same_key_same}
+use Rattle.composer.specs.Advance.{Composing, is_last_part, blank_step, accepted, with_head, with_command, with_taken, advance}
 use Rattle.composer.specs.Ahead.{IsAhead, then_reading}
 use Rattle.composer.proofs.Progress.{HeadFits, Progress, heads_more, ok_is}
 use Rattle.composer.proofs.Finish.{begun_bytes, unfinished_end, composed as is_composed, judged, judged_end, judged_whole, judged_empty}
@@ -95,6 +96,31 @@ pub begun_after : (now new : Composing) (c : Command) → advance now c ≡ Ok n
 begun_after now new c e = (advance_last now new c e).1
 
 -- The stream has begun where there is a head among the commands so far, and only there.
+-- ---- the part that came last
+
+-- The key of the last of some heads, or else the one before them.
+abbrev pub key_after : Option Key → List Head → Option Key
+key_after previous [] = previous
+key_after previous (head ∷ hs) = key_after (Some head.key) hs
+
+pub previous_is_last : (previous : Option Key) (items : List Item) → previous_after previous items ≡ key_after previous (heads items)
+unfolding heads_of
+previous_is_last previous [] = refl
+previous_is_last previous (item ∷ items) = one (head_of item.command) (λ (p : Option Key). previous_is_last p items)
+  where
+    one : (o : Option Head) → ((p : Option Key) → previous_after p items ≡ key_after p (heads items)) → previous_after (part_after previous o) items ≡ key_after previous (onto_heads o (heads items))
+    one None rest = rest previous
+    one (Some head) rest = rest (Some head.key)
+
+after_some : (head : Head) (hs : List Head) → is_last_part (key_after (Some head.key) hs) (last_head (head ∷ hs)) ≡ true
+after_some head [] = same_key_same head.key
+after_some head (more ∷ hs) = after_some more hs
+
+-- The key of the last head is that of the last part, where there is one.
+pub last_part_there : (hs : List Head) → is_last_part (key_after None hs) (last_head hs) ≡ is_some (first_head hs)
+last_part_there [] = refl
+last_part_there (head ∷ hs) = after_some head hs
+
 pub has_begun : (items : List Item) (now : Composing) (sent : List ℕ) → Progress items now sent → now.begun ≡ true → heads items ≢ []
 has_begun items now sent p b none = false≢true (ap (λ (hs : List Head). is_some (first_head hs)) (sym none) ∙ sym p.begun ∙ b)
 

@@ -1,11 +1,11 @@
 -- What composing keeps between two commands, and what one command does to it. A file's contents are its size, so its cells
 -- carry nothing.
-use Rattle.std.specs.Prelude.{ℕ, Bool, true, List, ◌++◌, map, Option, None, Some, Result, Ok, Err, if◌then◌else◌}
+use Rattle.std.specs.Prelude.{ℕ, Bool, true, false, List, ◌++◌, map, Option, None, Some, Result, Ok, Err, if◌then◌else◌}
 use Rattle.send_model.specs.Refusal.{Refusal, NotConsecutive}
 use Rattle.send_model.specs.Chain.{◌>>=◌, ◌>>◌, refuse_if}
 use Rattle.send_model.specs.Command.{Command, End}
 use Rattle.send_model.specs.Spelling.{stream_header, canonical}
-use Rattle.send_model.specs.Store.{Key, Head, head_of, State, Stepped, step}
+use Rattle.send_model.specs.Store.{Key, same_key, Head, head_of, State, Stepped, step}
 use Rattle.send_model.specs.Receive.{bytes_of}
 use Rattle.send_model.specs.Cells.{recelled_state}
 use Rattle.send_model.specs.Order.{breaks_order}
@@ -57,3 +57,9 @@ with_taken now state c (Some head) = refuse_if (breaks_order now.previous (Some 
 -- One command: its step, the order of its head, and the bytes that it adds.
 unfoldable pub advance : Composing → Command → Result Composing Refusal
 advance now c = accepted (blank_step now.state c) >>= λ state. with_taken now state c (head_of c)
+
+-- The part that came last is the one that the stream is named after: the last of all.
+abbrev pub is_last_part : Option Key → Option Head → Bool
+is_last_part None last = false
+is_last_part (Some key) None = false
+is_last_part (Some key) (Some head) = same_key head.key key

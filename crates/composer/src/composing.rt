@@ -7,7 +7,7 @@ ghost use Rattle.send_model.specs.Order.{breaks_order};
 ghost use Rattle.send_commands.specs.Meaning.{meaning_of};
 ghost use Rattle.send_commands.specs.Writing.{IsWritable};
 ghost use Rattle.subvol_catalog.specs.Entries.{key_of, head_with};
-ghost use Rattle.composer.specs.Advance.{advance};
+ghost use Rattle.composer.specs.Advance.{advance, is_last_part};
 ghost use Rattle.composer.specs.Taking.{Takes, after_head};
 
 use crate::part_head::PartHead;
@@ -107,11 +107,14 @@ impl Composer {
         Ok(())
     }
 
-    /// Whether the stream has begun.
-    pub fn has_begun(&self) -> bool
-        ensures begun { result ≡ self.now.begun }
+    /// Whether the part that came last is the one that the stream is named after. Where no part has begun, it is not.
+    pub fn is_at_last_part(&self) -> bool
+        ensures last { result ≡ is_last_part self.now.previous self.now.last }
     {
-        self.begun
+        match (&self.previous, &self.last) {
+            (Some(key), Some(last)) => last.has_key(*key),
+            (None, _) | (Some(_), None) => false,
+        }
     }
 
     /// The bytes that were added and not yet sent.

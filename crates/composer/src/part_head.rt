@@ -2,7 +2,7 @@
 ghost use Rattle.std.specs.Prelude.{◌≡◌, ◌++◌, IfOk, OnOk};
 ghost use Rattle.std.specs.Option.{option_map};
 ghost use Rattle.send_model.specs.Spelling.{stream_header, canonical};
-ghost use Rattle.send_model.specs.Store.{head_of};
+ghost use Rattle.send_model.specs.Store.{head_of, same_key};
 ghost use Rattle.send_model.specs.Composed.{head_command};
 ghost use Rattle.send_commands.specs.Meaning.{meaning_of};
 ghost use Rattle.send_commands.specs.Writing.{IsWritable};
@@ -55,6 +55,13 @@ impl PartHead {
             key: head.key,
             parent: head.parent,
         }))
+    }
+
+    /// Whether the part has this key.
+    pub(crate) fn has_key(&self, key: Key) -> bool
+        ensures { result ≡ same_key self.now.key (key_of key) }
+    {
+        self.key.uuid == key.uuid && self.key.ctransid == key.ctransid
     }
 
     // The command that begins a part of this name and key and of the given parent.

@@ -78,7 +78,7 @@ fn compose_files<I: Inputs, O: Sink>(
         };
         file += 1;
     }
-    if !composer.has_begun() {
+    if !composer.is_at_last_part() {
         return Err(Outcome::Refused(place.refused(Refusal::NotConsecutive)));
     }
     if composer.end().is_err() {

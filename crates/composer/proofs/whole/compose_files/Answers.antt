@@ -35,10 +35,10 @@ loop-file-preserved g c =
           i.same c.loop-file-test.true c.index-files-file.is c.as_str.ensures.value e.wrote i.stand;
     }
 
-pub returns-then-not-has_begun-clause-composed : goal.returns-then-not-has_begun-clause-composed
-returns-then-not-has_begun-clause-composed g c =
+pub returns-then-not-is_at_last_part-clause-composed : goal.returns-then-not-is_at_last_part-clause-composed
+returns-then-not-is_at_last_part-clause-composed g c =
     files_empty _ c.args.files.now c.in-Ok.last c.new-composer.result _ c.loop-file.file c.loop-file.composer _ c.start-place.result c.loop-file.place c.refused.result
-    c.new-composer.ensures.empty c.requires.some (omega (arith, c.loop-file-test.false)) (sym c.has_begun.ensures.begun ∙ c.if-not-has_begun.true) c.refused.ensures.verdict c.in-Ok.ensures.last c.loop-file.invariant.stand
+    c.new-composer.ensures.empty c.requires.some (omega (arith, c.loop-file-test.false)) (sym c.is_at_last_part.ensures.last ∙ c.if-not-is_at_last_part.true) c.refused.ensures.verdict c.in-Ok.ensures.last c.loop-file.invariant.stand
 
 pub returns-then-is_err-clause-composed : goal.returns-then-is_err-clause-composed
 returns-then-is_err-clause-composed g c =
@@ -48,5 +48,5 @@ returns-then-is_err-clause-composed g c =
 pub returns-clause-composed : goal.returns-clause-composed
 returns-clause-composed g c =
     files_sent _ c.args.files.now c.in-Ok.last c.new-composer.result _ c.loop-file.file c.loop-file.composer c.end.new.self c.send.new.composer _ _ c.start-place.result c.loop-file.place _ _ c.send.result
-    c.new-composer.ensures.empty c.requires.some (omega (arith, c.loop-file-test.false)) (sym c.has_begun.ensures.begun ∙ c.if-not-has_begun.false) c.in-Ok.ensures.last c.loop-file.invariant.stand
+    c.new-composer.ensures.empty c.requires.some (omega (arith, c.loop-file-test.false)) (sym c.is_at_last_part.ensures.last ∙ c.if-not-is_at_last_part.false) c.in-Ok.ensures.last c.loop-file.invariant.stand
     (no_error c.end.result _ (sym c.is_err.ensures.value ∙ c.if-is_err.false) c.end.ensures.ended) c.send.ensures.sent
