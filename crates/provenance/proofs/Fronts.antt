@@ -1,0 +1,105 @@
+-- The cells in front of some contents, piece by piece.
+use Rattle.std.specs.Prelude.{◌≡◌, ℕ, ◌+◌, ◌-◌, ◌<◌, ◌≤◌, List, [], ◌∷◌, ◌++◌, map, length, take, drop, get_or, Option, None, Some}
+use Rattle.std.proofs.Common.{refl, sym, ap, ◌∙◌, arith, length-append}
+use Rattle.std.proofs.Math.Logic.{⊎_elim}
+use Rattle.std.proofs.lemmas.Bool.{cases_lt}
+use Rattle.std.proofs.lemmas.List.{length-map, length-take, length-drop, get_or-drop, get_or-map, get_or_append_left, drop-map, drop-take}
+use Rattle.send_model.specs.Provenance.{Place}
+use Rattle.send_model.proofs.Overwriting.{drop_twice}
+use Rattle.extent_map.specs.Cells.{cells_between}
+use Rattle.extent_map.specs.Pieces.{piece_cells}
+use Rattle.extent_map.proofs.Layouts.{length-piece, get_or-hole, get_or-run}
+use Rattle.provenance.specs.declared.trace.Trace.{Trace}
+use Rattle.provenance.specs.declared.trace.Trace.TheVariants.{Fresh, Outside}
+use Rattle.provenance.specs.Traces.{advanced_by, place_of, place_in}
+use Rattle.provenance.specs.Cuts.{later, Follows, Stops}
+use Rattle.provenance.proofs.CutLaws.{after_none, later_twice}
+
+trace_later : (t : Trace) (k : ℕ) → place_of (advanced_by t k) ≡ later (place_of t) k
+trace_later (Fresh file at) k = refl
+trace_later (Outside key ino at) k = refl
+
+piece_later : (origin : Option Trace) (n i : ℕ) → i < n → place_in (get_or (piece_cells advanced_by origin n) i None) ≡ later (place_in origin) i
+piece_later None n i lt = ap place_in (get_or-hole advanced_by n i lt)
+piece_later (Some t) n i lt = ap place_in (get_or-run advanced_by t n i lt) ∙ trace_later t i
+
+-- The places of a piece, in cells that begin with it.
+piece_follows : (origin : Option Trace) (n : ℕ) (rest cells : List (Option Trace)) → cells ≡ piece_cells advanced_by origin n ++ rest → (i : ℕ) → i < n → place_in (get_or cells i None) ≡ later (place_in origin) i
+piece_follows origin n rest cells is i lt =
+    ap (λ (l : List (Option Trace)). place_in (get_or l i None)) is
+    ∙ ap place_in (get_or_append_left (piece_cells advanced_by origin n) rest None i (omega (arith, lt, length-piece advanced_by origin n)))
+    ∙ piece_later origin n i lt
+
+place_there : (cells : List (Option Trace)) (i : ℕ) → i < length cells → get_or (map place_in cells) i None ≡ place_in (get_or cells i None)
+place_there cells i lt = get_or-map place_in cells i None None lt
+
+module _ (whole : List (Option Trace)) (have : ℕ) (origin : Option Trace) (n : ℕ) (rest : List (Option Trace)) (is : drop have whole ≡ piece_cells advanced_by origin n ++ rest) where
+  pub reaches : 0 < n → have + n ≤ length whole
+  reaches some =
+      let d = length-drop have whole in
+      let l = ap length is in
+      omega (arith, some, d, l, length-append (piece_cells advanced_by origin n) rest, length-piece advanced_by origin n)
+
+  next_place_is : 0 < n → (i : ℕ) → i < n → get_or (map place_in whole) (have + i) None ≡ later (place_in origin) i
+  next_place_is some i lt =
+      let r = reaches some in
+      place_there whole (have + i) (omega (arith, r, lt)) ∙ ap place_in (sym (get_or-drop have whole i None)) ∙ piece_follows origin n rest (drop have whole) is i lt
+
+  -- A piece that goes on from what stands before it.
+  pub goes_further : 0 < n → (first : Option Place) → Follows first have (map place_in whole) → place_in origin ≡ later first have → Follows first (have + n) (map place_in whole)
+  goes_further some first follows on i lt = ⊎_elim
+      (λ below. follows i below)
+      (λ above.
+      let e : have + (i - have) ≡ i = omega (arith, above) in
+      ap (λ (k : ℕ). get_or (map place_in whole) k None) (sym e)
+      ∙ next_place_is some (i - have) (omega (arith, lt, above))
+      ∙ ap (λ (o : Option Place). later o (i - have)) on ∙ later_twice first have (i - have) ∙ ap (later first) e)
+      (cases_lt i have)
+
+  -- The first piece.
+  pub begins : 0 < n → have ≡ 0 → Follows (place_in origin) (have + n) (map place_in whole)
+  begins some none i lt =
+      let e : have + i ≡ i = omega (arith, none) in
+      ap (λ (k : ℕ). get_or (map place_in whole) k None) (sym e) ∙ next_place_is some i (omega (arith, lt, none))
+
+  -- A piece that does not go on.
+  pub stops : 0 < n → (first : Option Place) → (place_in origin ≡ later first have → ⊥) → Stops first have (map place_in whole)
+  stops some None other = tt
+  stops some (Some p) other = λ lt there.
+      let e : have + 0 ≡ have = omega arith in
+      let here = sym (ap (λ (k : ℕ). get_or (map place_in whole) k None) e) in
+      other (sym (later_none (place_in origin)) ∙ sym (next_place_is some 0 (omega (arith, some))) ∙ sym here ∙ there)
+    where
+      later_none : (o : Option Place) → later o 0 ≡ o
+      later_none None = refl
+      later_none (Some q) = ap Some (after_none q)
+
+drop_front : {C : Type 0} (xs ys : List C) → drop (length xs) (xs ++ ys) ≡ ys
+drop_front [] ys = refl
+drop_front (x ∷ xs) ys = drop_front xs ys
+
+-- What is left after a piece.
+pub left_after : (whole : List (Option Trace)) (have : ℕ) (origin : Option Trace) (n : ℕ) (rest : List (Option Trace)) → drop have whole ≡ piece_cells advanced_by origin n ++ rest → drop (have + n) whole ≡ rest
+left_after whole have origin n rest is =
+    sym (drop_twice have n whole) ∙ ap (drop n) is ∙ ap (λ (k : ℕ). drop k (piece_cells advanced_by origin n ++ rest)) (sym (length-piece advanced_by origin n)) ∙ drop_front (piece_cells advanced_by origin n) rest
+
+-- Nothing is left after all cells.
+pub all_had : (whole : List (Option Trace)) (have : ℕ) → drop have whole ≡ [] → length whole ≤ have
+all_had whole have none = omega (arith, length-drop have whole, ap length none)
+
+-- All cells are in front.
+pub stops_at_end : (first : Option Place) (have : ℕ) (cells : List (Option Place)) → length cells ≤ have → Stops first have cells
+stops_at_end None have cells all = tt
+stops_at_end (Some p) have cells all = λ lt there. absurd (omega (arith, lt, all))
+
+pub length-places : (from len : ℕ) (cells : List (Option Trace)) → from + len ≤ length cells → length (map place_in (cells_between from len cells)) ≡ len
+unfolding cells_between
+length-places from len cells within = length-map (take len (drop from cells)) place_in ∙ length-take len (drop from cells) ∙ omega (arith, within, length-drop from cells)
+
+-- What is left of a range after some of its cells.
+pub places_after : (at s end : ℕ) (cells : List (Option Trace)) → at + s ≤ end → drop s (map place_in (cells_between at (end - at) cells)) ≡ map place_in (cells_between (at + s) (end - (at + s)) cells)
+unfolding cells_between
+places_after at s end cells le =
+    let e : end - at ≡ s + (end - (at + s)) = omega (arith, le) in
+    drop-map place_in s (take (end - at) (drop at cells))
+    ∙ ap (map place_in) (ap (λ (k : ℕ). drop s (take k (drop at cells))) e ∙ drop-take s (end - (at + s)) (drop at cells) ∙ ap (take (end - (at + s))) (drop_twice at s cells))

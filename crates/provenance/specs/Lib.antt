@@ -1,0 +1,4 @@
+pub mod Traces
+pub mod TraceLaws
+pub mod Cuts
+pub mod Plans
