@@ -129,6 +129,8 @@ due_stays now first more outcome stops = by_stop first.items first.stop outcome 
     by_stop items AtEnd (ended_by.Refused verdict) stops =
         due_refused now (then_read items more) (verdict_meant verdict) (refused_still follow items more.items now (verdict_meant verdict) (refused_is now items (verdict_meant verdict) stops))
     by_stop items AtEnd (ended_by.InputTooLong file) stops = absurd (never_long now items file stops)
+    by_stop items AtEnd (ended_by.TooMuch sum) stops = absurd stops
+    by_stop items AtEnd (ended_by.InputChanged file place) stops = absurd stops
     by_stop items AtEnd ended_by.InputFault stops = tt
     by_stop items AtEnd ended_by.NoMemory stops = tt
     by_stop items AtEnd ended_by.OutputFault stops = absurd stops

@@ -128,6 +128,8 @@ audit_accepts {C} told names core store guards start r totals old new before now
     by_outcome files accepted ended.InputFault w = absurd w
     by_outcome files accepted (ended.Refused verdict) w = absurd w
     by_outcome files accepted (ended.InputTooLong file) w = absurd w
+    by_outcome files accepted (ended.TooMuch sum) w = absurd w
+    by_outcome files accepted (ended.InputChanged file place) w = absurd w
 
 -- The audit ends early, and nothing is written.
 pub audit_stops : {C : Type 0} (told : Option (List (List ℕ × List ℕ))) (names : List (List ℕ)) (core : Store C) (store : Store ℕ) (guards : List Guard) (start : State (Unit {0})) (r : Result Totals Outcome) (out : Option (List ℕ)) (outcome : Outcome)
@@ -140,6 +142,8 @@ audit_stops {C} told names core store guards start r out outcome same fresh was 
     by_outcome : (files : List (List ℕ)) (x : Outcome) → Stops (due_from_here (start_over core guards) (limited_from 1 files)) x → AuditEnds store guards files x []
     by_outcome files (ended.Refused verdict) s = (sym (same_due core store guards files same) ∙ s, refl)
     by_outcome files (ended.InputTooLong file) s = (sym (same_due core store guards files same) ∙ s, refl)
+    by_outcome files (ended.TooMuch sum) s = absurd s
+    by_outcome files (ended.InputChanged file place) s = absurd s
     by_outcome files ended.InputFault s = refl
     by_outcome files ended.NoMemory s = refl
     by_outcome files ended.OutputFault s = absurd s

@@ -183,6 +183,8 @@ item_ends told inputs file name first old new now next parts commands f0 f1 o it
         (told_here told name (IsNext old new item) (told_moved told inputs name old.name (IsNext old new item) same name_is (next_item inputs old new f0 f1 o item e says)))
         (told_here told name (Stands file first old now parts commands) stands)
     by_outcome (ended_by.InputTooLong number) stops = absurd stops
+    by_outcome (ended_by.TooMuch sum) stops = absurd stops
+    by_outcome (ended_by.InputChanged number place) stops = absurd stops
     by_outcome ended_by.InputFault stops = absurd stops
     by_outcome ended_by.NoMemory stops = told_always told name (FileEnds file first next (Err ended_by.NoMemory)) (λ bytes. tt)
     by_outcome ended_by.OutputFault stops = absurd stops
@@ -195,6 +197,8 @@ item_cause old new item r outcome before now e ends = by_outcome outcome (ended_
     by_outcome : (x : Outcome) → ItemStops (due_from_here old (read_whole (item ∷ []))) x → Caused before now 0 0 x
     by_outcome (ended_by.Refused verdict) stops = tt
     by_outcome (ended_by.InputTooLong number) stops = absurd stops
+    by_outcome (ended_by.TooMuch sum) stops = absurd stops
+    by_outcome (ended_by.InputChanged number place) stops = absurd stops
     by_outcome ended_by.InputFault stops = absurd stops
     by_outcome ended_by.NoMemory stops = tt
     by_outcome ended_by.OutputFault stops = absurd stops

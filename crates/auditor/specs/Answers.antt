@@ -30,6 +30,8 @@ use Rattle.auditor.specs.Following.{Followed, follow, AreAccepted, due_from_here
 abbrev pub Stops : Due → Outcome → Type 0
 Stops the_due (ended.Refused verdict) = the_due ≡ RefusedAt (verdict_meant verdict)
 Stops the_due (ended.InputTooLong file) = the_due ≡ TooLong file
+Stops the_due (ended.TooMuch sum) = ⊥
+Stops the_due (ended.InputChanged file place) = ⊥
 Stops the_due ended.InputFault = ⊤
 Stops the_due ended.NoMemory = ⊤
 Stops the_due ended.OutputFault = ⊥
@@ -55,6 +57,8 @@ abbrev pub ItemStops : Due → Outcome → Type 0
 ItemStops the_due (ended.Refused verdict) = the_due ≡ RefusedAt (verdict_meant verdict)
 ItemStops the_due ended.NoMemory = ⊤
 ItemStops the_due (ended.InputTooLong file) = ⊥
+ItemStops the_due (ended.TooMuch sum) = ⊥
+ItemStops the_due (ended.InputChanged file place) = ⊥
 ItemStops the_due ended.InputFault = ⊥
 ItemStops the_due ended.OutputFault = ⊥
 ItemStops the_due ended.Done = ⊥
@@ -113,6 +117,8 @@ WritesLine text old new before now ended.NoMemory = Appends old new []
 WritesLine text old new before now ended.InputFault = ⊥
 WritesLine text old new before now (ended.Refused verdict) = ⊥
 WritesLine text old new before now (ended.InputTooLong file) = ⊥
+WritesLine text old new before now (ended.TooMuch sum) = ⊥
+WritesLine text old new before now (ended.InputChanged file place) = ⊥
 
 -- ---- the whole call
 

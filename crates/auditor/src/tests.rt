@@ -35,6 +35,8 @@ impl Origin for Nowhere {
 // The pieces of which the files are made. UUIDs are sixteen times the same byte.
 const HEADER: &[u8] = b"btrfs-stream\x00\x01\x00\x00\x00";
 
+const HEADER_OF_SECOND: &[u8] = b"btrfs-stream\x00\x02\x00\x00\x00";
+
 const SUBVOL_A: &[u8] =
     b"%\x00\x00\x00\x01\x0033C\xee\x01\x00\x10\x00\x11\x11\x11\x11\x11\x11\x11\x11\x11\x11\x11\x11\x11\x11\x11\x11\x02\x00\x08\x00\x01\x00\x00\x00\x00\x00\x00\x00\x0f\x00\x01\x00a";
 
@@ -74,6 +76,20 @@ const WRITE_EIGHT: &[u8] =
 
 const WRITE_NINTH: &[u8] =
     b"\x16\x00\x00\x00\x0f\x00&\xed\x15\x0f\x0f\x00\x01\x00x\x12\x00\x08\x00\x08\x00\x00\x00\x00\x00\x00\x00\x13\x00\x01\x009";
+
+const CLONE_Y: &[u8] =
+    b"N\x00\x00\x00\x10\x00\x1a~\x9b\xe0\x0f\x00\x01\x00y\x12\x00\x08\x00\x00\x00\x00\x00\x00\x00\x00\x00\x14\x00\x10\x00\x11\x11\x11\x11\x11\x11\x11\x11\x11\x11\x11\x11\x11\x11\x11\x11\x15\x00\x08\x00\x01\x00\x00\x00\x00\x00\x00\x00\x16\x00\x01\x00x\x17\x00\x08\x00\x00\x00\x00\x00\x00\x00\x00\x00\x18\x00\x08\x00\x02\x00\x00\x00\x00\x00\x00\x00";
+
+const WRITE_MORE_IN_SECOND: &[u8] =
+    b"\x14\x00\x00\x00\x0f\x00@\xd3\x914\x0f\x00\x01\x00x\x12\x00\x08\x00\x02\x00\x00\x00\x00\x00\x00\x00\x13\x00!";
+
+const PUNCH: &[u8] =
+    b"%\x00\x00\x00\x17\x00Z\xa4\nJ\x04\x00\x08\x00\x01\x00\x00\x00\x00\x00\x00\x00\x0f\x00\x01\x00x\x12\x00\x08\x00\x00\x00\x00\x00\x00\x00\x00\x00\x19\x00\x04\x00\x03\x00\x00\x00";
+
+const FLAGS: &[u8] =
+    b"\x11\x00\x00\x00\x18\x00\xce\x7f\xa5\xff\x0f\x00\x01\x00x\x1a\x00\x08\x00\x10\x00\x00\x00\x00\x00\x00\x00";
+
+const FALLOCATE_OF_NOTHING: &[u8] = b"\x00\x00\x00\x00\x17\x00\x93\xccEF";
 
 const END: &[u8] = b"\x00\x00\x00\x00\x15\x00Pl\xc9\x9d";
 
@@ -238,6 +254,49 @@ fn files_without_guards(rt: HostRuntime) -> Result<(), Fail> {
     for (files, failing, outcome, written) in table {
         let guards: &mut [Box<dyn Guard>] = &mut [];
         expect(&rt, rt.alloc(), files, failing, guards, outcome, written)?;
+    }
+    Ok(())
+}
+
+#[test]
+fn clones_and_version_two(rt: HostRuntime) -> Result<(), Fail> {
+    let table: [(&[&[&[u8]]], Outcome, &[u8]); 4] = [
+        (
+            &[FIRST, &[HEADER, SNAPSHOT_B, MKFILE_Y, CLONE_Y, END]],
+            Outcome::Done,
+            b"accepted 2 8\n",
+        ),
+        (
+            &[
+                FIRST,
+                &[
+                    HEADER_OF_SECOND,
+                    SNAPSHOT_B,
+                    MKFILE_Y,
+                    CLONE_Y,
+                    WRITE_MORE_IN_SECOND,
+                    PUNCH,
+                    FLAGS,
+                    END,
+                ],
+            ],
+            Outcome::Done,
+            b"accepted 2 11\n",
+        ),
+        (
+            &[&[HEADER, SUBVOL_A, FALLOCATE_OF_NOTHING, END]],
+            refused(1, 2, 64, Refusal::UnknownCommand(23)),
+            b"",
+        ),
+        (
+            &[&[HEADER_OF_SECOND, SUBVOL_A, FALLOCATE_OF_NOTHING, END]],
+            refused(1, 2, 64, Refusal::MissingAttribute(4)),
+            b"",
+        ),
+    ];
+    for (files, outcome, written) in table {
+        let guards: &mut [Box<dyn Guard>] = &mut [];
+        expect(&rt, rt.alloc(), files, [0, 0], guards, outcome, written)?;
     }
     Ok(())
 }

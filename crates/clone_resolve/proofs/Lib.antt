@@ -2,3 +2,4 @@ mod HeadLaws
 mod StepLaws
 mod EditLaws
 mod Searches
+pub mod TakenStates

@@ -12,7 +12,7 @@ use Rattle.send_model.specs.Attribute.{DATA, IsBytes}
 use Rattle.send_model.specs.Command.{Kind, SUBVOL, SNAPSHOT, MKFILE, MKDIR, MKNOD, MKFIFO, MKSOCK, SYMLINK, RENAME, LINK, UNLINK, RMDIR, SET_XATTR, REMOVE_XATTR, WRITE, CLONE, TRUNCATE, CHMOD, CHOWN, UTIMES, END, UPDATE_EXTENT, FALLOCATE, FILEATTR, kinds_of, is_encoded, Command, row, kind_of, kind_of_number, command_with, fields_of}
 use Rattle.send_model.specs.Spelling.{Attribute, value_of, frame_of, frame_checksum, greatest_body, attributes_of, body_of, AreAttributes}
 use Rattle.send_model.specs.Receive.{bytes_of}
-use Rattle.send_model.specs.Reading.{Frame, number16, attribute_head, attribute_len, attribute_end, attribute_in, attribute_lawful, attribute_number, attributes_from, attributes_at, bytes_at, command_of, taken, place_of, data_place, frame_header_len, wanted_there, moment_lawful}
+use Rattle.send_model.specs.Reading.{Frame, number16, attribute_head, attribute_len, attribute_end, attribute_in, attribute_lawful, attribute_number, attributes_from, attributes_at, bytes_at, command_of, place_of, data_place, frame_header_len, wanted_there, moment_lawful}
 use Rattle.send_model.specs.Laws.{CanWrite}
 use Rattle.send_model.proofs.Sound.{found_is}
 use Rattle.send_model.proofs.Canonical.{bytes_append, le2_bytes, le4_bytes, checksum_small, spelled_spellable}
@@ -190,16 +190,13 @@ frame_bytes number body are =
     bytes_append len (cmd ++ sum ++ body) (le4_bytes (length body)) (bytes_append cmd (sum ++ body) (le2_bytes number) (bytes_append sum body (le4_bytes (frame_checksum (length body) number body)) are))
 
 -- A command that was read can be written in the version that it was read in.
-pub read_can_write : (version number : ℕ) (body : List ℕ) (attributes : List Attribute) (c : Command) → number < 2 ^ 16 → length body ≤ greatest_body → IsBytes body → attributes_at version body ≡ Ok attributes → taken version number ≡ Ok tt
+pub read_can_write : (version number : ℕ) (body : List ℕ) (attributes : List Attribute) (c : Command) → number < 2 ^ 16 → length body ≤ greatest_body → IsBytes body → attributes_at version body ≡ Ok attributes
     → command_of version number attributes ≡ Ok c → CanWrite version c
-read_can_write version number body attributes c small short are read is_taken e =
+read_can_write version number body attributes c small short are read e =
     let back = frame_read_back body [] number small short (checksum_small number body are) in
     let frame : Frame = record { number = number; body = body; rest = [] } in
     let spelled = rules_were_spelled version (frame_of number body ++ []) frame attributes c (bytes_append (frame_of number body) [] (frame_bytes number body are) tt) back read e in
-    record {
-      spellable = spelled_spellable version spelled.0 c spelled.1;
-      taken_kind = ap (λ (n : ℕ). taken version n) (kind_is version number attributes c e) ∙ is_taken;
-    }
+    record { spellable = spelled_spellable version spelled.0 c spelled.1 }
 
 abbrev place_after : ℕ → Option ℕ → ℕ
 place_after at there = elim there as (λ x. ℕ) [ None ↦ 0 | Some place ↦ at + frame_header_len + place ]

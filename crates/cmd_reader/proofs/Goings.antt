@@ -4,12 +4,12 @@ use Rattle.std.proofs.Common.{refl, sym, ap, subst, ◌∙◌, arith, length-dro
 use Rattle.send_model.proofs.Sound.{and_both}
 use Rattle.std.proofs.lemmas.Bool.{true≢false}
 use Rattle.send_model.specs.Refusal as meant
-use Rattle.send_model.specs.Chain.{◌>>=◌, ◌>>◌}
+use Rattle.send_model.specs.Chain.{◌>>=◌}
 use Rattle.send_model.specs.Command as model
 use Rattle.send_model.specs.Attribute.{IsBytes}
 use Rattle.send_model.specs.Spelling.{Attribute, canonical}
 use Rattle.send_model.specs.Reading as reading
-use Rattle.send_model.specs.Reading.{Reading, Due, HeaderDue, CommandDue, Frame, due_after, ended, with_item, faulty, stream_version, frame_at, attributes_at, taken, command_of, data_place, front_of, is_version, header_len, frame_header_len}
+use Rattle.send_model.specs.Reading.{Reading, Due, HeaderDue, CommandDue, Frame, due_after, ended, with_item, faulty, stream_version, frame_at, attributes_at, command_of, data_place, front_of, is_version, header_len, frame_header_len}
 use Rattle.send_model.specs.Lengths.{limit, is_truncated}
 use Rattle.send_model.proofs.Fuel.{bound, ok_same, header_there}
 use Rattle.sx_base.specs.Refusals.{refusal_of}
@@ -59,19 +59,15 @@ no_command_in k version number at bytes frame refusal e refused = rw e (by_attri
     by_command attributes (Ok command) q = cc
     by_command attributes (Err r) q = cc
 
-    by_taken : (attributes : List Attribute) (t : Result (Unit {0}) meant.Refusal) (c : Result model.Command meant.Refusal) → (t >> c) ≡ Err refusal → (t >> (c >>= λ command. Ok (item_with k version number at frame attributes command))) ≡ Err refusal
-    by_taken attributes (Ok u) c q = by_command attributes c q
-    by_taken attributes (Err r) c q = cc
-
-    by_attributes : (a : Result (List Attribute) meant.Refusal) → (a >>= λ attributes. taken version frame.number >> command_of version frame.number attributes) ≡ Err refusal
-        → (a >>= λ attributes. taken version frame.number >> (command_of version frame.number attributes >>= λ command. Ok (item_with k version number at frame attributes command))) ≡ Err refusal
-    by_attributes (Ok attributes) q = by_taken attributes (taken version frame.number) (command_of version frame.number attributes) q
+    by_attributes : (a : Result (List Attribute) meant.Refusal) → (a >>= λ attributes. command_of version frame.number attributes) ≡ Err refusal
+        → (a >>= λ attributes. command_of version frame.number attributes >>= λ command. Ok (item_with k version number at frame attributes command)) ≡ Err refusal
+    by_attributes (Ok attributes) q = by_command attributes (command_of version frame.number attributes) q
     by_attributes (Err r) q = cc
 
-command_there : (k version number at : ℕ) (bytes : List ℕ) (frame : Frame) (attributes : List Attribute) (command : model.Command) → frame_at bytes ≡ Ok frame → attributes_at version frame.body ≡ Ok attributes → taken version frame.number ≡ Ok tt → command_of version frame.number attributes ≡ Ok command
+command_there : (k version number at : ℕ) (bytes : List ℕ) (frame : Frame) (attributes : List Attribute) (command : model.Command) → frame_at bytes ≡ Ok frame → attributes_at version frame.body ≡ Ok attributes → command_of version frame.number attributes ≡ Ok command
     → front_of k version number at bytes ≡ Ok (item_with k version number at frame attributes command)
 unfolding front_of
-command_there k version number at bytes frame attributes command a b c d = rw (a, b, c, d) refl
+command_there k version number at bytes frame attributes command a b c = rw (a, b, c) refl
 
 -- ---- what was handed out
 
@@ -236,7 +232,7 @@ command_step told old new before now head version h body item file name number w
         let frame : Frame = record { number = head.cmd; body = body; rest = drop new.offset bytes } in
         let F : List ℕ → List ℕ → Result Frame meant.Refusal = λ b r. Ok (record { number = head.cmd; body = b; rest = r }) in
         let read : frame_at (drop old.offset bytes) ≡ Ok frame = a ∙ ap (λ (b : List ℕ). F b (drop h.taken (drop old.offset bytes))) (sym body_is) ∙ ap (F body) rest in
-        let front = command_there old.file version old.number old.offset (drop old.offset bytes) frame is.command_is.attributes (meaning_of item.command) read is.command_is.read is.command_is.taken_kind is.command_is.command_is in
+        let front = command_there old.file version old.number old.offset (drop old.offset bytes) frame is.command_is.attributes (meaning_of item.command) read is.command_is.read is.command_is.command_is in
         let there_is : front_of old.file version old.number old.offset (drop old.offset bytes) ≡ Ok (record { item = one; rest = drop new.offset bytes }) =
         front ∙ (let G : ℕ → Result reading.Front meant.Refusal = λ d. Ok (record { item = record { file = old.file; number = old.number; offset = old.offset; version = version; data_at = d; command = meaning_of item.command }; rest = drop new.offset bytes }) in ap G (sym is.command_is.place)) in
         let inside : 10 + length body ≤ length (drop old.offset bytes) = (frame_within (drop old.offset bytes) frame read).0 in

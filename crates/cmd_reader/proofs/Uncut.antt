@@ -1,12 +1,12 @@
 -- What a body says is never refused as cut short.
-use Rattle.std.specs.Prelude.{◌≡◌, ℕ, zero, suc, Bool, true, false, List, [], ◌∷◌, drop, Option, None, Some, Result, Ok, Err, if◌then◌else◌}
+use Rattle.std.specs.Prelude.{◌≡◌, ℕ, zero, suc, Bool, true, false, List, [], ◌∷◌, drop, Result, Ok, Err, if◌then◌else◌}
 use Rattle.std.specs.List.{list_all}
 use Rattle.std.proofs.Common.{refl}
-use Rattle.send_model.specs.Refusal.{Refusal, UnknownCommand, BadAttribute, MissingAttribute, BadTime, Encoded, NotBuilt}
-use Rattle.send_model.specs.Chain.{◌>>=◌, require}
-use Rattle.send_model.specs.Command.{Kind, row, is_encoded, kind_of_number, command_with}
+use Rattle.send_model.specs.Refusal.{Refusal, UnknownCommand, BadAttribute, MissingAttribute, BadTime, Encoded}
+use Rattle.send_model.specs.Chain.{◌>>=◌}
+use Rattle.send_model.specs.Command.{row, is_encoded, kind_of_number, command_with}
 use Rattle.send_model.specs.Spelling.{Attribute, value_of}
-use Rattle.send_model.specs.Reading.{attributes_from, attributes_at, attribute_end, attribute_in, attribute_lawful, attribute_number, number16, bytes_at, form_fits, wanted_there, moment_lawful, is_taken, taken, command_of}
+use Rattle.send_model.specs.Reading.{attributes_from, attributes_at, attribute_end, attribute_in, attribute_lawful, attribute_number, number16, bytes_at, form_fits, wanted_there, moment_lawful, command_of}
 use Rattle.send_model.specs.Attribute.{form_of}
 use Rattle.send_model.specs.Lengths.{is_truncated}
 use Rattle.tlv_frame.proofs.Uncut.{IsUncut, uncut_bind, uncut_then, uncut_require, uncut_refuse, uncut_found, uncut_ok, uncut_err, uncut_is}
@@ -31,14 +31,6 @@ unfolding wanted_there
 wanted_uncut [] attributes = uncut_ok tt
 wanted_uncut (kind ∷ kinds) attributes = uncut_bind _ _ (uncut_found (value_of kind attributes) (MissingAttribute kind) refl) (λ bytes. uncut_then _ _ (uncut_require (form_fits (form_of kind) bytes) (BadAttribute kind) refl) (wanted_uncut kinds attributes))
 
-taken_uncut : (version number : ℕ) → IsUncut (taken version number)
-unfolding taken
-taken_uncut version number = by_kind (kind_of_number version number)
-  where
-    by_kind : (o : Option Kind) → IsUncut (elim o [ None ↦ Ok (tt {0}) | Some kind ↦ require (is_taken kind) (NotBuilt number) ])
-    by_kind None = uncut_ok tt
-    by_kind (Some kind) = uncut_require (is_taken kind) (NotBuilt number) refl
-
 command_uncut : (version number : ℕ) (attributes : List Attribute) → IsUncut (command_of version number attributes)
 unfolding command_of
 command_uncut version number attributes = uncut_then _ _ (uncut_refuse (is_encoded version number) Encoded refl) (uncut_bind _ _ (uncut_found (kind_of_number version number) (UnknownCommand number) refl)
@@ -48,4 +40,4 @@ command_uncut version number attributes = uncut_then _ _ (uncut_refuse (is_encod
 pub body_uncut : (version number : ℕ) (body : List ℕ) (refusal : Refusal) → body_read version number body ≡ Err refusal → is_truncated refusal ≡ false
 unfolding attributes_at
 body_uncut version number body refusal e =
-    uncut_is _ refusal e (uncut_bind _ _ (attributes_uncut _ version [] body) (λ attributes. uncut_then _ _ (taken_uncut version number) (command_uncut version number attributes)))
+    uncut_is _ refusal e (uncut_bind _ _ (attributes_uncut _ version [] body) (λ attributes. command_uncut version number attributes))

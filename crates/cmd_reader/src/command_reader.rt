@@ -59,6 +59,7 @@ impl CmdReader {
         requires ahead { IfTold (I.told inputs.old) self.old.name (HasAhead self.old) }
         ensures same { I.told inputs.new ≡ I.told inputs.old }
         ensures later { I.faults inputs.old ≤ I.faults inputs.new }
+        ensures ends_later { I.ends inputs.old ≤ I.ends inputs.new }
         ensures file { self.new.file ≡ self.old.file }
         ensures name { self.new.name ≡ self.old.name }
         ensures fits { IfItem result (ItemFits self.old self.new) }
@@ -86,6 +87,7 @@ impl CmdReader {
         requires ahead { IfTold (I.told inputs.old) self.old.name (HasAhead self.old) }
         ensures same { I.told inputs.new ≡ I.told inputs.old }
         ensures later { I.faults inputs.old ≤ I.faults inputs.new }
+        ensures ends_later { I.ends inputs.old ≤ I.ends inputs.new }
         ensures file { self.new.file ≡ self.old.file }
         ensures name { self.new.name ≡ self.old.name }
         ensures says { StepSays (I.told inputs.old) self.old self.new (I.faults inputs.old) (I.faults inputs.new) result }

@@ -10,7 +10,7 @@ ghost use Rattle.cmd_reader.specs.Items.{ItemSays, StopAt};
 use crate::fault::Fault;
 use crate::item::{Item, ReadStop};
 use crate::spelled::is_canonical;
-use send_commands::{Command, check_taken, decode};
+use send_commands::{Command, decode};
 use std::alloc::Global;
 use sx_base::{Stop, Verdict};
 use tlv_frame::attrs;
@@ -99,9 +99,6 @@ fn command_in(alloc: Global, at: u64, version: u32, cmd: u16, body: &[u8]) -> Re
         Ok(table) => table,
         Err(refusal) => return Err(Fault::Refused(refusal)),
     };
-    if let Err(refusal) = check_taken(version, cmd) {
-        return Err(Fault::Refused(refusal));
-    }
     let data_at = match table.place(DATA) {
         Some(place) => at + FRAME_HEAD_LEN + place as u64,
         None => 0,

@@ -60,6 +60,7 @@ impl Source {
         requires ahead { SourceAhead (I.told inputs.old) self.old }
         ensures same { I.told inputs.new ≡ I.told inputs.old }
         ensures later { I.faults inputs.old ≤ I.faults inputs.new }
+        ensures ends_later { I.ends inputs.old ≤ I.ends inputs.new }
         ensures source { IsSource self.new }
         ensures name { self.new.name ≡ self.old.name }
         ensures says { SourcePasses (I.told inputs.old) self.old self.new (I.faults inputs.old) (I.faults inputs.new) result }
@@ -88,6 +89,7 @@ impl Source {
         requires ahead { SourceAhead (I.told inputs.old) self.old }
         ensures same { I.told inputs.new ≡ I.told inputs.old }
         ensures later { I.faults inputs.old ≤ I.faults inputs.new }
+        ensures ends_later { I.ends inputs.old ≤ I.ends inputs.new }
         ensures source { IsSource self.new }
         ensures name { self.new.name ≡ self.old.name }
         ensures place { self.new.at ≡ self.old.at }
@@ -122,6 +124,7 @@ fn read_piece<I: Inputs>(
     requires room { length piece.old ≡ 65_536 }
     ensures same { I.told inputs.new ≡ I.told inputs.old }
     ensures later { I.faults inputs.old ≤ I.faults inputs.new }
+    ensures ends_later { I.ends inputs.old ≤ I.ends inputs.new }
     ensures bound { IfOk result (λ count. count ≤ 65_536) }
     ensures place { IfOk result (λ count. at + count ≤ limit) }
     ensures bytes { IfOk result (λ count. GivesAt (I.told inputs.old) name.now at piece.new count) }

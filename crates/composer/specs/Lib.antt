@@ -1,6 +1,5 @@
-pub mod Advance
-pub mod Ahead
-pub mod Files
-pub mod Folding
-pub mod Stopping
+pub mod OverBase
+pub mod Kept
 pub mod Taking
+pub mod Adding
+pub mod Files

@@ -1,26 +1,98 @@
--- What composing answers to a command, by what composing keeps. And the code's values as those of the definitions.
-use Rattle.std.specs.Prelude.{◌≡◌, ℕ, ◌<◌, ◌^◌, List, length, Some, Result, Ok, Err}
+-- What the composer answers to one item: what it keeps then and what it has written, or why it stops.
+use Rattle.std.specs.Prelude.{◌≡◌, ◌≢◌, ◌⊎◌, ⊤, ℕ, ◌+◌, ◌-◌, ◌≤◌, Bool, false, ◌&&◌, List, [], ◌++◌, length, take, drop, get_or, Option, None, Some, Result, Ok, Err}
+use Rattle.std.specs.Io.KnownBytes.{Appends}
 use Rattle.send_model.specs.Refusal as meant
-use Rattle.send_model.specs.Refusal.{NotConsecutive}
-use Rattle.send_model.specs.Chain.{◌>>◌, refuse_if}
-use Rattle.send_model.specs.Store as store
-use Rattle.send_model.specs.Order.{breaks_order}
-use Rattle.sx_base.specs.declared.stop.Stop.{Stop}
-use Rattle.sx_base.specs.declared.stop.Stop.TheVariants as stop
-use Rattle.sx_base.specs.Refusals.{refusal_of}
-use Rattle.composer.specs.Advance.{Composing, with_head}
+use Rattle.send_model.specs.Reading.{Item}
+use Rattle.std.specs.Str.{bytes_eq}
+use Rattle.send_model.specs.Store.{Head, head_of, Store, same_key}
+use Rattle.send_model.specs.Receive.{bytes_of, first_of, verdict_of}
+use Rattle.sx_base.specs.Causes.{Rose}
+use Rattle.sx_base.specs.Outside.{AppendsPart}
+use Rattle.sx_base.specs.Calls.{verdict_meant, CausedAgain}
+use Rattle.sx_base.specs.declared.outcome.Verdict.{Verdict}
+use Rattle.sx_base.specs.declared.outcome.Outcome.{Outcome}
+use Rattle.sx_base.specs.declared.outcome.Outcome.TheVariants as ended
+use Rattle.clone_resolve.proofs.TakenStates.{AllCells}
+use Rattle.clone_pieces.specs.Origins.{IsInInput}
+use Rattle.clone_pieces.specs.Sending.{AppendsFront}
+use Rattle.composer.specs.OverBase.{Plan, Composing, Halt, Refuses, Exceeds, advance, unsent}
+use Rattle.composer.specs.Kept.{Kept, composing_of}
 
--- The command is taken and leaves what is said of it, or it is refused for that reason and no byte is added. Nothing is said
--- where there is no memory.
-abbrev pub Takes : {A : Type 0} → Result A Stop → Composing → Composing → Result Composing meant.Refusal → Type 0
-Takes (Ok _) old new said = said ≡ Ok new
-Takes (Err (stop.Refused refusal)) old new said = (said ≡ Err (refusal_of refusal)) × (new.pending ≡ old.pending)
-Takes (Err stop.NoMemory) old new said = Unit {0}
+-- The data of an item stand at its place in its file.
+pub record DataStand (files : List (List ℕ)) (item : Item) : Type 0 where
+  pub there : take (length (bytes_of item.command)) (drop item.data_at (get_or files (item.file - 1) [])) ≡ bytes_of item.command
+  pub within : item.data_at + length (bytes_of item.command) ≤ length (get_or files (item.file - 1) [])
 
--- A head whose part has begun: its order, and what it adds.
-abbrev pub after_head : Composing → store.Head → Result Composing meant.Refusal
-after_head now head = refuse_if (breaks_order now.previous (Some head)) NotConsecutive >> with_head now now.state head now.last
+-- The item was taken, and of the bytes that are then to be written some were.
+pub record ItemTaken (plan : Plan) (old new : Composing) (item : Item) (out_old out_new : Option (List ℕ)) : Type 0 where
+  pub next : Composing
+  pub sent : List ℕ
+  pub taken : advance plan old item ≡ Ok next
+  pub rest : next ≡ unsent sent new
+  pub appends : Appends out_old out_new sent
 
--- A name fits the length field of an attribute.
-abbrev pub IsShort : List ℕ → Type 0
-IsShort name = length name < 2 ^ 16
+-- The item is refused with a verdict at its place.
+pub record ItemRefused (plan : Plan) (now : Composing) (item : Item) (verdict : Verdict) : Type 0 where
+  pub refusal : meant.Refusal
+  pub refused : advance plan now item ≡ Err (Refuses refusal)
+  pub verdict_is : verdict_meant verdict ≡ verdict_of item refusal
+
+-- Why nothing follows an item: it is refused, or with it there is too much, or there is no memory, or an object of the outside
+-- failed. Inputs that tell are not found changed.
+abbrev pub ItemWhy : Plan → Composing → Composing → Item → Outcome → Type 0
+ItemWhy plan old next item (ended.Refused verdict) = (next ≡ old) × ItemRefused plan old item verdict
+ItemWhy plan old next item (ended.TooMuch sum) = (next ≡ old) × (advance plan old item ≡ Err (Exceeds sum))
+ItemWhy plan old next item ended.NoMemory = (next ≡ old) ⊎ (advance plan old item ≡ Ok next)
+ItemWhy plan old next item ended.InputFault = (next ≡ old) ⊎ (advance plan old item ≡ Ok next)
+ItemWhy plan old next item ended.OutputFault = (next ≡ old) ⊎ (advance plan old item ≡ Ok next)
+ItemWhy plan old next item (ended.InputChanged file place) = ⊥
+ItemWhy plan old next item (ended.InputTooLong file) = ⊥
+ItemWhy plan old next item ended.Done = ⊥
+
+-- A front part of the bytes was written that were then to be written.
+pub record ItemStops (plan : Plan) (old : Composing) (item : Item) (outcome : Outcome) (out_old out_new : Option (List ℕ)) : Type 0 where
+  pub next : Composing
+  pub why : ItemWhy plan old next item outcome
+  pub front : AppendsFront out_old out_new next.pending
+
+-- What is kept after an item that is taken: all its cells stand in the files, and the head that came last is the item's, if it is one.
+pub record ItemKept (files : List (List ℕ)) (old new : Kept) (item : Item) : Type 0 where
+  pub there : AllCells (IsInInput files) new.state
+  pub latest : new.latest ≡ first_of (head_of item.command) old.latest
+
+abbrev pub ItemEnd : List (List ℕ) → Plan → Kept → Kept → Item → Option (List ℕ) → Option (List ℕ) → Result (Unit {0}) Outcome → Type 0
+ItemEnd files plan old new item out_old out_new (Ok done) = ItemTaken plan (composing_of files plan.base old) (composing_of files plan.base new) item out_old out_new × ItemKept files old new item
+ItemEnd files plan old new item out_old out_new (Err outcome) = ItemStops plan (composing_of files plan.base old) item outcome out_old out_new
+
+-- ---- causes
+
+-- An error has its cause.
+abbrev pub ErrCausedAgain : {T : Type 0} → (ends_before ends_now inputs_before inputs_now out_before out_now : ℕ) → Result T Outcome → Type 0
+ErrCausedAgain ends_before ends_now inputs_before inputs_now out_before out_now (Ok x) = ⊤
+ErrCausedAgain ends_before ends_now inputs_before inputs_now out_before out_now (Err outcome) = CausedAgain ends_before ends_now inputs_before inputs_now out_before out_now outcome
+
+-- ---- where composing ends
+
+-- The outcome stays, or what is pending was to be written first and the output failed; but where the inputs have failed, or
+-- there is no memory, nothing was. A front part of what is pending was written.
+pub record StopEnd (pending : List ℕ) (out_old out_new : Option (List ℕ)) (before now : ℕ) (outcome result : Outcome) : Type 0 where
+  pub outcome_is : (result ≡ outcome) ⊎ ((result ≡ ended.OutputFault) × (outcome ≢ ended.InputFault) × (outcome ≢ ended.NoMemory) × Rose before now)
+  pub front : AppendsFront out_old out_new pending
+
+-- All that was pending with END was written, or a proper front part of it, where the output failed.
+abbrev pub EndEnd : List ℕ → Option (List ℕ) → Option (List ℕ) → ℕ → ℕ → Result (Unit {0}) Outcome → Type 0
+EndEnd bytes out_old out_new before now (Ok done) = Appends out_old out_new bytes
+EndEnd bytes out_old out_new before now (Err ended.OutputFault) = Rose before now × AppendsPart out_old out_new bytes
+EndEnd bytes out_old out_new before now (Err ended.NoMemory) = Appends out_old out_new []
+EndEnd bytes out_old out_new before now (Err ended.Done) = ⊥
+EndEnd bytes out_old out_new before now (Err (ended.Refused verdict)) = ⊥
+EndEnd bytes out_old out_new before now (Err ended.InputFault) = ⊥
+EndEnd bytes out_old out_new before now (Err (ended.InputTooLong file)) = ⊥
+EndEnd bytes out_old out_new before now (Err (ended.TooMuch sum)) = ⊥
+EndEnd bytes out_old out_new before now (Err (ended.InputChanged file place)) = ⊥
+
+-- The head that came last is the last of all: it has its name and its key.
+abbrev pub is_at_last : Option Head → Option Head → Bool
+is_at_last None last = false
+is_at_last (Some head) None = false
+is_at_last (Some head) (Some last) = same_key last.key head.key && bytes_eq last.name head.name

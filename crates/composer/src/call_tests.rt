@@ -2,17 +2,19 @@
 ghost use Rattle.std.specs.Prelude.{None};
 
 use crate::compose;
-use std::alloc::Global;
-use std::process::Abort;
+use std::alloc::{AllocError, Global};
 use std::test::Fail;
 use sx_base::{Failed, Inputs, Lost, MemSink, Outcome, PlainInputs};
 
-// A full stream of 122 bytes with a part a, and one that goes on from it.
+// A full stream of 122 bytes with a part a, whose data stand at the place 110, and one that clones them.
 const FIRST: &[u8] =
     b"btrfs-stream\x00\x01\x00\x00\x00%\x00\x00\x00\x01\x0033C\xee\x01\x00\x10\x00\x11\x11\x11\x11\x11\x11\x11\x11\x11\x11\x11\x11\x11\x11\x11\x11\x02\x00\x08\x00\x01\x00\x00\x00\x00\x00\x00\x00\x0f\x00\x01\x00a\x05\x00\x00\x00\x03\x00/\x8a6s\x0f\x00\x01\x00x\x17\x00\x00\x00\x0f\x00C~\xee_\x0f\x00\x01\x00x\x12\x00\x08\x00\x00\x00\x00\x00\x00\x00\x00\x00\x13\x00\x02\x00hi\x00\x00\x00\x00\x15\x00Pl\xc9\x9d";
 
 const SECOND: &[u8] =
-    b"btrfs-stream\x00\x01\x00\x00\x00E\x00\x00\x00\x02\x00\xca\x93\xbf\xed\x01\x00\x10\x00\"\"\"\"\"\"\"\"\"\"\"\"\"\"\"\"\x02\x00\x08\x00\x02\x00\x00\x00\x00\x00\x00\x00\x0f\x00\x01\x00b\x14\x00\x10\x00\x11\x11\x11\x11\x11\x11\x11\x11\x11\x11\x11\x11\x11\x11\x11\x11\x15\x00\x08\x00\x01\x00\x00\x00\x00\x00\x00\x00\x16\x00\x00\x00\x0f\x00\x95\xb7Kw\x0f\x00\x01\x00x\x12\x00\x08\x00\x02\x00\x00\x00\x00\x00\x00\x00\x13\x00\x01\x00!\x00\x00\x00\x00\x15\x00Pl\xc9\x9d";
+    b"btrfs-stream\x00\x01\x00\x00\x00E\x00\x00\x00\x02\x00\xca\x93\xbf\xed\x01\x00\x10\x00\"\"\"\"\"\"\"\"\"\"\"\"\"\"\"\"\x02\x00\x08\x00\x02\x00\x00\x00\x00\x00\x00\x00\x0f\x00\x01\x00b\x14\x00\x10\x00\x11\x11\x11\x11\x11\x11\x11\x11\x11\x11\x11\x11\x11\x11\x11\x11\x15\x00\x08\x00\x01\x00\x00\x00\x00\x00\x00\x00\x05\x00\x00\x00\x03\x00,\x09]\x81\x0f\x00\x01\x00yN\x00\x00\x00\x10\x00\x1a~\x9b\xe0\x0f\x00\x01\x00y\x12\x00\x08\x00\x00\x00\x00\x00\x00\x00\x00\x00\x14\x00\x10\x00\x11\x11\x11\x11\x11\x11\x11\x11\x11\x11\x11\x11\x11\x11\x11\x11\x15\x00\x08\x00\x01\x00\x00\x00\x00\x00\x00\x00\x16\x00\x01\x00x\x17\x00\x08\x00\x00\x00\x00\x00\x00\x00\x00\x00\x18\x00\x08\x00\x02\x00\x00\x00\x00\x00\x00\x00\x00\x00\x00\x00\x15\x00Pl\xc9\x9d";
+
+// Where the data of the first stream stand.
+const PLACE: u64 = 110;
 
 // A call that gave bytes of a file, or none at its end.
 #[derive(Drop)]
@@ -28,7 +30,10 @@ struct ListedInputs {
     alloc: Global,
     files: PlainInputs,
     calls: Vec<Call>,
+    again: Vec<Call>,
+    ended: bool,
     faults: u64,
+    ends: u64,
 }
 
 impl Inputs for ListedInputs {
@@ -36,7 +41,7 @@ impl Inputs for ListedInputs {
 
     ghost faults = { λ s. s.faults };
 
-    ghost ends = { λ _. 0 };
+    ghost ends = { λ s. s.ends };
 
     fn read_at(&mut self, name: &str, at: u64, buf: &mut [u8]) -> Result<usize, Failed> {
         self.faults = self.faults.saturating_add(1);
@@ -55,9 +60,27 @@ impl Inputs for ListedInputs {
         Ok(count)
     }
 
-    fn read_again(&mut self, _name: &str, _at: u64, _buf: &mut [u8]) -> Result<(), Lost> {
+    fn read_again(&mut self, name: &str, at: u64, buf: &mut [u8]) -> Result<(), Lost> {
         self.faults = self.faults.saturating_add(1);
-        Err(Lost::Failed)
+        if self.ended && !buf.is_empty() {
+            self.ends = self.ends.saturating_add(1);
+            return Err(Lost::Ended { place: at });
+        }
+        let Ok(name) = String::from_str(self.alloc, name) else {
+            return Err(Lost::Failed);
+        };
+        let again = Call {
+            name,
+            at,
+            count: buf.len(),
+        };
+        if self.again.push(again).is_err() {
+            return Err(Lost::Failed);
+        }
+        for byte in buf {
+            *byte = b'h';
+        }
+        Ok(())
     }
 }
 
@@ -82,18 +105,26 @@ fn read_in_order(calls: &[Call], files: &[(&str, u64)]) -> bool {
     files.len().checked_sub(1) == Some(read) && files.last().is_some_and(|file| file.1 == place)
 }
 
-#[test]
-fn each_file_is_asked_for_once_in_a_pass(rt: HostRuntime) -> Result<(), Fail> {
-    let mut files = PlainInputs::new(rt.alloc());
+// The two files, whose data are gone when they are asked for again, or are not.
+fn two_files(alloc: Global, ended: bool) -> Result<ListedInputs, AllocError> {
+    let mut files = PlainInputs::new(alloc);
     files.add("first", FIRST)?;
     files.add("other", b"never read")?;
     files.add("second", SECOND)?;
-    let mut inputs = ListedInputs {
-        alloc: rt.alloc(),
+    Ok(ListedInputs {
+        alloc,
         files,
-        calls: Vec::new(rt.alloc()),
+        calls: Vec::new(alloc),
+        again: Vec::new(alloc),
+        ended,
         faults: 0,
-    };
+        ends: 0,
+    })
+}
+
+#[test]
+fn each_file_is_asked_for_once_in_a_pass(rt: HostRuntime) -> Result<(), Fail> {
+    let mut inputs = two_files(rt.alloc(), false)?;
     let mut names = Vec::new(rt.alloc());
     names.push(String::from_str(rt.alloc(), "first")?)?;
     names.push(String::from_str(rt.alloc(), "second")?)?;
@@ -102,7 +133,6 @@ fn each_file_is_asked_for_once_in_a_pass(rt: HostRuntime) -> Result<(), Fail> {
         compose(rt.alloc(), &mut inputs, &names, &mut out),
         Outcome::Done
     );
-    assert_eq!(rt; out.bytes().len(), 154);
     let passes = [
         ("first", FIRST.len() as u64),
         ("second", SECOND.len() as u64),
@@ -110,5 +140,30 @@ fn each_file_is_asked_for_once_in_a_pass(rt: HostRuntime) -> Result<(), Fail> {
         ("second", SECOND.len() as u64),
     ];
     assert!(rt; read_in_order(inputs.calls.as_slice(), &passes));
+    // The data of the vanishing part are asked for again, in a call of its own, and so no byte of them was kept.
+    assert_eq!(rt; inputs.again.len(), 1);
+    let again = inputs.again.iter().next();
+    assert!(rt;
+        again.is_some_and(|call| call.name.as_str() == "first"
+            && call.at == PLACE
+            && call.count == 2)
+    );
+    Ok(())
+}
+
+#[test]
+fn data_that_are_gone_are_no_data(rt: HostRuntime) -> Result<(), Fail> {
+    let mut inputs = two_files(rt.alloc(), true)?;
+    let mut names = Vec::new(rt.alloc());
+    names.push(String::from_str(rt.alloc(), "first")?)?;
+    names.push(String::from_str(rt.alloc(), "second")?)?;
+    let mut out = MemSink::new(rt.alloc());
+    assert_eq!(rt;
+        compose(rt.alloc(), &mut inputs, &names, &mut out),
+        Outcome::InputChanged {
+            file: 1,
+            place: PLACE
+        }
+    );
     Ok(())
 }

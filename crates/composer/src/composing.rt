@@ -1,157 +1,472 @@
-// Composing, command by command.
-ghost use Rattle.std.specs.Prelude.{◌≡◌, ℕ, ◌++◌, List, [], None, Some, not, false, OnOk, OnErr};
-ghost use Rattle.std.specs.Option.{option_map};
-ghost use Rattle.send_model.specs.Command.{End};
+// Composing, item by item.
+ghost use Rattle.std.specs.Prelude.{◌≡◌, ◌⊎◌, ℕ, ◌+◌, ◌≤◌, ◌<◌, ◌^◌, List, ◌++◌, length, map, not, true, Option, None, Some, is_some, Ok, OnOk, IfOk};
+ghost use Rattle.std.specs.Option.{option_map, option_copied};
+ghost use Rattle.std.specs.String.{string_bytes};
+ghost use Rattle.send_model.specs.Command.{Clone, End};
+ghost use Rattle.send_model.specs.Subvolume.{Subvolume, walk, is_file};
+ghost use Rattle.send_model.specs.Clone.{cells_of};
+ghost use Rattle.send_model.specs.Store.{State, Head, Key, find, head_of};
+ghost use Rattle.send_model.specs.Receive.{bytes_of};
+ghost use Rattle.send_model.specs.Provenance.{is_own};
 ghost use Rattle.send_model.specs.Spelling.{canonical};
-ghost use Rattle.send_model.specs.Order.{breaks_order};
+ghost use Rattle.send_model.specs.Laws.{CanWrite};
+ghost use Rattle.send_model.specs.Lengths.{limit};
+ghost use Rattle.sx_base.specs.Calls.{IfAllTold, verdict_meant};
+ghost use Rattle.sx_base.specs.Refusals.{refusal_of};
+ghost use Rattle.sx_base.specs.declared.outcome.Outcome.TheVariants as ended;
 ghost use Rattle.send_commands.specs.Meaning.{meaning_of};
 ghost use Rattle.send_commands.specs.Writing.{IsWritable};
+ghost use Rattle.extent_map.specs.Cells.{cells_between};
 ghost use Rattle.subvol_catalog.specs.Entries.{key_of, head_with};
-ghost use Rattle.composer.specs.Advance.{advance, is_last_part};
-ghost use Rattle.composer.specs.Taking.{Takes, after_head};
+ghost use Rattle.cmd_reader.specs.Next.{item_of};
+ghost use Rattle.provenance.specs.declared.trace.Trace.{Trace};
+ghost use Rattle.clone_resolve.proofs.TakenStates.{AllCells, TakenFrom};
+ghost use Rattle.clone_pieces.specs.Origins.{IsHad, IsInInput, AreHeld};
+ghost use Rattle.clone_pieces.specs.Sending.{PutEnd};
+ghost use Rattle.clone_pieces.specs.Redirecting.{seen_cells};
+ghost use Rattle.composer.specs.Kept.{kept_at_start};
+ghost use Rattle.composer.specs.Files.{plan_with};
+ghost use Rattle.composer.specs.Taking.{DataStand, ItemEnd, ErrCausedAgain, StopEnd, EndEnd, is_at_last};
+ghost use Rattle.composer.specs.Adding.{Led, stands_out, begun_with, AddEnd, IsSourceOf, AddsRange};
 
-use crate::part_head::PartHead;
+use clone_pieces::{Known, OutsideBytes, put, redirect, send, uncarried};
 use clone_resolve::{EditCore, Key, Part, head_of};
-use extent_map::Nowhere;
+use cmd_reader::Item;
+use extent_map::Extents;
+use file_survey::{PartHead, Place, Survey};
+use provenance::Trace;
 use send_commands::{Command, encode};
 use std::alloc::{AllocError, Global};
 use std::marker::Model;
-use sx_base::{Blob, Refusal, Stop};
+use sx_base::{Blob, Inputs, Outcome, Refusal, Sink, Stop, Verdict};
+use uuid::Uuid;
+
+// The most bytes of redirected clones that are written.
+const MOST_LITERAL: u64 = 1 << 40;
+
+// What a CLONE says: cells of a file of a subvolume go to a place of a file of the part.
+#[derive(Clone, Copy)]
+struct Range<'a> {
+    path: &'a [u8],
+    offset: u64,
+    source: Key,
+    source_path: &'a [u8],
+    from: u64,
+    len: u64,
+}
 
 /// Composes consecutive parts into one stream that stands for them: the first part's head with the name and the key of the
-/// last, then the edits of all, then END.
+/// last, then what stands for the edits of all, then END. It keeps no byte of a file.
 #[derive(Drop)]
 pub struct Composer {
-    core: EditCore<Nowhere>,
-    part: Option<Part<Nowhere>>,
-    previous: Option<Key>,
-    last: Option<PartHead>,
-    begun: bool,
+    alloc: Global,
+    core: EditCore<Trace>,
+    part: Option<Part<Trace>>,
+    latest: Option<PartHead>,
+    sum: u64,
     pending: Blob,
 }
 
 impl Model for Composer {
-    ghost use Rattle.std.specs.Option.{option_map};
-    ghost use Rattle.subvol_catalog.specs.Entries.{key_of};
+    ghost use Rattle.std.specs.Prelude.{◌≤◌, ◌^◌};
     ghost use Rattle.clone_resolve.specs.Steps.{Fits};
-    ghost use Rattle.composer.specs.Advance.{Composing, blanked};
+    ghost use Rattle.composer.specs.Kept.{Kept};
 
-    ghost Value = { Composing };
+    ghost Value = { Kept };
 
     ghost view = { λ c. record {
-      state = blanked (record { store = c.core; part = c.part });
-      previous = option_map key_of c.previous;
-      last = c.last;
-      begun = c.begun;
+      state = record { store = c.core; part = c.part };
+      latest = c.latest;
+      sum = c.sum;
       pending = c.pending;
     } };
 
-    ghost invariant = { λ c. Fits c.core c.part };
+    ghost invariant = { λ c. Fits c.core c.part × (c.sum ≤ 2 ^ 40) };
 }
 
 impl Composer {
-    /// Composing before the first command, where `last` is the head of the last part. Takes no memory.
-    pub fn new(alloc: Global, last: Option<PartHead>) -> Composer
-        ensures empty { result ≡ record {
-          state = record { store = []; part = None };
-          previous = None;
-          last = last;
-          begun = false;
-          pending = [];
-        } }
+    /// Composing before the first command, over the subvolumes of a base. Takes no memory.
+    pub fn new(alloc: Global, core: EditCore<Trace>) -> Composer
+        ensures start { result ≡ kept_at_start core }
     {
         Composer {
-            core: EditCore::new(alloc),
+            alloc,
+            core,
             part: None,
-            previous: None,
-            last,
-            begun: false,
+            latest: None,
+            sum: 0,
             pending: Blob::new(alloc),
         }
     }
 
-    /// One command. After a refusal no byte was added; after `NoMemory` nothing is said.
+    /// One item of the input file with this number, counted from 1. What it adds is written where much is pending; of a clone
+    /// from an earlier part what stands for it is written piece by piece, and the bytes of other pieces are read again.
     ///
     /// # Errors
-    /// The refusal of the command's step, or `NotConsecutive` at a head that does not name the part before it as its parent
-    /// or where no last head was given.
-    pub fn take(&mut self, c: &Command) -> Result<(), Stop>
-        requires writable { IsWritable 1 (meaning_of c.now) }
-        ensures taken { Takes result self.old self.new (advance self.old (meaning_of c.now)) }
+    /// The refusal of the item's command, or `NotConsecutive` at a head that does not name the part before it as its parent or
+    /// where the survey has no last head. `TooMuch` where more than 2^40 bytes of clones from earlier parts come from no
+    /// outside subvolume, before any of the clone with which they are too many is written.
+    pub fn take<I: Inputs, E: Known, B: OutsideBytes, O: Sink>(
+        &mut self,
+        item: &Item,
+        file: u64,
+        survey: &Survey,
+        files: &[String],
+        inputs: &mut I,
+        known: &E,
+        bytes: &mut B,
+        out: &mut O,
+    ) -> Result<(), Outcome>
+        requires numbered { (1 ≤ file) × (file ≤ length files.now) }
+        requires version { (item.now.version ≡ 1) ⊎ (item.now.version ≡ 2) }
+        requires fits { item.now.version ≤ survey.now.version }
+        requires can_write { CanWrite item.now.version (meaning_of item.now.command) }
+        requires payload { item.now.data_at + length (bytes_of (meaning_of item.now.command)) ≤ limit }
+        requires had { AllCells (IsHad (length files.now) (E.base known.now)) self.old.state }
+        requires held { AreHeld (B.held bytes.old) (E.base known.now) }
+        requires there { IfAllTold (I.told inputs.old) (map string_bytes files.now)
+            (λ told. AllCells (IsInInput told) self.old.state × DataStand told (item_of file item.now)) }
+        ensures had { OnOk result (AllCells (IsHad (length files.now) (E.base known.now)) self.new.state) }
+        ensures same { I.told inputs.new ≡ I.told inputs.old }
+        ensures held { B.held bytes.new ≡ B.held bytes.old }
+        ensures later { I.faults inputs.old ≤ I.faults inputs.new }
+        ensures ends_later { I.ends inputs.old ≤ I.ends inputs.new }
+        ensures bytes_later { B.faults bytes.old ≤ B.faults bytes.new }
+        ensures out_later { O.faults out.old ≤ O.faults out.new }
+        ensures cause { ErrCausedAgain (I.ends inputs.old) (I.ends inputs.new) (I.faults inputs.old + B.faults bytes.old)
+            (I.faults inputs.new + B.faults bytes.new) (O.faults out.old) (O.faults out.new) result }
+        ensures taken { IfAllTold (I.told inputs.old) (map string_bytes files.now)
+            (λ told. ItemEnd told (plan_with (E.base known.now) survey.now) self.old self.new (item_of file item.now)
+            (O.taken out.old) (O.taken out.new) result) }
     {
-        self.core.step(&mut self.part, c, Nowhere)?;
-        if let Some(head) = head_of(c) {
-            return self.enter(head.key, head.parent);
+        let place = Place {
+            file,
+            command: item.number,
+            offset: item.offset,
+        };
+        let origin = Trace::Fresh {
+            file: file - 1,
+            at: item.data_at,
+        };
+        match self.core.step(&mut self.part, &item.command, origin) {
+            Ok(_) => {}
+            Err(Stop::NoMemory) => return Err(Outcome::NoMemory),
+            Err(Stop::Refused(refusal)) => return Err(self.refused(place, refusal, out)),
         }
-        match c {
-            Command::End => Ok(()),
-            _ => Ok(encode(c, 1, &mut self.pending)?),
+        if let Some(head) = head_of(&item.command) {
+            if !self.in_order(&head.parent, survey) {
+                return Err(self.refused(place, Refusal::NotConsecutive, out));
+            }
+            return match self.begin_part(&item.command, item.version, head.parent, survey) {
+                Ok(()) => Ok(()),
+                Err(_) => Err(Outcome::NoMemory),
+            };
+        }
+        let Some(last) = survey.last() else {
+            return Ok(());
+        };
+        self.add(item, last.key(), survey, files, inputs, known, bytes, out)
+    }
+
+    // Whether a head with this parent follows the part before it, and was seen by the survey.
+    fn in_order(&self, parent: &Option<Key>, survey: &Survey) -> bool
+        ensures { (name : List ℕ) → (key : Key)
+            → result ≡ not (stands_out (option_map (λ h. h.key) self.now.latest) survey.now.last (head_with name key parent.now)) }
+    {
+        if survey.last().is_none() {
+            return false;
+        }
+        match (&self.latest, parent) {
+            (None, _) => true,
+            (Some(_), None) => false,
+            (Some(latest), Some(parent)) => latest.has_key(*parent),
         }
     }
 
-    // A head whose part has begun: whether it follows the part before it, and what it adds.
-    fn enter(&mut self, key: Key, parent: Option<Key>) -> Result<(), Stop>
-        ensures entered { (name : List ℕ) → Takes result self.old self.new (after_head self.old (head_with name key parent)) }
+    // A head whose part has begun: the first begins the stream.
+    fn begin_part(
+        &mut self,
+        c: &Command,
+        version: u32,
+        parent: Option<Key>,
+        survey: &Survey,
+    ) -> Result<(), AllocError>
+        requires writable { IsWritable version (meaning_of c.now) }
+        ensures begun { OnOk result ((head : Head) → head_of (meaning_of c.now) ≡ Some head → option_map key_of parent ≡ head.parent
+            → self.new ≡ record self.old {
+              latest = Some head;
+              pending = self.old.pending ++ begun_with survey.now.version (is_some self.old.latest) head survey.now.last;
+            }) }
     {
-        if !follows(&self.previous, &parent) {
-            return Err(Stop::Refused(Refusal::NotConsecutive));
+        if self.latest.is_none() {
+            if let Some(last) = survey.last() {
+                last.begin_stream(parent, survey.version(), &mut self.pending)?;
+            }
         }
-        let Some(last) = &self.last else {
-            return Err(Stop::Refused(Refusal::NotConsecutive));
-        };
-        if !self.begun {
-            last.begin_stream(parent, &mut self.pending)?;
-        }
-        self.begun = true;
-        self.previous = Some(key);
+        self.latest = PartHead::of(self.alloc, c, version)?;
         Ok(())
     }
 
-    /// Whether the part that came last is the one that the stream is named after. Where no part has begun, it is not.
-    pub fn is_at_last_part(&self) -> bool
-        ensures last { result ≡ is_last_part self.now.previous self.now.last }
+    // Adds what stands for an edit or for END, of which the step was taken.
+    fn add<I: Inputs, E: Known, B: OutsideBytes, O: Sink>(
+        &mut self,
+        item: &Item,
+        last: Key,
+        survey: &Survey,
+        files: &[String],
+        inputs: &mut I,
+        known: &E,
+        bytes: &mut B,
+        out: &mut O,
+    ) -> Result<(), Outcome>
+        requires edit { head_of (meaning_of item.now.command) ≡ None }
+        requires led { (before : State (Option Trace)) × (put : List (Option Trace)) × Led before self.old.state put (meaning_of item.now.command) }
+        requires version { (item.now.version ≡ 1) ⊎ (item.now.version ≡ 2) }
+        requires fits { item.now.version ≤ survey.now.version }
+        requires can_write { CanWrite item.now.version (meaning_of item.now.command) }
+        requires had { AllCells (IsHad (length files.now) (E.base known.now)) self.old.state }
+        requires held { AreHeld (B.held bytes.old) (E.base known.now) }
+        requires there { IfAllTold (I.told inputs.old) (map string_bytes files.now) (λ told. AllCells (IsInInput told) self.old.state) }
+        ensures state { self.new.state ≡ self.old.state }
+        ensures latest { self.new.latest ≡ self.old.latest }
+        ensures same { I.told inputs.new ≡ I.told inputs.old }
+        ensures held { B.held bytes.new ≡ B.held bytes.old }
+        ensures later { I.faults inputs.old ≤ I.faults inputs.new }
+        ensures ends_later { I.ends inputs.old ≤ I.ends inputs.new }
+        ensures bytes_later { B.faults bytes.old ≤ B.faults bytes.new }
+        ensures out_later { O.faults out.old ≤ O.faults out.new }
+        ensures cause { ErrCausedAgain (I.ends inputs.old) (I.ends inputs.new) (I.faults inputs.old + B.faults bytes.old)
+            (I.faults inputs.new + B.faults bytes.new) (O.faults out.old) (O.faults out.new) result }
+        ensures added { IfAllTold (I.told inputs.old) (map string_bytes files.now)
+            (λ told. AddEnd told (E.base known.now) survey.now (key_of last) self.old self.new (meaning_of item.now.command)
+            (O.taken out.old) (O.taken out.new) result) }
     {
-        match (&self.previous, &self.last) {
-            (Some(key), Some(last)) => last.has_key(*key),
+        match &item.command {
+            Command::End => {
+                let low = self.sum <= MOST_LITERAL;
+                prove!(low);
+                Ok(())
+            }
+            Command::Clone {
+                path,
+                offset,
+                clone_uuid,
+                clone_ctransid,
+                clone_path,
+                clone_offset,
+                clone_len,
+            } => {
+                let source = Key {
+                    uuid: *clone_uuid,
+                    ctransid: *clone_ctransid,
+                };
+                let range = Range {
+                    path: path.as_slice(),
+                    offset: *offset,
+                    source: Key {
+                        uuid: *clone_uuid,
+                        ctransid: *clone_ctransid,
+                    },
+                    source_path: clone_path.as_slice(),
+                    from: *clone_offset,
+                    len: *clone_len,
+                };
+                if self.is_own(*clone_uuid) {
+                    return self.add_own(&range, last, survey, out);
+                }
+                if !survey.has_part(*clone_uuid) {
+                    return put(&item.command, survey.version(), &mut self.pending, out);
+                }
+                self.add_redirected(&range, survey, files, inputs, known, bytes, out)
+            }
+            _ => put(&item.command, survey.version(), &mut self.pending, out),
+        }
+    }
+
+    // Whether a UUID is that of the part so far.
+    fn is_own(&self, uuid: Uuid) -> bool
+        ensures { result ≡ is_own (option_map (λ p. p.key.uuid) self.now.state.part) uuid }
+    {
+        match &self.part {
+            None => false,
+            Some(part) => part.key().uuid == uuid,
+        }
+    }
+
+    // Adds a clone from the part itself, which names the new part.
+    fn add_own<O: Sink>(
+        &mut self,
+        range: &Range<'_>,
+        last: Key,
+        survey: &Survey,
+        out: &mut O,
+    ) -> Result<(), Outcome>
+        requires short { (length range.now.path.now < 2 ^ 16) × (length range.now.source_path.now < 2 ^ 16) }
+        ensures state { self.new.state ≡ self.old.state }
+        ensures latest { self.new.latest ≡ self.old.latest }
+        ensures sum { self.new.sum ≡ self.old.sum }
+        ensures later { O.faults out.old ≤ O.faults out.new }
+        ensures put { PutEnd (O.taken out.old) (O.taken out.new) self.old.pending self.new.pending
+            (canonical survey.now.version (Clone range.now.path.now range.now.offset (key_of last).uuid (key_of last).ctransid range.now.source_path.now range.now.from range.now.len))
+            (O.faults out.old) (O.faults out.new) result }
+    {
+        let Ok(path) = copied(self.alloc, range.path) else {
+            return Err(Outcome::NoMemory);
+        };
+        let Ok(clone_path) = copied(self.alloc, range.source_path) else {
+            return Err(Outcome::NoMemory);
+        };
+        let clone_uuid = last.uuid;
+        let _bytes: &[u8] = clone_uuid.as_bytes();
+        let own = Command::Clone {
+            path,
+            offset: range.offset,
+            clone_uuid,
+            clone_ctransid: last.ctransid,
+            clone_path,
+            clone_offset: range.from,
+            clone_len: range.len,
+        };
+        put(&own, survey.version(), &mut self.pending, out)
+    }
+
+    // Adds what stands for a clone from an earlier part of the files.
+    fn add_redirected<I: Inputs, E: Known, B: OutsideBytes, O: Sink>(
+        &mut self,
+        range: &Range<'_>,
+        survey: &Survey,
+        files: &[String],
+        inputs: &mut I,
+        known: &E,
+        bytes: &mut B,
+        out: &mut O,
+    ) -> Result<(), Outcome>
+        requires taken { (before : State (Option Trace)) × TakenFrom before self.old.state range.now.path.now range.now.offset (key_of range.now.source)
+            range.now.source_path.now range.now.from range.now.len }
+        requires short { length range.now.path.now < 2 ^ 16 }
+        requires had { AllCells (IsHad (length files.now) (E.base known.now)) self.old.state }
+        requires held { AreHeld (B.held bytes.old) (E.base known.now) }
+        requires there { IfAllTold (I.told inputs.old) (map string_bytes files.now) (λ told. AllCells (IsInInput told) self.old.state) }
+        ensures state { self.new.state ≡ self.old.state }
+        ensures latest { self.new.latest ≡ self.old.latest }
+        ensures same { I.told inputs.new ≡ I.told inputs.old }
+        ensures held { B.held bytes.new ≡ B.held bytes.old }
+        ensures later { I.faults inputs.old ≤ I.faults inputs.new }
+        ensures ends_later { I.ends inputs.old ≤ I.ends inputs.new }
+        ensures bytes_later { B.faults bytes.old ≤ B.faults bytes.new }
+        ensures out_later { O.faults out.old ≤ O.faults out.new }
+        ensures cause { ErrCausedAgain (I.ends inputs.old) (I.ends inputs.new) (I.faults inputs.old + B.faults bytes.old)
+            (I.faults inputs.new + B.faults bytes.new) (O.faults out.old) (O.faults out.new) result }
+        ensures added { IfAllTold (I.told inputs.old) (map string_bytes files.now)
+            (λ told. (cells : List (Option Trace)) → IsSourceOf cells self.old.state (key_of range.now.source) range.now.source_path.now
+            → AddsRange (E.base known.now) survey.now.version range.now.path.now range.now.offset
+            (seen_cells told (E.base known.now) (cells_between range.now.from range.now.len cells))
+            self.old self.new (O.taken out.old) (O.taken out.new) result) }
+    {
+        let Some(contents) = contents_of(&self.core, range.source, range.source_path) else {
+            return Err(Outcome::NoMemory);
+        };
+        let sum = self.sum + uncarried(contents, range.from, range.len, known);
+        if sum > MOST_LITERAL {
+            return Err(ended(Outcome::TooMuch { sum }, &mut self.pending, out));
+        }
+        self.sum = sum;
+        redirect(
+            self.alloc,
+            range.path,
+            range.offset,
+            contents,
+            range.from,
+            range.len,
+            survey.version(),
+            files,
+            inputs,
+            known,
+            bytes,
+            &mut self.pending,
+            out,
+        )
+    }
+
+    /// Whether the head that came last is that of the last part. Where no part has begun, it is not.
+    pub fn is_at_last(&self, survey: &Survey) -> bool
+        ensures last { result ≡ is_at_last self.now.latest survey.now.last }
+    {
+        match (&self.latest, survey.last()) {
+            (Some(latest), Some(last)) => last.is_like(latest),
             (None, _) | (Some(_), None) => false,
         }
     }
 
-    /// The bytes that were added and not yet sent.
-    pub fn pending(&self) -> &[u8]
-        ensures bytes { result.now ≡ self.now.pending }
+    // The outcome where an item is refused at its place.
+    fn refused<O: Sink>(&mut self, place: Place, refusal: Refusal, out: &mut O) -> Outcome
+        ensures later { O.faults out.old ≤ O.faults out.new }
+        ensures refused { (verdict : Verdict) × (verdict_meant verdict ≡ record { file = place.file; command = place.command; offset = place.offset; refusal = refusal_of refusal })
+            × StopEnd self.old.pending (O.taken out.old) (O.taken out.new) (O.faults out.old) (O.faults out.new) (ended.Refused verdict) result }
     {
-        self.pending.as_slice()
+        self.stopped(Outcome::Refused(place.refused(refusal)), out)
     }
 
-    /// Forgets the bytes that were added and keeps their room. Takes no memory.
-    pub fn sent(&mut self)
-        ensures empty { self.new ≡ record self.old { pending = [] } }
+    /// The outcome of a run that ends here. What is pending is written first, so a fault of the output is answered in place of a
+    /// refusal; but where the inputs have failed, or there is no memory, nothing more is asked of the output.
+    pub fn stopped<O: Sink>(&mut self, outcome: Outcome, out: &mut O) -> Outcome
+        ensures later { O.faults out.old ≤ O.faults out.new }
+        ensures stopped { StopEnd self.old.pending (O.taken out.old) (O.taken out.new)
+            (O.faults out.old) (O.faults out.new) outcome result }
     {
-        self.pending.clear();
+        ended(outcome, &mut self.pending, out)
     }
 
-    /// Adds END.
+    /// Adds END and writes all that is pending.
     ///
     /// # Errors
-    /// There is no memory; then nothing is changed.
-    #[tactic(auto, unfolding(send_commands::specs::Writing::IsWritable, send_model::specs::Command::row))]
-    pub fn end(&mut self) -> Result<(), AllocError>
-        ensures ended { OnOk result (self.new ≡ record self.old { pending = self.old.pending ++ canonical 1 End }) }
-        ensures same { OnErr result (self.new ≡ self.old) }
+    /// The output failed, or there is no memory; then nothing was written.
+    #[tactic(auto, using(crate::proofs::EditSpelling::end_short), unfolding(send_commands::specs::Writing::IsWritable, send_model::specs::Command::row))]
+    pub fn end<O: Sink>(&mut self, version: u32, out: &mut O) -> Result<(), Outcome>
+        requires version { (version ≡ 1) ⊎ (version ≡ 2) }
+        ensures later { O.faults out.old ≤ O.faults out.new }
+        ensures ended { EndEnd (self.old.pending ++ canonical version End) (O.taken out.old) (O.taken out.new)
+            (O.faults out.old) (O.faults out.new) result }
     {
-        encode(&Command::End, 1, &mut self.pending)
+        if encode(&Command::End, version, &mut self.pending).is_err() {
+            return Err(Outcome::NoMemory);
+        }
+        send(&mut self.pending, out)
     }
 }
 
-// Whether a head with this parent follows the part before it.
-fn follows(previous: &Option<Key>, parent: &Option<Key>) -> bool
-    ensures { (name : List ℕ) → (key : Key)
-        → result ≡ not (breaks_order (option_map key_of previous.now) (Some (head_with name key parent.now))) }
+// The contents of the file that a path leads to in a complete subvolume.
+fn contents_of<'a>(core: &'a EditCore<Trace>, key: Key, path: &[u8]) -> Option<&'a Extents<Trace>>
+    ensures { (source : Subvolume (Option Trace)) → (ino : ℕ) → find core.now (key_of key) ≡ Some source → walk source path.now ≡ Ok ino
+        → is_file source ino ≡ true → option_copied result ≡ Some (cells_of source ino) }
 {
-    match (previous, parent) {
-        (None, _) => true,
-        (Some(_), None) => false,
-        (Some(key), Some(parent)) => parent.uuid == key.uuid && parent.ctransid == key.ctransid,
+    let sub = core.catalog().by_key(key)?;
+    let Ok(ino) = sub.tree().find(path) else {
+        return None;
+    };
+    match sub.tree().inode(ino) {
+        Some(inode) => Some(inode.contents()),
+        None => None,
     }
+}
+
+// The outcome of a run that ends here, after what is pending was written.
+fn ended<O: Sink>(outcome: Outcome, pending: &mut Blob, out: &mut O) -> Outcome
+    ensures later { O.faults out.old ≤ O.faults out.new }
+    ensures stopped { StopEnd pending.old (O.taken out.old) (O.taken out.new) (O.faults out.old) (O.faults out.new) outcome result }
+{
+    if let Outcome::InputFault | Outcome::NoMemory = outcome {
+        return outcome;
+    }
+    match send(pending, out) {
+        Ok(()) => outcome,
+        Err(fault) => fault,
+    }
+}
+
+// A copy of bytes.
+fn copied(alloc: Global, bytes: &[u8]) -> Result<Blob, AllocError>
+    ensures { IfOk result (λ copy. copy ≡ bytes.now) }
+{
+    Ok(Blob::from(Vec::from_slice(alloc, bytes)?))
 }

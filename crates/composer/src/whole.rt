@@ -1,29 +1,34 @@
-// Composing files: once over all of them for the last head, and once more to write.
-ghost use Rattle.std.specs.Prelude.{◌≡◌, ◌≢◌, ◌≤◌, [], map};
-ghost use Rattle.std.specs.Io.KnownBytes.{Appends};
+// Composing files: once over all of them for their heads, and once more to write.
+ghost use Rattle.std.specs.Prelude.{◌≡◌, ◌≢◌, ℕ, ◌+◌, ◌<◌, ◌≤◌, List, [], map, length, get_or, OnOk};
 ghost use Rattle.std.specs.String.{string_bytes};
-ghost use Rattle.send_model.specs.Words.{Compose};
-ghost use Rattle.send_commands.specs.Meaning.{meaning_of};
-ghost use Rattle.send_commands.specs.Writing.{IsWritable};
-ghost use Rattle.cmd_reader.specs.Places.{IfTold};
-ghost use Rattle.composer.specs.Files.{EndSays, FilesEnd, FileEnd, CommandEnd, SendEnd, StopEnd};
-ghost use Rattle.sx_base.specs.Calls.{IfAllTold, Caused, ErrCaused, Wrote, Ends};
+ghost use Rattle.send_model.specs.Outside.{store_without};
+ghost use Rattle.send_model.specs.Provenance.{traced_store};
+ghost use Rattle.send_model.specs.Receive.{start_of};
+ghost use Rattle.send_model.specs.Cells.{recelled_store};
+ghost use Rattle.provenance.specs.Traces.{place_of};
+ghost use Rattle.clone_pieces.specs.Origins.{IsHad, IsInInput, AreHeld, byte_of_trace};
+ghost use Rattle.clone_pieces.specs.Seen.{seen};
+ghost use Rattle.file_survey.specs.Findings.{SurveyEnd};
+ghost use Rattle.sx_base.specs.Calls.{IfAllTold, CausedAgain, Wrote};
+ghost use Rattle.clone_resolve.proofs.TakenStates.{AllCells};
+ghost use Rattle.composer.specs.OverBase.{at_start};
+ghost use Rattle.composer.specs.Kept.{composing_of};
+ghost use Rattle.composer.specs.Taking.{ErrCausedAgain};
+ghost use Rattle.composer.specs.Files.{AllSayable, plan_with, FileEnd, ComposeEnds, outcome_in};
 
 use crate::composing::Composer;
-use crate::heads::last_head;
-use crate::places::{Place, outcome_of};
+use clone_pieces::{Known, NoBase, OutsideBytes};
+use clone_resolve::EditCore;
 use cmd_reader::CmdReader;
-use send_commands::Command;
+use file_survey::{Place, Survey, outcome_of, survey};
+use provenance::Trace;
 use std::alloc::Global;
-use sx_base::{Inputs, Outcome, Refusal, Sink, Stop, write_whole};
+use sx_base::{Inputs, Outcome, Refusal, Sink};
 
-// How many bytes are gathered before they are written.
-const PIECE: usize = 65_536;
-
-/// Composes the consecutive parts in the files into one stream and writes it to `out`. The files are read twice, in order
-/// and one command at a time: first for the name and the key of the last part, then to write. `Done` says that `out` took
-/// the composed stream, and `Refused` gives the verdict on the files; then and with every other outcome what `out` took is
-/// no whole stream. `InputTooLong` gives the first file that is too long, and with `Done` and `Refused` there is none.
+/// Composes the consecutive parts in the files into one stream and writes it to `out`, over no base. The files are read twice, in
+/// order and one command at a time: first for their heads, then to write. `Done` says that `out` took the composed stream, and
+/// `Refused` gives the verdict on the files; then and with every other outcome what `out` took is no whole stream. `InputTooLong`
+/// gives the first file that is too long, and with `Done` and `Refused` there is none.
 pub fn compose<I: Inputs, O: Sink>(
     alloc: Global,
     inputs: &mut I,
@@ -32,79 +37,146 @@ pub fn compose<I: Inputs, O: Sink>(
 ) -> Outcome
     requires some { files.now ≢ [] }
     ensures same { I.told inputs.new ≡ I.told inputs.old }
-    ensures cause { Caused (I.faults inputs.old) (I.faults inputs.new) (O.faults out.old) (O.faults out.new) result }
-    ensures composed { IfAllTold (I.told inputs.old) (map string_bytes files.now)
-        (λ files. Wrote (O.taken out.old) (O.taken out.new) (λ written. EndSays files written result)) }
+    ensures cause { CausedAgain (I.ends inputs.old) (I.ends inputs.new) (I.faults inputs.old) (I.faults inputs.new)
+        (O.faults out.old) (O.faults out.new) result }
     ensures ends { IfAllTold (I.told inputs.old) (map string_bytes files.now)
-        (λ bytes. Wrote (O.taken out.old) (O.taken out.new) (λ written. Ends (Compose 1 2) [] bytes result written)) }
+        (λ told. Wrote (O.taken out.old) (O.taken out.new) (ComposeEnds [] told result)) }
 {
-    match compose_files(alloc, inputs, files, out) {
+    let known = match survey(alloc, inputs, files) {
+        Ok(known) => known,
+        Err(outcome) => return outcome,
+    };
+    let core = EditCore::new(alloc);
+    let mut nothing = NoBase;
+    compose_over(
+        alloc,
+        &known,
+        core,
+        &NoBase,
+        &mut nothing,
+        inputs,
+        files,
+        out,
+    )
+}
+
+/// The same over a base, after the survey of the files. `core` has the base's subvolumes, each cell traced to its own place
+/// there; `known` has their files' ends and paths, and `bytes` their bytes. The base has no part of the files.
+pub fn compose_over<I: Inputs, E: Known, B: OutsideBytes, O: Sink>(
+    alloc: Global,
+    survey: &Survey,
+    core: EditCore<Trace>,
+    known: &E,
+    bytes: &mut B,
+    inputs: &mut I,
+    files: &[String],
+    out: &mut O,
+) -> Outcome
+    requires some { files.now ≢ [] }
+    requires surveyed { IfAllTold (I.told inputs.old) (map string_bytes files.now) (SurveyEnd (Ok survey.now)) }
+    requires traced { (told : List (List ℕ))
+        → recelled_store (seen (byte_of_trace told (E.base known.now)) place_of) core ≡ traced_store (E.base known.now) }
+    requires had { AllCells (IsHad 0 (E.base known.now)) (start_of core) }
+    requires held { AreHeld (B.held bytes.old) (E.base known.now) }
+    requires apart { store_without survey.now.parts (E.base known.now) ≡ E.base known.now }
+    requires sayable { AllSayable (E.base known.now) }
+    ensures same { I.told inputs.new ≡ I.told inputs.old }
+    ensures cause { CausedAgain (I.ends inputs.old) (I.ends inputs.new) (I.faults inputs.old + B.faults bytes.old)
+        (I.faults inputs.new + B.faults bytes.new) (O.faults out.old) (O.faults out.new) result }
+    ensures ends { IfAllTold (I.told inputs.old) (map string_bytes files.now)
+        (λ told. Wrote (O.taken out.old) (O.taken out.new) (ComposeEnds (E.base known.now) told result)) }
+{
+    let mut composer = Composer::new(alloc, core);
+    match write_files(
+        alloc,
+        survey,
+        known,
+        bytes,
+        inputs,
+        files,
+        out,
+        &mut composer,
+    ) {
         Ok(()) => Outcome::Done,
         Err(outcome) => outcome,
     }
 }
 
-fn compose_files<I: Inputs, O: Sink>(
+// Composes all files, and writes END.
+fn write_files<I: Inputs, E: Known, B: OutsideBytes, O: Sink>(
     alloc: Global,
+    survey: &Survey,
+    known: &E,
+    bytes: &mut B,
     inputs: &mut I,
     files: &[String],
     out: &mut O,
+    composer: &mut Composer,
 ) -> Result<(), Outcome>
     requires some { files.now ≢ [] }
+    requires surveyed { IfAllTold (I.told inputs.old) (map string_bytes files.now) (SurveyEnd (Ok survey.now)) }
+    requires start { IfAllTold (I.told inputs.old) (map string_bytes files.now)
+        (λ told. composing_of told (E.base known.now) composer.old ≡ at_start (plan_with (E.base known.now) survey.now)) }
+    requires had { AllCells (IsHad (length files.now) (E.base known.now)) composer.old.state }
+    requires held { AreHeld (B.held bytes.old) (E.base known.now) }
+    requires there { IfAllTold (I.told inputs.old) (map string_bytes files.now) (λ told. AllCells (IsInInput told) composer.old.state) }
+    requires apart { store_without survey.now.parts (E.base known.now) ≡ E.base known.now }
+    requires sayable { AllSayable (E.base known.now) }
     ensures same { I.told inputs.new ≡ I.told inputs.old }
-    ensures cause { ErrCaused (I.faults inputs.old) (I.faults inputs.new) (O.faults out.old) (O.faults out.new) result }
-    ensures composed { IfAllTold (I.told inputs.old) (map string_bytes files.now)
-        (FilesEnd (O.taken out.old) (O.taken out.new) result) }
+    ensures cause { ErrCausedAgain (I.ends inputs.old) (I.ends inputs.new) (I.faults inputs.old + B.faults bytes.old)
+        (I.faults inputs.new + B.faults bytes.new) (O.faults out.old) (O.faults out.new) result }
+    ensures ends { IfAllTold (I.told inputs.old) (map string_bytes files.now)
+        (λ told. Wrote (O.taken out.old) (O.taken out.new) (ComposeEnds (E.base known.now) told (outcome_in result))) }
 {
-    let last = match last_head(alloc, inputs, files) {
-        Ok(last) => last,
-        Err(outcome) => return Err(outcome),
-    };
-    let mut composer = Composer::new(alloc, last);
     let mut place = Place::start();
     let mut file = 0;
     while file < files.len() {
         place = match write_file(
-            alloc,
-            inputs,
-            out,
-            file as u64 + 1,
-            files[file].as_str(),
-            &mut composer,
-            place,
+            alloc, survey, known, bytes, inputs, files, file, out, composer, place,
         ) {
             Ok(place) => place,
             Err(outcome) => return Err(outcome),
         };
         file += 1;
     }
-    if !composer.is_at_last_part() {
+    if !composer.is_at_last(survey) {
         return Err(Outcome::Refused(place.refused(Refusal::NotConsecutive)));
     }
-    if composer.end().is_err() {
-        return Err(Outcome::NoMemory);
-    }
-    send(&mut composer, out)
+    composer.end(survey.version(), out)
 }
 
-// Composes a file's commands, and gives the place of the last.
-fn write_file<I: Inputs, O: Sink>(
+// Composes a file's commands, and gives the place of the last. The number counts files from 0.
+fn write_file<I: Inputs, E: Known, B: OutsideBytes, O: Sink>(
     alloc: Global,
+    survey: &Survey,
+    known: &E,
+    bytes: &mut B,
     inputs: &mut I,
+    files: &[String],
+    number: usize,
     out: &mut O,
-    file: u64,
-    name: &str,
     composer: &mut Composer,
     before: Place,
 ) -> Result<Place, Outcome>
+    requires numbered { number < length files.now }
+    requires had { AllCells (IsHad (length files.now) (E.base known.now)) composer.old.state }
+    requires held { AreHeld (B.held bytes.old) (E.base known.now) }
+    requires there { IfAllTold (I.told inputs.old) (map string_bytes files.now) (λ told. AllCells (IsInInput told) composer.old.state) }
+    ensures had { OnOk result (AllCells (IsHad (length files.now) (E.base known.now)) composer.new.state) }
     ensures same { I.told inputs.new ≡ I.told inputs.old }
+    ensures held { B.held bytes.new ≡ B.held bytes.old }
     ensures later { I.faults inputs.old ≤ I.faults inputs.new }
+    ensures ends_later { I.ends inputs.old ≤ I.ends inputs.new }
+    ensures bytes_later { B.faults bytes.old ≤ B.faults bytes.new }
     ensures out_later { O.faults out.old ≤ O.faults out.new }
-    ensures cause { ErrCaused (I.faults inputs.old) (I.faults inputs.new) (O.faults out.old) (O.faults out.new) result }
-    ensures wrote { IfTold (I.told inputs.old) name.now
-        (FileEnd file composer.old composer.new (O.taken out.old) (O.taken out.new) before result) }
+    ensures cause { ErrCausedAgain (I.ends inputs.old) (I.ends inputs.new) (I.faults inputs.old + B.faults bytes.old)
+        (I.faults inputs.new + B.faults bytes.new) (O.faults out.old) (O.faults out.new) result }
+    ensures wrote { IfAllTold (I.told inputs.old) (map string_bytes files.now)
+        (λ told. FileEnd told (plan_with (E.base known.now) survey.now) (number + 1) composer.old composer.new
+        (O.taken out.old) (O.taken out.new) before result (get_or told number [])) }
 {
-    let Ok(mut reader) = CmdReader::new(alloc, file, name) else {
+    let file = number as u64 + 1;
+    let Ok(mut reader) = CmdReader::new(alloc, file, files[number].as_str()) else {
         return Err(Outcome::NoMemory);
     };
     let mut place = before;
@@ -117,69 +189,17 @@ fn write_file<I: Inputs, O: Sink>(
                     command: item.number,
                     offset: item.offset,
                 };
-                let written = write_command(out, composer, &item.command, place);
+                if item.version > survey.version() {
+                    let refused = place.refused(Refusal::NotConsecutive);
+                    return Err(composer.stopped(Outcome::Refused(refused), out));
+                }
+                let taken = composer.take(&item, file, survey, files, inputs, known, bytes, out);
                 drop(item);
-                if let Err(outcome) = written {
+                if let Err(outcome) = taken {
                     return Err(outcome);
                 }
             }
-            Err(stop) => return Err(stopped(out, composer, outcome_of(file, stop))),
+            Err(stop) => return Err(composer.stopped(outcome_of(file, stop), out)),
         }
     }
-}
-
-// Composes one command, and writes what is pending where it is much.
-fn write_command<O: Sink>(
-    out: &mut O,
-    composer: &mut Composer,
-    command: &Command,
-    place: Place,
-) -> Result<(), Outcome>
-    requires writable { IsWritable 1 (meaning_of command.now) }
-    ensures later { O.faults out.old ≤ O.faults out.new }
-    ensures cause { ErrCaused 0 0 (O.faults out.old) (O.faults out.new) result }
-    ensures composed { CommandEnd composer.old composer.new (meaning_of command.now) place
-        (O.taken out.old) (O.taken out.new) result }
-{
-    match composer.take(command) {
-        Ok(()) => {
-            if composer.pending().len() >= PIECE {
-                return send(composer, out);
-            }
-            Ok(())
-        }
-        Err(Stop::Refused(refusal)) => {
-            Err(stopped(out, composer, Outcome::Refused(place.refused(refusal))))
-        }
-        Err(Stop::NoMemory) => Err(Outcome::NoMemory),
-    }
-}
-
-// The outcome of a run that ends here. What is pending is written first, so a fault of the output is answered in place of a
-// refusal; but where the inputs have failed, or there is no memory, nothing more is asked of the output.
-fn stopped<O: Sink>(out: &mut O, composer: &mut Composer, outcome: Outcome) -> Outcome
-    ensures later { O.faults out.old ≤ O.faults out.new }
-    ensures stopped { StopEnd composer.old.pending (O.taken out.old) (O.taken out.new)
-        (O.faults out.old) (O.faults out.new) outcome result }
-{
-    if let Outcome::InputFault | Outcome::NoMemory = outcome {
-        return outcome;
-    }
-    match send(composer, out) {
-        Ok(()) => outcome,
-        Err(fault) => fault,
-    }
-}
-
-// Writes what is pending.
-fn send<O: Sink>(composer: &mut Composer, out: &mut O) -> Result<(), Outcome>
-    ensures later { O.faults out.old ≤ O.faults out.new }
-    ensures sent { SendEnd composer.old composer.new (O.taken out.old) (O.taken out.new)
-        (O.faults out.old) (O.faults out.new) result }
-{
-    if write_whole(out, composer.pending()).is_err() {
-        return Err(Outcome::OutputFault);
-    }
-    composer.sent();
-    Ok(())
 }

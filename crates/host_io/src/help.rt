@@ -13,11 +13,12 @@ usage: btrsend audit [GUARD..] none FILE..
   audit     checks each command of all FILEs in order, as a receiver would, and names the first that it would
             refuse; where there is none it writes `accepted PARTS COMMANDS`. Each FILE is read once: a pipe serves
   compose   writes one stream that makes the last subvolume of a chain in a single part. The first FILE is a full
-            stream, and each later part is an incremental one on the part before. Each FILE is read twice, so it
-            can not be a pipe
+            stream, and each later part is an incremental one on the part before. A clone within a part stays one;
+            what a clone takes from an earlier part is written as bytes, which are read again. Each FILE is read
+            twice, so it can not be a pipe, and must not change meanwhile
   export    writes the streams of FILE in the spelling that `btrfs receive` takes; what `compose` writes is not
   dump      prints the commands of FILE, a line each
-  gen       writes a lawful chain of COUNT parts, 1 to 4096, that SEED gives. Parts after the first have clones
+  gen       writes a lawful chain of COUNT parts, 1 to 4096, that SEED gives. Each part after the first has a clone
 
   none      where the subvolumes are that the streams stand on: nowhere
   FILE      a file that `btrfs send` wrote, with one stream or several
@@ -33,8 +34,7 @@ A full stream and two incremental ones, checked, merged and restored:
   btrsend compose none full second third > merged
   btrsend export merged | btrfs receive /restored
 
-Clones between files, and streams of protocol version 2, are not taken yet: a clone is refused as NotBuilt 16, and
-such a stream as BadVersion 2.
+Streams of protocol versions 1 and 2 are read, with all commands but ENCODED_WRITE, which is refused as Encoded.
 
 The exit status is 0 where all was done. Else a line on standard error says why:
 
@@ -44,7 +44,9 @@ The exit status is 0 where all was done. Else a line on standard error says why:
    3  input fault       a file could not be read
    4  output fault      standard output could not be written
    7  no memory
+   9  too much SUM      clones take more than 2^40 bytes from earlier parts; only of compose
   11  input too long FILE   a file of 2^62 bytes or more
+  13  input changed FILE PLACE   a file has ended before bytes that were read of it once; only of compose
 ";
 
 pub(crate) const VERSION: &str = "btrsend 0.1.0\n";

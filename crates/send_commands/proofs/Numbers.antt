@@ -1,7 +1,7 @@
 -- The commands of version 2 are those of version 1, and two more.
-use Rattle.std.specs.Prelude.{◌≡◌, ℕ, ◌==◌, Bool, true, false, List, [], ◌∷◌, ◌++◌, Option, None, Some, if◌then◌else◌}
+use Rattle.std.specs.Prelude.{◌≡◌, ℕ, ◌==◌, Bool, true, false, List, [], ◌∷◌, ◌++◌, None, Some, if◌then◌else◌}
 use Rattle.std.specs.List.{find}
-use Rattle.std.proofs.Common.{refl, sym, ap, ◌∙◌}
+use Rattle.std.proofs.Common.{refl}
 use Rattle.send_model.specs.Command.{Kind, FALLOCATE, FILEATTR, row, first_kinds, all_kinds}
 
 -- What is found among more, where it is not among those behind.

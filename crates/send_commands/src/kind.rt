@@ -2,12 +2,9 @@
 ghost use Rattle.std.specs.Prelude.{◌≡◌, ◌==◌, ◌≤◌, length, option_map};
 ghost use Rattle.std.specs.List.{find};
 ghost use Rattle.send_model.specs.Command.{row, first_kinds, kind_of_number};
-ghost use Rattle.send_model.specs.Reading.{is_taken, taken};
-ghost use Rattle.tlv_frame.specs.Answers.{Reads};
 ghost use Rattle.send_commands.specs.Meaning.{kind_meant};
 
 use crate::attribute_numbers::*;
-use sx_base::Refusal;
 
 /// The commands by name. Source: enum btrfs_send_cmd in send.h of btrfs-progs.
 #[derive(Debug, Clone, Copy, PartialEq, Eq)]
@@ -183,57 +180,6 @@ impl Kind {
             Kind::UpdateExtent => &[SIZE, PATH, FILE_OFFSET],
             Kind::Fallocate => &[SIZE, PATH, FILE_OFFSET, FALLOCATE_MODE],
             Kind::FileAttr => &[PATH, FILE_FLAGS],
-        }
-    }
-
-    /// Whether the program takes this command today.
-    #[tactic(auto, unfolding(send_model::specs::Reading::is_taken))]
-    pub fn is_taken(self) -> bool
-        ensures taken { result ≡ is_taken (kind_meant self) }
-    {
-        match self {
-            Kind::Subvol => true,
-            Kind::Snapshot => true,
-            Kind::MkFile => true,
-            Kind::MkDir => true,
-            Kind::MkNod => true,
-            Kind::MkFifo => true,
-            Kind::MkSock => true,
-            Kind::Symlink => true,
-            Kind::Rename => true,
-            Kind::Link => true,
-            Kind::Unlink => true,
-            Kind::Rmdir => true,
-            Kind::SetXattr => true,
-            Kind::RemoveXattr => true,
-            Kind::Write => true,
-            Kind::Clone => false,
-            Kind::Truncate => true,
-            Kind::Chmod => true,
-            Kind::Chown => true,
-            Kind::Utimes => true,
-            Kind::End => true,
-            Kind::UpdateExtent => true,
-            Kind::Fallocate => false,
-            Kind::FileAttr => false,
-        }
-    }
-}
-
-/// Whether the program takes the command of this number today. NotBuilt, with the number, exactly where a command has
-/// it that is not taken; a number of no command is left to `decode`. Takes no memory.
-#[tactic(auto, unfolding(send_model::specs::Reading::taken))]
-pub fn check_taken(version: u32, number: u16) -> Result<(), Refusal>
-    ensures exact { Reads (λ _. tt) result (taken version number) }
-{
-    match Kind::from_number(version, number) {
-        None => Ok(()),
-        Some(kind) => {
-            if kind.is_taken() {
-                Ok(())
-            } else {
-                Err(Refusal::NotBuilt(number))
-            }
         }
     }
 }

@@ -13,4 +13,4 @@ mod values;
 pub use command::{Command, Time};
 pub use decoding::decode;
 pub use encoding::{data_place, encode};
-pub use kind::{Kind, check_taken};
+pub use kind::Kind;

@@ -3,7 +3,7 @@ ghost use Rattle.std.specs.Prelude.{IfOk};
 ghost use Rattle.send_commands.specs.Meaning.{meaning_of};
 ghost use Rattle.send_commands.specs.Writing.{IsWritable};
 
-use crate::{Command, check_taken, data_place, decode, encode};
+use crate::{Command, data_place, decode, encode};
 use std::alloc::Global;
 use std::test::Fail;
 use sx_base::{Blob, Refusal, Stop};
@@ -274,11 +274,4 @@ fn commands_of_version_two_are_written(rt: HostRuntime) -> Result<(), Fail> {
     );
     assert_eq!(rt; data_place(&write, 2), Some(29));
     Ok(())
-}
-
-#[test]
-fn some_commands_are_not_built(rt: HostRuntime) {
-    assert_eq!(rt; check_taken(1, 15), Ok(()));
-    assert_eq!(rt; check_taken(1, 16), Err(Refusal::NotBuilt(16)));
-    assert_eq!(rt; check_taken(1, 400), Ok(()));
 }

@@ -274,12 +274,12 @@ spelled_read version bytes rest c s =
       command = command_read_back version c s.attributes s.known s.values s.wanted;
     }
 
--- So it is the item in front, where commands of its kind are taken.
+-- So it is the item in front.
 pub spelled_front : SpelledIsFront
 unfolding front_of
-spelled_front file version number offset bytes rest c s is_taken =
+spelled_front file version number offset bytes rest c s =
     let read = spelled_read version bytes rest c s in
-    rw (read.frame, read.body, is_taken, read.command) refl
+    rw (read.frame, read.body, read.command) refl
 
 -- ---- one reading
 

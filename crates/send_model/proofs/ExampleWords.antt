@@ -6,7 +6,7 @@ use Rattle.send_model.specs.Path.{is_name, between_slashes, path_names}
 use Rattle.send_model.specs.Attribute.{form_of}
 use Rattle.send_model.specs.Command.{Command, row, kind_of_number}
 use Rattle.send_model.specs.Spelling.{stream_header, canonical, canonical_all, frame_of, frame_checksum, attributes_of, attribute_bytes, body_of}
-use Rattle.send_model.specs.Reading.{Item, reads, reads_from, front_of, frame_at, frame_with, number16, number32, stream_version, attributes_at, attributes_from, taken, is_taken, command_of, wanted_there, input, input_from}
+use Rattle.send_model.specs.Reading.{Item, reads, reads_from, front_of, frame_at, frame_with, number16, number32, stream_version, attributes_at, attributes_from, command_of, wanted_there, input, input_from}
 use Rattle.send_model.specs.Subvolume.{File, Directory, Inode, Subvolume, root_alone, is_directory, is_file, walk_names, walk, spot, inodes_on_way, name_count, is_empty_directory, paths_from, all_paths, first_path, is_nameable}
 use Rattle.send_model.specs.Edit.{resized, overwritten, written_at, fallocated, change_inode, add_inode, take_name, make, make_device, link, unlink, rmdir, change_at, set_xattr, remove_xattr, fallocate, lies_below, move_name, rename_onto, rename, change_contents, edit}
 use Rattle.send_model.specs.Clone.{cells_of, cloned, clone}
@@ -56,7 +56,7 @@ items commands = map (λ command. record { file = 1; number = 1; offset = 0; ver
 
 -- Reading and spelling.
 unfoldable pub reading_words : Unit {0}
-unfolding reads reads_from front_of number16 number32 frame_with frame_at stream_version attributes_at attributes_from taken is_taken command_of wanted_there input input_from canonical canonical_all stream_header frame_of attributes_of attribute_bytes body_of kind_of_number row form_of frame_checksum crc_of crc_byte shifts shift
+unfolding reads reads_from front_of number16 number32 frame_with frame_at stream_version attributes_at attributes_from command_of wanted_there input input_from canonical canonical_all stream_header frame_of attributes_of attribute_bytes body_of kind_of_number row form_of frame_checksum crc_of crc_byte shifts shift
 reading_words = tt
 
 -- Edits and clones.

@@ -154,7 +154,7 @@ record Goes (due : Due) (items : List Item) : Type 0 where
 front_again : (file version number offset : ℕ) (c : Command) → CanWrite version c → (rest : List ℕ) → (item : Item) × (said item ≡ (version, c)) × (front_of file version number offset (receivable version c ++ rest) ≡ Ok (record { item = item; rest = rest }))
 front_again file version number offset c w rest =
     let s = receivable_spells version c w.spellable in
-    (record { file = file; number = number; offset = offset; version = version; data_at = data_place version offset s.attributes; command = c }, refl, spelled_front file version number offset (receivable version c) rest c s w.taken_kind)
+    (record { file = file; number = number; offset = offset; version = version; data_at = data_place version offset s.attributes; command = c }, refl, spelled_front file version number offset (receivable version c) rest c s)
 
 receivable_long : (version : ℕ) (c : Command) → 10 ≤ length (receivable version c)
 unfolding receivable frame_of
@@ -286,7 +286,7 @@ again (suc n) file (CommandDue version) number offset bytes read are =
     let w = read_was_spelled file version number offset bytes front are e in
     let c : Command = front.item.command in
     let v : front.item.version ≡ version = ap (λ (i : Item). i.version) w.item_is in
-    let can : CanWrite version c = record { spellable = spelled_spellable version w.frame c w.spells; taken_kind = w.taken_kind } in
+    let can : CanWrite version c = record { spellable = spelled_spellable version w.frame c w.spells } in
     let left : IsBytes front.rest = all_rest (λ (b : ℕ). b < 256) w.frame front.rest (subst (λ (bs : List ℕ). IsBytes bs) w.whole are) in
     let next : Due = due_after version c in
     let r : Reading = reads_from n file next (number + 1) (offset + (length bytes - length front.rest)) front.rest in

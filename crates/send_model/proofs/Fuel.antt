@@ -6,7 +6,7 @@ use Rattle.send_model.specs.Refusal.{Refusal, Truncated, LongCommand, BadChecksu
 use Rattle.send_model.specs.Chain.{◌>>=◌, ◌>>◌, require, refuse_if}
 use Rattle.send_model.specs.Command.{Command}
 use Rattle.send_model.specs.Spelling.{frame_checksum, greatest_body, Attribute}
-use Rattle.send_model.specs.Reading.{Reading, Due, HeaderDue, CommandDue, due_after, may_end, with_item, go_on, ended, faulty, taken, Frame, Front, frame_at, frame_with, front_of, attributes_at, command_of, data_place, stream_version, header_len, frame_header_len, reads_from, number16, number32}
+use Rattle.send_model.specs.Reading.{Reading, Due, HeaderDue, CommandDue, due_after, may_end, with_item, go_on, ended, faulty, Frame, Front, frame_at, frame_with, front_of, attributes_at, command_of, data_place, stream_version, header_len, frame_header_len, reads_from, number16, number32}
 
 -- A test that passed lets the chain go on.
 pub required : {B : Type 0} (b : Bool) (refusal : Refusal) (rest : Result B Refusal) (x : B) → (require b refusal >> rest) ≡ Ok x → (b ≡ true) × (rest ≡ Ok x)
@@ -65,11 +65,9 @@ front_shorter file version number offset bytes front e =
       rest = frame.rest;
     } in
     let last : Frame → List Attribute → Result Front Refusal = λ frame attributes. command_of version frame.number attributes >>= λ command. Ok (made frame attributes command) in
-    let middle : Frame → List Attribute → Result Front Refusal = λ frame attributes. taken version frame.number >> last frame attributes in
-    let a = bound (frame_at bytes) (λ frame. attributes_at version frame.body >>= middle frame) front e in
-    let b = bound (attributes_at version a.0.body) (middle a.0) front a.2 in
-    let c = tested (taken version a.0.number) (last a.0 b.0) front b.2 in
-    let d = bound (command_of version a.0.number b.0) (λ command. Ok (made a.0 b.0 command)) front c.1 in
+    let a = bound (frame_at bytes) (λ frame. attributes_at version frame.body >>= last frame) front e in
+    let b = bound (attributes_at version a.0.body) (last a.0) front a.2 in
+    let d = bound (command_of version a.0.number b.0) (λ command. Ok (made a.0 b.0 command)) front b.2 in
     let same : made a.0 b.0 d.0 ≡ front = ok_same d.2 in
     let rest = sym (ap (λ (f : Front). length f.rest) same) in
     omega (arith, rest, frame_shorter bytes a.0 a.1)

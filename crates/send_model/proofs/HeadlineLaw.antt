@@ -12,14 +12,14 @@ use Rattle.send_model.specs.Order.{heads, heads_of, commands_of}
 use Rattle.send_model.specs.Outside.{base_of}
 use Rattle.send_model.specs.Composed.{version_of}
 use Rattle.send_model.specs.Headline.{AreComposed, output_of}
-use Rattle.send_model.specs.Laws.{CanWrite, AreInner, ItemsHold, ItemsSpelled, ReadingsHold, PlainReadingsHold, FilesAreWhole, FilesHold, PlainFilesHold}
+use Rattle.send_model.specs.Laws.{CanWrite, AreInner, ItemsHold, ItemsSpelled, FrontsAreWritable, ReadingsHold, PlainReadingsHold, FilesAreWhole, FilesHold, PlainFilesHold}
 use Rattle.send_model.proofs.Runs.{takes_run}
 use Rattle.send_model.proofs.Merging.{edit_in, edits_of}
 use Rattle.send_model.proofs.Headlines.{first_none, headline_of}
 use Rattle.send_model.proofs.Composed.{items_with_heads, composed_items, first_there, last_of_some}
 use Rattle.send_model.proofs.ElementLaws.{all_both}
 use Rattle.send_model.proofs.ReadCommands.{input_writable, is_output, spelled_in_output, writable_in_output, output_is_read}
-use Rattle.send_model.proofs.SpelledRuns.{are_spelled, head_kind, heads_spelled, composed_spelled, composed_inner}
+use Rattle.send_model.proofs.SpelledRuns.{are_spelled, head_inner, heads_spelled, composed_spelled, composed_inner, front_inner}
 use Rattle.send_model.proofs.HeadlineClones.{headline_items, headline_reading}
 use Rattle.send_model.proofs.Endings.{EndsWithEnd, EndsWell, input_ends}
 
@@ -35,6 +35,11 @@ items_spelled store items consecutive accepted sayable spelled =
     let first = first_there (heads items) consecutive.0 in
     let last = last_of_some (heads items) consecutive.0 in
     subst (λ (cs : List Command). AllByRecursion (IsSpellable (version_of items)) cs) (sym (items_with_heads (base_of store items) items first.0 last.0 first.1 last.1)) (composed_spelled (version_of items) (is_output items) store items first.0 last.0 first.1 last.1 (spelled_in_output items spelled) accepted sayable)
+
+pub fronts_are_writable : FrontsAreWritable
+fronts_are_writable store all items more first last same accepted sayable writable first_is last_is =
+    front_inner (version_of all) (is_output all) store all items more (run_items 0 byte_cells (start_of (base_of store all)) items).state first last same first_is last_is
+    (writable_in_output all writable) (takes_run items (start_of (base_of store all)) accepted) sayable
 
 pub readings_hold : ReadingsHold
 unfolding receive_items
@@ -96,10 +101,9 @@ plain_readings_hold store reading w consecutive accepted n =
     let version : ℕ = version_of items in
     let is = is_output items in
     let writable = writable_in_output items w.writable in
-    let kind = head_kind version is last.0.name last.0.key first.0.parent in
     headline_of version store reading ran.state (output_of None b items) first.0 last.0 (output_is_read items w.writable)
     (record { whole = w.whole; ends = inr (w.others, w.ends); no_clones = n; consecutive = consecutive; taken = takes_run items (start_of b) refused }) first.1 last.1
-    ((record { spellable = heads_spelled version is cs first.0 last.0 first.1 last.1 (are_spelled version cs writable); taken_kind = kind.0 }, kind.1), edits_inner version cs writable)
+    ((record { spellable = heads_spelled version is cs first.0 last.0 first.1 last.1 (are_spelled version cs writable) }, head_inner last.0.name last.0.key first.0.parent), edits_inner version cs writable)
     (ap (λ (ds : List Command). stream_header version ++ canonical_all version ds) (composed_items b items first.0 last.0 first.1 last.1 n))
 
 pub plain_files_hold : PlainFilesHold

@@ -70,7 +70,7 @@ mod ComposedClones
 mod SpelledRuns
 pub mod ReadCommands
 mod HeadlineClones
-mod HeadlineLaw
+pub mod HeadlineLaw
 pub mod LawfulEdits
 pub mod LawfulStores
 pub mod Dues

@@ -1,18 +1,16 @@
--- What is read from bytes can be written: each command of files is one that is taken and can be spelled.
-use Rattle.std.specs.Prelude.{◌≡◌, ℕ, zero, suc, ◌+◌, ◌-◌, ◌<◌, ◌==◌, ◌||◌, Bool, true, false, List, [], ◌∷◌, ◌++◌, length, take, drop, Option, None, Some, Result, Ok, Err, nat_le, if◌then◌else◌}
+-- What is read from bytes can be written: each command of files can be spelled.
+use Rattle.std.specs.Prelude.{◌≡◌, ℕ, zero, suc, ◌+◌, ◌-◌, ◌<◌, ◌==◌, Bool, true, false, List, [], ◌∷◌, ◌++◌, length, take, drop, Result, Ok, Err, nat_le, if◌then◌else◌}
 use Rattle.std.specs.List.{AllByRecursion, list_any}
 use Rattle.std.specs.Str.{bytes_eq}
-use Rattle.std.proofs.Common.{refl, sym, ap, subst, ◌∙◌, eqb-true, eq-eqb, inl, inr, ⊎_elim}
+use Rattle.std.proofs.Common.{refl, sym, ap, subst, ◌∙◌, eq-eqb, inl, inr, ⊎_elim}
 use Rattle.std.proofs.lemmas.Bool.{true≢false}
-use Rattle.send_model.specs.Refusal.{Refusal, Truncated, BadMagic, BadVersion, NotBuilt}
-use Rattle.send_model.specs.Chain.{require}
+use Rattle.send_model.specs.Refusal.{Refusal, Truncated, BadMagic, BadVersion}
 use Rattle.send_model.specs.Attribute.{IsBytes}
-use Rattle.send_model.specs.Command.{Kind, Command, End, row, kind_of}
-use Rattle.send_model.specs.Spelling.{magic, IsKnown, IsSpellable}
-use Rattle.send_model.specs.Reading.{Item, Reading, Ending, Whole, Faulty, Due, HeaderDue, CommandDue, Front, due_after, may_end, with_item, go_on, ended, joined, front_of, is_version, stream_version, header_len, number32, reads_from, reads, input_from, input, is_taken, taken}
+use Rattle.send_model.specs.Command.{Command, End, row, kind_of}
+use Rattle.send_model.specs.Spelling.{magic, IsSpellable}
+use Rattle.send_model.specs.Reading.{Item, Reading, Ending, Whole, Faulty, Due, HeaderDue, CommandDue, Front, due_after, may_end, with_item, go_on, ended, joined, front_of, is_version, stream_version, header_len, number32, reads_from, reads, input_from, input}
 use Rattle.send_model.specs.Order.{commands_of}
 use Rattle.send_model.specs.Composed.{version_of}
-use Rattle.send_model.specs.Headline.{output_version}
 use Rattle.send_model.specs.Laws.{CanWrite}
 use Rattle.send_model.proofs.Fuel.{required, ok_same}
 use Rattle.send_model.proofs.Stores.{or_parts}
@@ -33,7 +31,7 @@ front_writable : (file version number offset : ℕ) (bytes : List ℕ) (front : 
 front_writable file version number offset bytes front read are e =
     let w = read_was_spelled file version number offset bytes front are e in
     let at : front.item.version ≡ version = ap (λ (i : Item). i.version) w.item_is in
-    let can : CanWrite version front.item.command = record { spellable = spelled_spellable version w.frame front.item.command w.spells; taken_kind = w.taken_kind } in (
+    let can : CanWrite version front.item.command = record { spellable = spelled_spellable version w.frame front.item.command w.spells } in (
       (subst (λ (v : ℕ). CanWrite v front.item.command) (sym at) can, ap is_version at ∙ read),
       all_rest (λ (b : ℕ). b < 256) w.frame front.rest (subst (λ (bs : List ℕ). IsBytes bs) w.whole are),
     )
@@ -130,16 +128,8 @@ is_output items = one (list_any (λ item. item.version == 2) items)
 spelled_second : (v : ℕ) (c : Command) → IsSpellable v c → IsSpellable 2 c
 spelled_second v c s = ⊎_elim (λ e. second_says_more c (subst (λ (x : ℕ). IsSpellable x c) e s)) (λ e. subst (λ (x : ℕ). IsSpellable x c) e s) (known_version v (row (kind_of c)).number (kind_of c) s.known)
 
--- Whether a command is taken does not depend on the version, where both have it.
-taken_known : (v : ℕ) (kind : Kind) → IsKnown v kind → taken v (row kind).number ≡ require (is_taken kind) (NotBuilt (row kind).number)
-unfolding taken
-taken_known v kind known = ap (λ (o : Option Kind). elim o as (λ x. Result (Unit {0}) Refusal) [ None ↦ Ok tt | Some k ↦ require (is_taken k) (NotBuilt (row kind).number) ]) known
-
 pub write_second : (v : ℕ) (c : Command) → CanWrite v c → CanWrite 2 c
-write_second v c w =
-    let s = w.spellable in
-    let t = spelled_second v c s in
-    record { spellable = t; taken_kind = taken_known 2 (kind_of c) t.known ∙ sym (taken_known v (kind_of c) s.known) ∙ w.taken_kind }
+write_second v c w = record { spellable = spelled_second v c w.spellable }
 
 -- The items' commands can be spelled, and written, in the version of the composed stream.
 pub spelled_in_output : (items : List Item) → AllByRecursion (λ item. IsSpellable item.version item.command) items → AllByRecursion (IsSpellable (version_of items)) (commands_of items)
@@ -152,23 +142,11 @@ writable_in_output items all = in_output CanWrite write_second (λ v c w. let s 
     first_parts [] all = tt
     first_parts (item ∷ is) all = (all.0.0, first_parts is all.1)
 
-second_is_read : (is : List Item) → AreWritable is → list_any (λ item. item.version == 2) is ≡ true → is_version 2 ≡ true
-second_is_read [] all e = absurd (true≢false (sym e))
-second_is_read (item ∷ is) all e = two (λ f. second_is_read is all.1 f) (item.version == 2) refl e
-  where
-    two : (list_any (λ i. i.version == 2) is ≡ true → is_version 2 ≡ true) → (b : Bool) → (item.version == 2) ≡ b → b || list_any (λ i. i.version == 2) is ≡ true → is_version 2 ≡ true
-    two more true q f = subst (λ (v : ℕ). is_version v ≡ true) (eqb-true item.version 2 q) all.0.1
-    two more false q f = more f
-
 -- The composed stream has a version that is read.
 pub output_is_read : (items : List Item) → AreWritable items → is_version (version_of items) ≡ true
 unfolding version_of
-output_is_read items all = one (list_any (λ item. item.version == 2) items) refl
+output_is_read items all = one (list_any (λ item. item.version == 2) items)
   where
-    one : (b : Bool) → list_any (λ item. item.version == 2) items ≡ b → is_version (if b then 2 else 1) ≡ true
-    one true e = second_is_read items all e
-    one false e = refl
-
--- While version 1 alone is read, every composed stream has it.
-pub output_first : (files : List (List ℕ)) → AllByRecursion IsBytes files → output_version files ≡ 1
-output_first files are = eqb-true (version_of (input files).items) 1 (output_is_read (input files).items (input_writable files are))
+    one : (b : Bool) → is_version (if b then 2 else 1) ≡ true
+    one true = refl
+    one false = refl

@@ -12,7 +12,7 @@ use Rattle.send_model.specs.Chain.{◌>>=◌, ◌>>◌, require, found}
 use Rattle.send_model.specs.Attribute.{ANumber, AShortNumber, AMoment, form_of, Number, ShortNumber, Moment, field_bytes, FieldsFit, IsBytes, is_one_of, last_attribute, takes_rest}
 use Rattle.send_model.specs.Command.{Kind, SUBVOL, SNAPSHOT, MKFILE, MKDIR, MKNOD, MKFIFO, MKSOCK, SYMLINK, RENAME, LINK, UNLINK, RMDIR, SET_XATTR, REMOVE_XATTR, WRITE, CLONE, TRUNCATE, CHMOD, CHOWN, UTIMES, END, UPDATE_EXTENT, FALLOCATE, FILEATTR, Command, row, is_encoded, kinds_of, kind_of, kind_of_number, fields_of, command_with, number_in, short_number_in, time_in}
 use Rattle.send_model.specs.Spelling.{Attribute, attribute_bytes, body_of, value_of, AreAttributes, frame_checksum, frame_of, greatest_body, attributes_of, IsKnown, Spells}
-use Rattle.send_model.specs.Reading.{number16, number32, Frame, frame_with, frame_at, frame_header_len, attribute_number, attribute_end, attribute_in, attribute_lawful, attributes_from, attributes_at, form_fits, wanted_there, bytes_at, moment_lawful, command_of, taken, data_place, Front, front_of}
+use Rattle.send_model.specs.Reading.{number16, number32, Frame, frame_with, frame_at, frame_header_len, attribute_number, attribute_end, attribute_in, attribute_lawful, attributes_from, attributes_at, form_fits, wanted_there, bytes_at, moment_lawful, command_of, data_place, Front, front_of}
 use Rattle.send_model.specs.Laws.{WasSpelled, ReadWasSpelled, RulesWereSpelled}
 use Rattle.send_model.proofs.Stores.{or_parts}
 use Rattle.send_model.proofs.Canonical.{bytes_at as byte_at}
@@ -392,17 +392,14 @@ read_was_spelled file version number offset bytes front is e =
       rest = frame.rest;
     } in
     let last : Frame → List Attribute → Result Front Refusal = λ frame attributes. command_of version frame.number attributes >>= λ command. Ok (made frame attributes command) in
-    let middle : Frame → List Attribute → Result Front Refusal = λ frame attributes. taken version frame.number >> last frame attributes in
-    let a = bound (frame_at bytes) (λ frame. attributes_at version frame.body >>= middle frame) front e in
-    let b = bound (attributes_at version a.0.body) (middle a.0) front a.2 in
-    let c = tested (taken version a.0.number) (last a.0 b.0) front b.2 in
-    let d = bound (command_of version a.0.number b.0) (λ command. Ok (made a.0 b.0 command)) front c.1 in
+    let a = bound (frame_at bytes) (λ frame. attributes_at version frame.body >>= last frame) front e in
+    let b = bound (attributes_at version a.0.body) (last a.0) front a.2 in
+    let d = bound (command_of version a.0.number b.0) (λ command. Ok (made a.0 b.0 command)) front b.2 in
     let w = were_spelled version bytes a.0 b.0 d.0 is a.1 b.1 d.1 in
     let P : Front → Type 0 = λ x. WasSpelled file version number offset bytes x in
     let at : P (made a.0 b.0 d.0) = record {
       frame = frame_of a.0.number a.0.body;
       spells = w.spells;
-      taken_kind = ap (taken version) (sym w.numbered) ∙ c.0;
       whole = w.whole;
       item_is = ap (λ (attributes : List Attribute). (made a.0 attributes d.0).item) (sym w.attributes_are);
     } in

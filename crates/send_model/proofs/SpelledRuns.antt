@@ -1,16 +1,16 @@
 -- What is composed from commands that can be spelled can be spelled: what stands for redirected clones too, where what the base
 -- finds under the outside keys can be said.
-use Rattle.std.specs.Prelude.{◌≡◌, ℕ, ◌+◌, ◌<◌, Bool, true, false, not, cond, List, [], ◌∷◌, ◌++◌, map, length, take, drop, zero, suc, Option, None, Some, Result, Ok, if◌then◌else◌}
+use Rattle.std.specs.Prelude.{◌≡◌, ℕ, ◌+◌, ◌<◌, Bool, true, false, not, cond, List, [], ◌∷◌, ◌++◌, map, Option, None, Some, Result, Ok, if◌then◌else◌}
 use Rattle.std.specs.List.{AllByRecursion, filter, flat_map}
 use Rattle.std.specs.Option.{option_map}
-use Rattle.std.proofs.Common.{refl, sym, ap, subst, ◌∙◌, arith, inl, inr, ⊎_elim}
+use Rattle.std.proofs.Common.{refl, sym, ap, subst, ◌∙◌, append_assoc, arith, inl, inr, ⊎_elim}
 use Rattle.std.proofs.lemmas.Bool.{false≢true}
 use Rattle.send_model.specs.Refusal.{Refusal, NoSubvolume, NoParent}
 use Rattle.send_model.specs.Chain.{found}
 use Rattle.send_model.specs.Attribute.{IsBytes, PATH, CLONE_PATH}
 use Rattle.send_model.specs.Command.{Command, SUBVOL, SNAPSHOT, Subvol, Snapshot, Write, Clone, End, row, kind_of, kind_of_number}
 use Rattle.send_model.specs.Spelling.{IsKnown, IsSpellable}
-use Rattle.send_model.specs.Reading.{Item, taken, is_taken}
+use Rattle.send_model.specs.Reading.{Item}
 use Rattle.send_model.specs.Map.{Map}
 use Rattle.send_model.specs.Subvolume.{Inode, Subvolume, root_alone}
 use Rattle.send_model.specs.Edit.{edit}
@@ -18,9 +18,9 @@ use Rattle.send_model.specs.Store.{Key, Head, head_of, Store, Part, State, Stepp
 use Rattle.send_model.specs.Receive.{run_items, byte_cells, bytes_of, start_of, IsAccepted}
 use Rattle.send_model.specs.Order.{heads_of, heads, commands_of}
 use Rattle.send_model.specs.Outside.{IsAmong, is_among, part_uuids, base_of, keys_named, all_keys_named, keys_outside, FindsSayable}
-use Rattle.send_model.specs.Provenance.{Traced, Piece, Carried, Literal, fresh, inode_with, traced_from, traced_subvolume, traced_store, is_own, is_redirected, clone_range, pieces_of, uuid_after}
+use Rattle.send_model.specs.Provenance.{Traced, fresh, inode_with, traced_from, traced_subvolume, traced_store, is_own, is_redirected, clone_range, pieces_of, uuid_after}
 use Rattle.send_model.specs.Counts.{is_clone, is_end}
-use Rattle.send_model.specs.Composed.{first_head, last_head, head_command, write_len, writes_from, piece_commands, commands_for, composed_edits, composed_with}
+use Rattle.send_model.specs.Composed.{first_head, last_head, head_command, piece_commands, commands_for, composed_edits, composed_with, composed_from}
 use Rattle.send_model.specs.Laws.{CanWrite, AreInner}
 use Rattle.send_model.proofs.Sorts.{by_sort, is_plain, plain_step, plain_step_without, head_step, same_inside}
 use Rattle.send_model.proofs.Fuel.{ok_same}
@@ -41,56 +41,6 @@ use Rattle.send_model.proofs.Streams.{end_writable}
 use Rattle.send_model.proofs.ElementLaws.{all_both, all_first, all_rest}
 use Rattle.send_model.proofs.MergingClones.{composed_by, composed_items, head_commands, head_uuid, plain_commands, plain_uuid, clone_without}
 use Rattle.send_model.proofs.ComposedClones.{all_outside}
-
--- ---- kinds
-
--- A command of a kind that the program takes.
-abbrev pub IsKind : ℕ → Command → Type 0
-IsKind version c = taken version (row (kind_of c)).number ≡ Ok tt
-
--- Kinds that are taken in both versions.
-in_both : (version : ℕ) → IsVersion version → (c : Command) → IsKind 1 c → IsKind 2 c → IsKind version c
-in_both version is c one two = ⊎_elim (λ e. subst (λ (v : ℕ). IsKind v c) (sym e) one) (λ e. subst (λ (v : ℕ). IsKind v c) (sym e) two) is
-
-write_kind : (version : ℕ) → IsVersion version → (path : List ℕ) (at : ℕ) (bytes : List ℕ) → IsKind version (Write path at bytes)
-unfolding taken is_taken kind_of_number row
-write_kind version is path at bytes = in_both version is (Write path at bytes) refl refl
-
-writes_kind : (version : ℕ) → IsVersion version → (n at : ℕ) (path bytes : List ℕ) → AllByRecursion (IsKind version) (writes_from n path at bytes)
-writes_kind version is zero at path bytes = tt
-writes_kind version is (suc n) at path [] = tt
-writes_kind version is (suc n) at path (b ∷ bytes) = (write_kind version is path at (take write_len (b ∷ bytes)), writes_kind version is n (at + write_len) path (drop write_len (b ∷ bytes)))
-
-module _ (version : ℕ) (is : IsVersion version) (store : Store ℕ) (parts : List (List ℕ)) (last : Key) where
-  pieces_kind : (path : List ℕ) (offset : ℕ) (c : Command) → is_clone c ≡ true → IsKind version c → (ps : List Piece) → AllByRecursion (IsKind version) (flat_map (piece_commands store path offset) ps)
-  pieces_kind path offset c h k [] = tt
-  pieces_kind path offset c h k (Literal at bytes ∷ ps) =
-      all_both (IsKind version) (writes_from (length bytes) path (offset + at) bytes) (flat_map (piece_commands store path offset) ps) (writes_kind version is (length bytes) (offset + at) path bytes) (pieces_kind path offset c h k ps)
-  pieces_kind path offset (Clone p o u t q f l) h k (Carried at place len ∷ ps) = (k, pieces_kind path offset (Clone p o u t q f l) h k ps)
-  pieces_kind path offset c h k (Carried at place len ∷ ps) = absurd (false≢true h)
-
-  for_kind : (state : State Traced) (current : Option (List ℕ)) (c : Command) → IsKind version c → AllByRecursion (IsKind version) (commands_for store parts last state current c)
-  for_kind state current End k = tt
-  for_kind state current (Subvol uuid ctransid path) k = tt
-  for_kind state current (Snapshot uuid ctransid path clone_uuid clone_ctransid) k = tt
-  for_kind state current (Clone path offset clone_uuid clone_ctransid clone_path clone_offset clone_len) k = one (is_own current clone_uuid) (is_redirected parts current this)
-    where
-      this : Command
-      this = Clone path offset clone_uuid clone_ctransid clone_path clone_offset clone_len
-
-      one : (a b : Bool) → AllByRecursion (IsKind version) (if a then Clone path offset last.uuid last.ctransid clone_path clone_offset clone_len ∷ []
-          else (if b then flat_map (piece_commands store path offset) (pieces_of store (clone_range state (Clone path offset clone_uuid clone_ctransid clone_path clone_offset clone_len)))
-          else Clone path offset clone_uuid clone_ctransid clone_path clone_offset clone_len ∷ []))
-      one true b = (k, tt)
-      one false true = pieces_kind path offset (Clone path offset clone_uuid clone_ctransid clone_path clone_offset clone_len) refl k (pieces_of store (clone_range state (Clone path offset clone_uuid clone_ctransid clone_path clone_offset clone_len)))
-      one false false = (k, tt)
-  for_kind state current c k = (k, tt)
-
-  all_kinds : (cs : List Command) (state : State Traced) (current : Option (List ℕ)) → AllByRecursion (CanWrite version) cs → AllByRecursion (IsKind version) (composed_by store parts last state current cs)
-  all_kinds [] state current w = tt
-  all_kinds (c ∷ cs) state current w =
-      let next : State Traced = (step (fresh 0) (map fresh (bytes_of c)) state c).state in
-      all_both (IsKind version) (commands_for store parts last state current c) (composed_by store parts last next (uuid_after current c) cs) (for_kind state current c w.0.taken_kind) (all_kinds cs next (uuid_after current c) w.1)
 
 -- ---- bytes
 
@@ -349,11 +299,10 @@ unfolding row
 head_spelled version is name key None n k p = spellable_first version (head_command name key None) (head_known version is name key None) (k.0, (k.1, (n, tt)))
 head_spelled version is name key (Some parent) n k p = spellable_first version (head_command name key (Some parent)) (head_known version is name key (Some parent)) (k.0, (k.1, (n, (p.0, (p.1, tt)))))
 
--- A head's own kind is taken.
-pub head_kind : (version : ℕ) → IsVersion version → (name : List ℕ) (key : Key) (parent : Option Key) → IsKind version (head_command name key parent) × (is_end (head_command name key parent) ≡ false)
-unfolding taken is_taken kind_of_number row
-head_kind version is name key None = (in_both version is (head_command name key None) refl refl, refl)
-head_kind version is name key (Some parent) = (in_both version is (head_command name key (Some parent)) refl refl, refl)
+-- A head is no END.
+pub head_inner : (name : List ℕ) (key : Key) (parent : Option Key) → is_end (head_command name key parent) ≡ false
+head_inner name key None = refl
+head_inner name key (Some parent) = refl
 
 -- The head that stands for a first and a last one among commands.
 pub heads_spelled : (version : ℕ) → IsVersion version → (cs : List Command) (first last : Head) → first_head (heads_of cs) ≡ Some first → last_head (heads_of cs) ≡ Some last → AllByRecursion (IsSpellable version) cs → IsSpellable version (head_command last.name last.key first.parent)
@@ -393,9 +342,9 @@ composed_spelled version is store items first last first_is last_is w accepted s
       all_both (IsSpellable version) es (End ∷ []) (all_spelled version es (edits_inside version is store items last last_is w accepted sayable)) ((end_writable version is).spellable, tt),
     )
 
-both_inner : (version : ℕ) (cs : List Command) → AllByRecursion (IsInside version) cs → AllByRecursion (IsKind version) cs → AreInner version cs
-both_inner version [] i k = tt
-both_inner version (c ∷ cs) i k = ((record { spellable = i.0.0; taken_kind = k.0 }, i.0.1), both_inner version cs i.1 k.1)
+are_inner : (version : ℕ) (cs : List Command) → AllByRecursion (IsInside version) cs → AreInner version cs
+are_inner version [] i = tt
+are_inner version (c ∷ cs) i = ((record { spellable = i.0.0 }, i.0.1), are_inner version cs i.1)
 
 pub are_spelled : (version : ℕ) (cs : List Command) → AllByRecursion (CanWrite version) cs → AllByRecursion (IsSpellable version) cs
 are_spelled version [] w = tt
@@ -410,10 +359,44 @@ composed_inner version is store items first last first_is last_is w accepted say
     let b : Store ℕ = base_of store items in
     let parts : List (List ℕ) = part_uuids items in
     let cs : List Command = commands_of items in
-    let spelled = are_spelled version cs w in
+    let spelled = are_spelled version cs w in (
+      (record { spellable = heads_spelled version is cs first last first_is last_is spelled }, head_inner last.name last.key first.parent),
+      are_inner version (composed_edits b last.key items) (edits_inside version is store items last last_is spelled accepted sayable),
+    )
+
+-- ---- first items of others
+
+named_append : (cs ds : List Command) → all_keys_named (cs ++ ds) ≡ all_keys_named cs ++ all_keys_named ds
+named_append [] ds = refl
+named_append (c ∷ cs) ds = ap (λ (ks : List Key). keys_named c ++ ks) (named_append cs ds) ∙ sym (append_assoc (keys_named c) (all_keys_named cs) (all_keys_named ds))
+
+commands_append : (items more : List Item) → commands_of (items ++ more) ≡ commands_of items ++ commands_of more
+commands_append [] more = refl
+commands_append (item ∷ items) more = ap (λ (cs : List Command). item.command ∷ cs) (commands_append items more)
+
+-- What stands for first items of others, as the part of the others' last head, can be written where all of them can.
+pub front_inner : (version : ℕ) → IsVersion version → (store : Store ℕ) (all items more : List Item) (end : State ℕ) (first last : Head) → all ≡ items ++ more → first_head (heads items) ≡ Some first → last_head (heads all) ≡ Some last
+    → AllByRecursion (CanWrite version) (commands_of all) → Takes (start_of (base_of store all)) (commands_of items) end → FindsSayable (base_of store all) (keys_outside all)
+    → AreInner version (head_command last.name last.key first.parent ∷ composed_from (base_of store all) (part_uuids all) last.key (start_of (traced_store (base_of store all))) None items)
+front_inner version is store all items more end first last same first_is last_is w taken sayable =
+    let b : Store ℕ = base_of store all in
+    let parts : List (List ℕ) = part_uuids all in
+    let keys : List Key = keys_outside all in
+    let cs : List Command = commands_of items in
+    let ds : List Command = commands_of all in
+    let rest : List Command = commands_of more in
+    let split : ds ≡ cs ++ rest = ap commands_of same ∙ commands_append items more in
+    let can = all_first (CanWrite version) cs rest (subst (λ (xs : List Command). AllByRecursion (CanWrite version) xs) split w) in
+    let spelled = are_spelled version cs can in
+    let all_can = are_spelled version ds w in
+    let last_fit = last_fits_of (heads all) last (heads_fit version ds all_can) last_is in
+    let first_fit = first_fits (heads items) first (heads_fit version cs spelled) first_is in
+    let key_fits : (key : Key) → IsAmong key keys → KeyFits key = λ key among. among_all KeyFits key keys (kept_fit KeyFits (λ key. not (is_among parts key.uuid)) (all_keys_named ds) (keys_fit version ds all_can)) among in
+    let named : all_keys_named ds ≡ all_keys_named cs ++ all_keys_named rest = ap all_keys_named split ∙ named_append cs rest in
+    let listed = all_first (λ k. is_among parts k.uuid ≡ false → IsAmong k keys) (all_keys_named cs) (all_keys_named rest) (subst (λ (ks : List Key). AllByRecursion (λ k. is_among parts k.uuid ≡ false → IsAmong k keys) ks) named (all_outside parts (all_keys_named ds))) in
+    let inside = run_inside version is b keys parts last.key last_fit.1 key_fits sayable (λ k i. without_finds parts store k i) cs end spelled listed taken in
     let τ : State Traced = start_of (traced_store b) in
-    let kind = head_kind version is last.name last.key first.parent in
-    let kinds = subst (λ (es : List Command). AllByRecursion (IsKind version) es) (sym (composed_items b parts last.key items τ None)) (all_kinds version is b parts last.key cs τ None w) in (
-      (record { spellable = heads_spelled version is cs first last first_is last_is spelled; taken_kind = kind.0 }, kind.1),
-      both_inner version (composed_edits b last.key items) (edits_inside version is store items last last_is spelled accepted sayable) kinds,
+    let by = composed_items b parts last.key items τ None in (
+      (record { spellable = head_spelled version is last.name last.key first.parent last_fit.0 last_fit.1 first_fit.2 }, head_inner last.name last.key first.parent),
+      subst (λ (es : List Command). AreInner version es) (sym by) (are_inner version _ inside),
     )

@@ -1,13 +1,13 @@
 -- One stream that was spelled is read whole, with its commands; and no part of it that lacks its end is read as whole.
-use Rattle.std.specs.Prelude.{◌≡◌, ℕ, zero, suc, ◌+◌, ◌-◌, ◌<◌, ◌≤◌, true, false, List, [], ◌∷◌, ◌++◌, length, take, drop, Ok, nat_le, if◌then◌else◌}
+use Rattle.std.specs.Prelude.{◌≡◌, ℕ, zero, suc, ◌+◌, ◌-◌, ◌<◌, ◌≤◌, ◌==◌, ◌||◌, Bool, true, false, List, [], ◌∷◌, ◌++◌, length, take, drop, Ok, nat_le, if◌then◌else◌}
 use Rattle.std.specs.List.{AllByRecursion}
-use Rattle.std.proofs.Common.{refl, sym, ap, subst, ◌∙◌, arith, length-append, le-leb, zero-le, eqb-true, inl, ⊎_elim}
+use Rattle.std.proofs.Common.{refl, sym, ap, subst, ◌∙◌, arith, length-append, le-leb, zero-le, eqb-true, inl, inr, ⊎_elim}
 use Rattle.std.proofs.lemmas.Bool.{true≢false}
 use Rattle.std.proofs.lemmas.Nat.{from_le_bytes-to_le_bytes_4}
 use Rattle.std.specs.Str.{bytes_eq}
 use Rattle.send_model.specs.Command.{Command, End, row, kind_of_number}
 use Rattle.send_model.specs.Spelling.{magic, stream_header, attributes_of, body_of, canonical, canonical_all, frame_of}
-use Rattle.send_model.specs.Reading.{Item, Reading, Whole, Due, HeaderDue, CommandDue, due_after, may_end, with_item, go_on, ended, is_version, is_taken, taken, front_of, data_place, header_len, stream_version, reads_from, reads, number32}
+use Rattle.send_model.specs.Reading.{Item, Reading, Whole, Due, HeaderDue, CommandDue, due_after, may_end, with_item, go_on, ended, is_version, front_of, data_place, header_len, stream_version, reads_from, reads, number32}
 use Rattle.send_model.specs.Order.{commands_of}
 use Rattle.send_model.specs.Counts.{is_end}
 use Rattle.send_model.specs.Laws.{CanWrite}
@@ -26,7 +26,7 @@ inner_due version c h = refl
 pub front_item : (file version number offset : ℕ) (c : Command) → CanWrite version c → (rest : List ℕ) → (item : Item) × (item.command ≡ c) × (front_of file version number offset (canonical version c ++ rest) ≡ Ok (record { item = item; rest = rest }))
 front_item file version number offset c w rest =
     let s = canonical_spells version c w.spellable in
-    (record { file = file; number = number; offset = offset; version = version; data_at = data_place version offset s.attributes; command = c }, refl, spelled_front file version number offset (canonical version c) rest c s w.taken_kind)
+    (record { file = file; number = number; offset = offset; version = version; data_at = data_place version offset s.attributes; command = c }, refl, spelled_front file version number offset (canonical version c) rest c s)
 
 -- What is read of the commands of one stream.
 pub record ReadsAs (r : Reading) (cs : List Command) : Type 0 where
@@ -48,17 +48,22 @@ step_end n file version number offset bytes item front is =
 
 -- Each version that is read is one of the two, and has END.
 pub read_version : (version : ℕ) → is_version version ≡ true → IsVersion version
-read_version version e = inl (eqb-true version 1 e)
+read_version version e = one (version == 1) (version == 2) refl refl e
+  where
+    one : (a b : Bool) → (version == 1) ≡ a → (version == 2) ≡ b → a || b ≡ true → IsVersion version
+    one true b p q f = inl (eqb-true version 1 p)
+    one false true p q f = inr (eqb-true version 2 q)
+    one false false p q f = absurd (true≢false (sym f))
 
 pub end_writable : (version : ℕ) → IsVersion version → CanWrite version End
-unfolding taken is_taken kind_of_number row attributes_of body_of
+unfolding kind_of_number row attributes_of body_of
 end_writable version is = ⊎_elim (λ e. subst (λ (v : ℕ). CanWrite v End) (sym e) one) (λ e. subst (λ (v : ℕ). CanWrite v End) (sym e) two) is
   where
     one : CanWrite 1 End
-    one = record { spellable = record { known = refl; values = tt; short = zero-le }; taken_kind = refl }
+    one = record { spellable = record { known = refl; values = tt; short = zero-le } }
 
     two : CanWrite 2 End
-    two = record { spellable = record { known = refl; values = tt; short = zero-le }; taken_kind = refl }
+    two = record { spellable = record { known = refl; values = tt; short = zero-le } }
 
 reads_commands : (cs : List Command) (n file version number offset : ℕ) → IsVersion version → AllByRecursion (IsInner version) cs → length cs < n
     → ReadsAs (reads_from n file (CommandDue version) number offset (canonical_all version (cs ++ End ∷ []))) (cs ++ End ∷ [])

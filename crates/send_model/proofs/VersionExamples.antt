@@ -1,11 +1,11 @@
 -- Worked examples of version 2: its frames, as an assembler independent of this program makes them; its rules of reading, beside
 -- those of version 1; and the stream that stands for one of version 1 and one of version 2.
 use Rattle.std.specs.Prelude.{◌≡◌, ℕ, List, [], ◌∷◌, ◌++◌, Result, Ok, Err, codes, refl}
-use Rattle.send_model.specs.Refusal.{Refusal, BadAttribute, UnknownCommand, Encoded, NotBuilt}
-use Rattle.send_model.specs.Attribute.{PATH, DATA}
-use Rattle.send_model.specs.Command.{Command, Subvol, Snapshot, MkFile, Write, End, Fallocate, FileAttr}
+use Rattle.send_model.specs.Refusal.{Refusal, BadVersion, BadAttribute, MissingAttribute, UnknownCommand, Encoded}
+use Rattle.send_model.specs.Attribute.{SIZE, PATH, DATA}
+use Rattle.send_model.specs.Command.{Command, Subvol, Snapshot, MkFile, Write, Clone, End, Fallocate, FileAttr}
 use Rattle.send_model.specs.Spelling.{canonical, canonical_all, stream_header}
-use Rattle.send_model.specs.Reading.{Item, front_of, frame_at, attributes_at, command_of}
+use Rattle.send_model.specs.Reading.{Item, stream_version, front_of, frame_at, attributes_at, command_of}
 use Rattle.send_model.specs.Chain.{◌>>=◌}
 use Rattle.send_model.specs.Composed.{version_of, composed_of}
 use Rattle.send_model.proofs.ExampleWords.{hexadecimal, uuid, reading_words, composing_words}
@@ -26,7 +26,7 @@ flagged = refl
 
 -- ---- reading
 
--- The command of a frame, whether or not the program takes it.
+-- The command of a frame.
 abbrev command_at : ℕ → List ℕ → Result Command Refusal
 command_at version bytes = frame_at bytes >>= (λ frame. attributes_at version frame.body >>= (λ attributes. command_of version frame.number attributes))
 
@@ -65,14 +65,57 @@ encoded_bad : command_at 2 (hexadecimal (codes "060000001900390c3e04200000000000
 unfolding reading_words
 encoded_bad = refl
 
-encoded_before_taken : front_of 1 2 3 79 (hexadecimal (codes "00000000190038433a4f")) ≡ Err Encoded
+encoded_in_front : front_of 1 2 3 79 (hexadecimal (codes "00000000190038433a4f")) ≡ Err Encoded
 unfolding reading_words
-encoded_before_taken = refl
+encoded_in_front = refl
 
--- Whether the program takes a command comes before what the command wants.
-not_built_first : front_of 1 2 3 79 (hexadecimal (codes "00000000170093cc4546")) ≡ Err (NotBuilt 23)
+-- The commands of version 2 alone are in front as any other is, and so is a CLONE, in either version.
+punched_in_front : front_of 1 2 3 79 (hexadecimal (codes "2500000017005aa40a4a0400080001000000000000000f000100781200080000000000000000001900040003000000"))
+    ≡ Ok (record { item = record { file = 1; number = 3; offset = 79; version = 2; data_at = 0; command = Fallocate 1 (codes "x") 0 3 }; rest = [] })
 unfolding reading_words
-not_built_first = refl
+punched_in_front = refl
+
+flagged_in_front : front_of 1 2 3 79 (hexadecimal (codes "110000001800ce7fa5ff0f000100781a0008001000000000000000"))
+    ≡ Ok (record { item = record { file = 1; number = 3; offset = 79; version = 2; data_at = 0; command = FileAttr (codes "x") 16 }; rest = [] })
+unfolding reading_words
+flagged_in_front = refl
+
+cloned_in_front : front_of 1 1 3 79 (hexadecimal (codes "4e00000010009298155b0f0001007812000800001000000000000014001000111111111111111111111111111111111500080001000000000000001600010079170008000000000000000000180008000020000000000000"))
+    ≡ Ok (record { item = record { file = 1; number = 3; offset = 79; version = 1; data_at = 0; command = Clone (codes "x") 4_096 (uuid 0x11) 1 (codes "y") 0 8_192 }; rest = [] })
+unfolding reading_words
+cloned_in_front = refl
+
+cloned_in_second : front_of 1 2 3 79 (hexadecimal (codes "4e00000010009298155b0f0001007812000800001000000000000014001000111111111111111111111111111111111500080001000000000000001600010079170008000000000000000000180008000020000000000000"))
+    ≡ Ok (record { item = record { file = 1; number = 3; offset = 79; version = 2; data_at = 0; command = Clone (codes "x") 4_096 (uuid 0x11) 1 (codes "y") 0 8_192 }; rest = [] })
+unfolding reading_words
+cloned_in_second = refl
+
+-- What a command wants is asked of each.
+nothing_there : front_of 1 2 3 79 (hexadecimal (codes "00000000170093cc4546")) ≡ Err (MissingAttribute SIZE)
+unfolding reading_words
+nothing_there = refl
+
+-- A number of version 2 alone is that of no command of version 1.
+unknown_in_first : front_of 1 1 3 79 (hexadecimal (codes "00000000170093cc4546")) ≡ Err (UnknownCommand 23)
+unfolding reading_words
+unknown_in_first = refl
+
+-- Streams of versions 1 and 2 are read, and of no other.
+first_header : stream_version (hexadecimal (codes "62747266732d73747265616d0001000000")) ≡ Ok 1
+unfolding reading_words
+first_header = refl
+
+second_header : stream_version (hexadecimal (codes "62747266732d73747265616d0002000000")) ≡ Ok 2
+unfolding reading_words
+second_header = refl
+
+third_header : stream_version (hexadecimal (codes "62747266732d73747265616d0003000000")) ≡ Err (BadVersion 3)
+unfolding reading_words
+third_header = refl
+
+zeroth_header : stream_version (hexadecimal (codes "62747266732d73747265616d0000000000")) ≡ Err (BadVersion 0)
+unfolding reading_words
+zeroth_header = refl
 
 -- DATA swallows the rest of a body in any command of version 2, what looks like an attribute too. In version 1 it has a length.
 swallowed : attributes_at 2 (hexadecimal (codes "0f0001007813000f00010079")) ≡ Ok (record { kind = PATH; bytes = codes "x" } ∷ record { kind = DATA; bytes = hexadecimal (codes "0f00010079") } ∷ [])

@@ -1,22 +1,10 @@
--- What the program's words ask for, and how it answers: the exit status and the line on standard error.
--- They are this program's own. These are the words that it takes today; `Words` has all.
-use Rattle.std.specs.Prelude.{ℕ, ◌-◌, false, ◌&&◌, List, [], ◌∷◌, ◌++◌, length, replicate, Option, None, Some, codes, if◌then◌else◌}
+-- How the program answers: the exit status and the line on standard error. They are this program's own.
+use Rattle.std.specs.Prelude.{ℕ, ◌-◌, false, List, [], ◌∷◌, ◌++◌, length, replicate, codes}
 use Rattle.std.specs.Fmt.{decimal, digits}
-use Rattle.std.specs.Str.{bytes_eq}
 use Rattle.send_model.specs.Refusal.{Refusal, refusal_number, refusal_name, BadMagic, BadVersion, Truncated, LongCommand, BadChecksum, UnknownCommand, BadAttribute, MissingAttribute, NoSubvolume, BadName, NameThere, UuidThere, NoParent, BadPath, NoEntry, NotDirectory, EntryThere, IsDirectory, NotEmpty, IntoItself, NotFile, BadXattr, NoXattr, BadDevice, BadTime, IsRoot, FileTooBig, NoSource, BadRange, Unaligned, Overlap, Encoded, Guarded, BadFallocate, NotConsecutive, NotBuilt, NoNumber}
 use Rattle.send_model.specs.Reading.{Verdict}
 
--- A request: compose the files from a place in the words on, over the store at another.
-pub data Request : Type 0 where
-  Compose : (store : ℕ) (files : ℕ) → Request
-
--- The words `compose none FILE..`, with at least one FILE; no other words mean anything.
-unfoldable pub request : List (List ℕ) → Option Request
-request (word ∷ store ∷ file ∷ files) = if bytes_eq word (codes "compose") && bytes_eq store (codes "none") then Some (Compose 1 2) else None
-request [] = None
-request (word ∷ []) = None
-request (word ∷ store ∷ []) = None
-
+-- How a run answers.
 pub data Answer : Type 0 where
   Done : Answer
   Refused : Verdict → Answer
@@ -25,6 +13,8 @@ pub data Answer : Type 0 where
   OutputFault : Answer
   NoMemory : Answer
   InputTooLong : (file : ℕ) → Answer
+  TooMuch : (sum : ℕ) → Answer
+  InputChanged : (file place : ℕ) → Answer
 
 unfoldable pub status_of : Answer → ℕ
 status_of Done = 0
@@ -33,7 +23,9 @@ status_of Usage = 2
 status_of InputFault = 3
 status_of OutputFault = 4
 status_of NoMemory = 7
+status_of (TooMuch sum) = 9
 status_of (InputTooLong file) = 11
+status_of (InputChanged file place) = 13
 
 -- A checksum in eight lower hexadecimal digits.
 unfoldable pub eight_digits : ℕ → List ℕ
@@ -101,4 +93,6 @@ note_of Usage = line (codes "usage")
 note_of InputFault = line (codes "input fault")
 note_of OutputFault = line (codes "output fault")
 note_of NoMemory = line (codes "no memory")
+note_of (TooMuch sum) = line (codes "too much" ++ and_number sum)
 note_of (InputTooLong file) = line (codes "input too long" ++ and_number file)
+note_of (InputChanged file place) = line (codes "input changed" ++ and_number file ++ and_number place)

@@ -5,25 +5,24 @@ use Rattle.std.specs.List.{AllByRecursion}
 use Rattle.send_model.specs.Attribute.{IsBytes}
 use Rattle.send_model.specs.Command.{Command, Write, End, row, kind_of}
 use Rattle.send_model.specs.Spelling.{Attribute, body_of, Spells, IsSpellable, stream_header, canonical, canonical_all}
-use Rattle.send_model.specs.Reading.{Item, Reading, Frame, Front, Whole, is_version, frame_at, attributes_at, command_of, reads, input, taken, item_at, front_of}
+use Rattle.send_model.specs.Reading.{Item, Reading, Frame, Front, Whole, is_version, frame_at, attributes_at, command_of, reads, input, item_at, front_of}
 use Rattle.send_model.specs.Map.{bytes_cmp}
 use Rattle.send_model.specs.Subvolume.{Subvolume, IsNameable, walk, first_path, is_nameable}
 use Rattle.send_model.specs.Edit.{edit}
-use Rattle.send_model.specs.Store.{Key, Store, Part, State, step, edit_part, head_of}
+use Rattle.send_model.specs.Store.{Key, Head, Store, Part, State, step, edit_part, head_of}
 use Rattle.send_model.specs.Receive.{IsAccepted, run_items, byte_cells, start_of, receive_of, receive}
 use Rattle.send_model.specs.Order.{heads, commands_of, IsConsecutive, judge_of}
-use Rattle.send_model.specs.Outside.{base_of, base, keys_outside, outside, FindsLawful, FindsSayable}
-use Rattle.send_model.specs.Provenance.{Traced, ranges_from, uncarried_in, runs_in}
+use Rattle.send_model.specs.Outside.{part_uuids, base_of, base, keys_outside, outside, FindsLawful, FindsSayable}
+use Rattle.send_model.specs.Provenance.{Traced, traced_store, ranges_from, uncarried_in, runs_in}
 use Rattle.send_model.specs.Counts.{literal, clones, is_clone, is_end, kept_from}
-use Rattle.send_model.specs.Composed.{version_of, composed_from, composed_of}
+use Rattle.send_model.specs.Composed.{first_head, last_head, head_command, version_of, composed_from, composed_of}
 use Rattle.send_model.specs.Generated.{chain_items}
 use Rattle.send_model.specs.Cells.{recelled_state, recelled_step}
 use Rattle.send_model.specs.Headline.{AreComposed, IsComposedOf, IsComposed, IsUnfinished, output_of, output_for}
 
--- A command that the program takes, and that a version can say.
+-- A command that a version can say.
 pub record CanWrite (version : ℕ) (c : Command) : Type 0 where
   pub spellable : IsSpellable version c
-  pub taken_kind : taken version (row (kind_of c)).number ≡ Ok tt
 
 -- The bytes in front are read, rule by rule, as one frame of a command, and after it others follow.
 pub record IsReadAs (version : ℕ) (bytes rest : List ℕ) (attributes : List Attribute) (c : Command) : Type 0 where
@@ -35,17 +34,15 @@ pub record IsReadAs (version : ℕ) (bytes rest : List ℕ) (attributes : List A
 abbrev pub SpelledIsRead : Type 0
 SpelledIsRead = (version : ℕ) (bytes rest : List ℕ) (c : Command) (s : Spells version bytes c) → IsReadAs version bytes rest s.attributes c
 
--- So it is the item in front, where the program takes it.
+-- So it is the item in front.
 abbrev pub SpelledIsFront : Type 0
 SpelledIsFront = (file version number offset : ℕ) (bytes rest : List ℕ) (c : Command) (s : Spells version bytes c)
-    → taken version (row (kind_of c)).number ≡ Ok tt
     → front_of file version number offset (bytes ++ rest) ≡ Ok (record { item = item_at file version number offset s.attributes c; rest = rest })
 
--- What is in front was spelled: one frame for the item's command, which is taken, and then what follows it.
+-- What is in front was spelled: one frame for the item's command, and then what follows it.
 pub record WasSpelled (file version number offset : ℕ) (bytes : List ℕ) (front : Front) : Type 0 where
   pub frame : List ℕ
   pub spells : Spells version frame front.item.command
-  pub taken_kind : taken version (row (kind_of front.item.command)).number ≡ Ok tt
   pub whole : bytes ≡ frame ++ front.rest
   pub item_is : front.item ≡ item_at file version number offset spells.attributes front.item.command
 
@@ -54,7 +51,7 @@ abbrev pub ReadWasSpelled : Type 0
 ReadWasSpelled = (file version number offset : ℕ) (bytes : List ℕ) (front : Front) → IsBytes bytes
     → front_of file version number offset bytes ≡ Ok front → WasSpelled file version number offset bytes front
 
--- Frame, attributes and command, rule by rule, where it is not asked whether the program takes the command.
+-- Frame, attributes and command, rule by rule.
 abbrev pub RulesWereSpelled : Type 0
 RulesWereSpelled = (version : ℕ) (bytes : List ℕ) (frame : Frame) (attributes : List Attribute) (c : Command) → IsBytes bytes
     → frame_at bytes ≡ Ok frame
@@ -125,8 +122,18 @@ ItemsSpelled = (store : Store ℕ) (items : List Item) → IsConsecutive items
     → AllByRecursion (λ item. IsSpellable item.version item.command) items
     → AllByRecursion (IsSpellable (version_of items)) (composed_of (base_of store items) items)
 
--- A whole reading, as a file of bytes gives it and whatever of it is renamed: the last command is END, and each command is one that is
--- taken, and can be said, in its own version, which is one that is read.
+-- What stands for first items that a base takes, as the part of the last head of all, can be written in the version of the whole
+-- stream, where the items' own versions can say all of them, and the format each subvolume of the base that they name.
+abbrev pub FrontsAreWritable : Type 0
+FrontsAreWritable = (store : Store ℕ) (all items more : List Item) (first last : Head) → all ≡ items ++ more
+    → IsAccepted (run_items 0 byte_cells (start_of (base_of store all)) items) → FindsSayable (base_of store all) (keys_outside all)
+    → AllByRecursion (λ item. CanWrite item.version item.command × (is_version item.version ≡ true)) all
+    → first_head (heads items) ≡ Some first → last_head (heads all) ≡ Some last
+    → AreInner (version_of all) (head_command last.name last.key first.parent
+    ∷ composed_from (base_of store all) (part_uuids all) last.key (start_of (traced_store (base_of store all))) None items)
+
+-- A whole reading, as a file of bytes gives it and whatever of it is renamed: the last command is END, and each command can be
+-- said in its own version, which is one that is read.
 pub record IsWhole (reading : Reading) : Type 0 where
   pub whole : reading.end ≡ Whole
   pub others : List Command

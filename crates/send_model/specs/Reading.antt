@@ -1,14 +1,14 @@
 -- Reading a file of streams, of either version, from the front: its commands, and how the reading ends. The first rule that is broken ends
 -- it, with the refusal of that rule. Source: read_and_process_cmd in send-stream.c of btrfs-progs.
-use Rattle.std.specs.Prelude.{ℕ, zero, suc, ◌+◌, ◌-◌, Bool, true, false, ◌&&◌, not, List, [], ◌∷◌, ◌++◌, length, take, drop, Option, None, Some, Result, Ok, Err, nat_lt, nat_le, ◌==◌, if◌then◌else◌}
+use Rattle.std.specs.Prelude.{ℕ, zero, suc, ◌+◌, ◌-◌, Bool, true, false, ◌&&◌, ◌||◌, not, List, [], ◌∷◌, ◌++◌, length, take, drop, Option, None, Some, Result, Ok, Err, nat_lt, nat_le, ◌==◌, if◌then◌else◌}
 use Rattle.std.specs.List.{list_all}
 use Rattle.std.specs.Option.{unwrap_or}
 use Rattle.std.specs.Str.{bytes_eq}
 use Rattle.std.specs.Int.{w16, w32, from_le_bytes}
-use Rattle.send_model.specs.Refusal.{Refusal, BadMagic, BadVersion, Truncated, LongCommand, BadChecksum, UnknownCommand, BadAttribute, MissingAttribute, BadTime, Encoded, NotBuilt}
+use Rattle.send_model.specs.Refusal.{Refusal, BadMagic, BadVersion, Truncated, LongCommand, BadChecksum, UnknownCommand, BadAttribute, MissingAttribute, BadTime, Encoded}
 use Rattle.send_model.specs.Chain.{◌>>=◌, ◌>>◌, require, refuse_if, found}
 use Rattle.send_model.specs.Attribute.{Form, AnIdentifier, ANumber, AShortNumber, AMoment, AnyBytes, NoForm, form_of, second, last_attribute, takes_rest, DATA, is_one_of}
-use Rattle.send_model.specs.Command.{Kind, SUBVOL, SNAPSHOT, MKFILE, MKDIR, MKNOD, MKFIFO, MKSOCK, SYMLINK, RENAME, LINK, UNLINK, RMDIR, SET_XATTR, REMOVE_XATTR, WRITE, CLONE, TRUNCATE, CHMOD, CHOWN, UTIMES, END, UPDATE_EXTENT, FALLOCATE, FILEATTR, Command, Subvol, Snapshot, MkFile, MkDir, MkNod, MkFifo, MkSock, Symlink, Rename, Link, Unlink, Rmdir, SetXattr, RemoveXattr, Write, Clone, Truncate, Chmod, Chown, Utimes, End, UpdateExtent, Fallocate, FileAttr, row, is_encoded, kind_of_number, command_with, time_in}
+use Rattle.send_model.specs.Command.{Command, Subvol, Snapshot, MkFile, MkDir, MkNod, MkFifo, MkSock, Symlink, Rename, Link, Unlink, Rmdir, SetXattr, RemoveXattr, Write, Clone, Truncate, Chmod, Chown, Utimes, End, UpdateExtent, Fallocate, FileAttr, row, is_encoded, kind_of_number, command_with, time_in}
 use Rattle.send_model.specs.Spelling.{Attribute, magic, value_of, frame_checksum, greatest_body}
 
 -- Numbers of two and four bytes at the front of a list.
@@ -25,7 +25,7 @@ header_len = 17
 
 -- The versions that are read.
 abbrev pub is_version : ℕ → Bool
-is_version version = version == 1
+is_version version = (version == 1) || (version == 2)
 
 -- The version of the stream whose header stands in front: too few bytes, another text, another version.
 unfoldable pub stream_version : List ℕ → Result ℕ Refusal
@@ -151,39 +151,6 @@ command_of version number attributes = do
   require (list_all (moment_lawful attributes) (row kind).wanted) BadTime
   Ok (command_with kind (bytes_at attributes))
 
--- ---- which commands the program takes today
-
--- The kinds that are taken. The others are NotBuilt.
-unfoldable pub is_taken : Kind → Bool
-is_taken SUBVOL = true
-is_taken SNAPSHOT = true
-is_taken MKFILE = true
-is_taken MKDIR = true
-is_taken MKNOD = true
-is_taken MKFIFO = true
-is_taken MKSOCK = true
-is_taken SYMLINK = true
-is_taken RENAME = true
-is_taken LINK = true
-is_taken UNLINK = true
-is_taken RMDIR = true
-is_taken SET_XATTR = true
-is_taken REMOVE_XATTR = true
-is_taken WRITE = true
-is_taken CLONE = false
-is_taken TRUNCATE = true
-is_taken CHMOD = true
-is_taken CHOWN = true
-is_taken UTIMES = true
-is_taken END = true
-is_taken UPDATE_EXTENT = true
-is_taken FALLOCATE = false
-is_taken FILEATTR = false
-
--- A known number whose command is not taken yet is refused; an unknown one is left to the next rule.
-unfoldable pub taken : ℕ → ℕ → Result (Unit {0}) Refusal
-taken version number = elim (kind_of_number version number) [ None ↦ Ok tt | Some kind ↦ require (is_taken kind) (NotBuilt number) ]
-
 -- ---- a file
 
 -- A command with the file that it stands in, counted from 1, its number there, counted from 1, the place of its frame's
@@ -242,7 +209,6 @@ unfoldable pub front_of : ℕ → ℕ → ℕ → ℕ → List ℕ → Result Fr
 front_of file version number offset bytes = do
   frame ← frame_at bytes
   attributes ← attributes_at version frame.body
-  taken version frame.number
   command ← command_of version frame.number attributes
   Ok (record { item = item_at file version number offset attributes command; rest = frame.rest })
 

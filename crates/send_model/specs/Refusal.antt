@@ -1,6 +1,7 @@
 -- Why a command is refused, with the values that a refusal keeps, and the number and name of each refusal,
--- as notes print them. Faults of reading a stream's bytes are the first eight, BadTime, Encoded and NotBuilt; Guarded is what
--- a guard answers, and NotConsecutive what compose asks of the order of parts; the others are faults of what a command asks for.
+-- as notes print them. Faults of reading a stream's bytes are the first eight, BadTime and Encoded; Guarded is what
+-- a guard answers, and NotConsecutive what compose asks of the order of parts; NotBuilt is kept for commands that are not taken,
+-- of which there are none; the others are faults of what a command asks for.
 -- The numbers are this program's own.
 use Rattle.std.specs.Prelude.{ℕ, List, codes}
 

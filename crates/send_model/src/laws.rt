@@ -11,11 +11,10 @@ ghost use Rattle.send_model.specs.GuardLaws.{NoGuardsChangeNothing, AllowedIsAcc
 ghost use Rattle.send_model.specs.Due.{IsJudgedOf, IsJudged};
 ghost use Rattle.send_model.specs.Lawful.{KeepsLawfulness, EditsKeepSayable, ReceivedIsLawful, FilesLeaveLawful, LawfulFindsSayable, LawfulStoresHold};
 ghost use Rattle.send_model.specs.Receivable.{ReceivableSpells, ReceivableRises, ExportedIsSame, ExportedIsComposed};
-ghost use Rattle.send_model.specs.Laws.{SpelledIsRead, SpelledIsFront, FrameHasOneReading, ReadWasSpelled, RulesWereSpelled, DataIsThere, CanonicalSpells, SpelledIsSpellable, SecondSaysMore, AreInner, StreamIsRead, CutIsUnfinished, EditLooksAtItsPart, StepKeepsCells, FirstPathsAreLeast, AreCounted, ItemsHold, ItemsSpelled, ReadingsHold, PlainReadingsHold, FilesAreWhole, FilesHold, PlainFilesHold, ChainIsLawful};
+ghost use Rattle.send_model.specs.Laws.{SpelledIsRead, SpelledIsFront, FrameHasOneReading, ReadWasSpelled, RulesWereSpelled, DataIsThere, CanonicalSpells, SpelledIsSpellable, SecondSaysMore, AreInner, StreamIsRead, CutIsUnfinished, EditLooksAtItsPart, StepKeepsCells, FirstPathsAreLeast, AreCounted, ItemsHold, ItemsSpelled, FrontsAreWritable, ReadingsHold, PlainReadingsHold, FilesAreWhole, FilesHold, PlainFilesHold, ChainIsLawful};
 
 /// Whatever spells a command is read as that command, whatever follows it, and spells no other; what is read was spelled. So it is
-/// of every command of either version, and of the item in front for those that the program takes; the data of a WRITE stand where
-/// its item says. The canonical spelling spells its
+/// of every command of either version, and of the item in front; the data of a WRITE stand where its item says. The canonical spelling spells its
 /// command, there is one for each command that is spelled in any way, and version 2 has one for whatever version 1 has one for.
 pub fn spelling_is_read_back()
     ensures spelled { SpelledIsRead }
@@ -95,10 +94,12 @@ pub fn composed_commands_are_counted()
 /// The headline, for all commands: the composed ones name only outside subvolumes, and every store that holds these, and neither
 /// the last name nor uuid, accepts them and gets exactly the last part's subvolume. So it is for items, whatever of them can be
 /// read, where the subvolumes outside are lawful; and for what was read to a whole end, in terms of the stream that is written, where
-/// the format can say the subvolumes outside. Without clones these may be of any kind. Files of bytes are read so.
+/// the format can say the subvolumes outside. Without clones these may be of any kind. Files of bytes are read so. What stands for
+/// first items alone, where composing stops among them, can be written too.
 pub fn composed_streams_are_accepted()
     ensures items { ItemsHold }
     ensures spelled { ItemsSpelled }
+    ensures fronts { FrontsAreWritable }
     ensures readings { ReadingsHold }
     ensures plain_readings { PlainReadingsHold }
     ensures whole { FilesAreWhole }

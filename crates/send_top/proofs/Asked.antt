@@ -1,12 +1,12 @@
 -- What each word's call answers, as what the request is answered with.
-use Rattle.std.specs.Prelude.{◌≡◌, ⊤, ℕ, ◌<◌, List, [], ◌∷◌, length, map, drop, slice_index_or, Option, None, Some}
-use Rattle.std.proofs.Common.{refl, sym, ap, subst, ◌∙◌}
-use Rattle.send_model.specs.Store.{Store}
+use Rattle.std.specs.Prelude.{◌≡◌, ℕ, List, [], map, Option, None, Some}
+use Rattle.std.proofs.Common.{refl, ap, subst, ◌∙◌, arith}
 use Rattle.send_model.specs.Guards.{GuardSpec, Guard}
 use Rattle.send_model.specs.Answer as meant
-use Rattle.send_model.specs.Words.{Request, Compose, Audit, Dump, Export, new_guards, due, whole_of, EndSays, StandsBefore, StandsCut}
+use Rattle.send_model.specs.Words.{Request, Compose, Audit, Dump, Export, new_guards, due, whole_of}
 use Rattle.sx_base.specs.Outside.{file_at}
-use Rattle.sx_base.specs.Calls.{IfAllTold, Wrote, Ends}
+use Rattle.sx_base.specs.Causes.{Rose}
+use Rattle.sx_base.specs.Calls.{IfAllTold, Wrote, Ends, Caused, CausedAgain}
 use Rattle.sx_base.specs.declared.outcome.Outcome.{Outcome}
 use Rattle.sx_base.specs.declared.outcome.Outcome.TheVariants as ended
 use Rattle.auditor.specs.Answers.{AuditEnds}
@@ -27,22 +27,24 @@ of_names told names others P same holds = subst (λ (ns : List (List ℕ)). IfAl
 
 module _ (old new : Option (List ℕ)) (files : List (List ℕ)) where
   -- The places of the store and the files play no part in an answer.
-  pub composes : (store at : ℕ) (outcome : Outcome) → Wrote old new (λ written. Ends (Compose 1 2) [] files outcome written) → Wrote old new (λ written. Ends (Compose store at) [] files outcome written)
+  composes : (store at : ℕ) (outcome : Outcome) → Wrote old new (λ written. Ends (Compose 1 2) [] files outcome written) → Wrote old new (λ written. Ends (Compose store at) [] files outcome written)
   unfolding due whole_of
   composes store at ended.Done w = w
   composes store at (ended.Refused verdict) w = w
   composes store at (ended.InputTooLong file) w = w
+  composes store at (ended.TooMuch sum) w = w
+  composes store at (ended.InputChanged file place) w = w
   composes store at ended.InputFault w = w
   composes store at ended.OutputFault w = w
   composes store at ended.NoMemory w = w
 
-  pub headline : (store at : ℕ) (outcome : Outcome) → outcome ≡ ended.Done → Wrote old new (λ written. composing.EndSays files written outcome) → Wrote old new (IfComposes (Compose store at) files)
-  headline store at ended.Done e w = (w.0, w.1, λ s a same. w.2.composed_is)
-  headline store at (ended.Refused verdict) e w = cc
-  headline store at (ended.InputTooLong file) e w = cc
-  headline store at ended.InputFault e w = cc
-  headline store at ended.OutputFault e w = cc
-  headline store at ended.NoMemory e w = cc
+  -- The headline holds where all was done.
+  pub headline : (store at : ℕ) (outcome : Outcome) → outcome ≡ ended.Done → Wrote old new (composing.ComposeEnds [] files outcome) → Wrote old new (IfComposes (Compose store at) files)
+  headline store at outcome e w = (w.0, w.1, λ s a same. w.2.composed e)
+
+  -- The answer is the one that is due.
+  pub composed_ends : (store at : ℕ) (outcome : Outcome) → Wrote old new (composing.ComposeEnds [] files outcome) → Wrote old new (λ written. Ends (Compose store at) [] files outcome written)
+  composed_ends store at outcome w = composes store at outcome (w.0, w.1, w.2.ends)
 
   -- What another word wrote is not composed.
   pub audit_wrote : (guards : List GuardSpec) (store at : ℕ) (P : List ℕ → Type 0) → Wrote old new P → Wrote old new (IfComposes (Audit guards store at) files)
@@ -54,6 +56,8 @@ module _ (old new : Option (List ℕ)) (files : List (List ℕ)) where
   audits_new specs store at ended.Done w = w
   audits_new specs store at (ended.Refused verdict) w = w
   audits_new specs store at (ended.InputTooLong file) w = w
+  audits_new specs store at (ended.TooMuch sum) w = w
+  audits_new specs store at (ended.InputChanged file place) w = w
   audits_new specs store at ended.InputFault w = w
   audits_new specs store at ended.OutputFault w = w
   audits_new specs store at ended.NoMemory w = w
@@ -67,6 +71,8 @@ module _ (old new : Option (List ℕ)) (files : List (List ℕ)) where
   dumps at ended.Done w = w
   dumps at (ended.Refused verdict) w = w
   dumps at (ended.InputTooLong file) w = w
+  dumps at (ended.TooMuch sum) w = w
+  dumps at (ended.InputChanged file place) w = w
   dumps at ended.InputFault w = w
   dumps at ended.OutputFault w = w
   dumps at ended.NoMemory w = w
@@ -76,6 +82,8 @@ module _ (old new : Option (List ℕ)) (files : List (List ℕ)) where
   exports at ended.Done w = w
   exports at (ended.Refused verdict) w = w
   exports at (ended.InputTooLong file) w = w
+  exports at (ended.TooMuch sum) w = w
+  exports at (ended.InputChanged file place) w = w
   exports at ended.InputFault w = w
   exports at ended.OutputFault w = w
   exports at ended.NoMemory w = w
@@ -94,6 +102,8 @@ pub is_done : (outcome : Outcome) → outcome_of outcome ≡ meant.Done → outc
 is_done ended.Done e = refl
 is_done (ended.Refused verdict) e = cc
 is_done (ended.InputTooLong file) e = cc
+is_done (ended.TooMuch sum) e = cc
+is_done (ended.InputChanged file place) e = cc
 is_done ended.InputFault e = cc
 is_done ended.OutputFault e = cc
 is_done ended.NoMemory e = cc
@@ -103,6 +113,45 @@ pub answers : (old new : Option (List ℕ)) (request : Request) (files : List (L
 answers old new request files ended.Done w = w
 answers old new request files (ended.Refused verdict) w = w
 answers old new request files (ended.InputTooLong file) w = w
+answers old new request files (ended.TooMuch sum) w = w
+answers old new request files (ended.InputChanged file place) w = w
 answers old new request files ended.InputFault w = w
 answers old new request files ended.OutputFault w = w
 answers old new request files ended.NoMemory w = w
+
+-- ---- causes
+
+-- A call that reads no byte twice has the causes of one that does.
+pub caused_again : (ends_before ends_now inputs_before inputs_now out_before out_now : ℕ) (outcome : Outcome) → Caused inputs_before inputs_now out_before out_now outcome → CausedAgain ends_before ends_now inputs_before inputs_now out_before out_now outcome
+caused_again ends_before ends_now inputs_before inputs_now out_before out_now ended.Done w = w
+caused_again ends_before ends_now inputs_before inputs_now out_before out_now (ended.Refused verdict) w = w
+caused_again ends_before ends_now inputs_before inputs_now out_before out_now (ended.InputTooLong file) w = w
+caused_again ends_before ends_now inputs_before inputs_now out_before out_now (ended.TooMuch sum) w = w
+caused_again ends_before ends_now inputs_before inputs_now out_before out_now (ended.InputChanged file place) w = absurd w
+caused_again ends_before ends_now inputs_before inputs_now out_before out_now ended.InputFault w = w
+caused_again ends_before ends_now inputs_before inputs_now out_before out_now ended.OutputFault w = w
+caused_again ends_before ends_now inputs_before inputs_now out_before out_now ended.NoMemory w = w
+
+-- A call that asks nothing of the inputs.
+pub caused_unread : (ends_before ends_now inputs_before inputs_now out_before out_now : ℕ) (outcome : Outcome) → Caused 0 0 out_before out_now outcome → CausedAgain ends_before ends_now inputs_before inputs_now out_before out_now outcome
+caused_unread ends_before ends_now inputs_before inputs_now out_before out_now ended.Done w = w
+caused_unread ends_before ends_now inputs_before inputs_now out_before out_now (ended.Refused verdict) w = w
+caused_unread ends_before ends_now inputs_before inputs_now out_before out_now (ended.InputTooLong file) w = w
+caused_unread ends_before ends_now inputs_before inputs_now out_before out_now (ended.TooMuch sum) w = w
+caused_unread ends_before ends_now inputs_before inputs_now out_before out_now (ended.InputChanged file place) w = absurd w
+caused_unread ends_before ends_now inputs_before inputs_now out_before out_now ended.InputFault w = absurd (omega (arith, w))
+caused_unread ends_before ends_now inputs_before inputs_now out_before out_now ended.OutputFault w = w
+caused_unread ends_before ends_now inputs_before inputs_now out_before out_now ended.NoMemory w = w
+
+-- What an answer says of its cause.
+pub fault_caused : (ends_before ends_now inputs_before inputs_now out_before out_now : ℕ) (outcome : Outcome) → CausedAgain ends_before ends_now inputs_before inputs_now out_before out_now outcome → outcome_of outcome ≡ meant.InputFault → Rose inputs_before inputs_now
+fault_caused ends_before ends_now inputs_before inputs_now out_before out_now ended.InputFault w e = w
+fault_caused ends_before ends_now inputs_before inputs_now out_before out_now outcome w e = cc
+
+pub output_caused : (ends_before ends_now inputs_before inputs_now out_before out_now : ℕ) (outcome : Outcome) → CausedAgain ends_before ends_now inputs_before inputs_now out_before out_now outcome → outcome_of outcome ≡ meant.OutputFault → Rose out_before out_now
+output_caused ends_before ends_now inputs_before inputs_now out_before out_now ended.OutputFault w e = w
+output_caused ends_before ends_now inputs_before inputs_now out_before out_now outcome w e = cc
+
+pub change_caused : (ends_before ends_now inputs_before inputs_now out_before out_now : ℕ) (outcome : Outcome) (file place : ℕ) → CausedAgain ends_before ends_now inputs_before inputs_now out_before out_now outcome → outcome_of outcome ≡ meant.InputChanged file place → Rose ends_before ends_now
+change_caused ends_before ends_now inputs_before inputs_now out_before out_now (ended.InputChanged number at) file place w e = w
+change_caused ends_before ends_now inputs_before inputs_now out_before out_now outcome file place w e = cc

@@ -1,11 +1,10 @@
 -- The guard words of audit, word by word.
-use Rattle.std.specs.Prelude.{◌≡◌, ℕ, ◌+◌, ◌-◌, ◌<◌, ◌≤◌, Bool, true, false, List, [], ◌∷◌, ◌++◌, length, take, drop, Option, None, Some, IsTrue, is_some, codes, slice_index_or, if◌then◌else◌}
-use Rattle.std.specs.Str.{bytes_eq}
+use Rattle.std.specs.Prelude.{◌≡◌, ℕ, ◌+◌, ◌-◌, ◌<◌, ◌≤◌, Bool, true, false, List, [], ◌∷◌, ◌++◌, length, take, drop, Option, None, Some, IsTrue, is_some, slice_index_or, if◌then◌else◌}
 use Rattle.std.proofs.Common.{refl, sym, ap, suc, subst, ◌∙◌, arith, map, drop-cons, add-one}
 use Rattle.std.proofs.Math.Seq.{take-add}
 use Rattle.std.proofs.lemmas.List.{drop-drop, length-drop, drop_all, get_or-map, length-map}
 use Rattle.send_model.specs.Guards.{GuardSpec, guard_of, is_guard_word}
-use Rattle.send_model.specs.Words.{Request, Compose, Audit, Dump, Export, Gen, Trial, with_guard, guards_and_files, store_and_files}
+use Rattle.send_model.specs.Words.{Request, Audit, with_guard, guards_and_files, store_and_files}
 use Rattle.send_top.specs.Requests.{guards_in, before_store, AreGuardWords}
 use Rattle.send_top.specs.AuditWords.{with_guards, StandsAt, HasStore}
 

@@ -4,7 +4,7 @@ use Rattle.std.specs.Option.{option_map}
 use Rattle.std.proofs.Common.{refl, sym, ap, zero, suc, ◌≤◌, true, false, map, subst, ◌∙◌, arith, drop-cons, add-one, slice_index_or}
 use Rattle.std.proofs.lemmas.Bool.{false≢true}
 use Rattle.std.proofs.lemmas.List.{drop_all, get_or-map, length-map}
-use Rattle.send_model.specs.Guards.{Guard, GuardSpec, NoDevices, new_guard, guard_of}
+use Rattle.send_model.specs.Guards.{Guard, GuardSpec, new_guard, guard_of}
 use Rattle.send_model.specs.Words.{new_guards}
 use Rattle.send_top.specs.Requests.{guards_in, AreGuardWords}
 

@@ -2,9 +2,9 @@
 use Rattle.std.specs.Prelude.{◌≡◌, ℕ, Bool, true, false, List, [], ◌∷◌, map, Option, None, Some, codes, if◌then◌else◌}
 use Rattle.std.specs.List.{slice_get}
 use Rattle.std.specs.Str.{bytes_eq}
-use Rattle.std.proofs.Common.{refl, sym, ap, subst, ◌∙◌}
+use Rattle.std.proofs.Common.{refl, sym, ap, ◌∙◌}
 use Rattle.send_model.specs.Guards.{number_word}
-use Rattle.send_model.specs.Words.{Request, Compose, Audit, Dump, Export, Gen, Trial, is_word, is_count, of_numbers, store_and_files, guards_and_files, one_file, count_and_seed, request_of}
+use Rattle.send_model.specs.Words.{Request, Compose, Dump, Export, Gen, Trial, is_word, is_count, of_numbers, store_and_files, guards_and_files, one_file, count_and_seed, request_of}
 use Rattle.send_model.proofs.Stores.{bytes_eq_true}
 use Rattle.send_top.specs.Requests.{if_answered, answered_request}
 

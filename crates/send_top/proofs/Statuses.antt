@@ -1,6 +1,6 @@
 -- What a status says of its answer.
-use Rattle.std.proofs.Common.{◌≡◌, refl, ap, [], IsTrue, arith}
-use Rattle.send_model.specs.Answer.{Answer, Done, Refused, Usage, InputFault, OutputFault, NoMemory, InputTooLong, status_of, note_of}
+use Rattle.std.proofs.Common.{◌≡◌, ℕ, refl, ap, [], IsTrue, arith}
+use Rattle.send_model.specs.Answer.{Answer, Done, Refused, Usage, InputFault, OutputFault, NoMemory, InputTooLong, TooMuch, InputChanged, status_of, note_of}
 use Rattle.send_top.specs.Answered.{is_status}
 
 pub status_is_listed : (answer : Answer) → IsTrue (is_status (status_of answer))
@@ -12,6 +12,8 @@ status_is_listed InputFault = refl
 status_is_listed OutputFault = refl
 status_is_listed NoMemory = refl
 status_is_listed (InputTooLong file) = refl
+status_is_listed (TooMuch sum) = refl
+status_is_listed (InputChanged file place) = refl
 
 pub usage-of_two : (answer : Answer) → status_of answer ≡ 2 → answer ≡ Usage
 unfolding status_of
@@ -22,6 +24,8 @@ usage-of_two InputFault e = absurd (omega arith)
 usage-of_two OutputFault e = absurd (omega arith)
 usage-of_two NoMemory e = absurd (omega arith)
 usage-of_two (InputTooLong file) e = absurd (omega arith)
+usage-of_two (TooMuch sum) e = absurd (omega arith)
+usage-of_two (InputChanged file place) e = absurd (omega arith)
 
 pub two-of_usage : status_of Usage ≡ 2
 unfolding status_of
@@ -36,6 +40,8 @@ done-of_zero InputFault e = absurd (omega arith)
 done-of_zero OutputFault e = absurd (omega arith)
 done-of_zero NoMemory e = absurd (omega arith)
 done-of_zero (InputTooLong file) e = absurd (omega arith)
+done-of_zero (TooMuch sum) e = absurd (omega arith)
+done-of_zero (InputChanged file place) e = absurd (omega arith)
 
 pub zero-of_done : (answer : Answer) → answer ≡ Done → status_of answer ≡ 0
 unfolding status_of
@@ -50,6 +56,8 @@ input_fault-of_three InputFault e = refl
 input_fault-of_three OutputFault e = absurd (omega arith)
 input_fault-of_three NoMemory e = absurd (omega arith)
 input_fault-of_three (InputTooLong file) e = absurd (omega arith)
+input_fault-of_three (TooMuch sum) e = absurd (omega arith)
+input_fault-of_three (InputChanged file place) e = absurd (omega arith)
 
 pub output_fault-of_four : (answer : Answer) → status_of answer ≡ 4 → answer ≡ OutputFault
 unfolding status_of
@@ -60,6 +68,20 @@ output_fault-of_four InputFault e = absurd (omega arith)
 output_fault-of_four OutputFault e = refl
 output_fault-of_four NoMemory e = absurd (omega arith)
 output_fault-of_four (InputTooLong file) e = absurd (omega arith)
+output_fault-of_four (TooMuch sum) e = absurd (omega arith)
+output_fault-of_four (InputChanged file place) e = absurd (omega arith)
+
+pub changed-of_thirteen : (answer : Answer) → status_of answer ≡ 13 → (file : ℕ) × (place : ℕ) × (answer ≡ InputChanged file place)
+unfolding status_of
+changed-of_thirteen Done e = absurd (omega arith)
+changed-of_thirteen (Refused verdict) e = absurd (omega arith)
+changed-of_thirteen Usage e = absurd (omega arith)
+changed-of_thirteen InputFault e = absurd (omega arith)
+changed-of_thirteen OutputFault e = absurd (omega arith)
+changed-of_thirteen NoMemory e = absurd (omega arith)
+changed-of_thirteen (InputTooLong file) e = absurd (omega arith)
+changed-of_thirteen (TooMuch sum) e = absurd (omega arith)
+changed-of_thirteen (InputChanged file place) e = (file, place, refl)
 
 -- Nothing is written where all was done.
 pub no_note : (answer : Answer) → status_of answer ≡ 0 → note_of answer ≡ []

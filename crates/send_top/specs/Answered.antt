@@ -18,6 +18,8 @@ outcome_of ended.InputFault = meant.InputFault
 outcome_of ended.OutputFault = meant.OutputFault
 outcome_of ended.NoMemory = meant.NoMemory
 outcome_of (ended.InputTooLong file) = meant.InputTooLong file
+outcome_of (ended.TooMuch sum) = meant.TooMuch sum
+outcome_of (ended.InputChanged file place) = meant.InputChanged file place
 
 abbrev pub answer_of : Answer → meant.Answer
 answer_of made.Usage = meant.Usage
@@ -25,7 +27,7 @@ answer_of (made.Ended outcome) = outcome_of outcome
 
 -- The exit statuses.
 abbrev pub is_status : ℕ → Bool
-is_status status = list_any (λ n. n == status) (0 ∷ 1 ∷ 2 ∷ 3 ∷ 4 ∷ 7 ∷ 11 ∷ [])
+is_status status = list_any (λ n. n == status) (0 ∷ 1 ∷ 2 ∷ 3 ∷ 4 ∷ 7 ∷ 9 ∷ 11 ∷ 13 ∷ [])
 
 -- What a run gave of an answer: its exit status, and in the notes its whole note, or a proper prefix of it where their count
 -- of faults rose.

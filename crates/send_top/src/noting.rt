@@ -32,7 +32,9 @@ pub fn status(answer: &Answer) -> u8
         Answer::Ended(Outcome::InputFault) => 3,
         Answer::Ended(Outcome::OutputFault) => 4,
         Answer::Ended(Outcome::NoMemory) => 7,
+        Answer::Ended(Outcome::TooMuch { .. }) => 9,
         Answer::Ended(Outcome::InputTooLong { .. }) => 11,
+        Answer::Ended(Outcome::InputChanged { .. }) => 13,
     }
 }
 
@@ -66,6 +68,15 @@ fn note_line(answer: &Answer) -> Line
         Answer::Ended(Outcome::InputTooLong { file }) => {
             line.push(b"input too long");
             line.push_number(*file);
+        }
+        Answer::Ended(Outcome::TooMuch { sum }) => {
+            line.push(b"too much");
+            line.push_number(*sum);
+        }
+        Answer::Ended(Outcome::InputChanged { file, place }) => {
+            line.push(b"input changed");
+            line.push_number(*file);
+            line.push_number(*place);
         }
     }
     line.push(b"\n");

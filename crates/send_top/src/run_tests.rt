@@ -69,7 +69,7 @@ const REFUSED: [(&[Pieces], Pieces, &[u8]); 28] = [
     (
         &[&[HEADER, SUBVOL_A, CLONE_X, END]],
         &[HEADER, SUBVOL_A],
-        b"refused 1 2 64 36 NotBuilt 16\n",
+        b"refused 1 2 64 15 NoEntry\n",
     ),
     (
         &[&[HEADER, MKFILE_X, END]],

@@ -18,7 +18,7 @@ fn notes_are_lines(rt: HostRuntime) -> Result<(), Fail> {
             refusal,
         }))
     };
-    let table: [(Answer, &[u8]); 6] = [
+    let table: [(Answer, &[u8]); 8] = [
         (
             refused(Refusal::NotConsecutive),
             b"refused 1 1 17 35 NotConsecutive\n",
@@ -35,6 +35,19 @@ fn notes_are_lines(rt: HostRuntime) -> Result<(), Fail> {
         (
             Answer::Ended(Outcome::InputTooLong { file: 12 }),
             b"input too long 12\n",
+        ),
+        (
+            Answer::Ended(Outcome::TooMuch {
+                sum: 1_099_511_627_777,
+            }),
+            b"too much 1099511627777\n",
+        ),
+        (
+            Answer::Ended(Outcome::InputChanged {
+                file: 2,
+                place: 4096,
+            }),
+            b"input changed 2 4096\n",
         ),
         (Answer::Ended(Outcome::Done), b""),
     ];

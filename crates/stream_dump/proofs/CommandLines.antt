@@ -1,7 +1,7 @@
 -- The text of a CLONE, value by value.
 use Rattle.std.specs.Prelude.{◌≡◌, ℕ, List, [], ◌∷◌, ◌++◌}
 use Rattle.std.proofs.Common.{sym, ap, ◌∙◌, append_assoc}
-use Rattle.send_model.specs.Attribute.{Field, Identifier, Number, Bytes}
+use Rattle.send_model.specs.Attribute.{Identifier, Number, Bytes}
 use Rattle.send_model.specs.Command.{CLONE, row}
 use Rattle.send_model.specs.Lines.{values_text}
 use Rattle.send_commands.specs.Meaning.{meaning_of}

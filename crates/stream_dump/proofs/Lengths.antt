@@ -1,11 +1,11 @@
 -- Whether a file is too long, and the answer that is due to it.
-use Rattle.std.specs.Prelude.{◌≡◌, ℕ, ◌<◌, ◌≤◌, Bool, true, false, ◌&&◌, List, length, take, Option, None, Some, nat_le, if◌then◌else◌}
+use Rattle.std.specs.Prelude.{◌≡◌, ℕ, ◌<◌, ◌≤◌, Bool, true, false, ◌&&◌, List, length, take, nat_le, if◌then◌else◌}
 use Rattle.std.proofs.Common.{refl, ap, ◌∙◌, le-leb}
 use Rattle.std.proofs.lemmas.Bool.{lt-leb}
 use Rattle.send_model.specs.Reading.{Verdict, Ending, Whole, Faulty, reads}
 use Rattle.send_model.specs.Receive.{fault_of}
 use Rattle.send_model.specs.Lengths.{limit, is_truncated, only_ends, is_too_long}
-use Rattle.send_model.specs.Due.{Due, DoneWhole, RefusedAt, TooLong, refused_due, file_due}
+use Rattle.send_model.specs.Due.{DoneWhole, RefusedAt, TooLong, refused_due, file_due}
 
 and_false : (b : Bool) → b && false ≡ false
 and_false true = refl

@@ -1,7 +1,7 @@
 -- How far a file was written: what was written, what is gathered, and the bytes of what is left to read.
-use Rattle.std.specs.Prelude.{◌≡◌, ◌⊎◌, ℕ, ◌+◌, ◌<◌, ◌≤◌, Bool, true, false, List, [], ◌∷◌, ◌++◌, length, take, drop, Option, None, Some, Result, Ok, Err, if◌then◌else◌}
+use Rattle.std.specs.Prelude.{◌≡◌, ℕ, ◌+◌, ◌≤◌, Bool, true, List, [], ◌∷◌, ◌++◌, length, take, drop, Option, None, Some, Ok, Err}
 use Rattle.std.specs.Io.KnownBytes.{Appends}
-use Rattle.std.proofs.Common.{refl, sym, ap, subst, ◌∙◌, append_assoc, append-nil, arith, inl, inr, length-append, length-drop}
+use Rattle.std.proofs.Common.{refl, sym, ap, subst, ◌∙◌, append_assoc, append-nil, arith, inl, inr, length-append}
 use Rattle.std.proofs.KnownBytes.{Appends-nil, Appends-trans}
 use Rattle.std.proofs.lemmas.List.{take-append-drop}
 use Rattle.send_model.specs.Reading as reading
@@ -11,7 +11,7 @@ use Rattle.send_model.specs.Headline.{IsFrontOf}
 use Rattle.send_model.specs.Words.{first_file}
 use Rattle.send_model.specs.Lengths.{limit, only_ends}
 use Rattle.sx_base.specs.Causes.{Rose}
-use Rattle.sx_base.specs.Outside.{file_at, AppendsPart}
+use Rattle.sx_base.specs.Outside.{file_at}
 use Rattle.sx_base.specs.Refusals.{refusal_of}
 use Rattle.sx_base.specs.declared.outcome.Verdict.{Verdict}
 use Rattle.sx_base.specs.declared.outcome.Outcome.{Outcome}
@@ -26,7 +26,7 @@ use Rattle.cmd_reader.specs.Next.{item_of, HasEnded, IsFaulty, OnlyEnds, IsNext,
 use Rattle.cmd_reader.proofs.Told.{Here, told_both, told_map, told_always, told_here, told_moved}
 use Rattle.stream_dump.specs.declared.gathering.Gathered.{Gathered}
 use Rattle.sx_base.specs.Calls.{verdict_meant, Caused, IfAllTold, Wrote}
-use Rattle.stream_dump.specs.Written.{pieces_from, written_of, StandsAs, WritesFile}
+use Rattle.stream_dump.specs.Written.{pieces_from, written_of, WritesFile}
 use Rattle.stream_dump.specs.Steps.{outcome_at, ItemAdded, ItemEnds, StopsWriting, last_bytes, EndsWith}
 use Rattle.stream_dump.proofs.Lengths.{due_whole, due_fault, due_long}
 
@@ -209,6 +209,8 @@ front_answers piece bytes before now ended_by.Done written why front = absurd wh
 front_answers piece bytes before now (ended_by.Refused verdict) written why front = absurd why
 front_answers piece bytes before now ended_by.InputFault written why front = absurd why
 front_answers piece bytes before now (ended_by.InputTooLong file) written why front = absurd why
+front_answers piece bytes before now (ended_by.TooMuch sum) written why front = absurd why
+front_answers piece bytes before now (ended_by.InputChanged file place) written why front = absurd why
 
 pub item_stops : (piece : Bool → Item → List ℕ) (told told_now : Option (List (List ℕ × List ℕ))) (name : List ℕ) (old new : Reader) (o : Option read.Item) (item : read.Item) (gathered more : Gathered) (taken_old taken_mid taken_now : Option (List ℕ)) (early late before now : ℕ) (outcome : Outcome)
     → told_now ≡ told → old.file ≡ 1 → old.name ≡ name → o ≡ Some item → ItemEnds piece gathered more (item_of 1 item) taken_mid taken_now before now (Err outcome)
@@ -253,3 +255,5 @@ caused_item inputs_before inputs_now out_before out_mid out_now ended_by.Done ea
 caused_item inputs_before inputs_now out_before out_mid out_now (ended_by.Refused verdict) early why = absurd why
 caused_item inputs_before inputs_now out_before out_mid out_now ended_by.InputFault early why = absurd why
 caused_item inputs_before inputs_now out_before out_mid out_now (ended_by.InputTooLong file) early why = absurd why
+caused_item inputs_before inputs_now out_before out_mid out_now (ended_by.TooMuch sum) early why = absurd why
+caused_item inputs_before inputs_now out_before out_mid out_now (ended_by.InputChanged file place) early why = absurd why

@@ -44,6 +44,8 @@ StopsWriting before now ended.Done = ⊥
 StopsWriting before now (ended.Refused verdict) = ⊥
 StopsWriting before now ended.InputFault = ⊥
 StopsWriting before now (ended.InputTooLong file) = ⊥
+StopsWriting before now (ended.TooMuch sum) = ⊥
+StopsWriting before now (ended.InputChanged file place) = ⊥
 
 abbrev pub ItemEnds : (Bool → Item → List ℕ) → Gathered → Gathered → Item → Option (List ℕ) → Option (List ℕ) → (before now : ℕ) → Result (Unit {0}) Outcome → Type 0
 ItemEnds piece old new item taken_old taken_now before now (Ok done) = ItemAdded piece old new item taken_old taken_now
@@ -58,6 +60,8 @@ last_bytes ended.Done bytes = bytes
 last_bytes (ended.Refused verdict) bytes = bytes
 last_bytes ended.OutputFault bytes = bytes
 last_bytes (ended.InputTooLong file) bytes = bytes
+last_bytes (ended.TooMuch sum) bytes = bytes
+last_bytes (ended.InputChanged file place) bytes = bytes
 
 -- They are written, or the output failed in the middle.
 abbrev pub EndsWith : List ℕ → Outcome → Option (List ℕ) → Option (List ℕ) → (before now : ℕ) → Outcome → Type 0

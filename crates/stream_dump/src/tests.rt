@@ -1,4 +1,4 @@
-//! Dumps of small files. The files and the lines of the first are from another program; the lines of the second are written by hand.
+//! Dumps of small files. The files and the lines of the first are from another program; the lines of the others are written by hand.
 
 use crate::dump;
 use std::alloc::Global;
@@ -17,6 +17,13 @@ const VALUES: &[u8] =
 
 const VALUE_LINES: &[u8] =
     b"stream 1\n1 17 SUBVOL uuid=11111111-1111-1111-1111-111111111111 ctransid=1 path=a\\x20b\n2 66 MKNOD mode=20644 rdev=259 path=n\\x5c\n3 106 SYMLINK path=l link=\n4 125 SET_XATTR xattr=user.x value=3 path=l\n5 157 UTIMES mtime=8.123456789 atime=7.000000001 path=l\n6 204 CHMOD mode=0 path=l\n7 231 TRUNCATE size=18446744073709551615 path=\\xff\n8 258 CHOWN uid=1000 gid=65534 path=l\n9 297 END\nstream 1\n10 324 SNAPSHOT uuid=22222222-2222-2222-2222-222222222222 ctransid=2 path=b clone_uuid=11111111-1111-1111-1111-111111111111 clone_ctransid=1\n11 403 UPDATE_EXTENT size=8192 path=l offset=4096\n12 442 RENAME path=l to=m\n13 462 END\n";
+
+// A stream of version 1, and one of version 2 with a clone and the commands that version 2 alone has.
+const BOTH: &[u8] =
+    b"btrfs-stream\x00\x01\x00\x00\x00%\x00\x00\x00\x01\x0033C\xee\x01\x00\x10\x00\x11\x11\x11\x11\x11\x11\x11\x11\x11\x11\x11\x11\x11\x11\x11\x11\x02\x00\x08\x00\x01\x00\x00\x00\x00\x00\x00\x00\x0f\x00\x01\x00a\x05\x00\x00\x00\x03\x00/\x8a6s\x0f\x00\x01\x00x\x17\x00\x00\x00\x0f\x00C~\xee_\x0f\x00\x01\x00x\x12\x00\x08\x00\x00\x00\x00\x00\x00\x00\x00\x00\x13\x00\x02\x00hi\x00\x00\x00\x00\x15\x00Pl\xc9\x9dbtrfs-stream\x00\x02\x00\x00\x00E\x00\x00\x00\x02\x00\xca\x93\xbf\xed\x01\x00\x10\x00\"\"\"\"\"\"\"\"\"\"\"\"\"\"\"\"\x02\x00\x08\x00\x02\x00\x00\x00\x00\x00\x00\x00\x0f\x00\x01\x00b\x14\x00\x10\x00\x11\x11\x11\x11\x11\x11\x11\x11\x11\x11\x11\x11\x11\x11\x11\x11\x15\x00\x08\x00\x01\x00\x00\x00\x00\x00\x00\x00\x05\x00\x00\x00\x03\x00,\t]\x81\x0f\x00\x01\x00yN\x00\x00\x00\x10\x00\x1a~\x9b\xe0\x0f\x00\x01\x00y\x12\x00\x08\x00\x00\x00\x00\x00\x00\x00\x00\x00\x14\x00\x10\x00\x11\x11\x11\x11\x11\x11\x11\x11\x11\x11\x11\x11\x11\x11\x11\x11\x15\x00\x08\x00\x01\x00\x00\x00\x00\x00\x00\x00\x16\x00\x01\x00x\x17\x00\x08\x00\x00\x00\x00\x00\x00\x00\x00\x00\x18\x00\x08\x00\x02\x00\x00\x00\x00\x00\x00\x00\x14\x00\x00\x00\x0f\x00@\xd3\x914\x0f\x00\x01\x00x\x12\x00\x08\x00\x02\x00\x00\x00\x00\x00\x00\x00\x13\x00!%\x00\x00\x00\x17\x00Z\xa4\nJ\x04\x00\x08\x00\x01\x00\x00\x00\x00\x00\x00\x00\x0f\x00\x01\x00x\x12\x00\x08\x00\x00\x00\x00\x00\x00\x00\x00\x00\x19\x00\x04\x00\x03\x00\x00\x00\x11\x00\x00\x00\x18\x00\xce\x7f\xa5\xff\x0f\x00\x01\x00x\x1a\x00\x08\x00\x10\x00\x00\x00\x00\x00\x00\x00\x00\x00\x00\x00\x15\x00Pl\xc9\x9d";
+
+const BOTH_LINES: &[u8] =
+    b"stream 1\n1 17 SUBVOL uuid=11111111-1111-1111-1111-111111111111 ctransid=1 path=a\n2 64 MKFILE path=x\n3 79 WRITE path=x offset=0 data=2\n4 112 END\nstream 2\n5 139 SNAPSHOT uuid=22222222-2222-2222-2222-222222222222 ctransid=2 path=b clone_uuid=11111111-1111-1111-1111-111111111111 clone_ctransid=1\n6 218 MKFILE path=y\n7 233 CLONE path=y offset=0 clone_uuid=11111111-1111-1111-1111-111111111111 clone_ctransid=1 clone_path=x clone_offset=0 clone_len=2\n8 321 WRITE path=x offset=2 data=1\n9 351 FALLOCATE size=1 path=x offset=0 fmode=3\n10 398 FILEATTR path=x flags=16\n11 425 END\n";
 
 // A front part of a file, where it is refused, and how many bytes of lines stand before.
 struct Cut {
@@ -66,6 +73,7 @@ fn dumps_as(alloc: Global, bytes: &[u8], outcome: Outcome, lines: &[u8]) -> Resu
 fn whole_files(rt: HostRuntime) -> Result<(), Fail> {
     assert!(rt; dumps_as(rt.alloc(), FILE, Outcome::Done, LINES)?);
     assert!(rt; dumps_as(rt.alloc(), VALUES, Outcome::Done, VALUE_LINES)?);
+    assert!(rt; dumps_as(rt.alloc(), BOTH, Outcome::Done, BOTH_LINES)?);
     Ok(())
 }
 

@@ -1,7 +1,7 @@
 -- A frame with one attribute more in front of its others.
 use Rattle.std.specs.Prelude.{◌≡◌, ℕ, ◌+◌, ◌-◌, ◌^◌, ◌<◌, ◌≤◌, ◌==◌, Bool, true, false, List, [], ◌∷◌, ◌++◌, length, take, drop}
 use Rattle.std.specs.Int.{w32, to_le_bytes}
-use Rattle.std.proofs.Common.{refl, sym, ap, subst, ◌∙◌, arith, append_assoc, length-append}
+use Rattle.std.proofs.Common.{refl, sym, ap, ◌∙◌, arith, append_assoc, length-append}
 use Rattle.std.proofs.Math.Seq.{take-append_seam, drop-append_seam}
 use Rattle.std.proofs.lemmas.List.{length-drop}
 use Rattle.send_model.specs.Command.{Command, Kind, kind_of, row}
@@ -13,7 +13,7 @@ use Rattle.send_model.proofs.Canonical.{attribute_len}
 use Rattle.tlv_frame.specs.Frame.{head_room}
 use Rattle.stream_export.specs.declared.asked.Asked.{Asked}
 use Rattle.stream_export.specs.declared.asked.Asked.TheVariants as made
-use Rattle.stream_export.specs.Asking.{attribute_of, kind_asked, AskedIs}
+use Rattle.stream_export.specs.Asking.{attribute_of, kind_asked}
 
 -- The header of a stream, in two pieces.
 pub header_is : (to now bytes : List ℕ) (version : ℕ) → now ≡ to ++ magic → bytes ≡ to_le_bytes w32 version → now ++ bytes ≡ to ++ stream_header version

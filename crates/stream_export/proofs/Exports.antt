@@ -31,6 +31,8 @@ unfolding due whole_of
 one_ends bytes ended.Done written (is, all) = (is, all ∙ exported_is bytes)
 one_ends bytes (ended.Refused verdict) written (is, all) = (is, all ∙ exported_is bytes)
 one_ends bytes (ended.InputTooLong file) written (is, front) = (is, front_is bytes written front)
+one_ends bytes (ended.TooMuch sum) written (is, front) = (is, front_is bytes written front)
+one_ends bytes (ended.InputChanged file place) written front = front_is bytes written front
 one_ends bytes ended.InputFault written front = front_is bytes written front
 one_ends bytes ended.OutputFault written front = front_is bytes written front
 one_ends bytes ended.NoMemory written front = front_is bytes written front

@@ -4,7 +4,7 @@ use Rattle.std.specs.Prelude.{◌≡◌, ⊤, ℕ, List, map, Option, None, Some
 use Rattle.std.specs.Io.KnownBytes.{Appends}
 use Rattle.send_model.specs.Reading as reading
 use Rattle.send_model.specs.Store.{Store}
-use Rattle.send_model.specs.Due.{Due, DoneWhole, RefusedAt, TooLong}
+use Rattle.send_model.specs.Due.{Due, DoneWhole, RefusedAt, TooLong, TooMuch}
 use Rattle.send_model.specs.Words.{Request, due, EndSays, StandsBefore, StandsCut}
 use Rattle.sx_base.specs.Causes.{Rose}
 use Rattle.sx_base.specs.Outside.{file_at}
@@ -34,7 +34,7 @@ Wrote old new P = (written : List ℕ) × Appends old new written × P written
 
 -- ---- causes
 
--- A fault is the outcome only where the count of its object rose.
+-- A fault is the outcome only where the count of its object rose. Of a call that reads no byte twice, no input is found changed.
 abbrev pub Caused : (inputs_before inputs_now out_before out_now : ℕ) → Outcome → Type 0
 Caused inputs_before inputs_now out_before out_now ended.InputFault = Rose inputs_before inputs_now
 Caused inputs_before inputs_now out_before out_now ended.OutputFault = Rose out_before out_now
@@ -42,6 +42,19 @@ Caused inputs_before inputs_now out_before out_now ended.Done = ⊤
 Caused inputs_before inputs_now out_before out_now (ended.Refused verdict) = ⊤
 Caused inputs_before inputs_now out_before out_now ended.NoMemory = ⊤
 Caused inputs_before inputs_now out_before out_now (ended.InputTooLong file) = ⊤
+Caused inputs_before inputs_now out_before out_now (ended.TooMuch sum) = ⊤
+Caused inputs_before inputs_now out_before out_now (ended.InputChanged file place) = ⊥
+
+-- The same of a call that reads bytes again: an input is found changed only where the count of ends rose.
+abbrev pub CausedAgain : (ends_before ends_now inputs_before inputs_now out_before out_now : ℕ) → Outcome → Type 0
+CausedAgain ends_before ends_now inputs_before inputs_now out_before out_now (ended.InputChanged file place) = Rose ends_before ends_now
+CausedAgain ends_before ends_now inputs_before inputs_now out_before out_now ended.InputFault = Rose inputs_before inputs_now
+CausedAgain ends_before ends_now inputs_before inputs_now out_before out_now ended.OutputFault = Rose out_before out_now
+CausedAgain ends_before ends_now inputs_before inputs_now out_before out_now ended.Done = ⊤
+CausedAgain ends_before ends_now inputs_before inputs_now out_before out_now (ended.Refused verdict) = ⊤
+CausedAgain ends_before ends_now inputs_before inputs_now out_before out_now ended.NoMemory = ⊤
+CausedAgain ends_before ends_now inputs_before inputs_now out_before out_now (ended.InputTooLong file) = ⊤
+CausedAgain ends_before ends_now inputs_before inputs_now out_before out_now (ended.TooMuch sum) = ⊤
 
 abbrev pub ErrCaused : {T : Type 0} → (inputs_before inputs_now out_before out_now : ℕ) → Result T Outcome → Type 0
 ErrCaused inputs_before inputs_now out_before out_now (Ok x) = ⊤
@@ -50,12 +63,14 @@ ErrCaused inputs_before inputs_now out_before out_now (Err outcome) = Caused inp
 -- ---- the one answer
 
 -- An outcome that the files decide is the one answer that is due, and what was written stands as it says. Where the inputs
--- failed or there was no memory, what was written stands as before an end, and where the output failed, it is cut.
+-- failed or were changed, or there was no memory, what was written stands as before an end, and where the output failed, it is cut.
 abbrev pub EndsAs : Due → (stands : Due → List ℕ → Type 0) (before cut : List ℕ → Type 0) → Outcome → List ℕ → Type 0
 EndsAs the_due stands before cut ended.Done written = (the_due ≡ DoneWhole) × stands DoneWhole written
 EndsAs the_due stands before cut (ended.Refused verdict) written = (the_due ≡ RefusedAt (verdict_meant verdict)) × stands (RefusedAt (verdict_meant verdict)) written
 EndsAs the_due stands before cut (ended.InputTooLong file) written = (the_due ≡ TooLong file) × stands (TooLong file) written
+EndsAs the_due stands before cut (ended.TooMuch sum) written = (the_due ≡ TooMuch sum) × stands (TooMuch sum) written
 EndsAs the_due stands before cut ended.InputFault written = before written
+EndsAs the_due stands before cut (ended.InputChanged file place) written = before written
 EndsAs the_due stands before cut ended.OutputFault written = cut written
 EndsAs the_due stands before cut ended.NoMemory written = before written
 

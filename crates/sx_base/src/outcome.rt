@@ -32,4 +32,16 @@ pub enum Outcome {
         /// The file, counted from 1.
         file: u64,
     },
+    /// The bytes of redirected clones that no outside subvolume carries are more than 2^40.
+    TooMuch {
+        /// How many they are up to the first clone with which they are too many, in bytes.
+        sum: u64,
+    },
+    /// A file of the inputs ends before bytes that were read of it once.
+    InputChanged {
+        /// The file, counted from 1.
+        file: u64,
+        /// Where it ends now, in bytes.
+        place: u64,
+    },
 }

@@ -13,7 +13,7 @@ pub struct StreamHead {
 
 impl StreamHead {
     /// The header that these bytes are. BadMagic where they do not begin with the text of a stream, BadVersion where
-    /// the version is not 1. Source: struct btrfs_stream_header in send.h of btrfs-progs.
+    /// the version is neither 1 nor 2. Source: struct btrfs_stream_header in send.h of btrfs-progs.
     #[tactic(auto, unfolding(send_model::specs::Reading::stream_version, send_model::specs::Reading::number32))]
     pub fn read(bytes: &[u8; 17]) -> Result<StreamHead, Refusal>
         ensures exact { Reads (λ head. head.version) result (stream_version bytes.now) }
@@ -22,7 +22,7 @@ impl StreamHead {
             return Err(Refusal::BadMagic);
         }
         let version = u32::from_le_bytes([bytes[13], bytes[14], bytes[15], bytes[16]]);
-        if version != 1 {
+        if version != 1 && version != 2 {
             return Err(Refusal::BadVersion(version));
         }
         Ok(StreamHead { version })

@@ -19,6 +19,14 @@ fn stream_headers_are_read(rt: HostRuntime) {
         Ok(StreamHead { version: 1 })
     );
     assert_eq!(rt;
+        StreamHead::read(b"btrfs-stream\0\x02\0\0\0"),
+        Ok(StreamHead { version: 2 })
+    );
+    assert_eq!(rt;
+        StreamHead::read(b"btrfs-stream\0\x03\0\0\0"),
+        Err(Refusal::BadVersion(3))
+    );
+    assert_eq!(rt;
         StreamHead::read(b"btrfs-stream\0\x02\x01\0\0"),
         Err(Refusal::BadVersion(258))
     );

@@ -29,7 +29,7 @@ returns-in-Ok-decode-clause-fits c =
     let within = data_place_within c.args.at c.args.version c.args.cmd c.args.body.now attributes (meaning_of c.in-Ok-decode.command) there.1 command in
     record {
       writable = subst (λ (v : ℕ). IsWritable v (meaning_of c.in-Ok-decode.command)) c.in-Ok.ensures.kept c.in-Ok-decode.ensures.writable;
-      can_write = read_can_write c.args.version c.args.cmd c.args.body.now attributes (meaning_of c.in-Ok-decode.command) c.ranges.cmd.fits c.requires.short (slice_bytes c.args.body.now c.type_inv.body) there.1 c.in_default.ensures.exact command;
+      can_write = read_can_write c.args.version c.args.cmd c.args.body.now attributes (meaning_of c.in-Ok-decode.command) c.ranges.cmd.fits c.requires.short (slice_bytes c.args.body.now c.type_inv.body) there.1 command;
       payload = subst (λ (n : ℕ). n + length (bytes_of (meaning_of c.in-Ok-decode.command)) ≤ c.args.at + frame_header_len + length c.args.body.now) (sym place) within;
       alone = λ tried others read. ok_same (sym read ∙ there.1) ∙ stands_alone c.args.version c.args.cmd c.args.body.now attributes (meaning_of c.in-Ok-decode.command) _ c.ranges.cmd.fits c.requires.short (slice_bytes c.args.body.now c.type_inv.body) there.1 command c.in-Ok.ensures.kept there.2 (sym c.is_canonical-canonical.ensures.exact ∙ tried);
       others = λ other own. true≢false (sym (alone_stands c.args.version c.args.cmd c.args.body.now attributes (meaning_of c.in-Ok-decode.command) _ c.ranges.cmd.fits c.requires.short (slice_bytes c.args.body.now c.type_inv.body) there.1 command c.in-Ok.ensures.kept there.2 (own attributes there.1)) ∙ sym c.is_canonical-canonical.ensures.exact ∙ other);

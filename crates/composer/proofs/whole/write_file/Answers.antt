@@ -1,57 +1,97 @@
-use Rattle.std.proofs.Common.{refl, ap, ◌∙◌, arith}
-use Rattle.cmd_reader.specs.Left.{Reader}
-use Rattle.composer.proofs.Takes.{item_writable}
+use Rattle.std.specs.Prelude.{map}
+use Rattle.std.specs.String.{string_bytes}
+use Rattle.std.proofs.Common.{refl, sym, ap, ◌∙◌, ◌+◌, ◌<◌, arith}
+use Rattle.cmd_reader.specs.Left.{Reader, HasAhead}
+use Rattle.cmd_reader.specs.Next.{item_of}
 use Rattle.cmd_reader.proofs.Aheads.{start_ahead, next_ahead}
-use Rattle.composer.proofs.FileWriting.{stands_at_start, stands_after, file_unopened, file_ends, file_stops, command_stops}
+use Rattle.cmd_reader.proofs.Told.{told_moved}
+use Rattle.clone_pieces.specs.Origins.{IsInInput}
+use Rattle.clone_resolve.proofs.TakenStates.{AllCells}
+use Rattle.composer.specs.Taking.{DataStand}
+use Rattle.composer.specs.Files.{plan_with}
+use Rattle.composer.proofs.AllTold.{all_moved, name_at, count_names}
+use Rattle.composer.proofs.FileWriting.{EndsAlike, stands_at_start, alike_at_start, alike_after, next_of_all, data_there, stands_after, file_unopened, file_ends, file_stops, file_above, item_stops}
 use Rattle.composer.proofs.whole.write_file.Goals as goal
 
 pub returns-in_default-clause-wrote : goal.returns-in_default-clause-wrote
-returns-in_default-clause-wrote g c = file_unopened (g.I.Inputs.told c.args.inputs.now) c.args.file c.args.name.now c.args.composer.now (g.O.Sink.taken c.args.out.now)
+returns-in_default-clause-wrote g c =
+    file_unopened (g.I.Inputs.told c.args.inputs.now) (map string_bytes c.args.files.now) (plan_with (g.E.Known.base c.args.known.now) c.args.survey.now) c.args.number (c.args.number + 1) c.args.composer.now (g.O.Sink.taken c.args.out.now)
 
 pub loop-reader-init : goal.loop-reader-init
 loop-reader-init g c =
     let fresh = c.in-Ok.ensures.start in
     record {
       same = refl;
+      held = refl;
       later = omega (arith);
+      ends_later = omega (arith);
+      bytes_later = omega (arith);
       out_later = omega (arith);
       file = ap (λ (r : Reader). r.file) fresh;
-      name = ap (λ (r : Reader). r.name) fresh;
-      stands = stands_at_start (g.I.Inputs.told c.args.inputs.now) c.args.file c.args.name.now c.in-Ok.reader c.args.composer.now (g.O.Sink.taken c.args.out.now) c.args.before fresh;
-      ahead = start_ahead _ c.args.file c.args.name.now c.in-Ok.reader fresh;
+      name = ap (λ (r : Reader). r.name) fresh ∙ name_at c.args.files.now c.args.number c.index-files-number.result c.as_str.result.now c.requires.numbered c.index-files-number.is c.as_str.ensures.value;
+      had = c.requires.had;
+      stands = stands_at_start (g.I.Inputs.told c.args.inputs.now) (map string_bytes c.args.files.now) (plan_with (g.E.Known.base c.args.known.now) c.args.survey.now) c.args.number (c.args.number + 1) c.as_str.result.now c.in-Ok.reader c.args.composer.now (g.O.Sink.taken c.args.out.now) c.args.before fresh c.requires.there;
+      alike = alike_at_start _ (c.args.number + 1) _ c.as_str.result.now c.in-Ok.reader fresh;
+      ahead = start_ahead _ (c.args.number + 1) c.as_str.result.now c.in-Ok.reader fresh;
     }
 
 pub returns-in-Ok-None-clause-wrote : goal.returns-in-Ok-None-clause-wrote
 returns-in-Ok-None-clause-wrote g c =
     let i = c.loop-reader.invariant in
-    file_ends _ _ c.args.file c.args.name.now c.args.composer.now _ c.loop-reader.reader c.next.new.self c.loop-reader.composer _ c.args.before c.loop-reader.place 0 0 c.in-Ok-None.field-0 c.in-Ok-None.field-0-is i.same i.name c.in-Ok-None.ensures.read i.stands
+    file_ends _ _ (map string_bytes c.args.files.now) (plan_with (g.E.Known.base c.args.known.now) c.args.survey.now) c.args.number (c.args.number + 1) c.args.composer.now _ c.loop-reader.reader c.next.new.self c.loop-reader.composer _ c.args.before c.loop-reader.place 0 0 c.in-Ok-None.field-0 c.in-Ok-None.field-0-is i.same
+    (count_names c.args.files.now c.args.number c.requires.numbered) i.name c.in-Ok-None.ensures.read i.stands
 
-pub returns-in-Err-written-clause-wrote : goal.returns-in-Err-written-clause-wrote
-returns-in-Err-written-clause-wrote g c =
+pub take-taken-requires-clause-there : goal.take-taken-requires-clause-there
+take-taken-requires-clause-there g c =
     let i = c.loop-reader.invariant in
     let e = c.in-Ok-Some.ensures in
-    command_stops _ _ c.args.file c.args.name.now c.args.composer.now _ c.loop-reader.reader c.next.new.self c.loop-reader.composer _ _ c.args.before c.loop-reader.place (record { file = c.args.file; command = c.in-Ok-Some.item.number; offset = c.in-Ok-Some.item.offset }) 0 0
-    c.in-Ok-Some.field-0 c.in-Ok-Some.item c.in-Err-written.outcome c.in-Ok-Some.field-0-is i.same i.name i.file refl e.fits e.read c.in-Err-written.ensures.composed i.stands
+    let next = next_of_all (g.I.Inputs.told c.args.inputs.now) _ (map string_bytes c.args.files.now) c.args.number c.loop-reader.reader c.next.new.self 0 0 c.in-Ok-Some.field-0 c.in-Ok-Some.item c.in-Ok-Some.field-0-is i.same (count_names c.args.files.now c.args.number c.requires.numbered) i.name e.read in
+    all_moved (g.I.Inputs.told c.next.new.inputs) (g.I.Inputs.told c.args.inputs.now) (map string_bytes c.args.files.now)
+    (λ files. AllCells (IsInInput files) c.loop-reader.composer.state × DataStand files (item_of (c.args.number + 1) c.in-Ok-Some.item)) (sym (e.same ∙ i.same))
+    (data_there (g.I.Inputs.told c.args.inputs.now) (map string_bytes c.args.files.now) (plan_with (g.E.Known.base c.args.known.now) c.args.survey.now) c.args.number (c.args.number + 1) c.args.composer.now _ c.loop-reader.reader c.next.new.self c.loop-reader.composer _ c.args.before c.loop-reader.place c.in-Ok-Some.item refl i.file next i.stands)
+
+pub returns-then-item-version-clause-wrote : goal.returns-then-item-version-clause-wrote
+returns-then-item-version-clause-wrote g c =
+    let i = c.loop-reader.invariant in
+    let above : c.args.survey.now.version < c.in-Ok-Some.item.version = omega (arith, c.if-item-version.true, c.version.ensures.version) in
+    let next = next_of_all (g.I.Inputs.told c.args.inputs.now) _ (map string_bytes c.args.files.now) c.args.number c.loop-reader.reader c.next.new.self 0 0 c.in-Ok-Some.field-0 c.in-Ok-Some.item c.in-Ok-Some.field-0-is i.same (count_names c.args.files.now c.args.number c.requires.numbered) i.name c.in-Ok-Some.ensures.read in
+    file_above (g.I.Inputs.told c.args.inputs.now) (map string_bytes c.args.files.now) (plan_with (g.E.Known.base c.args.known.now) c.args.survey.now) c.args.number (c.args.number + 1) c.args.composer.now _ c.loop-reader.reader c.next.new.self c.loop-reader.composer _ _ c.args.before c.loop-reader.place _ _ c.in-Ok-Some.item c.refused-refused.result c.stopped.result
+    above i.file c.stopped.ensures.stopped next i.stands
+
+pub returns-in-Err-taken-clause-wrote : goal.returns-in-Err-taken-clause-wrote
+returns-in-Err-taken-clause-wrote g c =
+    let i = c.loop-reader.invariant in
+    let e = c.in-Ok-Some.ensures in
+    let next = next_of_all (g.I.Inputs.told c.args.inputs.now) _ (map string_bytes c.args.files.now) c.args.number c.loop-reader.reader c.next.new.self 0 0 c.in-Ok-Some.field-0 c.in-Ok-Some.item c.in-Ok-Some.field-0-is i.same (count_names c.args.files.now c.args.number c.requires.numbered) i.name e.read in
+    item_stops _ _ (map string_bytes c.args.files.now) (plan_with (g.E.Known.base c.args.known.now) c.args.survey.now) c.args.number (c.args.number + 1) c.args.composer.now _ c.loop-reader.reader c.next.new.self c.loop-reader.composer c.take-taken.new.self _ _ c.args.before c.loop-reader.place c.in-Ok-Some.item c.in-Err-taken.outcome
+    i.file (e.same ∙ i.same) next c.in-Err-taken.ensures.taken i.stands
 
 pub loop-reader-preserved : goal.loop-reader-preserved
 loop-reader-preserved g c =
     let i = c.loop-reader.invariant in
     let e = c.in-Ok-Some.ensures in
+    let t = c.in_default-taken.ensures in
+    let next = next_of_all (g.I.Inputs.told c.args.inputs.now) _ (map string_bytes c.args.files.now) c.args.number c.loop-reader.reader c.next.new.self 0 0 c.in-Ok-Some.field-0 c.in-Ok-Some.item c.in-Ok-Some.field-0-is i.same (count_names c.args.files.now c.args.number c.requires.numbered) i.name e.read in
     record {
-      same = e.same ∙ i.same;
-      later = omega (arith, i.later, e.later);
-      out_later = omega (arith, i.out_later, c.in_default-written.ensures.later);
+      same = t.same ∙ e.same ∙ i.same;
+      held = t.held ∙ i.held;
+      later = omega (arith, i.later, e.later, t.later);
+      ends_later = omega (arith, i.ends_later, e.ends_later, t.ends_later);
+      bytes_later = omega (arith, i.bytes_later, t.bytes_later);
+      out_later = omega (arith, i.out_later, t.out_later);
       file = e.file ∙ i.file;
       name = e.name ∙ i.name;
-      stands = stands_after _ _ c.args.file c.args.name.now c.args.composer.now _ c.loop-reader.reader c.next.new.self c.loop-reader.composer c.write_command-written.new.composer _ _ c.args.before c.loop-reader.place (record { file = c.args.file; command = c.in-Ok-Some.item.number; offset = c.in-Ok-Some.item.offset }) 0 0
-          c.in-Ok-Some.field-0 c.in-Ok-Some.item c.in-Ok-Some.field-0-is i.same i.name i.file refl e.fits e.read c.in_default-written.ensures.composed i.stands;
-      ahead = next_ahead _ _ c.loop-reader.reader c.next.new.self 0 0 c.in-Ok-Some.field-0 c.in-Ok-Some.item c.in-Ok-Some.field-0-is e.same e.name e.read;
+      had = t.had;
+      stands = stands_after _ _ (map string_bytes c.args.files.now) (plan_with (g.E.Known.base c.args.known.now) c.args.survey.now) c.args.number (c.args.number + 1) c.args.composer.now _ c.loop-reader.reader c.next.new.self c.loop-reader.composer c.take-taken.new.self _ _ c.args.before c.loop-reader.place (record { file = c.args.number + 1; command = c.in-Ok-Some.item.number; offset = c.in-Ok-Some.item.offset }) c.in-Ok-Some.item
+          i.file refl (e.same ∙ i.same) next t.taken i.stands;
+      alike = told_moved (g.I.Inputs.told c.take-taken.new.inputs) (g.I.Inputs.told c.loop-reader.inputs) c.next.new.self.name c.loop-reader.reader.name (EndsAlike (c.args.number + 1) c.next.new.self) (sym (t.same ∙ e.same)) (sym e.name)
+          (alike_after (g.I.Inputs.told c.loop-reader.inputs) _ (c.args.number + 1) c.loop-reader.reader.name c.loop-reader.reader c.next.new.self 0 0 c.in-Ok-Some.field-0 c.in-Ok-Some.item c.in-Ok-Some.field-0-is refl refl e.read i.alike);
+      ahead = told_moved (g.I.Inputs.told c.take-taken.new.inputs) (g.I.Inputs.told c.next.new.inputs) c.next.new.self.name c.next.new.self.name (HasAhead c.next.new.self) (sym t.same) refl
+          (next_ahead _ _ c.loop-reader.reader c.next.new.self 0 0 c.in-Ok-Some.field-0 c.in-Ok-Some.item c.in-Ok-Some.field-0-is e.same e.name e.read);
     }
 
 pub returns-in-Err-clause-wrote : goal.returns-in-Err-clause-wrote
 returns-in-Err-clause-wrote g c =
     let i = c.loop-reader.invariant in
-    file_stops _ _ c.args.file c.args.name.now c.args.composer.now _ c.loop-reader.reader c.next.new.self c.loop-reader.composer _ _ c.args.before c.loop-reader.place _ _ _ _ c.in-Err.stop c.outcome_of.result c.stopped.result i.same i.name c.in-Err.ensures.read c.outcome_of.ensures.outcome c.stopped.ensures.stopped i.stands
-
-pub write_command-written-requires : goal.write_command-written-requires
-write_command-written-requires g c = record { writable = item_writable c.in-Ok-Some.field-0 c.in-Ok-Some.item _ _ c.in-Ok-Some.field-0-is c.in-Ok-Some.ensures.fits }
+    file_stops _ _ (map string_bytes c.args.files.now) (plan_with (g.E.Known.base c.args.known.now) c.args.survey.now) c.args.number (c.args.number + 1) c.args.composer.now _ c.loop-reader.reader c.next.new.self c.loop-reader.composer _ _ c.args.before c.loop-reader.place _ _ _ _ c.in-Err.stop c.outcome_of.result c.stopped-in-Err.result
+    i.same (count_names c.args.files.now c.args.number c.requires.numbered) i.name c.in-Err.ensures.read c.outcome_of.ensures.outcome c.stopped-in-Err.ensures.stopped i.alike i.stands

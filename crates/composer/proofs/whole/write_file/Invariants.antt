@@ -1,22 +1,33 @@
-use Rattle.std.proofs.Common.{◌≡◌, ◌-◌, ◌≤◌}
+use Rattle.std.specs.Prelude.{[], map, get_or}
+use Rattle.std.specs.String.{string_bytes}
+use Rattle.std.proofs.Common.{◌≡◌, ◌-◌, ◌≤◌, ◌+◌, length}
 use Rattle.send_model.specs.Lengths.{limit}
+use Rattle.sx_base.specs.Calls.{IfAllTold}
 use Rattle.cmd_reader.specs.Places.{IfTold}
 use Rattle.cmd_reader.specs.Left.{HasAhead}
-use Rattle.composer.proofs.FileWriting.{Stands}
+use Rattle.clone_pieces.specs.Origins.{IsHad}
+use Rattle.clone_resolve.proofs.TakenStates.{AllCells}
+use Rattle.composer.specs.Files.{plan_with}
+use Rattle.composer.proofs.FileWriting.{EndsAlike, Stands}
 use Rattle.composer.proofs.whole.write_file.Given as goal
 
--- The commands that were read were taken, the inputs tell the same files, and no count fell.
+-- The items that were read were taken, the inputs tell the same files, what is held of the base is the same, and no count fell.
 abbrev pub invariant-loop-reader : goal.invariant-loop-reader
 invariant-loop-reader g l = record {
   same : g.I.Inputs.told l.inputs ≡ g.I.Inputs.told l.fn.inputs;
+  held : g.B.OutsideBytes.held l.bytes ≡ g.B.OutsideBytes.held l.fn.bytes;
   later : g.I.Inputs.faults l.fn.inputs ≤ g.I.Inputs.faults l.inputs;
+  ends_later : g.I.Inputs.ends l.fn.inputs ≤ g.I.Inputs.ends l.inputs;
+  bytes_later : g.B.OutsideBytes.faults l.fn.bytes ≤ g.B.OutsideBytes.faults l.bytes;
   out_later : g.O.Sink.faults l.fn.out ≤ g.O.Sink.faults l.out;
-  file : l.reader.file ≡ l.fn.file;
-  name : l.reader.name ≡ l.fn.name;
-  stands : IfTold (g.I.Inputs.told l.fn.inputs) l.fn.name (Stands l.fn.file l.fn.composer (g.O.Sink.taken l.fn.out) l.reader l.composer (g.O.Sink.taken l.out) l.fn.before l.place);
+  file : l.reader.file ≡ l.fn.number + 1;
+  name : l.reader.name ≡ get_or (map string_bytes l.fn.files) l.fn.number [];
+  had : AllCells (IsHad (length l.fn.files) (g.E.Known.base l.fn.known)) l.composer.state;
+  stands : IfAllTold (g.I.Inputs.told l.fn.inputs) (map string_bytes l.fn.files) (λ files. Stands files (plan_with (g.E.Known.base l.fn.known) l.fn.survey) (l.fn.number + 1) l.fn.composer (g.O.Sink.taken l.fn.out) l.reader l.composer (g.O.Sink.taken l.out) l.fn.before l.place (get_or files l.fn.number []));
+  alike : IfTold (g.I.Inputs.told l.inputs) l.reader.name (EndsAlike (l.fn.number + 1) l.reader);
   ahead : IfTold (g.I.Inputs.told l.inputs) l.reader.name (HasAhead l.reader);
 }
 
--- Each command brings the reader nearer to the limit.
+-- Each item brings the reader nearer to the limit.
 abbrev pub decreases-loop-reader : goal.decreases-loop-reader
 decreases-loop-reader g l = limit - l.reader.offset

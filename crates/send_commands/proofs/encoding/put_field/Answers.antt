@@ -1,5 +1,5 @@
 use Rattle.std.proofs.Common.{ℕ, ◌^◌, ◌<◌, ◌++◌, List, length, ap, ◌∙◌, arith, rules}
-use Rattle.std.specs.Int.{w32, w64, to_le_bytes}
+use Rattle.std.specs.Int.{w64, to_le_bytes}
 use Rattle.std.proofs.lemmas.Result.{on_ok_weaker}
 use Rattle.send_model.specs.Attribute.{HasRoom}
 use Rattle.send_model.specs.Spelling.{attribute_bytes}

@@ -1,4 +1,4 @@
-use Rattle.send_model.proofs.HeadlineLaw.{items_hold, items_spelled, readings_hold, plain_readings_hold, files_are_whole, files_hold, plain_files_hold}
+use Rattle.send_model.proofs.HeadlineLaw.{items_hold, items_spelled, fronts_are_writable, readings_hold, plain_readings_hold, files_are_whole, files_hold, plain_files_hold}
 use Rattle.send_model.proofs.laws.composed_streams_are_accepted.Goals as goal
 
 pub returns-clause-items : goal.returns-clause-items
@@ -6,6 +6,9 @@ returns-clause-items c = items_hold
 
 pub returns-clause-spelled : goal.returns-clause-spelled
 returns-clause-spelled c = items_spelled
+
+pub returns-clause-fronts : goal.returns-clause-fronts
+returns-clause-fronts c = fronts_are_writable
 
 pub returns-clause-readings : goal.returns-clause-readings
 returns-clause-readings c = readings_hold

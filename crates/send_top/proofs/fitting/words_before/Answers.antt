@@ -1,5 +1,5 @@
 use Rattle.std.specs.String.{string_bytes}
-use Rattle.std.proofs.Common.{◌-◌, take, drop, sym, ap, ◌∙◌, map}
+use Rattle.std.proofs.Common.{◌-◌, take, drop, sym, ap, ◌∙◌}
 use Rattle.std.proofs.lemmas.List.{take-map, drop-map}
 use Rattle.send_top.proofs.fitting.words_before.Goals as goal
 

@@ -7,7 +7,7 @@ use Rattle.send_top.specs.Answered.{outcome_of}
 use Rattle.send_top.specs.Requests.{answered_request, request_meant, names_asked}
 use Rattle.send_top.specs.Ending.{Answers}
 use Rattle.send_top.specs.Run.{IfComposes}
-use Rattle.send_top.proofs.Asked.{then_told, same_request, is_done, answers}
+use Rattle.send_top.proofs.Asked.{then_told, same_request, is_done, answers, fault_caused, output_caused, change_caused}
 use Rattle.send_top.proofs.top_call.answer_to.Goals as goal
 
 pub returns-clause-composed : goal.returns-clause-composed
@@ -30,3 +30,12 @@ returns-clause-answered g c request asks =
     (same_request (answered_request words) mine request c.in-Some.ensures.meaning asks.meant)
     (then_told told (names_asked mine words) (λ files. Wrote old new (λ written. Ends mine [] files c.end_of.result written)) (λ files. Wrote old new (Answers mine [] files (outcome_of c.end_of.result)))
     (λ files. answers old new mine files c.end_of.result) c.end_of.ensures.ends)
+
+pub returns-clause-input_fault : goal.returns-clause-input_fault
+returns-clause-input_fault g c e = fault_caused (g.I.Inputs.ends c.args.inputs.now) (g.I.Inputs.ends c.end_of.new.inputs) (g.I.Inputs.faults c.args.inputs.now) (g.I.Inputs.faults c.end_of.new.inputs) (g.O.Sink.faults c.args.out.now) (g.O.Sink.faults c.end_of.new.out) c.end_of.result c.end_of.ensures.cause e
+
+pub returns-clause-output_fault : goal.returns-clause-output_fault
+returns-clause-output_fault g c e = output_caused (g.I.Inputs.ends c.args.inputs.now) (g.I.Inputs.ends c.end_of.new.inputs) (g.I.Inputs.faults c.args.inputs.now) (g.I.Inputs.faults c.end_of.new.inputs) (g.O.Sink.faults c.args.out.now) (g.O.Sink.faults c.end_of.new.out) c.end_of.result c.end_of.ensures.cause e
+
+pub returns-clause-changed : goal.returns-clause-changed
+returns-clause-changed g c file place e = change_caused (g.I.Inputs.ends c.args.inputs.now) (g.I.Inputs.ends c.end_of.new.inputs) (g.I.Inputs.faults c.args.inputs.now) (g.I.Inputs.faults c.end_of.new.inputs) (g.O.Sink.faults c.args.out.now) (g.O.Sink.faults c.end_of.new.out) c.end_of.result file place c.end_of.ensures.cause e

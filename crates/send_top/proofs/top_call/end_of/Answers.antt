@@ -1,6 +1,6 @@
 use Rattle.std.specs.Prelude.{[], ◌∷◌, map, drop, List, ℕ, Option, slice_index_or}
 use Rattle.std.specs.String.{string_bytes}
-use Rattle.std.proofs.Common.{◌≡◌, refl, sym, ap, subst, ◌∙◌, arith}
+use Rattle.std.proofs.Common.{◌≡◌, sym, ap, subst, ◌∙◌}
 use Rattle.std.proofs.lemmas.List.{drop-map}
 use Rattle.sx_base.specs.Calls.{Wrote, Ends}
 use Rattle.send_model.specs.Store.{Store}
@@ -12,7 +12,7 @@ use Rattle.auditor.specs.Following.{blank}
 use Rattle.auditor.specs.Answers.{AuditEnds}
 use Rattle.send_top.specs.Requests.{guards_in, before_store, specs_of, request_meant}
 use Rattle.send_top.specs.Run.{IfComposes}
-use Rattle.send_top.proofs.Asked.{following, composes, headline, audit_wrote, audits, dumps, exports}
+use Rattle.send_top.proofs.Asked.{following, composed_ends, headline, audit_wrote, audits, dumps, exports, caused_again, caused_unread}
 use Rattle.send_top.proofs.top_call.end_of.Goals as goal
 
 pub returns-in-Compose-clause-composed : goal.returns-in-Compose-clause-composed
@@ -20,20 +20,20 @@ returns-in-Compose-clause-composed g c done =
     let old = g.O.Sink.taken c.args.out.now in
     let new = g.O.Sink.taken c.compose.new.out in
     rw c.in-Compose.is (following (g.I.Inputs.told c.args.inputs.now) (map string_bytes c.names_from.result.now) (drop c.in-Compose.files (map string_bytes c.args.words.now))
-    (λ files. Wrote old new (λ written. composing.EndSays files written c.compose.result))
+    (λ files. Wrote old new (composing.ComposeEnds [] files c.compose.result))
     (λ files. Wrote old new (IfComposes (Compose c.in-Compose.store c.in-Compose.files) files))
     (ap (map string_bytes) c.names_from.ensures.names ∙ sym (drop-map string_bytes c.in-Compose.files c.args.words.now))
-    (λ files. headline old new files c.in-Compose.store c.in-Compose.files c.compose.result done) c.compose.ensures.composed)
+    (λ files. headline old new files c.in-Compose.store c.in-Compose.files c.compose.result done) c.compose.ensures.ends)
 
 pub returns-in-Compose-clause-ends : goal.returns-in-Compose-clause-ends
 returns-in-Compose-clause-ends g c =
     let old = g.O.Sink.taken c.args.out.now in
     let new = g.O.Sink.taken c.compose.new.out in
     rw c.in-Compose.is (following (g.I.Inputs.told c.args.inputs.now) (map string_bytes c.names_from.result.now) (drop c.in-Compose.files (map string_bytes c.args.words.now))
-    (λ files. Wrote old new (λ written. Ends (Compose 1 2) [] files c.compose.result written))
+    (λ files. Wrote old new (composing.ComposeEnds [] files c.compose.result))
     (λ files. Wrote old new (λ written. Ends (Compose c.in-Compose.store c.in-Compose.files) [] files c.compose.result written))
     (ap (map string_bytes) c.names_from.ensures.names ∙ sym (drop-map string_bytes c.in-Compose.files c.args.words.now))
-    (λ files. composes old new files c.in-Compose.store c.in-Compose.files c.compose.result) c.compose.ensures.ends)
+    (λ files. composed_ends old new files c.in-Compose.store c.in-Compose.files c.compose.result) c.compose.ensures.ends)
 
 pub returns-in-Audit-clause-composed : goal.returns-in-Audit-clause-composed
 returns-in-Audit-clause-composed g c done =
@@ -80,3 +80,15 @@ returns-in-Export-clause-ends g c =
     (λ files. Wrote old new (λ written. Ends (Export c.in-Export.file) [] files c.export.result written))
     (ap (λ (w : List ℕ). w ∷ []) c.name_at-in-Export.ensures.name)
     (λ files. exports old new files c.in-Export.file c.export.result) c.export.ensures.exported)
+
+pub returns-in-Audit-clause-cause : goal.returns-in-Audit-clause-cause
+returns-in-Audit-clause-cause g c = caused_again (g.I.Inputs.ends c.args.inputs.now) (g.I.Inputs.ends c.audit.new.inputs) (g.I.Inputs.faults c.args.inputs.now) (g.I.Inputs.faults c.audit.new.inputs) (g.O.Sink.faults c.args.out.now) (g.O.Sink.faults c.audit.new.out) c.audit.result c.audit.ensures.cause
+
+pub returns-in-Dump-clause-cause : goal.returns-in-Dump-clause-cause
+returns-in-Dump-clause-cause g c = caused_again (g.I.Inputs.ends c.args.inputs.now) (g.I.Inputs.ends c.dump.new.inputs) (g.I.Inputs.faults c.args.inputs.now) (g.I.Inputs.faults c.dump.new.inputs) (g.O.Sink.faults c.args.out.now) (g.O.Sink.faults c.dump.new.out) c.dump.result c.dump.ensures.cause
+
+pub returns-in-Export-clause-cause : goal.returns-in-Export-clause-cause
+returns-in-Export-clause-cause g c = caused_again (g.I.Inputs.ends c.args.inputs.now) (g.I.Inputs.ends c.export.new.inputs) (g.I.Inputs.faults c.args.inputs.now) (g.I.Inputs.faults c.export.new.inputs) (g.O.Sink.faults c.args.out.now) (g.O.Sink.faults c.export.new.out) c.export.result c.export.ensures.cause
+
+pub returns-in-Gen-clause-cause : goal.returns-in-Gen-clause-cause
+returns-in-Gen-clause-cause g c = caused_unread (g.I.Inputs.ends c.args.inputs.now) (g.I.Inputs.ends c.args.inputs.now) (g.I.Inputs.faults c.args.inputs.now) (g.I.Inputs.faults c.args.inputs.now) (g.O.Sink.faults c.args.out.now) (g.O.Sink.faults c.write_chain.new.out) c.write_chain.result c.write_chain.ensures.cause

@@ -6,7 +6,7 @@ use Rattle.send_top.specs.Run.{OfRequest, IfComposes}
 use Rattle.std.proofs.Common.{sym, ◌∙◌, ap, subst}
 use Rattle.send_model.specs.Answer.{status_of}
 use Rattle.send_top.specs.Answered.{answer_of}
-use Rattle.send_top.proofs.Statuses.{usage-of_two, two-of_usage, input_fault-of_three, output_fault-of_four, done-of_zero}
+use Rattle.send_top.proofs.Statuses.{usage-of_two, two-of_usage, input_fault-of_three, output_fault-of_four, changed-of_thirteen, done-of_zero}
 use Rattle.send_top.proofs.top_call.run.Goals as goal
 
 pub returns-clause-usage : goal.returns-clause-usage
@@ -31,3 +31,8 @@ returns-clause-composed g c none =
 
 pub returns-clause-quiet : goal.returns-clause-quiet
 returns-clause-quiet g c none = c.write_note.ensures.quiet (done-of_zero (answer_of c.answer_to-answer.result) (sym c.status.ensures ∙ none))
+
+pub returns-clause-changed : goal.returns-clause-changed
+returns-clause-changed g c thirteen =
+    let is = changed-of_thirteen (answer_of c.answer_to-answer.result) (sym c.status.ensures ∙ thirteen) in
+    c.answer_to-answer.ensures.changed is.0 is.1 is.2

@@ -1,10 +1,10 @@
 use Rattle.std.specs.Prelude.{codes, if◌then◌else◌}
 use Rattle.std.specs.Str.{bytes_eq}
 use Rattle.std.specs.String.{string_bytes}
-use Rattle.std.proofs.Common.{◌≡◌, List, ℕ, Bool, Option, map, ◌+◌, ◌<◌, drop, true, false, None, Some, ap, sym, ◌∙◌, arith, refl, length}
+use Rattle.std.proofs.Common.{◌≡◌, List, ℕ, Bool, Option, map, ◌+◌, ◌<◌, true, false, None, Some, ap, sym, ◌∙◌, arith, length}
 use Rattle.std.proofs.lemmas.List.{length-map}
 use Rattle.std.proofs.lemmas.Bool.{not-true, not-false}
-use Rattle.send_model.specs.Words.{Request, Audit, guards_and_files}
+use Rattle.send_model.specs.Words.{Request, Audit}
 use Rattle.send_top.specs.Requests.{if_answered, guards_in, before_store}
 use Rattle.send_top.proofs.AuditWords.{none_left, files_left, word_there}
 use Rattle.send_top.proofs.words.read_audit.Goals as goal

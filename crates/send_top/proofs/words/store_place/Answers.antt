@@ -1,8 +1,6 @@
 use Rattle.std.specs.String.{string_bytes}
-use Rattle.std.specs.Option.{IfNone}
-use Rattle.std.proofs.Common.{true, false, None, Some, ap, sym, ◌∙◌, arith}
+use Rattle.std.proofs.Common.{ap, sym, ◌∙◌, arith}
 use Rattle.send_model.specs.Guards.{guard_of, is_guard_word}
-use Rattle.send_model.specs.Words.{guards_and_files}
 use Rattle.guard_rules.specs.Meaning.{spec_meant}
 use Rattle.send_top.proofs.AuditWords.{begins, more, no_meaning, no_store, has_store}
 use Rattle.send_top.proofs.words.store_place.Goals as goal

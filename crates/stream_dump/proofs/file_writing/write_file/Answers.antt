@@ -2,7 +2,7 @@ use Rattle.std.proofs.Common.{refl, ap, ◌∙◌, arith}
 use Rattle.sx_base.specs.declared.outcome.Outcome.TheVariants as ended
 use Rattle.cmd_reader.specs.Left.{Reader}
 use Rattle.cmd_reader.proofs.Aheads.{start_ahead, next_ahead}
-use Rattle.stream_dump.proofs.Standing.{unopened, stands_first, stands_next, ends_whole, ends_early, item_stops, caused_end, caused_stop, caused_item}
+use Rattle.stream_dump.proofs.Standing.{unopened, stands_first, stands_next, ends_whole, ends_early, item_stops, caused_end, caused_item}
 use Rattle.stream_dump.proofs.file_writing.write_file.Goals as goal
 
 pub returns-in_default-clause-written : goal.returns-in_default-clause-written

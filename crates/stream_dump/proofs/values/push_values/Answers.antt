@@ -1,7 +1,5 @@
-use Rattle.std.proofs.Common.{◌≡◌, ◌++◌, ◌<◌, ℕ, List, length, map, slice_index_or, refl, sym, ap, subst, ◌∙◌}
-use Rattle.send_model.specs.Command.{row}
-use Rattle.send_commands.specs.Meaning.{kind_meant}
-use Rattle.stream_dump.specs.Values.{field_of, name_of, one_value}
+use Rattle.std.proofs.Common.{◌++◌, ◌<◌, ℕ, List, length, slice_index_or, sym, ap, subst, ◌∙◌}
+use Rattle.stream_dump.specs.Values.{field_of, one_value}
 use Rattle.stream_dump.proofs.ValueLines.{value_printed}
 use Rattle.stream_dump.proofs.values.push_values.Goals as goal
 

@@ -1,7 +1,7 @@
-use Rattle.std.proofs.Common.{◌≡◌, ◌++◌, ◌≤◌, ◌+◌, ℕ, List, length, take, drop, OnOk, arith, ap, ◌∙◌, sym}
+use Rattle.std.proofs.Common.{◌++◌, ◌+◌, ℕ, List, take, drop, ap, ◌∙◌}
 use Rattle.send_model.specs.Command.{row}
 use Rattle.send_model.specs.Spelling.{attribute_bytes, frame_of}
-use Rattle.tlv_frame.specs.Frame.{Begun, head_room}
+use Rattle.tlv_frame.specs.Frame.{Begun}
 use Rattle.stream_export.specs.Asking.{attribute_of, kind_asked}
 use Rattle.stream_export.proofs.AskedFrames.{room_is, framed_is}
 use Rattle.stream_export.proofs.receivable_form.push_frame.Goals as goal

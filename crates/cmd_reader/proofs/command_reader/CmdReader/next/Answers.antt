@@ -3,7 +3,7 @@ use Rattle.cmd_reader.proofs.Goings.{begun_at_start, begun_further, begun_ahead,
 use Rattle.cmd_reader.proofs.command_reader.CmdReader.next.Goals as goal
 
 pub loop-answer-init : goal.loop-answer-init
-loop-answer-init g c = record { same = refl; later = omega (arith); begun = begun_at_start (g.I.Inputs.told c.args.inputs.now) c.args.self.now c.requires.ahead; ahead = c.requires.ahead }
+loop-answer-init g c = record { same = refl; later = omega (arith); ends_later = omega (arith); begun = begun_at_start (g.I.Inputs.told c.args.inputs.now) c.args.self.now c.requires.ahead; ahead = c.requires.ahead }
 
 pub loop-answer-preserved : goal.loop-answer-preserved
 loop-answer-preserved g c =
@@ -14,6 +14,7 @@ loop-answer-preserved g c =
     record {
       same = same;
       later = omega (arith, i.later, later);
+      ends_later = omega (arith, i.ends_later, c.step.ensures.ends_later);
       begun = begun;
       ahead = begun_ahead (g.I.Inputs.told c.args.inputs.now) (g.I.Inputs.told c.step.new.inputs) c.args.self.now c.step.new.self same begun;
     }
@@ -26,6 +27,7 @@ returns-in-Some g c =
     record {
       same = e.same ∙ i.same;
       later = omega (arith, i.later, e.later);
+      ends_later = omega (arith, i.ends_later, e.ends_later);
       file = e.file ∙ i.begun.0.file;
       name = e.name ∙ i.begun.0.name;
       fits = says.0.0;

@@ -10,6 +10,7 @@ abbrev pub invariant-loop-answer : goal.invariant-loop-answer
 invariant-loop-answer g l = record {
   same : g.I.Inputs.told l.inputs ≡ g.I.Inputs.told l.fn.inputs;
   later : g.I.Inputs.faults l.fn.inputs ≤ g.I.Inputs.faults l.inputs;
+  ends_later : g.I.Inputs.ends l.fn.inputs ≤ g.I.Inputs.ends l.inputs;
   begun : HasBegun l.fn.self l.self × IfTold (g.I.Inputs.told l.fn.inputs) l.fn.self.name (BeginsAt l.fn.self l.self);
   ahead : IfTold (g.I.Inputs.told l.inputs) l.self.name (HasAhead l.self);
 }

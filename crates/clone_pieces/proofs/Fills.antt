@@ -1,0 +1,187 @@
+-- Buffers with the bytes of cells.
+use Rattle.std.specs.Prelude.{◌≡◌, ℕ, zero, suc, ◌+◌, ◌-◌, ◌<◌, ◌≤◌, List, [], ◌∷◌, ◌++◌, map, length, take, drop, get_or, slice_index_or, Option, Some, None, Result, Ok, Err, String}
+use Rattle.std.specs.List.{AllByRecursion, range_with_len}
+use Rattle.std.specs.String.{string_bytes}
+use Rattle.std.proofs.Common.{refl, sym, ap, ap₂, subst, ◌∙◌, arith}
+use Rattle.std.proofs.Math.Seq.{take-add}
+use Rattle.std.proofs.lemmas.List.{length-map, length-take, length-drop, get_or-take, get_or-drop, map-append, take_at, take_all}
+use Rattle.std.proofs.lemmas.List.FromFn.{fill_by_all}
+use Rattle.std.proofs.lemmas.Slice.{take-put_mid}
+use borrow.Rule.Slice.PartMut.{put_mid}
+use lib.ListN.{replicate}
+use Rattle.send_model.specs.Store as meant
+use Rattle.send_model.proofs.ElementLaws.{all_first, all_drop}
+use Rattle.sx_base.specs.Again.{LiesIn}
+use Rattle.sx_base.specs.Outside.{file_at}
+use Rattle.sx_base.specs.Calls.{contents, IfAllTold}
+use Rattle.sx_base.specs.declared.outcome.Outcome.{Outcome}
+use Rattle.sx_base.specs.declared.outcome.Outcome.TheVariants as ended
+use Rattle.subvol_catalog.specs.declared.key.Key.{Key}
+use Rattle.subvol_catalog.specs.Entries.{key_of}
+use Rattle.extent_map.specs.Pieces.{run_cells, zero_cells, piece_cells}
+use Rattle.extent_map.proofs.Layouts.{length-piece, get_or-run}
+use Rattle.provenance.specs.declared.trace.Trace.{Trace}
+use Rattle.provenance.specs.declared.trace.Trace.TheVariants.{Fresh, Outside}
+use Rattle.provenance.specs.Traces.{advanced_by}
+use Rattle.provenance.proofs.Fronts.{all_had}
+use Rattle.clone_pieces.specs.Origins.{IsInInput}
+use Rattle.clone_pieces.specs.Filling.{byte_in, IsHadIn, PieceHad, PieceThere, FillEnd, AgainEnd}
+use Rattle.clone_pieces.proofs.Told.{all_always, all_map, all_two, told_moved, told_file}
+
+-- ---- the cells of a piece
+
+all_at : {A : Type 0} (P : A → Type 0) (xs : List A) (k : ℕ) (d : A) → k < length xs → AllByRecursion P xs → P (get_or xs k d)
+all_at P [] k d lt all = absurd (omega (arith, lt))
+all_at P (x ∷ xs) zero d lt all = all.0
+all_at P (x ∷ xs) (suc k) d lt all = all_at P xs k d (omega (arith, lt)) all.1
+
+module _ (whole : List (Option Trace)) (have n : ℕ) (rest : List (Option Trace)) (some : 0 < n) where
+  -- The last cell of a run.
+  piece_cell : (P : Option Trace → Type 0) (t : Trace) → drop have whole ≡ piece_cells advanced_by (Some t) n ++ rest → AllByRecursion P whole → P (Some (advanced_by t (n - 1)))
+  piece_cell P t is all =
+      let cells : List (Option Trace) = piece_cells advanced_by (Some t) n in
+      let front : AllByRecursion P cells = all_first P cells rest (subst (λ (l : List (Option Trace)). AllByRecursion P l) is (all_drop P have whole all)) in
+      subst P (get_or-run advanced_by t n (n - 1) (omega (arith, some))) (all_at P cells (n - 1) None (let l = length-piece advanced_by (Some t) n in omega (arith, some, l)) front)
+
+  pub piece_had : (count : ℕ) (held : meant.Key → ℕ → List ℕ) (origin : Option Trace) → drop have whole ≡ piece_cells advanced_by origin n ++ rest → AllByRecursion (IsHadIn count held) whole → PieceHad count held origin n
+  piece_had count held None is all = tt
+  piece_had count held (Some (Fresh file at)) is all = piece_cell (IsHadIn count held) (Fresh file at) is all
+  piece_had count held (Some (Outside key ino at)) is all = let last = piece_cell (IsHadIn count held) (Outside key ino at) is all in omega (arith, last, some)
+
+  pub piece_there : (origin : Option Trace) → drop have whole ≡ piece_cells advanced_by origin n ++ rest → (files : List (List ℕ)) → AllByRecursion (IsInInput files) whole → PieceThere origin n files
+  piece_there None is files all = tt
+  piece_there (Some (Fresh file at)) is files all = let last = piece_cell (IsInInput files) (Fresh file at) is all in omega (arith, last, some)
+  piece_there (Some (Outside key ino at)) is files all = tt
+
+-- ---- the bytes of a piece
+
+map_twice : {A B C : Type 0} (f : B → C) (g : A → B) (xs : List A) → map f (map g xs) ≡ map (λ x. f (g x)) xs
+map_twice f g [] = refl
+map_twice f g (x ∷ xs) = ap (λ l. f (g x) ∷ l) (map_twice f g xs)
+
+run_bytes : (xs : List ℕ) (at len : ℕ) → at + len ≤ length xs → take len (drop at xs) ≡ map (λ k. get_or xs (at + k) 0) (range_with_len 0 len)
+run_bytes xs at len fits = fill_by_all (λ k. get_or xs (at + k) 0) (take len (drop at xs)) len 0
+    (let l = length-take len (drop at xs) in let d = length-drop at xs in omega (arith, l, d, fits))
+    (λ k lt. get_or-take len (drop at xs) k 0 lt ∙ get_or-drop at xs k 0)
+
+module _ (held : meant.Key → ℕ → List ℕ) (files : List (List ℕ)) where
+  zero_bytes : (len : ℕ) → map (byte_in held files) (replicate len None) ≡ replicate len 0
+  zero_bytes zero = refl
+  zero_bytes (suc n) = ap (λ (l : List ℕ). 0 ∷ l) (zero_bytes n)
+
+  none_bytes : (len : ℕ) → map (byte_in held files) (piece_cells advanced_by None len) ≡ replicate len 0
+  unfolding piece_cells zero_cells
+  none_bytes len = zero_bytes len
+
+  fresh_bytes : (file at len : ℕ) → at + len ≤ length (get_or files file []) → map (byte_in held files) (piece_cells advanced_by (Some (Fresh file at)) len) ≡ take len (drop at (get_or files file []))
+  unfolding piece_cells run_cells
+  fresh_bytes file at len fits = map_twice (byte_in held files) (λ k. Some (advanced_by (Fresh file at) k)) (range_with_len 0 len) ∙ sym (run_bytes (get_or files file []) at len fits)
+
+  outside_bytes : (key : Key) (ino at len : ℕ) → at + len ≤ length (held (key_of key) ino) → map (byte_in held files) (piece_cells advanced_by (Some (Outside key ino at)) len) ≡ take len (drop at (held (key_of key) ino))
+  unfolding piece_cells run_cells
+  outside_bytes key ino at len fits = map_twice (byte_in held files) (λ k. Some (advanced_by (Outside key ino at) k)) (range_with_len 0 len) ∙ sym (run_bytes (held (key_of key) ino) at len fits)
+
+-- Zero bytes.
+pub zeroed : (told : Option (List (List ℕ × List ℕ))) (names : List (List ℕ)) (held : meant.Key → ℕ → List ℕ) (origin : Option Trace) (len : ℕ) (new : List ℕ) → origin ≡ None → new ≡ replicate len 0
+    → IfAllTold told names (FillEnd held (piece_cells advanced_by origin len) new (Ok tt))
+zeroed told names held origin len new is zeros = all_always told names (FillEnd held (piece_cells advanced_by origin len) new (Ok tt))
+    (λ files. zeros ∙ sym (none_bytes held files len) ∙ ap (λ (o : Option Trace). map (byte_in held files) (piece_cells advanced_by o len)) (sym is))
+
+-- Bytes of a file that is held.
+pub held_filled : (told : Option (List (List ℕ × List ℕ))) (names : List (List ℕ)) (count : ℕ) (held : meant.Key → ℕ → List ℕ) (origin : Option Trace) (key : Key) (ino at len : ℕ) (new : List ℕ) → origin ≡ Some (Outside key ino at)
+    → PieceHad count held origin len → length new ≡ len → new ≡ take (length new) (drop at (held (key_of key) ino)) → IfAllTold told names (FillEnd held (piece_cells advanced_by origin len) new (Ok tt))
+held_filled told names count held origin key ino at len new is had long filled =
+    let fits : at + len ≤ length (held (key_of key) ino) = subst (λ (o : Option Trace). PieceHad count held o len) is had in
+    all_always told names (FillEnd held (piece_cells advanced_by origin len) new (Ok tt))
+    (λ files. filled ∙ ap (λ (n : ℕ). take n (drop at (held (key_of key) ino))) long ∙ sym (outside_bytes held files key ino at len fits)
+    ∙ ap (λ (o : Option Trace). map (byte_in held files) (piece_cells advanced_by o len)) (sym is))
+
+-- Bytes of an input file: which they are, and that they can be read again.
+module _ {Z : Type 0} (names : List (String Z)) (held : meant.Key → ℕ → List ℕ) (origin : Option Trace) (file at len : ℕ) (name : String Z) (spelled : List ℕ)
+    (origin_is : origin ≡ Some (Fresh file at)) (had : PieceHad (length names) held origin len) (name_is : name ≡ slice_index_or names file name) (spelling : spelled ≡ string_bytes name) where
+  pub file_less : file < length names
+  file_less = subst (λ (o : Option Trace). PieceHad (length names) held o len) origin_is had
+
+  there_is : (table : List (List ℕ × List ℕ)) → PieceThere origin len (contents table (map string_bytes names)) → at + len ≤ length (get_or (contents table (map string_bytes names)) file [])
+  there_is table there = subst (λ (o : Option Trace). PieceThere o len (contents table (map string_bytes names))) origin_is there
+
+  named_bytes : (table : List (List ℕ × List ℕ)) → get_or (contents table (map string_bytes names)) file [] ≡ file_at table spelled
+  named_bytes table = told_file table names file name file_less name_is ∙ ap (file_at table) (sym spelling)
+
+  pub lies_again : (told : Option (List (List ℕ × List ℕ))) → IfAllTold told (map string_bytes names) (PieceThere origin len) → LiesIn told spelled at len
+  lies_again None there = tt
+  lies_again (Some table) there = subst (λ (l : List ℕ). at + len ≤ length l) (named_bytes table) (there_is table there)
+
+  pub again_filled : (told : Option (List (List ℕ × List ℕ))) (new : List ℕ) (result : Result (Unit {0}) Outcome) → IfAllTold told (map string_bytes names) (PieceThere origin len) → length new ≡ len → AgainEnd told spelled at new result
+      → IfAllTold told (map string_bytes names) (FillEnd held (piece_cells advanced_by origin len) new result)
+  again_filled None new result there long filled = tt
+  again_filled (Some table) new (Ok done) there long filled =
+      let files : List (List ℕ) = contents table (map string_bytes names) in
+      filled ∙ ap (λ (n : ℕ). take n (drop at (file_at table spelled))) long ∙ ap (λ (l : List ℕ). take len (drop at l)) (sym (named_bytes table))
+      ∙ sym (fresh_bytes held files file at len (there_is table there)) ∙ ap (λ (o : Option Trace). map (byte_in held files) (piece_cells advanced_by o len)) (sym origin_is)
+  again_filled (Some table) new (Err ended.InputFault) there long filled = tt
+  again_filled (Some table) new (Err (ended.InputChanged file' place)) there long filled = absurd (let e : Some table ≡ None = filled in cc)
+  again_filled (Some table) new (Err ended.OutputFault) there long filled = absurd filled
+  again_filled (Some table) new (Err ended.NoMemory) there long filled = absurd filled
+  again_filled (Some table) new (Err ended.Done) there long filled = absurd filled
+  again_filled (Some table) new (Err (ended.Refused verdict)) there long filled = absurd filled
+  again_filled (Some table) new (Err (ended.InputTooLong file')) there long filled = absurd filled
+  again_filled (Some table) new (Err (ended.TooMuch sum)) there long filled = absurd filled
+
+-- ---- piece by piece
+
+-- The front of a buffer has the bytes of the front of the cells.
+abbrev pub FilledTo : (meant.Key → ℕ → List ℕ) → List (Option Trace) → ℕ → List ℕ → List (List ℕ) → Type 0
+FilledTo held whole have buf files = take have buf ≡ map (byte_in held files) (take have whole)
+
+module _ (whole : List (Option Trace)) (have n : ℕ) (origin : Option Trace) (rest : List (Option Trace)) (is : drop have whole ≡ piece_cells advanced_by origin n ++ rest) (old new : List ℕ) (within : have ≤ length old) where
+  pub filled_more : (held : meant.Key → ℕ → List ℕ) (files : List (List ℕ)) → FilledTo held whole have old files → FillEnd held (piece_cells advanced_by origin n) new (Ok tt) files → FilledTo held whole (have + n) (put_mid have n old new) files
+  filled_more held files so_far filled =
+      let cells : List (Option Trace) = piece_cells advanced_by origin n in
+      let long : length new ≡ n = ap length filled ∙ length-map cells (byte_in held files) ∙ length-piece advanced_by origin n in
+      let next : take (have + n) whole ≡ take have whole ++ cells =
+      take-add have n whole ∙ ap (λ (l : List (Option Trace)). take have whole ++ l) (ap (take n) is ∙ take_at cells rest n (length-piece advanced_by origin n)) in
+      take-put_mid have n old new (have + n) (omega (arith, long)) within
+      ∙ ap₂ (λ (a b : List ℕ). a ++ b) so_far filled
+      ∙ sym (map-append (byte_in held files) (take have whole) cells)
+      ∙ ap (map (byte_in held files)) (sym next)
+
+-- All cells are in front.
+pub filled_all : (held : meant.Key → ℕ → List ℕ) (whole : List (Option Trace)) (have : ℕ) (buf : List ℕ) (files : List (List ℕ)) → drop have whole ≡ [] → length buf ≡ length whole → FilledTo held whole have buf files → FillEnd held whole buf (Ok tt) files
+filled_all held whole have buf files none long filled =
+    let all : length whole ≤ have = all_had whole have none in
+    sym (take_all have buf (omega (arith, all, long))) ∙ filled ∙ ap (map (byte_in held files)) (take_all have whole all)
+
+-- A fill that failed, whatever cells were wanted.
+pub failed_any : (held : meant.Key → ℕ → List ℕ) (cells others : List (Option Trace)) (new other : List ℕ) (outcome : Outcome) (files : List (List ℕ)) → FillEnd held cells new (Err outcome) files → FillEnd held others other (Err outcome) files
+failed_any held cells others new other ended.InputFault files f = tt
+failed_any held cells others new other (ended.InputChanged file place) files f = absurd f
+failed_any held cells others new other ended.OutputFault files f = absurd f
+failed_any held cells others new other ended.NoMemory files f = absurd f
+failed_any held cells others new other ended.Done files f = absurd f
+failed_any held cells others new other (ended.Refused verdict) files f = absurd f
+failed_any held cells others new other (ended.InputTooLong file) files f = absurd f
+failed_any held cells others new other (ended.TooMuch sum) files f = absurd f
+
+-- ---- a turn of the loop
+
+pub mid_length : (have n : ℕ) (buf : List ℕ) → have + n ≤ length buf → length (take (have + n - have) (drop have buf)) ≡ n
+mid_length have n buf fits = let l = length-take (have + n - have) (drop have buf) in let d = length-drop have buf in omega (arith, l, d, fits)
+
+module _ (told now : Option (List (List ℕ × List ℕ))) (names : List (List ℕ)) (held held' : meant.Key → ℕ → List ℕ) (same : now ≡ told) (kept : held' ≡ held)
+    (whole : List (Option Trace)) (have n : ℕ) (origin : Option Trace) (rest : List (Option Trace)) (is : drop have whole ≡ piece_cells advanced_by origin n ++ rest) (some : 0 < n) (size : ℕ) (size_is : size ≡ n) where
+  pub turn_had : (count : ℕ) → AllByRecursion (IsHadIn count held) whole → PieceHad count held' origin size
+  turn_had count all = subst (λ (h : meant.Key → ℕ → List ℕ). PieceHad count h origin size) (sym kept) (subst (λ (m : ℕ). PieceHad count held origin m) (sym size_is) (piece_had whole have n rest some count held origin is all))
+
+  pub turn_there : IfAllTold told names (λ files. AllByRecursion (IsInInput files) whole) → IfAllTold now names (PieceThere origin size)
+  turn_there there = told_moved now told names (PieceThere origin size) (sym same)
+      (all_map told names (λ files. AllByRecursion (IsInInput files) whole) (PieceThere origin size) (λ files all. subst (λ (m : ℕ). PieceThere origin m files) (sym size_is) (piece_there whole have n rest some origin is files all)) there)
+
+  pub turn_filled : (k : ℕ) → k ≡ n → (old new : List ℕ) → have ≤ length old → IfAllTold told names (FilledTo held whole have old) → IfAllTold now names (FillEnd held' (piece_cells advanced_by origin size) new (Ok tt))
+      → IfAllTold told names (FilledTo held whole (have + n) (put_mid have k old new))
+  turn_filled k k_is old new within so_far filled =
+      all_two told names (FilledTo held whole have old) (FillEnd held' (piece_cells advanced_by origin size) new (Ok tt)) (FilledTo held whole (have + n) (put_mid have k old new))
+      (λ files before here. subst (λ (m : ℕ). FilledTo held whole (have + n) (put_mid have m old new) files) (sym k_is)
+      (filled_more whole have n origin rest is old new within held files before
+      (here ∙ ap₂ (λ (h : meant.Key → ℕ → List ℕ) (m : ℕ). map (byte_in h files) (piece_cells advanced_by origin m)) kept size_is)))
+      so_far (told_moved told now names (FillEnd held' (piece_cells advanced_by origin size) new (Ok tt)) same filled)

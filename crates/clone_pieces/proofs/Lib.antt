@@ -1,0 +1,11 @@
+pub mod LiteralBytes
+pub mod Short
+pub mod Flow
+pub mod Causes
+pub mod Told
+pub mod Fills
+pub mod Chunks
+pub mod Literals
+pub mod Rows
+pub mod Redirects
+pub mod Made

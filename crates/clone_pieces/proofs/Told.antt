@@ -1,0 +1,30 @@
+-- Facts of named files, where the inputs tell their files.
+use Rattle.std.specs.Prelude.{◌≡◌, ℕ, ◌<◌, List, [], map, length, get_or, slice_index_or, Option, Some, None, String}
+use Rattle.std.specs.String.{string_bytes}
+use Rattle.std.proofs.Common.{sym, ap, subst, ◌∙◌, arith}
+use Rattle.std.proofs.lemmas.List.{length-map, get_or-map}
+use Rattle.sx_base.specs.Outside.{file_at}
+use Rattle.sx_base.specs.Calls.{contents, IfAllTold}
+
+pub all_always : (told : Option (List (List ℕ × List ℕ))) (names : List (List ℕ)) (P : List (List ℕ) → Type 0) → ((files : List (List ℕ)) → P files) → IfAllTold told names P
+all_always None names P f = tt
+all_always (Some table) names P f = f _
+
+pub all_map : (told : Option (List (List ℕ × List ℕ))) (names : List (List ℕ)) (P Q : List (List ℕ) → Type 0) → ((files : List (List ℕ)) → P files → Q files) → IfAllTold told names P → IfAllTold told names Q
+all_map None names P Q f p = tt
+all_map (Some table) names P Q f p = f _ p
+
+pub all_two : (told : Option (List (List ℕ × List ℕ))) (names : List (List ℕ)) (P Q R : List (List ℕ) → Type 0) → ((files : List (List ℕ)) → P files → Q files → R files) → IfAllTold told names P → IfAllTold told names Q → IfAllTold told names R
+all_two None names P Q R f p q = tt
+all_two (Some table) names P Q R f p q = f _ p q
+
+-- What is said where other inputs tell the same.
+pub told_moved : (told now : Option (List (List ℕ × List ℕ))) (names : List (List ℕ)) (P : List (List ℕ) → Type 0) → now ≡ told → IfAllTold now names P → IfAllTold told names P
+told_moved told now names P same p = subst (λ (t : Option (List (List ℕ × List ℕ))). IfAllTold t names P) same p
+
+-- The bytes of one of the files.
+pub told_file : {Z : Type 0} (table : List (List ℕ × List ℕ)) (names : List (String Z)) (file : ℕ) (name : String Z) → file < length names → name ≡ slice_index_or names file name
+    → get_or (contents table (map string_bytes names)) file [] ≡ file_at table (string_bytes name)
+told_file table names file name lt is =
+    get_or-map (file_at table) (map string_bytes names) file [] [] (let l = length-map names string_bytes in omega (arith, lt, l))
+    ∙ ap (file_at table) (get_or-map string_bytes names file name [] lt ∙ ap string_bytes (sym is))

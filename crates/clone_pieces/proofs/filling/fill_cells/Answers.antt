@@ -1,0 +1,81 @@
+use Rattle.std.proofs.Common.{◌+◌, ◌-◌, ◌<◌, ◌^◌, map, length, sym, ◌∙◌, arith, rules}
+use Rattle.std.specs.String.{string_bytes}
+use Rattle.extent_map.specs.Cells.{cells_between}
+use Rattle.extent_map.proofs.CellLists.{length-between}
+use Rattle.provenance.proofs.Fronts.{reaches, left_after}
+use Rattle.clone_pieces.proofs.Told.{all_map}
+use Rattle.clone_pieces.proofs.Fills.{FilledTo, filled_all, mid_length, turn_had, turn_there, turn_filled}
+use Rattle.clone_pieces.specs.Filling.{FillEnd}
+use Rattle.std.specs.Prelude.{Ok}
+use Rattle.clone_pieces.proofs.filling.fill_cells.Goals as goal
+
+pub overflow_add-end : goal.overflow_add-end
+overflow_add-end g c =
+    let s = c.in-Some.ensures.steps in
+    let whole = cells_between c.args.from (length c.args.buf.now) c.args.contents.now in
+    let r = reaches whole c.loop-origin.have c.in-Some.origin c.in-Some.len c.next.new.self (c.loop-origin.invariant.left ∙ s.2) s.0 in
+    let l = length-between c.args.from (length c.args.buf.now) c.args.contents.now c.requires.within in
+    let small : length c.args.buf.now < 2 ^ 63 = search rules in
+    omega (arith, r, l, small)
+
+pub slice_bounds-fill_piece-end : goal.slice_bounds-fill_piece-end
+slice_bounds-fill_piece-end g c =
+    let s = c.in-Some.ensures.steps in
+    let whole = cells_between c.args.from (length c.args.buf.now) c.args.contents.now in
+    let r = reaches whole c.loop-origin.have c.in-Some.origin c.in-Some.len c.next.new.self (c.loop-origin.invariant.left ∙ s.2) s.0 in
+    let l = length-between c.args.from (length c.args.buf.now) c.args.contents.now c.requires.within in
+    omega (arith, r, l, c.loop-origin.invariant.size)
+
+pub fill_piece-requires-clause-had : goal.fill_piece-requires-clause-had
+fill_piece-requires-clause-had g c =
+    let s = c.in-Some.ensures.steps in
+    let i = c.loop-origin.invariant in
+    let whole = cells_between c.args.from (length c.args.buf.now) c.args.contents.now in
+    let r = reaches whole c.loop-origin.have c.in-Some.origin c.in-Some.len c.next.new.self (i.left ∙ s.2) s.0 in
+    let l = length-between c.args.from (length c.args.buf.now) c.args.contents.now c.requires.within in
+    turn_had (g.I.Inputs.told c.args.inputs.now) (g.I.Inputs.told c.loop-origin.inputs) (map string_bytes c.args.files.now) (g.B.OutsideBytes.held c.args.bytes.now) (g.B.OutsideBytes.held c.loop-origin.bytes) i.same i.held
+    whole c.loop-origin.have c.in-Some.len c.in-Some.origin c.next.new.self (i.left ∙ s.2) s.0 _ (mid_length c.loop-origin.have c.in-Some.len c.loop-origin.buf (omega (arith, r, l, i.size))) (length c.args.files.now) c.requires.had
+
+pub fill_piece-requires-clause-there : goal.fill_piece-requires-clause-there
+fill_piece-requires-clause-there g c =
+    let s = c.in-Some.ensures.steps in
+    let i = c.loop-origin.invariant in
+    let whole = cells_between c.args.from (length c.args.buf.now) c.args.contents.now in
+    let r = reaches whole c.loop-origin.have c.in-Some.origin c.in-Some.len c.next.new.self (i.left ∙ s.2) s.0 in
+    let l = length-between c.args.from (length c.args.buf.now) c.args.contents.now c.requires.within in
+    turn_there (g.I.Inputs.told c.args.inputs.now) (g.I.Inputs.told c.loop-origin.inputs) (map string_bytes c.args.files.now) (g.B.OutsideBytes.held c.args.bytes.now) (g.B.OutsideBytes.held c.loop-origin.bytes) i.same i.held
+    whole c.loop-origin.have c.in-Some.len c.in-Some.origin c.next.new.self (i.left ∙ s.2) s.0 _ (mid_length c.loop-origin.have c.in-Some.len c.loop-origin.buf (omega (arith, r, l, i.size))) c.requires.there
+
+pub loop-origin-preserved : goal.loop-origin-preserved
+loop-origin-preserved g c =
+    let s = c.in-Some.ensures.steps in
+    let i = c.loop-origin.invariant in
+    let e = c.in-Ok.ensures in
+    let whole = cells_between c.args.from (length c.args.buf.now) c.args.contents.now in
+    let r = reaches whole c.loop-origin.have c.in-Some.origin c.in-Some.len c.next.new.self (i.left ∙ s.2) s.0 in
+    let l = length-between c.args.from (length c.args.buf.now) c.args.contents.now c.requires.within in
+    let mid = mid_length c.loop-origin.have c.in-Some.len c.loop-origin.buf (omega (arith, r, l, i.size)) in
+    record {
+      can = tt;
+      finite = tt;
+      size = search rules;
+      within = omega (arith, r, l);
+      left = left_after whole c.loop-origin.have c.in-Some.origin c.in-Some.len c.next.new.self (i.left ∙ s.2);
+      same = e.same ∙ i.same;
+      held = e.held ∙ i.held;
+      later = omega (arith, e.later, i.later);
+      ends_later = omega (arith, e.ends_later, i.ends_later);
+      bytes_later = omega (arith, e.bytes_later, i.bytes_later);
+      filled = turn_filled (g.I.Inputs.told c.args.inputs.now) (g.I.Inputs.told c.loop-origin.inputs) (map string_bytes c.args.files.now) (g.B.OutsideBytes.held c.args.bytes.now) (g.B.OutsideBytes.held c.loop-origin.bytes) i.same i.held
+          whole c.loop-origin.have c.in-Some.len c.in-Some.origin c.next.new.self (i.left ∙ s.2) s.0 _ mid (c.loop-origin.have + c.in-Some.len - c.loop-origin.have) (omega arith) c.loop-origin.buf c.fill_piece.new.buf
+          (omega (arith, i.within, i.size)) i.filled e.filled;
+    }
+
+pub returns-clause-filled : goal.returns-clause-filled
+returns-clause-filled g c =
+    let i = c.loop-origin.invariant in
+    let whole = cells_between c.args.from (length c.args.buf.now) c.args.contents.now in
+    let l = length-between c.args.from (length c.args.buf.now) c.args.contents.now c.requires.within in
+    let held = g.B.OutsideBytes.held c.args.bytes.now in
+    all_map (g.I.Inputs.told c.args.inputs.now) (map string_bytes c.args.files.now) (FilledTo held whole c.loop-origin.have c.loop-origin.buf) (FillEnd held whole c.loop-origin.buf (Ok tt))
+    (λ files filled. filled_all held whole c.loop-origin.have c.loop-origin.buf files (i.left ∙ c.in-None.ensures.steps.0) (i.size ∙ sym l) filled) i.filled

@@ -1,0 +1,63 @@
+use Rattle.std.specs.Prelude.{map}
+use Rattle.std.specs.String.{string_bytes}
+use Rattle.std.proofs.Common.{◌≡◌, ◌-◌, min, refl, ◌∙◌, arith}
+use Rattle.clone_pieces.proofs.Literals.{next_had, next_there, stand_start, stand_more, stand_stops, stand_end}
+use Rattle.clone_pieces.proofs.literal.write_cells.Goals as goal
+
+pub loop-done-init : goal.loop-done-init
+loop-done-init g c = record {
+  within = omega arith;
+  same = refl;
+  held = refl;
+  later = omega arith;
+  ends_later = omega arith;
+  bytes_later = omega arith;
+  out_later = omega arith;
+  written = stand_start (g.I.Inputs.told c.args.inputs.now) (map string_bytes c.args.files.now) (g.B.OutsideBytes.held c.args.bytes.now) c.args.contents.now c.args.from c.args.len c.requires.within c.args.version c.args.path.now c.args.offset
+      (g.O.Sink.taken c.args.out.now) c.args.pending.now;
+}
+
+pub write_some-requires-clause-had : goal.write_some-requires-clause-had
+write_some-requires-clause-had g c =
+    let i = c.loop-done.invariant in
+    let is : c.min-count.result ≡ min (c.args.len - c.loop-done.done) 49_152 = omega arith in
+    next_had (g.I.Inputs.told c.args.inputs.now) (map string_bytes c.args.files.now) (g.B.OutsideBytes.held c.args.bytes.now) c.args.contents.now c.args.from c.args.len c.requires.within c.args.version c.args.path.now c.args.offset
+    (g.I.Inputs.told c.loop-done.inputs) (g.B.OutsideBytes.held c.loop-done.bytes) i.same i.held c.loop-done.done c.min-count.result c.loop-done-test.true is _ c.requires.had
+
+pub write_some-requires-clause-there : goal.write_some-requires-clause-there
+write_some-requires-clause-there g c =
+    let i = c.loop-done.invariant in
+    let is : c.min-count.result ≡ min (c.args.len - c.loop-done.done) 49_152 = omega arith in
+    next_there (g.I.Inputs.told c.args.inputs.now) (map string_bytes c.args.files.now) (g.B.OutsideBytes.held c.args.bytes.now) c.args.contents.now c.args.from c.args.len c.requires.within c.args.version c.args.path.now c.args.offset
+    (g.I.Inputs.told c.loop-done.inputs) (g.B.OutsideBytes.held c.loop-done.bytes) i.same i.held c.loop-done.done c.min-count.result c.loop-done-test.true is c.requires.there
+
+pub loop-done-preserved : goal.loop-done-preserved
+loop-done-preserved g c =
+    let i = c.loop-done.invariant in
+    let e = c.in-Ok.ensures in
+    let is : c.min-count.result ≡ min (c.args.len - c.loop-done.done) 49_152 = omega arith in
+    record {
+      within = omega (arith, c.loop-done-test.true);
+      same = e.same ∙ i.same;
+      held = e.held ∙ i.held;
+      later = omega (arith, e.later, i.later);
+      ends_later = omega (arith, e.ends_later, i.ends_later);
+      bytes_later = omega (arith, e.bytes_later, i.bytes_later);
+      out_later = omega (arith, e.out_later, i.out_later);
+      written = stand_more (g.I.Inputs.told c.args.inputs.now) (map string_bytes c.args.files.now) (g.B.OutsideBytes.held c.args.bytes.now) c.args.contents.now c.args.from c.args.len c.requires.within c.args.version c.args.path.now c.args.offset
+          (g.I.Inputs.told c.loop-done.inputs) (g.B.OutsideBytes.held c.loop-done.bytes) i.same i.held c.loop-done.done c.min-count.result c.loop-done-test.true is
+          (g.O.Sink.taken c.args.out.now) (g.O.Sink.taken c.loop-done.out) (g.O.Sink.taken c.write_some.new.out) c.args.pending.now c.loop-done.pending c.write_some.new.pending i.written e.written;
+    }
+
+pub returns-in-Err-clause-written : goal.returns-in-Err-clause-written
+returns-in-Err-clause-written g c =
+    let i = c.loop-done.invariant in
+    let is : c.min-count.result ≡ min (c.args.len - c.loop-done.done) 49_152 = omega arith in
+    stand_stops (g.I.Inputs.told c.args.inputs.now) (map string_bytes c.args.files.now) (g.B.OutsideBytes.held c.args.bytes.now) c.args.contents.now c.args.from c.args.len c.requires.within c.args.version c.args.path.now c.args.offset
+    (g.I.Inputs.told c.loop-done.inputs) (g.B.OutsideBytes.held c.loop-done.bytes) i.same i.held c.loop-done.done c.min-count.result c.loop-done-test.true is
+    (g.O.Sink.taken c.args.out.now) (g.O.Sink.taken c.loop-done.out) (g.O.Sink.taken c.write_some.new.out) c.args.pending.now c.loop-done.pending c.write_some.new.pending c.write_some.new.pending c.in-Err.outcome i.written c.in-Err.ensures.written
+
+pub returns-clause-written : goal.returns-clause-written
+returns-clause-written g c =
+    stand_end (g.I.Inputs.told c.args.inputs.now) (map string_bytes c.args.files.now) (g.B.OutsideBytes.held c.args.bytes.now) c.args.contents.now c.args.from c.args.len c.requires.within c.args.version c.args.path.now c.args.offset
+    c.loop-done.done (g.O.Sink.taken c.args.out.now) (g.O.Sink.taken c.loop-done.out) c.args.pending.now c.loop-done.pending (omega (arith, c.loop-done-test.false)) c.loop-done.invariant.written

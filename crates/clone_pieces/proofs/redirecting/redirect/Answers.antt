@@ -1,0 +1,123 @@
+use Rattle.std.specs.List.{AllByRecursion}
+use Rattle.std.specs.String.{string_bytes}
+use Rattle.std.proofs.Common.{◌≡◌, ℕ, List, ◌+◌, map, refl, sym, subst, ◌∙◌, arith, rules}
+use Rattle.sx_base.specs.Calls.{IfAllTold}
+use Rattle.extent_map.specs.Cells.{cells_between}
+use Rattle.extent_map.proofs.CellLists.{length-between}
+use Rattle.provenance.specs.Traces.{place_in}
+use Rattle.provenance.specs.Plans.{planned}
+use Rattle.provenance.specs.Cuts.{Cut}
+use Rattle.clone_pieces.specs.Cutting.{cut_len, IsNamed}
+use Rattle.clone_pieces.proofs.Rows.{CutRow, cuts_row, cuts_named, row_next, row_fits, row_stands}
+use Rattle.clone_pieces.proofs.Redirects.{plan_had, plan_there, Stands, stands_start, stands_more, stands_stop, stands_end}
+use Rattle.clone_pieces.proofs.redirecting.redirect.Goals as goal
+
+pub loop-plan-init : goal.loop-plan-init
+loop-plan-init g c =
+    let E = g.E.Ends.ends c.args.known.now in
+    let base = g.E.Known.base c.args.known.now in
+    let right = g.met.E.Known.ends_are c.args.known.now in
+    let cells = cells_between c.args.from c.args.len c.args.contents.now in
+    let cuts = c.cut_blocks-plan-items.result in
+    let said = c.cut_blocks-plan-items.ensures in
+    let is : c.into_iter-plan-iterator.result ≡ cuts = search rules in
+    let long = length-between c.args.from c.args.len c.args.contents.now c.requires.within in
+    let told = g.I.Inputs.told c.args.inputs.now in
+    let names = map string_bytes c.args.files.now in
+    let held = g.B.OutsideBytes.held c.args.bytes.now in
+    let out = g.O.Sink.taken c.args.out.now in
+    record {
+      can = tt;
+      finite = tt;
+      row = subst (λ (cs : List Cut). CutRow c.args.from 0 cs c.args.len) (sym is) (subst (λ (n : ℕ). CutRow c.args.from 0 cuts n) long (cuts_row base E right c.args.from cells cuts said.pieces));
+      named = subst (λ (cs : List Cut). AllByRecursion (IsNamed E) cs) (sym (is ∙ said.cuts)) (cuts_named E c.args.from (map place_in cells));
+      same = refl;
+      held = refl;
+      later = omega arith;
+      ends_later = omega arith;
+      bytes_later = omega arith;
+      out_later = omega arith;
+      stands = subst (λ (cs : List Cut). IfAllTold told names (Stands told names base held c.args.contents.now c.args.from c.args.len c.args.version c.args.path.now c.args.offset 0 cs out out c.args.pending.now c.args.pending.now)) (sym is)
+          (stands_start told names base held c.args.contents.now c.args.from c.args.len c.args.version c.args.path.now c.args.offset E right c.requires.held cuts c.requires.within said.pieces out c.args.pending.now);
+    }
+
+pub overflow_add-offset : goal.overflow_add-offset
+overflow_add-offset g c =
+    let i = c.loop-plan.invariant in
+    let row = subst (λ (cs : List Cut). CutRow c.args.from c.loop-plan.done cs c.args.len) c.in-Some.ensures.steps i.row in
+    let fits = row_fits c.args.from c.loop-plan.done c.args.len (planned c.in-Some.plan) c.next.new.self row in
+    omega (arith, fits, c.requires.end)
+
+pub write_plan-requires-clause-end : goal.write_plan-requires-clause-end
+write_plan-requires-clause-end g c =
+    let i = c.loop-plan.invariant in
+    let row = subst (λ (cs : List Cut). CutRow c.args.from c.loop-plan.done cs c.args.len) c.in-Some.ensures.steps i.row in
+    let fits = row_fits c.args.from c.loop-plan.done c.args.len (planned c.in-Some.plan) c.next.new.self row in
+    omega (arith, fits, c.requires.end)
+
+pub write_plan-requires-clause-within : goal.write_plan-requires-clause-within
+write_plan-requires-clause-within g c =
+    let i = c.loop-plan.invariant in
+    let row = subst (λ (cs : List Cut). CutRow c.args.from c.loop-plan.done cs c.args.len) c.in-Some.ensures.steps i.row in
+    row_stands c.args.from c.loop-plan.done c.args.len _ (planned c.in-Some.plan) c.next.new.self row c.requires.within
+
+pub write_plan-requires-clause-had : goal.write_plan-requires-clause-had
+write_plan-requires-clause-had g c =
+    let i = c.loop-plan.invariant in
+    plan_had (g.I.Inputs.told c.args.inputs.now) (g.I.Inputs.told c.loop-plan.inputs) (map string_bytes c.args.files.now) (g.B.OutsideBytes.held c.args.bytes.now) (g.B.OutsideBytes.held c.loop-plan.bytes) i.same i.held
+    c.args.contents.now c.args.from c.args.len c.loop-plan.done (planned c.in-Some.plan) c.loop-plan.plan-iterator c.next.new.self c.in-Some.ensures.steps i.row _ (g.E.Known.base c.args.known.now) c.requires.held c.requires.had
+
+pub write_plan-requires-clause-there : goal.write_plan-requires-clause-there
+write_plan-requires-clause-there g c =
+    let i = c.loop-plan.invariant in
+    plan_there (g.I.Inputs.told c.args.inputs.now) (g.I.Inputs.told c.loop-plan.inputs) (map string_bytes c.args.files.now) (g.B.OutsideBytes.held c.args.bytes.now) (g.B.OutsideBytes.held c.loop-plan.bytes) i.same i.held
+    c.args.contents.now c.args.from c.args.len c.loop-plan.done (planned c.in-Some.plan) c.loop-plan.plan-iterator c.next.new.self c.in-Some.ensures.steps i.row c.requires.there
+
+pub overflow_add-done : goal.overflow_add-done
+overflow_add-done g c =
+    let i = c.loop-plan.invariant in
+    let row = subst (λ (cs : List Cut). CutRow c.args.from c.loop-plan.done cs c.args.len) c.in-Some.ensures.steps i.row in
+    let fits = row_fits c.args.from c.loop-plan.done c.args.len (planned c.in-Some.plan) c.next.new.self row in
+    omega (arith, fits, c.requires.end, c.len_of-count.ensures)
+
+pub loop-plan-preserved : goal.loop-plan-preserved
+loop-plan-preserved g c =
+    let i = c.loop-plan.invariant in
+    let e = c.in-Ok.ensures in
+    let step = c.in-Some.ensures.steps in
+    let E = g.E.Ends.ends c.args.known.now in
+    let told = g.I.Inputs.told c.args.inputs.now in
+    let names = map string_bytes c.args.files.now in
+    let base = g.E.Known.base c.args.known.now in
+    let held = g.B.OutsideBytes.held c.args.bytes.now in
+    let out = g.O.Sink.taken c.args.out.now in
+    let next_out = g.O.Sink.taken c.write_plan.new.out in
+    let row = subst (λ (cs : List Cut). CutRow c.args.from c.loop-plan.done cs c.args.len) step i.row in
+    let long : cut_len (planned c.in-Some.plan) ≡ c.len_of-count.result = sym c.len_of-count.ensures in
+    record {
+      can = tt;
+      finite = tt;
+      row = subst (λ (n : ℕ). CutRow c.args.from (c.loop-plan.done + n) c.next.new.self c.args.len) long (row_next c.args.from c.loop-plan.done c.args.len (planned c.in-Some.plan) c.next.new.self row);
+      named = (subst (λ (cs : List Cut). AllByRecursion (IsNamed E) cs) step i.named).1;
+      same = e.same ∙ i.same;
+      held = e.held ∙ i.held;
+      later = omega (arith, e.later, i.later);
+      ends_later = omega (arith, e.ends_later, i.ends_later);
+      bytes_later = omega (arith, e.bytes_later, i.bytes_later);
+      out_later = omega (arith, e.out_later, i.out_later);
+      stands = subst (λ (n : ℕ). IfAllTold told names (Stands told names base held c.args.contents.now c.args.from c.args.len c.args.version c.args.path.now c.args.offset (c.loop-plan.done + n) c.next.new.self out next_out c.args.pending.now c.write_plan.new.pending)) long
+          (stands_more told names base held c.args.contents.now c.args.from c.args.len c.args.version c.args.path.now c.args.offset (g.I.Inputs.told c.loop-plan.inputs) (g.B.OutsideBytes.held c.loop-plan.bytes) i.same i.held
+          c.loop-plan.done c.loop-plan.plan-iterator (planned c.in-Some.plan) c.next.new.self step out (g.O.Sink.taken c.loop-plan.out) next_out c.args.pending.now c.loop-plan.pending c.write_plan.new.pending i.stands e.written);
+    }
+
+pub returns-in-Err-clause-redirected : goal.returns-in-Err-clause-redirected
+returns-in-Err-clause-redirected g c =
+    let i = c.loop-plan.invariant in
+    stands_stop (g.I.Inputs.told c.args.inputs.now) (map string_bytes c.args.files.now) (g.E.Known.base c.args.known.now) (g.B.OutsideBytes.held c.args.bytes.now) c.args.contents.now c.args.from c.args.len c.args.version c.args.path.now c.args.offset
+    (g.I.Inputs.told c.loop-plan.inputs) (g.B.OutsideBytes.held c.loop-plan.bytes) i.same i.held c.loop-plan.done c.loop-plan.plan-iterator (planned c.in-Some.plan) c.next.new.self c.in-Some.ensures.steps
+    (g.O.Sink.taken c.args.out.now) (g.O.Sink.taken c.loop-plan.out) (g.O.Sink.taken c.write_plan.new.out) c.args.pending.now c.loop-plan.pending c.write_plan.new.pending c.write_plan.new.pending c.in-Err.outcome i.stands c.in-Err.ensures.written
+
+pub returns-clause-redirected : goal.returns-clause-redirected
+returns-clause-redirected g c =
+    stands_end (g.I.Inputs.told c.args.inputs.now) (map string_bytes c.args.files.now) (g.E.Known.base c.args.known.now) (g.B.OutsideBytes.held c.args.bytes.now) c.args.contents.now c.args.from c.args.len c.args.version c.args.path.now c.args.offset
+    c.loop-plan.done c.loop-plan.plan-iterator c.in-None.ensures.steps.0 (g.O.Sink.taken c.args.out.now) (g.O.Sink.taken c.loop-plan.out) c.args.pending.now c.loop-plan.pending c.loop-plan.invariant.stands

@@ -1,0 +1,29 @@
+use Rattle.std.specs.List.{AllByRecursion}
+use Rattle.std.specs.String.{string_bytes}
+use Rattle.std.proofs.Common.{◌≡◌, ◌+◌, ◌≤◌, map}
+use Rattle.sx_base.specs.Calls.{IfAllTold}
+use Rattle.extent_map.specs.Cells.{cells_between}
+use Rattle.clone_pieces.specs.Filling.{byte_in}
+use Rattle.clone_pieces.specs.Cutting.{IsNamed}
+use Rattle.clone_pieces.specs.Redirecting.{seen_cells, pieces_spelled}
+use Rattle.clone_pieces.proofs.Rows.{CutRow}
+use Rattle.clone_pieces.proofs.Redirects.{Redirected}
+use Rattle.clone_pieces.proofs.redirecting.redirect.Given as goal
+
+-- What stands for the first pieces has gone out, the others stand one behind the other, and no count fell.
+abbrev pub invariant-loop-plan : goal.invariant-loop-plan
+invariant-loop-plan g l = record {
+  can : (goal.iterator-loop-plan g).can_next l.plan-iterator;
+  finite : (goal.iterator-loop-plan g).is_finite l.plan-iterator;
+  row : CutRow l.from l.done l.plan-iterator l.len;
+  named : AllByRecursion (IsNamed (g.E.Ends.ends l.known)) l.plan-iterator;
+  same : g.I.Inputs.told l.inputs ≡ g.I.Inputs.told l.fn.inputs;
+  held : g.B.OutsideBytes.held l.bytes ≡ g.B.OutsideBytes.held l.fn.bytes;
+  later : g.I.Inputs.faults l.fn.inputs ≤ g.I.Inputs.faults l.inputs;
+  ends_later : g.I.Inputs.ends l.fn.inputs ≤ g.I.Inputs.ends l.inputs;
+  bytes_later : g.B.OutsideBytes.faults l.fn.bytes ≤ g.B.OutsideBytes.faults l.bytes;
+  out_later : g.O.Sink.faults l.fn.out ≤ g.O.Sink.faults l.out;
+  stands : IfAllTold (g.I.Inputs.told l.fn.inputs) (map string_bytes l.fn.files)
+      (λ files. Redirected (pieces_spelled l.version (g.E.Known.base l.known) l.path l.offset (seen_cells files (g.E.Known.base l.known) (cells_between l.from l.len l.contents))) l.version (g.E.Known.base l.known)
+      (byte_in (g.B.OutsideBytes.held l.fn.bytes) files) l.contents l.path (l.offset + l.done) l.plan-iterator (g.O.Sink.taken l.fn.out) (g.O.Sink.taken l.out) l.fn.pending l.pending);
+}

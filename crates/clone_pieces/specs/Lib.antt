@@ -1,0 +1,7 @@
+pub mod Origins
+pub mod Seen
+pub mod Sending
+pub mod Redirecting
+pub mod Filling
+pub mod Cutting
+pub mod Nothing

@@ -1,0 +1,48 @@
+-- What stands for a clone from an earlier part: clones of outside files, and writes of other bytes.
+use Rattle.std.specs.Prelude.{⊤, ℕ, List, ◌++◌, map, Option, Result, Ok, Err}
+use Rattle.std.specs.List.{flat_map}
+use Rattle.send_model.specs.Spelling.{canonical_all}
+use Rattle.send_model.specs.Store.{Store}
+use Rattle.send_model.specs.Provenance.{Traced, pieces_of}
+use Rattle.send_model.specs.Composed.{piece_commands}
+use Rattle.sx_base.specs.Causes.{Rose}
+use Rattle.sx_base.specs.declared.outcome.Outcome.{Outcome}
+use Rattle.sx_base.specs.declared.outcome.Outcome.TheVariants as ended
+use Rattle.provenance.specs.declared.trace.Trace.{Trace}
+use Rattle.provenance.specs.Traces.{place_of}
+use Rattle.clone_pieces.specs.Origins.{byte_of_trace}
+use Rattle.clone_pieces.specs.Seen.{seen}
+use Rattle.clone_pieces.specs.Sending.{GoesOut, AppendsFront}
+
+-- Cells as bytes with their outside places.
+abbrev pub seen_cells : List (List ℕ) → Store ℕ → List (Option Trace) → List Traced
+seen_cells files base cells = map (seen (byte_of_trace files base) place_of) cells
+
+-- The spelling of what stands for a clone of these cells to a path and an offset.
+abbrev pub pieces_spelled : ℕ → Store ℕ → List ℕ → ℕ → List Traced → List ℕ
+pieces_spelled version base path offset range = canonical_all version (flat_map (piece_commands base path offset) (pieces_of base range))
+
+-- The bytes go out, or an object of the outside failed, or there is no memory; then a front part of what was pending and of them was
+-- written. Inputs that tell are not found changed.
+abbrev pub RedirectEnd : Option (List ℕ) → Option (List ℕ) → (old new bytes : List ℕ) → Result (Unit {0}) Outcome → Type 0
+RedirectEnd out_old out_new old new bytes (Ok done) = GoesOut out_old out_new old new bytes
+RedirectEnd out_old out_new old new bytes (Err ended.OutputFault) = AppendsFront out_old out_new (old ++ bytes)
+RedirectEnd out_old out_new old new bytes (Err ended.InputFault) = AppendsFront out_old out_new (old ++ bytes)
+RedirectEnd out_old out_new old new bytes (Err ended.NoMemory) = AppendsFront out_old out_new (old ++ bytes)
+RedirectEnd out_old out_new old new bytes (Err (ended.InputChanged file place)) = ⊥
+RedirectEnd out_old out_new old new bytes (Err ended.Done) = ⊥
+RedirectEnd out_old out_new old new bytes (Err (ended.Refused verdict)) = ⊥
+RedirectEnd out_old out_new old new bytes (Err (ended.InputTooLong file)) = ⊥
+RedirectEnd out_old out_new old new bytes (Err (ended.TooMuch sum)) = ⊥
+
+-- A fault is the outcome only where the count of its object rose, and an input is found changed only where the count of ends rose.
+abbrev pub RedirectCaused : (ends_before ends_now inputs_before inputs_now out_before out_now : ℕ) → Result (Unit {0}) Outcome → Type 0
+RedirectCaused ends_before ends_now inputs_before inputs_now out_before out_now (Ok done) = ⊤
+RedirectCaused ends_before ends_now inputs_before inputs_now out_before out_now (Err ended.InputFault) = Rose inputs_before inputs_now
+RedirectCaused ends_before ends_now inputs_before inputs_now out_before out_now (Err (ended.InputChanged file place)) = Rose ends_before ends_now
+RedirectCaused ends_before ends_now inputs_before inputs_now out_before out_now (Err ended.OutputFault) = Rose out_before out_now
+RedirectCaused ends_before ends_now inputs_before inputs_now out_before out_now (Err ended.NoMemory) = ⊤
+RedirectCaused ends_before ends_now inputs_before inputs_now out_before out_now (Err ended.Done) = ⊥
+RedirectCaused ends_before ends_now inputs_before inputs_now out_before out_now (Err (ended.Refused verdict)) = ⊥
+RedirectCaused ends_before ends_now inputs_before inputs_now out_before out_now (Err (ended.InputTooLong file)) = ⊥
+RedirectCaused ends_before ends_now inputs_before inputs_now out_before out_now (Err (ended.TooMuch sum)) = ⊥

@@ -1,0 +1,112 @@
+// Reading the bytes of cells from where they come.
+ghost use Rattle.std.specs.Prelude.{◌≡◌, ◌+◌, ◌<◌, ◌≤◌, ◌^◌, map, length};
+ghost use Rattle.std.specs.List.{AllByRecursion};
+ghost use Rattle.std.specs.String.{string_bytes};
+ghost use Rattle.sx_base.specs.Again.{LiesIn, FillsFrom};
+ghost use Rattle.sx_base.specs.Calls.{IfAllTold};
+ghost use Rattle.extent_map.specs.Cells.{cells_between};
+ghost use Rattle.extent_map.specs.Pieces.{piece_cells};
+ghost use Rattle.provenance.specs.Traces.{advanced_by};
+ghost use Rattle.clone_pieces.specs.Origins.{IsInInput};
+ghost use Rattle.clone_pieces.specs.Filling.{IsHadIn, PieceHad, PieceThere, FillEnd, AgainEnd};
+ghost use Rattle.clone_pieces.specs.Redirecting.{RedirectCaused};
+
+use crate::outside::OutsideBytes;
+use extent_map::Extents;
+use provenance::Trace;
+use sx_base::{Inputs, Lost, Outcome};
+
+/// Fills the buffer with the bytes of as many cells of the contents from `from` on.
+pub(crate) fn fill_cells<I: Inputs, B: OutsideBytes>(
+    contents: &Extents<Trace>,
+    from: u64,
+    files: &[String],
+    inputs: &mut I,
+    bytes: &mut B,
+    buf: &mut [u8],
+) -> Result<(), Outcome>
+    requires within { from + length buf.old ≤ length contents.now }
+    requires had { AllByRecursion (IsHadIn (length files.now) (B.held bytes.old)) (cells_between from (length buf.old) contents.now) }
+    requires there { IfAllTold (I.told inputs.old) (map string_bytes files.now)
+        (λ files. AllByRecursion (IsInInput files) (cells_between from (length buf.old) contents.now)) }
+    ensures same { I.told inputs.new ≡ I.told inputs.old }
+    ensures held { B.held bytes.new ≡ B.held bytes.old }
+    ensures later { I.faults inputs.old ≤ I.faults inputs.new }
+    ensures ends_later { I.ends inputs.old ≤ I.ends inputs.new }
+    ensures bytes_later { B.faults bytes.old ≤ B.faults bytes.new }
+    ensures cause { RedirectCaused (I.ends inputs.old) (I.ends inputs.new) (I.faults inputs.old + B.faults bytes.old) (I.faults inputs.new + B.faults bytes.new) 0 0 result }
+    ensures filled { IfAllTold (I.told inputs.old) (map string_bytes files.now)
+        (FillEnd (B.held bytes.old) (cells_between from (length buf.old) contents.now) buf.new result) }
+{
+    let mut have = 0;
+    for (origin, len) in contents.pieces(from, buf.len() as u64) {
+        let end = have + len as usize;
+        match fill_piece(origin, files, inputs, bytes, &mut buf[have..end]) {
+            Ok(()) => have = end,
+            Err(outcome) => return Err(outcome),
+        }
+    }
+    Ok(())
+}
+
+// Fills the buffer with the bytes of as many cells from successive places.
+fn fill_piece<I: Inputs, B: OutsideBytes>(
+    origin: Option<Trace>,
+    files: &[String],
+    inputs: &mut I,
+    bytes: &mut B,
+    buf: &mut [u8],
+) -> Result<(), Outcome>
+    requires had { PieceHad (length files.now) (B.held bytes.old) origin (length buf.old) }
+    requires there { IfAllTold (I.told inputs.old) (map string_bytes files.now) (PieceThere origin (length buf.old)) }
+    ensures same { I.told inputs.new ≡ I.told inputs.old }
+    ensures held { B.held bytes.new ≡ B.held bytes.old }
+    ensures later { I.faults inputs.old ≤ I.faults inputs.new }
+    ensures ends_later { I.ends inputs.old ≤ I.ends inputs.new }
+    ensures bytes_later { B.faults bytes.old ≤ B.faults bytes.new }
+    ensures cause { RedirectCaused (I.ends inputs.old) (I.ends inputs.new) (I.faults inputs.old + B.faults bytes.old) (I.faults inputs.new + B.faults bytes.new) 0 0 result }
+    ensures filled { IfAllTold (I.told inputs.old) (map string_bytes files.now)
+        (FillEnd (B.held bytes.old) (piece_cells advanced_by origin (length buf.old)) buf.new result) }
+{
+    match origin {
+        None => {
+            buf.fill(0);
+            Ok(())
+        }
+        Some(Trace::Fresh { file, at }) => {
+            read_part(inputs, file, files[file as usize].as_str(), at, buf)
+        }
+        Some(Trace::Outside { key, ino, at }) => {
+            match bytes.fill(key, ino, at, buf) {
+                Ok(()) => Ok(()),
+                Err(_) => Err(Outcome::InputFault),
+            }
+        }
+    }
+}
+
+// Fills the buffer with bytes of an input file that were read before.
+fn read_part<I: Inputs>(
+    inputs: &mut I,
+    file: u64,
+    name: &str,
+    at: u64,
+    buf: &mut [u8],
+) -> Result<(), Outcome>
+    requires range { LiesIn (I.told inputs.old) name.now at (length buf.old) }
+    requires number { file + 1 < 2 ^ 64 }
+    ensures same { I.told inputs.new ≡ I.told inputs.old }
+    ensures later { I.faults inputs.old ≤ I.faults inputs.new }
+    ensures ends_later { I.ends inputs.old ≤ I.ends inputs.new }
+    ensures cause { RedirectCaused (I.ends inputs.old) (I.ends inputs.new) (I.faults inputs.old) (I.faults inputs.new) 0 0 result }
+    ensures filled { AgainEnd (I.told inputs.old) name.now at buf.new result }
+{
+    match inputs.read_again(name, at, buf) {
+        Ok(()) => Ok(()),
+        Err(Lost::Failed) => Err(Outcome::InputFault),
+        Err(Lost::Ended { place }) => Err(Outcome::InputChanged {
+            file: file + 1,
+            place,
+        }),
+    }
+}

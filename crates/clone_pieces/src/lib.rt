@@ -1,0 +1,16 @@
+//! What stands for a clone from an earlier part: clones of outside files, and writes of other bytes, which are read again.
+#![tactic(auto)]
+
+mod filling;
+mod literal;
+mod no_base;
+mod outside;
+mod redirecting;
+mod sending;
+#[cfg(test)]
+mod tests;
+
+pub use no_base::NoBase;
+pub use outside::{Known, OutsideBytes};
+pub use redirecting::{redirect, uncarried};
+pub use sending::{put, send};

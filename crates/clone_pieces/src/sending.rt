@@ -1,0 +1,45 @@
+// Writing commands to an output, some bytes at a time.
+ghost use Rattle.std.specs.Prelude.{◌≤◌};
+ghost use Rattle.send_model.specs.Spelling.{canonical};
+ghost use Rattle.send_commands.specs.Meaning.{meaning_of};
+ghost use Rattle.send_commands.specs.Writing.{IsWritable, IsShortEnough};
+ghost use Rattle.clone_pieces.specs.Sending.{PutEnd, SendEnd};
+
+use send_commands::{Command, encode};
+use sx_base::{Blob, Outcome, Sink, write_whole};
+
+// How many bytes are gathered before they are written.
+const PIECE: usize = 65_536;
+
+/// Adds a command's canonical spelling to what is pending, and writes what is pending where it is 65,536 bytes or more.
+pub fn put<O: Sink>(
+    c: &Command,
+    version: u32,
+    pending: &mut Blob,
+    out: &mut O,
+) -> Result<(), Outcome>
+    requires writable { IsWritable version (meaning_of c.now) }
+    requires short { IsShortEnough version (meaning_of c.now) }
+    ensures later { O.faults out.old ≤ O.faults out.new }
+    ensures put { PutEnd (O.taken out.old) (O.taken out.new) pending.old pending.new (canonical version (meaning_of c.now)) (O.faults out.old) (O.faults out.new) result }
+{
+    if encode(c, version, pending).is_err() {
+        return Err(Outcome::NoMemory);
+    }
+    if pending.as_slice().len() >= PIECE {
+        return send(pending, out);
+    }
+    Ok(())
+}
+
+/// Writes what is pending.
+pub fn send<O: Sink>(pending: &mut Blob, out: &mut O) -> Result<(), Outcome>
+    ensures later { O.faults out.old ≤ O.faults out.new }
+    ensures sent { SendEnd (O.taken out.old) (O.taken out.new) pending.old pending.new (O.faults out.old) (O.faults out.new) result }
+{
+    if write_whole(out, pending.as_slice()).is_err() {
+        return Err(Outcome::OutputFault);
+    }
+    pending.clear();
+    Ok(())
+}

@@ -1,0 +1,41 @@
+-- What follows of files that the inputs tell, all at once.
+use Rattle.std.specs.Prelude.{◌≡◌, ℕ, ◌<◌, List, [], map, length, take, get_or, slice_index_or, Option, None, Some, String}
+use Rattle.std.specs.String.{string_bytes}
+use Rattle.std.proofs.Common.{sym, ap, subst, ◌∙◌}
+use Rattle.std.proofs.lemmas.List.{get_or-map, length-map}
+use Rattle.send_model.specs.Lengths.{limit}
+use Rattle.sx_base.specs.Outside.{file_at}
+use Rattle.sx_base.specs.Calls.{contents, IfAllTold}
+use Rattle.cmd_reader.specs.Places.{IfTold}
+
+pub all_always : (told : Option (List (List ℕ × List ℕ))) (names : List (List ℕ)) (P : List (List ℕ) → Type 0) → ((files : List (List ℕ)) → P files) → IfAllTold told names P
+all_always None names P f = tt
+all_always (Some table) names P f = f _
+
+pub all_map : (told : Option (List (List ℕ × List ℕ))) (names : List (List ℕ)) (P Q : List (List ℕ) → Type 0) → ((files : List (List ℕ)) → P files → Q files) → IfAllTold told names P → IfAllTold told names Q
+all_map None names P Q f p = tt
+all_map (Some table) names P Q f p = f _ p
+
+pub all_both : (told : Option (List (List ℕ × List ℕ))) (names : List (List ℕ)) (P Q R : List (List ℕ) → Type 0) → ((files : List (List ℕ)) → P files → Q files → R files) → IfAllTold told names P → IfAllTold told names Q → IfAllTold told names R
+all_both None names P Q R f p q = tt
+all_both (Some table) names P Q R f p q = f _ p q
+
+-- The same inputs.
+pub all_moved : (told now : Option (List (List ℕ × List ℕ))) (names : List (List ℕ)) (P : List (List ℕ) → Type 0) → now ≡ told → IfAllTold now names P → IfAllTold told names P
+all_moved told now names P e p = subst (λ (t : Option (List (List ℕ × List ℕ))). IfAllTold t names P) e p
+
+-- What is found of the file of one name.
+pub told_file : (told now : Option (List (List ℕ × List ℕ))) (names : List (List ℕ)) (n : ℕ) (name : List ℕ) (P : List ℕ → Type 0) → now ≡ told → n < length names → name ≡ get_or names n [] → IfTold now name P → IfAllTold told names (λ files. P (get_or files n []))
+told_file told now names n name P same less is p = by_told told (subst (λ (t : Option (List (List ℕ × List ℕ))). IfTold t name P) same p)
+  where
+    by_told : (t : Option (List (List ℕ × List ℕ))) → IfTold t name P → IfAllTold t names (λ files. P (get_or files n []))
+    by_told None q = tt
+    by_told (Some table) q = q (get_or (contents table names) n []) (ap (take limit) (get_or-map (file_at table) names n [] [] less ∙ ap (file_at table) (sym is)))
+
+-- The name of a place among names.
+pub name_at : {Z : Type 0} (names : List (String Z)) (n : ℕ) (name : String Z) (spelled : List ℕ) → n < length names → name ≡ slice_index_or names n name → spelled ≡ string_bytes name → spelled ≡ get_or (map string_bytes names) n []
+name_at names n name spelled less is spelling = spelling ∙ ap string_bytes is ∙ sym (get_or-map string_bytes names n name [] less)
+
+-- There are as many names.
+pub count_names : {Z : Type 0} (names : List (String Z)) (n : ℕ) → n < length names → n < length (map string_bytes names)
+count_names names n less = subst (λ (k : ℕ). n < k) (sym (length-map names string_bytes)) less

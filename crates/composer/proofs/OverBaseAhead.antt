@@ -1,0 +1,120 @@
+-- Composing files over any base, as far as a loop over them has come: what is due, and what stands written, where it stops and where
+-- all is done.
+use Rattle.std.specs.Prelude.{◌≡◌, ◌≢◌, ℕ, ◌+◌, ◌<◌, ◌≤◌, true, false, List, [], ◌∷◌, ◌++◌, length, take, Option, None, Some, Err, is_some}
+use Rattle.std.proofs.Common.{refl, sym, ap, subst, ◌∙◌, append-nil}
+use Rattle.std.proofs.lemmas.Bool.{false≢true}
+use Rattle.send_model.specs.Refusal.{NotConsecutive}
+use Rattle.send_model.specs.Command.{End}
+use Rattle.send_model.specs.Spelling.{canonical}
+use Rattle.send_model.specs.Reading.{Item, Verdict, Reading, Whole, Faulty, ended, joined, with_item, input, input_from}
+use Rattle.send_model.specs.Store.{Head, Store}
+use Rattle.send_model.specs.Receive.{verdict_of}
+use Rattle.send_model.specs.Order.{heads, last_item}
+use Rattle.send_model.specs.Outside.{base_of, keys_outside, FindsSayable}
+use Rattle.send_model.specs.Composed.{first_head, version_of}
+use Rattle.send_model.specs.Lengths.{too_long}
+use Rattle.send_model.specs.Due.{DoneWhole, RefusedAt, reading_due, compose_due, compose_due_of}
+use Rattle.send_model.specs.Headline.{IsComposed, IsStopped, whole_output}
+use Rattle.send_model.specs.Laws.{IsWhole, ReadingsHold}
+use Rattle.file_survey.specs.Ahead.{IsAhead}
+use Rattle.composer.specs.OverBase.{Plan, plan_for, Composing, Halt, halt_due, advance, AreReady}
+use Rattle.file_survey.proofs.AheadSteps.{ahead_input, ahead_whole, ahead_fault}
+use Rattle.composer.proofs.OverBaseProgress.{Progress}
+use Rattle.composer.proofs.OverBaseEnds.{due_halted, due_at_fault, due_without_parts, due_done_whole, written_is, composed}
+use Rattle.composer.proofs.OverBaseStops.{stopped, stopped_end}
+
+-- The answer that is due to files of which none is too long is that of what is read.
+pub due_fits : (base : Store ℕ) (files : List (List ℕ)) → too_long files ≡ None → compose_due base files ≡ reading_due base (input files)
+due_fits base files e = ap (λ (o : Option ℕ). compose_due_of o base (input files)) e
+
+-- ---- what is ahead
+
+items_ahead : (files : List (List ℕ)) (items : List Item) (left : Reading) (number : ℕ) (after : List (List ℕ)) → IsAhead files items left number after → (more : List Item) × ((input files).items ≡ items ++ more)
+items_ahead files items left number after is = let rest : Reading = joined left (input_from (number + 1) after) in (rest.items, ap (λ (r : Reading). r.items) is)
+
+-- An item that is not taken gives the answer.
+pub halted_ahead : (base : Store ℕ) (files : List (List ℕ)) (items : List Item) (item : Item) (left next : Reading) (number : ℕ) (after : List (List ℕ)) (now : Composing) (sent : List ℕ) (halt : Halt)
+    → IsAhead files items left number after → left ≡ with_item item next → Progress (plan_for base files) items now sent → advance (plan_for base files) now item ≡ Err halt
+    → reading_due base (input files) ≡ halt_due item halt
+halted_ahead base files items item left next number after now sent halt is e p h =
+    let all = ahead_input files items item left next number after is e in
+    due_halted base (input files) items item all.0 now sent halt (ap (λ (r : Reading). r.items) all.2) p h
+
+-- So does a fault of reading.
+pub fault_ahead : (base : Store ℕ) (files : List (List ℕ)) (items : List Item) (left : Reading) (verdict : Verdict) (number : ℕ) (after : List (List ℕ)) (now : Composing) (sent : List ℕ)
+    → IsAhead files items left number after → left ≡ record { items = []; end = Faulty verdict } → Progress (plan_for base files) items now sent → reading_due base (input files) ≡ RefusedAt verdict
+fault_ahead base files items left verdict number after now sent is e p =
+    let all = ahead_fault files items left verdict number after is e in
+    let same : items ≡ (input files).items = ap (λ (r : Reading). r.items) (sym all) in
+    due_at_fault base (input files) verdict now sent (subst (λ (xs : List Item). Progress (plan_for base files) xs now sent) same p) (ap (λ (r : Reading). r.end) all)
+
+-- ---- the end of the last file
+
+-- All items of the files are taken, and reading came to a whole end.
+record AtEnd (base : Store ℕ) (files : List (List ℕ)) (items : List Item) (now : Composing) (sent : List ℕ) : Type 0 where
+  whole : (input files).end ≡ Whole
+  same : items ≡ (input files).items
+  progress : Progress (plan_for base files) (input files).items now sent
+
+at_end : (base : Store ℕ) (files : List (List ℕ)) (items : List Item) (left : Reading) (number : ℕ) (now : Composing) (sent : List ℕ) → IsAhead files items left number [] → left ≡ ended → Progress (plan_for base files) items now sent
+    → AtEnd base files items now sent
+at_end base files items left number now sent is e p =
+    let all = ahead_whole files items left number is e in
+    let same : items ≡ (input files).items = ap (λ (r : Reading). r.items) (sym all) in
+    record { whole = ap (λ (r : Reading). r.end) all; same = same; progress = subst (λ (xs : List Item). Progress (plan_for base files) xs now sent) same p }
+
+-- The stream has begun where there is a head, and only there.
+some_heads : (plan : Plan) (items : List Item) (now : Composing) (sent : List ℕ) → Progress plan items now sent → now.begun ≡ true → heads items ≢ []
+some_heads plan items now sent p b none = false≢true (ap (λ (hs : List Head). is_some (first_head hs)) (sym none) ∙ sym p.begun ∙ b)
+
+no_heads : (plan : Plan) (items : List Item) (now : Composing) (sent : List ℕ) → Progress plan items now sent → now.begun ≡ false → heads items ≡ []
+no_heads plan items now sent p b = by_heads (heads items) (sym p.begun ∙ b)
+  where
+    by_heads : (hs : List Head) → is_some (first_head hs) ≡ false → hs ≡ []
+    by_heads [] e = refl
+    by_heads (h ∷ hs) e = cc
+
+-- Where no part has begun, the last command gives the answer.
+pub empty_ahead : (base : Store ℕ) (files : List (List ℕ)) (items : List Item) (item : Item) (left : Reading) (number : ℕ) (now : Composing) (sent : List ℕ) → IsAhead files items left number [] → left ≡ ended
+    → Progress (plan_for base files) items now sent → now.begun ≡ false → last_item items ≡ Some item → reading_due base (input files) ≡ RefusedAt (verdict_of item NotConsecutive)
+empty_ahead base files items item left number now sent is e p b last =
+    let a = at_end base files items left number now sent is e p in
+    due_without_parts base (input files) item now sent a.progress a.whole (no_heads (plan_for base files) (input files).items now sent a.progress b)
+    (ap last_item (sym a.same) ∙ last)
+
+-- Where one has, all is done: what is written with END is all that is due.
+pub done_ahead : (base : Store ℕ) (files : List (List ℕ)) (items : List Item) (left : Reading) (number : ℕ) (now : Composing) (sent : List ℕ) → IsAhead files items left number [] → left ≡ ended
+    → Progress (plan_for base files) items now sent → now.begun ≡ true
+    → (reading_due base (input files) ≡ DoneWhole) × ((sent ++ now.pending) ++ canonical (version_of (input files).items) End ≡ whole_output base files)
+done_ahead base files items left number now sent is e p b =
+    let a = at_end base files items left number now sent is e p in
+    let some = some_heads (plan_for base files) (input files).items now sent a.progress b in
+    (due_done_whole base (input files) now sent a.progress a.whole some, written_is base (input files) now sent a.progress a.whole some)
+
+-- And the headline holds of it, by its law.
+pub composed_ahead : ReadingsHold → (store : Store ℕ) (files : List (List ℕ)) (items : List Item) (left : Reading) (number : ℕ) (now : Composing) (sent : List ℕ)
+    → IsWhole (input files) → FindsSayable (base_of store (input files).items) (keys_outside (input files).items) → IsAhead files items left number [] → left ≡ ended
+    → Progress (plan_for (base_of store (input files).items) files) items now sent → now.begun ≡ true
+    → IsComposed (base_of store (input files).items) files ((sent ++ now.pending) ++ canonical (version_of (input files).items) End)
+composed_ahead law store files items left number now sent whole sayable is e p b =
+    let base : Store ℕ = base_of store (input files).items in
+    let a = at_end base files items left number now sent is e p in
+    composed law store (input files) now sent whole sayable (some_heads (plan_for base files) (input files).items now sent a.progress b) a.progress
+
+-- ---- where it stops
+
+-- Wherever composing stops before END, what was written is no whole stream, and a front part of all that is due.
+pub stopped_ahead : (base : Store ℕ) (files : List (List ℕ)) (items : List Item) (left : Reading) (number : ℕ) (after : List (List ℕ)) (now : Composing) (sent : List ℕ) (count : ℕ) → AreReady base files
+    → IsAhead files items left number after → Progress (plan_for base files) items now sent → count ≤ length (sent ++ now.pending) → IsStopped base files (take count (sent ++ now.pending))
+stopped_ahead base files items left number after now sent count ready is p within =
+    let all = items_ahead files items left number after is in
+    stopped base (input files) items all.0 now sent count ready.none all.1 ready.version (ready.writable items all.0 now.state all.1 p.taken) p within
+
+-- The same where END was to be written, and not all of it was.
+pub stopped_end_ahead : (base : Store ℕ) (files : List (List ℕ)) (items : List Item) (left : Reading) (number : ℕ) (now : Composing) (sent : List ℕ) (count : ℕ) → AreReady base files
+    → IsAhead files items left number [] → left ≡ ended → Progress (plan_for base files) items now sent → now.begun ≡ true
+    → count < length ((sent ++ now.pending) ++ canonical (version_of (input files).items) End) → IsStopped base files (take count ((sent ++ now.pending) ++ canonical (version_of (input files).items) End))
+stopped_end_ahead base files items left number now sent count ready is e p b within =
+    let a = at_end base files items left number now sent is e p in
+    stopped_end base (input files) now sent count a.whole (some_heads (plan_for base files) (input files).items now sent a.progress b) ready.version
+    (ready.writable (input files).items [] now.state (sym (append-nil (input files).items)) a.progress.taken) a.progress within

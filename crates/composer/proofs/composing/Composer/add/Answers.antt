@@ -1,0 +1,131 @@
+use Rattle.std.specs.Prelude.{◌≡◌, ◌≤◌, ℕ, ◌+◌, List, map, length, Option, Some, Ok, true, false, ◌++◌}
+use Rattle.std.specs.Option.{option_map}
+use Rattle.std.specs.String.{string_bytes}
+use Rattle.std.proofs.Common.{refl, sym, ap, ap₂, subst, ◌∙◌, arith}
+use Rattle.send_model.specs.Command.{Command, Clone, End}
+use Rattle.send_model.specs.Spelling.{canonical}
+use Rattle.send_model.specs.Store.{head_of}
+use Rattle.send_model.specs.Due.{most_literal}
+use Rattle.send_model.specs.Laws.{CanWrite}
+use Rattle.send_commands.specs.Meaning.{meaning_of}
+use Rattle.send_commands.proofs.Writable.{spellable_is_writable}
+use Rattle.subvol_catalog.specs.Entries.{key_of}
+use Rattle.extent_map.specs.Cells.{cells_between}
+use Rattle.provenance.specs.declared.trace.Trace.{Trace}
+use Rattle.clone_pieces.specs.Sending.{PutEnd}
+use Rattle.clone_pieces.specs.Redirecting.{seen_cells}
+use Rattle.file_survey.proofs.Versions.{later_writable}
+use Rattle.composer.specs.Kept.{Kept}
+use Rattle.composer.specs.Adding.{Led, AddEnd, IsSourceOf, AddsRange}
+use Rattle.composer.specs.contracts.composing.Composer.{the_view}
+use Rattle.composer.proofs.EditSpelling.{paths_short}
+use Rattle.composer.proofs.AddingItems.{all_always, all_map, led_taken, own_adds, kept_adds, redirected_adds, plain_of, plain_adds, end_adds, put_caused}
+use Rattle.composer.proofs.composing.Composer.add.Goals as goal
+
+pub add_own-requires : goal.add_own-requires
+add_own-requires g c =
+    let C : List ℕ → List ℕ → Command = λ p q. Clone p c.in-Clone.offset c.in-Clone.clone_uuid c.in-Clone.clone_ctransid q c.in-Clone.clone_offset c.in-Clone.clone_len in
+    let is : meaning_of c.args.item.now.command ≡ C c.as_slice.result.now c.as_slice-in-Clone.result.now = ap meaning_of c.in-Clone.is ∙ ap₂ C (sym c.as_slice.ensures.bytes) (sym c.as_slice-in-Clone.ensures.bytes) in
+    record {
+      short = paths_short c.args.item.now.version c.as_slice.result.now c.in-Clone.offset c.in-Clone.clone_uuid c.in-Clone.clone_ctransid c.as_slice-in-Clone.result.now c.in-Clone.clone_offset c.in-Clone.clone_len
+          (spellable_is_writable c.args.item.now.version (C c.as_slice.result.now c.as_slice-in-Clone.result.now) (subst (λ (m : Command). CanWrite c.args.item.now.version m) is c.requires.can_write).spellable);
+    }
+
+pub returns-then-is_own-clause-added : goal.returns-then-is_own-clause-added
+returns-then-is_own-clause-added g c =
+    let C : List ℕ → List ℕ → Command = λ p q. Clone p c.in-Clone.offset c.in-Clone.clone_uuid c.in-Clone.clone_ctransid q c.in-Clone.clone_offset c.in-Clone.clone_len in
+    let is : meaning_of c.args.item.now.command ≡ C c.as_slice.result.now c.as_slice-in-Clone.result.now = ap meaning_of c.in-Clone.is ∙ ap₂ C (sym c.as_slice.ensures.bytes) (sym c.as_slice-in-Clone.ensures.bytes) in
+    all_always (g.I.Inputs.told c.args.inputs.now) (map string_bytes c.args.files.now) _ (λ told.
+    subst (λ (m : Command). AddEnd told (g.E.Known.base c.args.known.now) c.args.survey.now (key_of c.args.last) c.args.self.now c.add_own.new.self m (g.O.Sink.taken c.args.out.now) (g.O.Sink.taken c.add_own.new.out) c.add_own.result) (sym is)
+    (own_adds told (g.E.Known.base c.args.known.now) c.args.survey.now (key_of c.args.last) c.args.self.now c.add_own.new.self (g.O.Sink.taken c.args.out.now) (g.O.Sink.taken c.add_own.new.out)
+    c.as_slice.result.now c.in-Clone.offset c.in-Clone.clone_uuid c.in-Clone.clone_ctransid c.as_slice-in-Clone.result.now c.in-Clone.clone_offset c.in-Clone.clone_len
+    (g.O.Sink.faults c.args.out.now) (g.O.Sink.faults c.add_own.new.out) c.add_own.result (sym c.is_own.ensures ∙ c.if-is_own.true) c.add_own.ensures.put c.add_own.ensures.sum
+    (subst (λ (k : Kept). k.sum ≤ most_literal) c.self-in-Clone.view_is c.self-in-Clone.invariant.1)))
+
+pub put-requires-clause-writable : goal.put-requires-clause-writable
+put-requires-clause-writable g c =
+    (later_writable c.args.item.now.version c.version.result (meaning_of c.args.item.now.command) c.requires.can_write c.version.ensures.known (omega (arith, c.requires.fits, c.version.ensures.version))).0
+
+pub put-requires-clause-short : goal.put-requires-clause-short
+put-requires-clause-short g c =
+    (later_writable c.args.item.now.version c.version.result (meaning_of c.args.item.now.command) c.requires.can_write c.version.ensures.known (omega (arith, c.requires.fits, c.version.ensures.version))).1
+
+pub returns-then-not-has_part-clause-added : goal.returns-then-not-has_part-clause-added
+returns-then-not-has_part-clause-added g c =
+    let C : List ℕ → List ℕ → Command = λ p q. Clone p c.in-Clone.offset c.in-Clone.clone_uuid c.in-Clone.clone_ctransid q c.in-Clone.clone_offset c.in-Clone.clone_len in
+    let is : meaning_of c.args.item.now.command ≡ C c.in-Clone.path c.in-Clone.clone_path = ap meaning_of c.in-Clone.is in
+    let new : Kept = record (the_view c.self-in-Clone.inside) { pending = c.put.new.pending } in
+    all_always (g.I.Inputs.told c.args.inputs.now) (map string_bytes c.args.files.now) _ (λ told.
+    subst (λ (m : Command). AddEnd told (g.E.Known.base c.args.known.now) c.args.survey.now (key_of c.args.last) c.args.self.now new m (g.O.Sink.taken c.args.out.now) (g.O.Sink.taken c.put.new.out) c.put.result) (sym is)
+    (kept_adds told (g.E.Known.base c.args.known.now) c.args.survey.now (key_of c.args.last) c.args.self.now new (g.O.Sink.taken c.args.out.now) (g.O.Sink.taken c.put.new.out)
+    c.in-Clone.path c.in-Clone.offset c.in-Clone.clone_uuid c.in-Clone.clone_ctransid c.in-Clone.clone_path c.in-Clone.clone_offset c.in-Clone.clone_len
+    (g.O.Sink.faults c.args.out.now) (g.O.Sink.faults c.put.new.out) c.put.result (sym c.is_own.ensures ∙ c.if-is_own.false) (sym c.has_part.ensures ∙ c.if-not-has_part.true)
+    (subst (λ (m : Command). PutEnd (g.O.Sink.taken c.args.out.now) (g.O.Sink.taken c.put.new.out) c.args.self.now.pending c.put.new.pending (canonical c.args.survey.now.version m) (g.O.Sink.faults c.args.out.now) (g.O.Sink.faults c.put.new.out) c.put.result) is
+    (subst (λ (v : ℕ). PutEnd (g.O.Sink.taken c.args.out.now) (g.O.Sink.taken c.put.new.out) c.args.self.now.pending c.put.new.pending (canonical v (meaning_of c.args.item.now.command)) (g.O.Sink.faults c.args.out.now) (g.O.Sink.faults c.put.new.out) c.put.result) c.version.ensures.version
+    (subst (λ (k : Kept). PutEnd (g.O.Sink.taken c.args.out.now) (g.O.Sink.taken c.put.new.out) k.pending c.put.new.pending (canonical c.version.result (meaning_of c.args.item.now.command)) (g.O.Sink.faults c.args.out.now) (g.O.Sink.faults c.put.new.out) c.put.result) c.self-in-Clone.view_is c.put.ensures.put)))
+    (ap (λ (k : Kept). k.sum) c.self-in-Clone.view_is)
+    (subst (λ (k : Kept). k.sum ≤ most_literal) c.self-in-Clone.view_is c.self-in-Clone.invariant.1)))
+
+pub add_redirected-requires-clause-taken : goal.add_redirected-requires-clause-taken
+add_redirected-requires-clause-taken g c =
+    let C : List ℕ → List ℕ → Command = λ p q. Clone p c.in-Clone.offset c.in-Clone.clone_uuid c.in-Clone.clone_ctransid q c.in-Clone.clone_offset c.in-Clone.clone_len in
+    let is : meaning_of c.args.item.now.command ≡ C c.as_slice.result.now c.as_slice-in-Clone.result.now = ap meaning_of c.in-Clone.is ∙ ap₂ C (sym c.as_slice.ensures.bytes) (sym c.as_slice-in-Clone.ensures.bytes) in
+    let led = c.requires.led in (
+      led.0,
+      led_taken led.0 c.args.self.now.state led.1 c.as_slice.result.now c.in-Clone.offset (key_of (record { uuid = c.in-Clone.clone_uuid; ctransid = c.in-Clone.clone_ctransid })) c.as_slice-in-Clone.result.now c.in-Clone.clone_offset c.in-Clone.clone_len
+          (subst (λ (m : Command). Led led.0 c.args.self.now.state led.1 m) is led.2) (sym c.is_own.ensures ∙ c.if-is_own.false),
+    )
+
+pub add_redirected-requires-clause-short : goal.add_redirected-requires-clause-short
+add_redirected-requires-clause-short g c =
+    let C : List ℕ → List ℕ → Command = λ p q. Clone p c.in-Clone.offset c.in-Clone.clone_uuid c.in-Clone.clone_ctransid q c.in-Clone.clone_offset c.in-Clone.clone_len in
+    let is : meaning_of c.args.item.now.command ≡ C c.as_slice.result.now c.as_slice-in-Clone.result.now = ap meaning_of c.in-Clone.is ∙ ap₂ C (sym c.as_slice.ensures.bytes) (sym c.as_slice-in-Clone.ensures.bytes) in
+    (paths_short c.args.item.now.version c.as_slice.result.now c.in-Clone.offset c.in-Clone.clone_uuid c.in-Clone.clone_ctransid c.as_slice-in-Clone.result.now c.in-Clone.clone_offset c.in-Clone.clone_len
+    (spellable_is_writable c.args.item.now.version (C c.as_slice.result.now c.as_slice-in-Clone.result.now) (subst (λ (m : Command). CanWrite c.args.item.now.version m) is c.requires.can_write).spellable)).0
+
+pub put-requires-in_default : goal.put-requires-in_default
+put-requires-in_default g c =
+    let w = later_writable c.args.item.now.version c.version-in_default.result (meaning_of c.args.item.now.command) c.requires.can_write c.version-in_default.ensures.known (omega (arith, c.requires.fits, c.version-in_default.ensures.version)) in
+    record { writable = w.0; short = w.1 }
+
+pub returns-in-End-clause-added : goal.returns-in-End-clause-added
+returns-in-End-clause-added g c =
+    all_always (g.I.Inputs.told c.args.inputs.now) (map string_bytes c.args.files.now) _ (λ told.
+    subst (λ (m : Command). AddEnd told (g.E.Known.base c.args.known.now) c.args.survey.now (key_of c.args.last) c.args.self.now c.args.self.now m (g.O.Sink.taken c.args.out.now) (g.O.Sink.taken c.args.out.now) (Ok tt)) (sym (ap meaning_of c.in-End.is))
+    (end_adds told (g.E.Known.base c.args.known.now) c.args.survey.now (key_of c.args.last) c.args.self.now (g.O.Sink.taken c.args.out.now) (subst (λ (k : Kept). k.sum ≤ most_literal) c.self.view_is c.self.invariant.1)))
+
+pub returns-else-not-has_part-clause-added : goal.returns-else-not-has_part-clause-added
+returns-else-not-has_part-clause-added g c =
+    let C : List ℕ → List ℕ → Command = λ p q. Clone p c.in-Clone.offset c.in-Clone.clone_uuid c.in-Clone.clone_ctransid q c.in-Clone.clone_offset c.in-Clone.clone_len in
+    let is : meaning_of c.args.item.now.command ≡ C c.as_slice.result.now c.as_slice-in-Clone.result.now = ap meaning_of c.in-Clone.is ∙ ap₂ C (sym c.as_slice.ensures.bytes) (sym c.as_slice-in-Clone.ensures.bytes) in
+    let P : List (List ℕ) → Type 0 = λ told. (cells : List (Option Trace)) → IsSourceOf cells c.args.self.now.state (key_of (record { uuid = c.in-Clone.clone_uuid; ctransid = c.in-Clone.clone_ctransid })) c.as_slice-in-Clone.result.now
+    → AddsRange (g.E.Known.base c.args.known.now) c.args.survey.now.version c.as_slice.result.now c.in-Clone.offset
+    (seen_cells told (g.E.Known.base c.args.known.now) (cells_between c.in-Clone.clone_offset c.in-Clone.clone_len cells))
+    c.args.self.now c.add_redirected.new.self (g.O.Sink.taken c.args.out.now) (g.O.Sink.taken c.add_redirected.new.out) c.add_redirected.result in
+    all_map (g.I.Inputs.told c.args.inputs.now) (map string_bytes c.args.files.now) P _ (λ told adds.
+    subst (λ (m : Command). AddEnd told (g.E.Known.base c.args.known.now) c.args.survey.now (key_of c.args.last) c.args.self.now c.add_redirected.new.self m (g.O.Sink.taken c.args.out.now) (g.O.Sink.taken c.add_redirected.new.out) c.add_redirected.result) (sym is)
+    (redirected_adds told (g.E.Known.base c.args.known.now) c.args.survey.now (key_of c.args.last) c.args.self.now c.add_redirected.new.self (g.O.Sink.taken c.args.out.now) (g.O.Sink.taken c.add_redirected.new.out)
+    c.as_slice.result.now c.in-Clone.offset c.in-Clone.clone_uuid c.in-Clone.clone_ctransid c.as_slice-in-Clone.result.now c.in-Clone.clone_offset c.in-Clone.clone_len
+    c.add_redirected.result (sym c.is_own.ensures ∙ c.if-is_own.false) (sym c.has_part.ensures ∙ c.if-not-has_part.false) adds)) c.add_redirected.ensures.added
+
+pub returns-in_default : goal.returns-in_default
+returns-in_default g c =
+    let new : Kept = record (the_view c.self-in_default.inside) { pending = c.put-in_default.new.pending } in
+    record {
+      state = ap (λ (k : Kept). k.state) c.self-in_default.view_is;
+      latest = ap (λ (k : Kept). k.latest) c.self-in_default.view_is;
+      same = refl;
+      held = refl;
+      later = omega arith;
+      ends_later = omega arith;
+      bytes_later = omega arith;
+      out_later = c.put-in_default.ensures.later;
+      cause = put_caused _ _ _ _ _ _ _ _ _ _ _ c.put-in_default.result c.put-in_default.ensures.put;
+      added = all_always (g.I.Inputs.told c.args.inputs.now) (map string_bytes c.args.files.now) _ (λ told.
+          plain_adds told (g.E.Known.base c.args.known.now) c.args.survey.now (key_of c.args.last) c.args.self.now new (meaning_of c.args.item.now.command) (g.O.Sink.taken c.args.out.now) (g.O.Sink.taken c.put-in_default.new.out)
+          (g.O.Sink.faults c.args.out.now) (g.O.Sink.faults c.put-in_default.new.out) c.put-in_default.result (plain_of c.args.item.now.command c.requires.edit c.in_default.not-End c.in_default.not-Clone)
+          (subst (λ (v : ℕ). PutEnd (g.O.Sink.taken c.args.out.now) (g.O.Sink.taken c.put-in_default.new.out) c.args.self.now.pending c.put-in_default.new.pending (canonical v (meaning_of c.args.item.now.command)) (g.O.Sink.faults c.args.out.now) (g.O.Sink.faults c.put-in_default.new.out) c.put-in_default.result) c.version-in_default.ensures.version
+          (subst (λ (k : Kept). PutEnd (g.O.Sink.taken c.args.out.now) (g.O.Sink.taken c.put-in_default.new.out) k.pending c.put-in_default.new.pending (canonical c.version-in_default.result (meaning_of c.args.item.now.command)) (g.O.Sink.faults c.args.out.now) (g.O.Sink.faults c.put-in_default.new.out) c.put-in_default.result) c.self-in_default.view_is c.put-in_default.ensures.put))
+          (ap (λ (k : Kept). k.sum) c.self-in_default.view_is)
+          (subst (λ (k : Kept). k.sum ≤ most_literal) c.self-in_default.view_is c.self-in_default.invariant.1));
+    }

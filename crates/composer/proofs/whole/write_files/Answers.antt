@@ -1,0 +1,64 @@
+use Rattle.std.specs.Prelude.{map}
+use Rattle.std.specs.String.{string_bytes}
+use Rattle.std.proofs.Common.{refl, sym, ◌∙◌, arith}
+use Rattle.clone_pieces.specs.Origins.{IsInInput}
+use Rattle.clone_resolve.proofs.TakenStates.{AllCells}
+use Rattle.composer.specs.Files.{plan_with}
+use Rattle.composer.proofs.AllTold.{all_moved}
+use Rattle.composer.proofs.FilesWriting.{files_start, files_there, files_after, begun, files_stopped, files_empty, files_ended}
+use Rattle.composer.proofs.whole.write_files.Goals as goal
+
+pub loop-file-init : goal.loop-file-init
+loop-file-init g c = record {
+  within = omega (arith);
+  same = refl;
+  held = refl;
+  later = omega (arith);
+  ends_later = omega (arith);
+  bytes_later = omega (arith);
+  out_later = omega (arith);
+  had = c.requires.had;
+  stand = files_start (g.I.Inputs.told c.args.inputs.now) (map string_bytes c.args.files.now) (plan_with (g.E.Known.base c.args.known.now) c.args.survey.now) c.args.composer.now (g.O.Sink.taken c.args.out.now) c.start-place.result c.requires.there;
+}
+
+pub write_file-requires-clause-there : goal.write_file-requires-clause-there
+write_file-requires-clause-there g c =
+    let i = c.loop-file.invariant in
+    all_moved (g.I.Inputs.told c.loop-file.inputs) (g.I.Inputs.told c.args.inputs.now) (map string_bytes c.args.files.now) (λ files. AllCells (IsInInput files) c.loop-file.composer.state) (sym i.same)
+    (files_there (g.I.Inputs.told c.args.inputs.now) (map string_bytes c.args.files.now) (plan_with (g.E.Known.base c.args.known.now) c.args.survey.now) c.args.composer.now _ c.loop-file.file c.loop-file.composer _ c.start-place.result c.loop-file.place i.stand)
+
+pub returns-in-Err-clause-ends : goal.returns-in-Err-clause-ends
+returns-in-Err-clause-ends g c =
+    let i = c.loop-file.invariant in
+    files_stopped _ _ c.args.files.now (g.E.Known.base c.args.known.now) c.args.survey.now c.args.composer.now _ c.loop-file.file c.loop-file.composer _ _ c.start-place.result c.loop-file.place c.in-Err.outcome
+    i.same c.loop-file-test.true (begun _ (map string_bytes c.args.files.now) (g.E.Known.base c.args.known.now) c.args.survey.now c.args.composer.now c.requires.apart c.requires.sayable c.requires.surveyed c.requires.start)
+    c.in-Err.ensures.wrote i.stand
+
+pub loop-file-preserved : goal.loop-file-preserved
+loop-file-preserved g c =
+    let i = c.loop-file.invariant in
+    let e = c.in-Ok.ensures in
+    record {
+      within = omega (arith, c.loop-file-test.true);
+      same = e.same ∙ i.same;
+      held = e.held ∙ i.held;
+      later = omega (arith, i.later, e.later);
+      ends_later = omega (arith, i.ends_later, e.ends_later);
+      bytes_later = omega (arith, i.bytes_later, e.bytes_later);
+      out_later = omega (arith, i.out_later, e.out_later);
+      had = e.had;
+      stand = files_after _ _ c.args.files.now (plan_with (g.E.Known.base c.args.known.now) c.args.survey.now) c.args.composer.now _ c.loop-file.file c.loop-file.composer c.write_file.new.composer _ _ c.start-place.result c.loop-file.place c.in-Ok.place
+          i.same c.loop-file-test.true e.wrote i.stand;
+    }
+
+pub returns-then-not-is_at_last-clause-ends : goal.returns-then-not-is_at_last-clause-ends
+returns-then-not-is_at_last-clause-ends g c =
+    files_empty _ c.args.files.now (g.E.Known.base c.args.known.now) c.args.survey.now c.args.composer.now _ c.loop-file.file c.loop-file.composer _ c.start-place.result c.loop-file.place c.refused.result
+    c.requires.some (omega (arith, c.loop-file-test.false)) (sym c.is_at_last.ensures.last ∙ c.if-not-is_at_last.true) c.refused.ensures.verdict
+    (begun _ (map string_bytes c.args.files.now) (g.E.Known.base c.args.known.now) c.args.survey.now c.args.composer.now c.requires.apart c.requires.sayable c.requires.surveyed c.requires.start) c.loop-file.invariant.stand
+
+pub returns-clause-ends : goal.returns-clause-ends
+returns-clause-ends g c =
+    files_ended _ c.args.files.now (g.E.Known.base c.args.known.now) c.args.survey.now c.args.composer.now _ c.loop-file.file c.loop-file.composer _ _ c.start-place.result c.loop-file.place c.version.result _ _ c.end.result
+    c.requires.some (omega (arith, c.loop-file-test.false)) (sym c.is_at_last.ensures.last ∙ c.if-not-is_at_last.false) c.version.ensures.version c.end.ensures.ended
+    (begun _ (map string_bytes c.args.files.now) (g.E.Known.base c.args.known.now) c.args.survey.now c.args.composer.now c.requires.apart c.requires.sayable c.requires.surveyed c.requires.start) c.loop-file.invariant.stand

@@ -1,0 +1,6 @@
+pub mod AheadSteps
+pub mod FilesAhead
+pub mod TooLong
+pub mod HeadSpelling
+pub mod Versions
+pub mod Surveys

@@ -1,0 +1,40 @@
+use Rattle.std.proofs.Common.{◌≡◌, refl, map, arith, ◌∙◌, true, false, Ok}
+use Rattle.std.specs.String.{string_bytes}
+use Rattle.file_survey.proofs.Surveys.{files_start, files_next, files_fault, files_stop, files_end}
+use Rattle.file_survey.proofs.surveying.survey.Goals as goal
+
+pub loop-file-init : goal.loop-file-init
+loop-file-init g c = record {
+  same = refl;
+  later = omega arith;
+  ends_later = omega arith;
+  seen = files_start _ (map string_bytes c.args.files.now) c.new-seen.result c.new-seen.ensures.empty;
+}
+
+pub loop-file-preserved : goal.loop-file-preserved
+loop-file-preserved g c =
+    let kept = c.loop-file.invariant in
+    let whole : c.survey_file.result ≡ Ok true = cc in
+    record {
+      same = c.survey_file.ensures.same ∙ kept.same;
+      later = omega (arith, kept.later, c.survey_file.ensures.later);
+      ends_later = omega (arith, kept.ends_later, c.survey_file.ensures.ends_later);
+      seen = files_next _ _ c.args.files.now c.loop-file.file c.index-files-file.result c.as_str-name.result.now c.loop-file.seen c.survey_file.new.seen c.survey_file.result
+          (record { same = kept.same; less = c.loop-file-test.true; is = c.index-files-file.is; spelling = c.as_str-name.ensures.value }) whole kept.seen c.survey_file.ensures.seen;
+    }
+
+pub returns-in-Ok-false-clause-surveyed : goal.returns-in-Ok-false-clause-surveyed
+returns-in-Ok-false-clause-surveyed g c =
+    let kept = c.loop-file.invariant in
+    let faulty : c.survey_file.result ≡ Ok false = cc in
+    files_fault _ _ c.args.files.now c.loop-file.file c.index-files-file.result c.as_str-name.result.now c.loop-file.seen c.survey_file.new.seen c.survey_file.result
+    (record { same = kept.same; less = c.loop-file-test.true; is = c.index-files-file.is; spelling = c.as_str-name.ensures.value }) faulty kept.seen c.survey_file.ensures.seen
+
+pub returns-in-Err-clause-surveyed : goal.returns-in-Err-clause-surveyed
+returns-in-Err-clause-surveyed g c =
+    let kept = c.loop-file.invariant in
+    files_stop _ _ c.args.files.now c.loop-file.file c.index-files-file.result c.as_str-name.result.now c.loop-file.seen c.survey_file.new.seen c.survey_file.result c.in-Err.outcome
+    (record { same = kept.same; less = c.loop-file-test.true; is = c.index-files-file.is; spelling = c.as_str-name.ensures.value }) c.in-Err.is kept.seen c.survey_file.ensures.seen
+
+pub returns-clause-surveyed : goal.returns-clause-surveyed
+returns-clause-surveyed g c = files_end _ c.args.files.now c.loop-file.file c.loop-file.seen c.loop-file-test.false c.loop-file.invariant.seen

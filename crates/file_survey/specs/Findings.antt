@@ -1,0 +1,122 @@
+-- What is found out of files that are read for their heads and versions, and why they can not be read on.
+use Rattle.std.specs.Prelude.{◌≡◌, ◌⊎◌, ⊤, ℕ, ◌==◌, Bool, true, false, List, [], ◌∷◌, ◌++◌, Option, None, Some, Result, Ok, Err, if◌then◌else◌}
+use Rattle.std.specs.List.{AllByRecursion, list_any}
+use Rattle.send_model.specs.Command.{Command}
+use Rattle.send_model.specs.Reading as reading
+use Rattle.send_model.specs.Reading.{Item, Whole, Faulty, is_version, reads, input}
+use Rattle.send_model.specs.Store.{Head, head_of}
+use Rattle.send_model.specs.Receive.{first_of}
+use Rattle.send_model.specs.Order.{heads}
+use Rattle.send_model.specs.Outside.{part_uuids}
+use Rattle.send_model.specs.Composed.{last_head, version_of}
+use Rattle.send_model.specs.Laws.{CanWrite}
+use Rattle.send_model.specs.Lengths.{is_too_long, too_long}
+use Rattle.sx_base.specs.declared.outcome.Outcome.{Outcome}
+use Rattle.sx_base.specs.declared.outcome.Outcome.TheVariants as ended
+
+-- ---- what is known
+
+-- The uuids of the parts, in the order of their heads; the version of the stream that stands for the parts; and the head of the last
+-- part, where there is one.
+pub record Surveyed : Type 0 where
+  pub parts : List (List ℕ)
+  pub version : ℕ
+  pub last : Option Head
+
+-- Before the first command.
+abbrev pub nothing_seen : Surveyed
+nothing_seen = record { parts = []; version = 1; last = None }
+
+-- The versions that are written.
+abbrev pub IsOutput : ℕ → Type 0
+IsOutput version = (version ≡ 1) ⊎ (version ≡ 2)
+
+-- Where there is no last head there are no parts.
+abbrev pub KnowsParts : Option Head → List (List ℕ) → Type 0
+KnowsParts None parts = parts ≡ []
+KnowsParts (Some head) parts = ⊤
+
+-- The uuid of a head, where there is one.
+abbrev pub uuid_in : Option Head → List (List ℕ)
+uuid_in None = []
+uuid_in (Some head) = head.key.uuid ∷ []
+
+-- With a head, if there is one, and with a version.
+abbrev pub with_head : Surveyed → Option Head → Surveyed
+with_head now head = record now { parts = now.parts ++ uuid_in head; last = first_of head now.last }
+
+abbrev pub with_version : Surveyed → ℕ → Surveyed
+with_version now version = record now { version = if version == 2 then 2 else now.version }
+
+-- After a command of a stream of this version.
+abbrev pub after_command : Surveyed → ℕ → Command → Surveyed
+after_command now version command = with_version (with_head now (head_of command)) version
+
+-- After items.
+abbrev pub after_items : Surveyed → List Item → Surveyed
+after_items now items = record {
+  parts = now.parts ++ part_uuids items;
+  version = if list_any (λ item. item.version == 2) items then 2 else now.version;
+  last = first_of (last_head (heads items)) now.last;
+}
+
+-- Each item has a version that is read, which can say its command.
+abbrev pub AreReadable : List Item → Type 0
+AreReadable items = AllByRecursion (λ item. CanWrite item.version item.command × (is_version item.version ≡ true)) items
+
+-- ---- one file
+
+-- A reading ends whole, or at a fault.
+abbrev pub EndIs : Bool → reading.Ending → Type 0
+EndIs true ending = ending ≡ Whole
+EndIs false ending = (verdict : reading.Verdict) × (ending ≡ Faulty verdict)
+
+-- All commands of a file were read, up to its end or to a fault, and it is not too long.
+pub record FileRead (file : ℕ) (whole : Bool) (old new : Surveyed) (bytes : List ℕ) : Type 0 where
+  pub items : List Item
+  pub ending : reading.Ending
+  pub read : reads file bytes ≡ record { items = items; end = ending }
+  pub end_is : EndIs whole ending
+  pub writable : AreReadable items
+  pub seen : new ≡ after_items old items
+  pub fits : is_too_long file bytes ≡ false
+
+-- Why a file could not be read.
+abbrev pub FileStop : ℕ → Outcome → List ℕ → Type 0
+FileStop file ended.NoMemory bytes = ⊤
+FileStop file ended.InputFault bytes = ⊤
+FileStop file (ended.InputTooLong number) bytes = (number ≡ file) × (is_too_long file bytes ≡ true)
+FileStop file ended.Done bytes = ⊥
+FileStop file (ended.Refused verdict) bytes = ⊥
+FileStop file ended.OutputFault bytes = ⊥
+FileStop file (ended.TooMuch sum) bytes = ⊥
+FileStop file (ended.InputChanged number place) bytes = ⊥
+
+abbrev pub FileEnd : ℕ → Surveyed → Surveyed → Result Bool Outcome → List ℕ → Type 0
+FileEnd file old new (Ok whole) bytes = FileRead file whole old new bytes
+FileEnd file old new (Err outcome) bytes = FileStop file outcome bytes
+
+-- ---- all files
+
+-- What is known is what holds of all that the files are read as, and none of them is too long.
+pub record AllRead (seen : Surveyed) (files : List (List ℕ)) : Type 0 where
+  pub last : seen.last ≡ last_head (heads (input files).items)
+  pub parts : seen.parts ≡ part_uuids (input files).items
+  pub version : seen.version ≡ version_of (input files).items
+  pub writable : AreReadable (input files).items
+  pub fits : too_long files ≡ None
+
+-- Why files could not be read. InputTooLong gives the first that is too long.
+abbrev pub SurveyStop : Outcome → List (List ℕ) → Type 0
+SurveyStop ended.NoMemory files = ⊤
+SurveyStop ended.InputFault files = ⊤
+SurveyStop (ended.InputTooLong number) files = too_long files ≡ Some number
+SurveyStop ended.Done files = ⊥
+SurveyStop (ended.Refused verdict) files = ⊥
+SurveyStop ended.OutputFault files = ⊥
+SurveyStop (ended.TooMuch sum) files = ⊥
+SurveyStop (ended.InputChanged number place) files = ⊥
+
+abbrev pub SurveyEnd : Result Surveyed Outcome → List (List ℕ) → Type 0
+SurveyEnd (Ok seen) files = AllRead seen files
+SurveyEnd (Err outcome) files = SurveyStop outcome files

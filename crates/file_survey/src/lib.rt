@@ -1,0 +1,16 @@
+//! Reading files once over, for what has to be known of all of them before the first byte of the stream that stands for their parts
+//! is written: the head of the last part, the parts' UUIDs, and the version.
+#![tactic(auto)]
+
+mod part_head;
+mod part_uuids;
+mod places;
+mod summary;
+mod surveying;
+#[cfg(test)]
+mod tests;
+
+pub use part_head::PartHead;
+pub use places::{Place, outcome_of};
+pub use summary::Survey;
+pub use surveying::survey;

@@ -1,0 +1,65 @@
+// The UUIDs of parts.
+ghost use Rattle.std.specs.Prelude.{◌≡◌, [], ◌∷◌, ◌++◌, OnOk};
+ghost use Rattle.send_model.specs.Outside.{is_among};
+
+use indexmap::IndexSet;
+use std::alloc::{AllocError, Global};
+use std::marker::Model;
+use uuid::Uuid;
+
+// UUIDs in their order, some of them maybe more than once, with an index by which each is found.
+#[derive(Drop)]
+pub(crate) struct PartUuids {
+    list: Vec<Uuid>,
+    index: IndexSet<Uuid>,
+}
+
+impl Model for PartUuids {
+    ghost use Rattle.std.specs.Prelude.{ℕ, List};
+    ghost use Rattle.file_survey.specs.Indexed.{AreIndexed};
+
+    ghost Value = { List (List ℕ) };
+
+    ghost view = { λ p. p.list.items };
+
+    ghost invariant = { λ p. AreIndexed p.index.keys p.list.items };
+}
+
+impl PartUuids {
+    // No UUIDs. Takes no memory.
+    pub(crate) fn new(alloc: Global) -> PartUuids
+        ensures empty { result ≡ [] }
+    {
+        PartUuids {
+            list: Vec::new(alloc),
+            index: IndexSet::new(alloc),
+        }
+    }
+
+    pub(crate) fn as_slice(&self) -> &[Uuid]
+        ensures uuids { result.now ≡ self.now }
+    {
+        self.list.as_slice()
+    }
+
+    pub(crate) fn has(&self, uuid: Uuid) -> bool
+        ensures { result ≡ is_among self.now uuid }
+    {
+        self.index.contains(&uuid)
+    }
+
+    // Puts one more behind the others.
+    pub(crate) fn push(&mut self, uuid: Uuid) -> Result<(), AllocError>
+        ensures pushed { OnOk result (self.new ≡ self.old ++ uuid ∷ []) }
+    {
+        let len = self.list.len();
+        self.list.push(uuid)?;
+        match self.index.insert(uuid) {
+            Ok(_) => Ok(()),
+            Err(_) => {
+                self.list.truncate(len);
+                Err(AllocError)
+            }
+        }
+    }
+}

@@ -1,0 +1,61 @@
+// Where a command stands, and how a run ends at a file that can not be read on.
+ghost use Rattle.std.specs.Prelude.{◌≡◌};
+ghost use Rattle.sx_base.specs.Calls.{verdict_meant};
+ghost use Rattle.sx_base.specs.Refusals.{refusal_of};
+ghost use Rattle.file_survey.specs.Stopping.{outcome_at};
+
+use cmd_reader::ReadStop;
+use sx_base::{Outcome, Refusal, Verdict};
+
+/// Where a command stands.
+#[derive(Clone, Copy)]
+pub struct Place {
+    /// The file, counted from 1.
+    pub file: u64,
+    /// The command in that file, counted from 1.
+    pub command: u64,
+    /// The place in that file of the command's first byte.
+    pub offset: u64,
+}
+
+impl Place {
+    /// The first command of the first file.
+    pub fn start() -> Place
+        ensures start { result ≡ record { file = 1; command = 1; offset = 0 } }
+    {
+        Place {
+            file: 1,
+            command: 1,
+            offset: 0,
+        }
+    }
+
+    /// The verdict that the command at this place is refused.
+    pub fn refused(self, refusal: Refusal) -> Verdict
+        ensures verdict { verdict_meant result ≡ record {
+          file = self.file;
+          command = self.command;
+          offset = self.offset;
+          refusal = refusal_of refusal;
+        } }
+    {
+        Verdict {
+            file: self.file,
+            command: self.command,
+            offset: self.offset,
+            refusal,
+        }
+    }
+}
+
+/// The outcome of a file that could not be read on.
+pub fn outcome_of(file: u64, stop: ReadStop) -> Outcome
+    ensures outcome { result ≡ outcome_at file stop }
+{
+    match stop {
+        ReadStop::Refused(verdict) => Outcome::Refused(verdict),
+        ReadStop::NoMemory => Outcome::NoMemory,
+        ReadStop::InputFault => Outcome::InputFault,
+        ReadStop::InputTooLong => Outcome::InputTooLong { file },
+    }
+}

@@ -1,0 +1,108 @@
+// What is known of files once they were read for their heads.
+ghost use Rattle.std.specs.Prelude.{◌≡◌, ◌⊎◌, map, OnOk};
+ghost use Rattle.std.specs.Option.{option_copied};
+ghost use Rattle.send_model.specs.Outside.{is_among};
+ghost use Rattle.send_commands.specs.Meaning.{meaning_of};
+ghost use Rattle.send_commands.specs.Writing.{IsWritable};
+ghost use Rattle.file_survey.specs.Findings.{KnowsParts, nothing_seen, with_head, with_version, after_command};
+
+use crate::part_head::PartHead;
+use crate::part_uuids::PartUuids;
+use cmd_reader::Item;
+use std::alloc::{AllocError, Global};
+use std::marker::Model;
+use uuid::Uuid;
+
+/// What is known of files once they were read for their heads: the head of the last part, the UUIDs of all parts, and the version
+/// of the stream that stands for them, which is 2 where a command of the files has it, and else 1.
+#[derive(Drop)]
+pub struct Survey {
+    last: Option<PartHead>,
+    parts: PartUuids,
+    version: u32,
+}
+
+impl Model for Survey {
+    ghost use Rattle.file_survey.specs.Findings.{Surveyed, IsOutput, KnowsParts};
+
+    ghost Value = { Surveyed };
+
+    ghost view = { λ s. record { parts = s.parts; version = s.version; last = s.last } };
+
+    ghost invariant = { λ s. IsOutput s.version × KnowsParts s.last s.parts };
+}
+
+impl Survey {
+    // Before the first command. Takes no memory.
+    pub(crate) fn new(alloc: Global) -> Survey
+        ensures empty { result ≡ nothing_seen }
+    {
+        Survey {
+            last: None,
+            parts: PartUuids::new(alloc),
+            version: 1,
+        }
+    }
+
+    /// The head of the last part, `None` where there is no part. Takes no memory.
+    pub fn last(&self) -> Option<&PartHead>
+        ensures last { option_copied result ≡ self.now.last }
+        ensures known { KnowsParts (option_copied result) self.now.parts }
+    {
+        self.last.as_ref()
+    }
+
+    /// The version of the stream that stands for the parts. Takes no memory.
+    pub fn version(&self) -> u32
+        ensures version { result ≡ self.now.version }
+        ensures known { (result ≡ 1) ⊎ (result ≡ 2) }
+    {
+        self.version
+    }
+
+    /// The UUIDs of the parts, in the order of their heads. Takes no memory.
+    pub fn parts(&self) -> &[Uuid]
+        ensures parts { result.now ≡ self.now.parts }
+    {
+        self.parts.as_slice()
+    }
+
+    /// Whether a part has the UUID. Takes no memory.
+    pub fn has_part(&self, uuid: Uuid) -> bool
+        ensures { result ≡ is_among self.now.parts uuid }
+    {
+        self.parts.has(uuid)
+    }
+
+    // Keeps what a command says: the head that it is, if it is one, and its version.
+    pub(crate) fn keep(&mut self, alloc: Global, item: Item) -> Result<(), AllocError>
+        requires writable { IsWritable item.version (meaning_of item.command) }
+        ensures kept { OnOk result (self.new ≡ after_command self.old item.version (meaning_of item.command)) }
+    {
+        let head = PartHead::of(alloc, &item.command, item.version)?;
+        self.keep_head(head)?;
+        self.keep_version(item.version);
+        Ok(())
+    }
+
+    // Keeps a head, if it is given.
+    fn keep_head(&mut self, head: Option<PartHead>) -> Result<(), AllocError>
+        ensures kept { OnOk result (self.new ≡ with_head self.old head) }
+    {
+        let Some(head) = head else {
+            return Ok(());
+        };
+        let uuid = head.key().uuid;
+        self.last = Some(head);
+        self.parts.push(uuid)
+    }
+
+    // Keeps a version, if it is the later one.
+    fn keep_version(&mut self, version: u32)
+        ensures { self.new ≡ with_version self.old version }
+    {
+        if version == 2 {
+            self.version = 2;
+        }
+    }
+}

@@ -1,0 +1,68 @@
+// Once over all files, for their heads and versions.
+ghost use Rattle.std.specs.Prelude.{◌≡◌, ◌≤◌, map};
+ghost use Rattle.std.specs.String.{string_bytes};
+ghost use Rattle.cmd_reader.specs.Places.{IfTold};
+ghost use Rattle.file_survey.specs.Findings.{FileEnd, SurveyEnd};
+ghost use Rattle.sx_base.specs.Calls.{IfAllTold, ErrCaused};
+
+use crate::places::outcome_of;
+use crate::summary::Survey;
+use cmd_reader::{CmdReader, ReadStop};
+use std::alloc::Global;
+use sx_base::{Inputs, Outcome};
+
+/// Reads the files once, in order, for their heads and versions, as far as they can be read: what stands behind a fault is not
+/// looked at, and the fault is no error. `InputTooLong` gives the first file that is too long.
+pub fn survey<I: Inputs>(alloc: Global, inputs: &mut I, files: &[String]) -> Result<Survey, Outcome>
+    ensures same { I.told inputs.new ≡ I.told inputs.old }
+    ensures later { I.faults inputs.old ≤ I.faults inputs.new }
+    ensures ends_later { I.ends inputs.old ≤ I.ends inputs.new }
+    ensures cause { ErrCaused (I.faults inputs.old) (I.faults inputs.new) 0 0 result }
+    ensures surveyed { IfAllTold (I.told inputs.old) (map string_bytes files.now) (SurveyEnd result) }
+{
+    let mut seen = Survey::new(alloc);
+    let mut file = 0;
+    while file < files.len() {
+        let name = files[file].as_str();
+        match survey_file(alloc, inputs, file as u64 + 1, name, &mut seen) {
+            Ok(true) => {}
+            Ok(false) => return Ok(seen),
+            Err(outcome) => return Err(outcome),
+        }
+        file += 1;
+    }
+    Ok(seen)
+}
+
+// Goes over the commands of a file, and says whether it can be read to its end.
+fn survey_file<I: Inputs>(
+    alloc: Global,
+    inputs: &mut I,
+    file: u64,
+    name: &str,
+    seen: &mut Survey,
+) -> Result<bool, Outcome>
+    ensures same { I.told inputs.new ≡ I.told inputs.old }
+    ensures later { I.faults inputs.old ≤ I.faults inputs.new }
+    ensures ends_later { I.ends inputs.old ≤ I.ends inputs.new }
+    ensures cause { ErrCaused (I.faults inputs.old) (I.faults inputs.new) 0 0 result }
+    ensures seen { IfTold (I.told inputs.old) name.now (FileEnd file seen.old seen.new result) }
+{
+    let Ok(mut reader) = CmdReader::new(alloc, file, name) else {
+        return Err(Outcome::NoMemory);
+    };
+    loop {
+        let item = match reader.next(inputs) {
+            Ok(Some(item)) => item,
+            Ok(None) => return Ok(true),
+            Err(stop) => match stop {
+                ReadStop::Refused(_) => return Ok(false),
+                _ => return Err(outcome_of(file, stop)),
+            },
+        };
+        match seen.keep(alloc, item) {
+            Ok(()) => {}
+            Err(_) => return Err(Outcome::NoMemory),
+        }
+    }
+}
