@@ -5,6 +5,7 @@ mod ReadingExamples
 mod VersionExamples
 mod EditExamples
 mod DueExamples
+mod HoleExample
 mod CommandExamples
 mod GuardExamples
 mod LineExamples
