@@ -2,6 +2,10 @@ pub mod Chains
 pub mod ChangeLaws
 pub mod EditSteps
 pub mod Empties
+pub mod Fronts
+pub mod Known
+pub mod KnownEdits
+pub mod OpeningLaws
 pub mod OtherContents
 pub mod RenameSteps
 pub mod TreeLaws

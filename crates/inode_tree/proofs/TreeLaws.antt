@@ -5,15 +5,14 @@ use Rattle.std.specs.Ordering.{nat_cmp}
 use Rattle.std.specs.Cmp.{nat_cmp_total}
 use Rattle.std.proofs.Common.{refl, sym, ap, subst, ◌∙◌, arith, inl, inr}
 use Rattle.std.proofs.lemmas.Bool.{cases_eq, cases_lt, eq-eqb, ne_eqb, le-leb, lt-leb, true≢false}
-use Rattle.std.specs.FinMap.Entries.{same_entries}
 use Rattle.std.proofs.lemmas.Map.Lookups.{exact_unsigned}
 use Rattle.send_model.specs.Refusal.{Refusal, NoNumber}
 use Rattle.send_model.specs.Path.{path_names}
-use Rattle.send_model.specs.Map.{Map, IsMap, named_cmp, value_at, with_value, without}
+use Rattle.send_model.specs.Map.{Map, named_cmp, value_at, with_value, without}
 use Rattle.send_model.specs.Subvolume.{Inode, Subvolume, Spot, root, root_alone, new_directory, inode_at, named, is_directory, name_count, walk, spot, IsSound}
 use Rattle.send_model.specs.Edit.{make, add_inode, link, add_name, take_name, remove_name, remove_inode, at_spot, greatest_number, set_inode, change_inode}
 use Rattle.send_model.specs.Clone.{cells_of}
-use Rattle.send_model.proofs.MapLaws.{named_cmp_total, named_cmp_exact, with_value-here, with_value-other, without-other, with_value-order, without-order, count-with_value, count-without, count-found, count-key, counts_one}
+use Rattle.send_model.proofs.MapLaws.{named_cmp_total, named_cmp_exact, with_value-here, with_value-other, count-with_value, count-without, count-found, count-key, counts_one}
 use Rattle.send_model.proofs.SoundChanges.{root_alone_is_sound, changed_is_sound}
 use Rattle.send_model.proofs.SoundEdits.{make_is_sound, link_is_sound, walk_there}
 use Rattle.send_model.proofs.SoundRemovals.{taken_is_sound}
@@ -27,22 +26,9 @@ further_here f ino n = ap (λ (o : Option ℕ). unwrap_or o 0) (with_value-here 
 further_other : (f : Map ℕ ℕ) (ino n v : ℕ) → (v ≡ ino → ⊥) → further_names (with_value nat_cmp ino n f) v ≡ further_names f v
 further_other f ino n v differ = ap (λ (o : Option ℕ). unwrap_or o 0) (with_value-other nat_cmp nat_cmp_total exact_unsigned v ino n f differ)
 
-none_by : {A : Type 0} (o : Option A) → is_some o ≡ false → o ≡ None
+pub none_by : {A : Type 0} (o : Option A) → is_some o ≡ false → o ≡ None
 none_by None e = refl
 none_by (Some x) e = absurd (true≢false e)
-
--- To take out a value and put in another one is to change it.
-put_back : {X : Type 0} (ino : ℕ) (x : X) (m : Map ℕ X) → IsMap nat_cmp m → with_value nat_cmp ino x (without nat_cmp ino m) ≡ with_value nat_cmp ino x m
-put_back ino x m sorted =
-    same_entries nat_cmp nat_cmp_total exact_unsigned _ _
-    (with_value-order nat_cmp nat_cmp_total exact_unsigned ino x (without nat_cmp ino m) (without-order nat_cmp nat_cmp_total exact_unsigned ino m sorted))
-    (with_value-order nat_cmp nat_cmp_total exact_unsigned ino x m sorted)
-    (λ q. elim (cases_eq q ino) [
-      | inl same ↦ subst (λ (k : ℕ). value_at nat_cmp k (with_value nat_cmp ino x (without nat_cmp ino m)) ≡ value_at nat_cmp k (with_value nat_cmp ino x m)) (sym same)
-          (with_value-here nat_cmp nat_cmp_total exact_unsigned ino x (without nat_cmp ino m) ∙ sym (with_value-here nat_cmp nat_cmp_total exact_unsigned ino x m))
-      | inr differ ↦ with_value-other nat_cmp nat_cmp_total exact_unsigned q ino x (without nat_cmp ino m) differ
-          ∙ without-other nat_cmp nat_cmp_total exact_unsigned q ino m differ ∙ sym (with_value-other nat_cmp nat_cmp_total exact_unsigned q ino x m differ)
-    ])
 
 one_of : (a b : ℕ) → a ≡ b → ◌≡◌ {A = ℕ} (cond (a == b) 1 0) 1
 one_of a b e = counts_one (a == b) (eq-eqb a b e)
@@ -253,10 +239,9 @@ module _ {C : Type 0} where
         counted = λ v. tree.counted v ∙ ap (λ (n : ℕ). n - 1) (sym (same_counts v));
       }
 
-      pub changed_whole : (t : Subvolume C) → t.inodes ≡ with_value nat_cmp ino (change x) (without nat_cmp ino s.inodes) → t.names ≡ s.names → t.next ≡ s.next → Became t f (change_inode ino change S)
+      pub changed_whole : (t : Subvolume C) → t.inodes ≡ with_value nat_cmp ino (change x) s.inodes → t.names ≡ s.names → t.next ≡ s.next → Became t f (change_inode ino change S)
       changed_whole t a b c =
-          let back = put_back ino (change x) s.inodes tree.sound.inodes_in_order in
-          let same : set_inode ino (change x) s ≡ t = λ i. record { inodes = sym (a ∙ back) i; names = sym b i; next = sym c i } in
+          let same : set_inode ino (change x) s ≡ t = λ i. record { inodes = sym a i; names = sym b i; next = sym c i } in
           record {
             tree = subst (λ (u : Subvolume C). IsTree u f) same changed_tree;
             is = sym same ∙ sym is_change ∙ ap (change_inode ino change) view;

@@ -1,6 +1,8 @@
 pub mod Answers
 pub mod Changes
 pub mod Kinds
+pub mod Openings
 pub mod Places
 pub mod Retraced
 pub mod Trees
+pub mod Walked

@@ -7,12 +7,12 @@ ghost use Rattle.inode_tree.specs.Answers.{MayChange};
 ghost use Rattle.inode_tree.specs.Changes.{with_times, changed};
 ghost use Rattle.inode_tree.specs.Kinds.{time_of};
 
-use crate::change::Change;
+use crate::change::{Change, Changing, Swapping};
 use crate::name::BytesRef;
 use crate::time::Timestamp;
 use crate::tree::Tree;
 use extent_map::{Extents, Origin};
-use shared_map::Shared;
+use shared_map::InShared;
 use std::alloc::AllocError;
 use sx_base::{Refusal, Stop};
 
@@ -27,7 +27,7 @@ impl<O: Origin> Tree<O> {
     pub fn set_mode(&mut self, path: &[u8], mode: u16) -> Result<(), Stop>
         ensures { MayChange result self.old self.new (edit.change_at path.now (λ inode. record inode { mode = mode % 0o10_000 }) self.old) }
     {
-        let ino = self.find(path)?;
+        let ino = self.reach(path)?;
         self.change(ino, &Change::Mode(mode))?;
         Ok(())
     }
@@ -39,7 +39,7 @@ impl<O: Origin> Tree<O> {
     pub fn set_owner(&mut self, path: &[u8], uid: u64, gid: u64) -> Result<(), Stop>
         ensures { MayChange result self.old self.new (edit.change_at path.now (λ inode. record inode { uid = uid; gid = gid }) self.old) }
     {
-        let ino = self.find(path)?;
+        let ino = self.reach(path)?;
         self.change(ino, &Change::Owner(uid, gid))?;
         Ok(())
     }
@@ -51,7 +51,7 @@ impl<O: Origin> Tree<O> {
     pub fn set_times(&mut self, path: &[u8], atime: Timestamp, mtime: Timestamp) -> Result<(), Stop>
         ensures { MayChange result self.old self.new (edit.change_at path.now (with_times (time_of atime) (time_of mtime)) self.old) }
     {
-        let ino = self.find(path)?;
+        let ino = self.reach(path)?;
         self.change(ino, &Change::Times(atime, mtime))?;
         Ok(())
     }
@@ -63,7 +63,7 @@ impl<O: Origin> Tree<O> {
     pub fn set_flags(&mut self, path: &[u8], flags: u64) -> Result<(), Stop>
         ensures { MayChange result self.old self.new (edit.change_at path.now (λ inode. record inode { flags = flags }) self.old) }
     {
-        let ino = self.find(path)?;
+        let ino = self.reach(path)?;
         self.change(ino, &Change::Flags(flags))?;
         Ok(())
     }
@@ -75,7 +75,7 @@ impl<O: Origin> Tree<O> {
     pub fn set_xattr(&mut self, path: &[u8], name: &[u8], value: &[u8]) -> Result<(), Stop>
         ensures { MayChange result self.old self.new (edit.set_xattr path.now name.now value.now self.old) }
     {
-        let ino = self.find(path)?;
+        let ino = self.reach(path)?;
         if !is_xattr_name(name) {
             return Err(Stop::Refused(Refusal::BadXattr));
         }
@@ -91,7 +91,7 @@ impl<O: Origin> Tree<O> {
     pub fn remove_xattr(&mut self, path: &[u8], name: &[u8]) -> Result<(), Stop>
         ensures { MayChange result self.old self.new (edit.remove_xattr path.now name.now self.old) }
     {
-        let ino = self.find(path)?;
+        let ino = self.reach(path)?;
         if !is_xattr_name(name) {
             return Err(Stop::Refused(Refusal::BadXattr));
         }
@@ -116,13 +116,13 @@ impl<O: Origin> Tree<O> {
             return Err(AllocError);
         }
         self.whole = false;
-        let Some(shared) = self.inodes.remove(&ino)? else {
+        let given = std::mem::replace(contents, Extents::new(self.alloc));
+        let mut edit = InShared::new(self.alloc, Swapping::new(given));
+        if !self.inodes.edit(&ino, &mut edit)? {
             return Err(AllocError);
-        };
-        let (mut inode, copied) = shared.own()?;
-        self.copied = one_more_if(self.copied, copied);
-        inode.swap_contents(contents);
-        self.inodes.insert(&ino, Shared::new(self.alloc, inode)?)?;
+        }
+        self.copied = one_more_if(self.copied, edit.copied());
+        *contents = edit.into_inner().into_contents();
         self.whole = true;
         Ok(true)
     }
@@ -145,13 +145,11 @@ impl<O: Origin> Tree<O> {
             return Err(AllocError);
         }
         self.whole = false;
-        let Some(shared) = self.inodes.remove(&ino)? else {
+        let mut edit = InShared::new(self.alloc, Changing::new(self.alloc, change));
+        if !self.inodes.edit(&ino, &mut edit)? {
             return Err(AllocError);
-        };
-        let (mut inode, copied) = shared.own()?;
-        self.copied = one_more_if(self.copied, copied);
-        inode.apply(self.alloc, change)?;
-        self.inodes.insert(&ino, Shared::new(self.alloc, inode)?)?;
+        }
+        self.copied = one_more_if(self.copied, edit.copied());
         self.whole = true;
         Ok(())
     }

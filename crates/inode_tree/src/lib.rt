@@ -17,6 +17,7 @@ mod starts;
 mod tests;
 mod time;
 mod tree;
+mod walked;
 
 pub use inode::Inode;
 pub use kind::NodeKind;

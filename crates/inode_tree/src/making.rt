@@ -29,7 +29,7 @@ impl<O: Origin> Tree<O> {
         ensures made { MayChange result self.old self.new (edit.make (new_of_kind (kind_of kind) rdev target.now) path.now self.old) }
         ensures number { IfOk result (λ ino. ino ≡ self.old.next) }
     {
-        let place = self.spot(path)?;
+        let place = self.place(path)?;
         if self.named(&place).is_some() {
             return Err(Stop::Refused(Refusal::EntryThere));
         }
@@ -46,6 +46,7 @@ impl<O: Origin> Tree<O> {
         self.names.insert(&place, ino)?;
         self.next = ino + 1;
         self.whole = true;
+        self.learn(path, ino);
         Ok(ino)
     }
 
@@ -60,11 +61,11 @@ impl<O: Origin> Tree<O> {
         let Ok(_names) = split(path) else {
             return Err(Stop::Refused(Refusal::BadPath));
         };
-        let ino = self.find(existing)?;
+        let ino = self.reach(existing)?;
         if self.is_directory(ino) {
             return Err(Stop::Refused(Refusal::IsDirectory));
         }
-        let place = self.spot(path)?;
+        let place = self.place(path)?;
         if self.named(&place).is_some() {
             return Err(Stop::Refused(Refusal::EntryThere));
         }

@@ -1,5 +1,7 @@
 // Names and bytes as keys of maps.
-ghost use Rattle.std.specs.Prelude.{◌≡◌, IfOk};
+ghost use Rattle.std.specs.Prelude.{◌≡◌, ◌<◌, IfOk};
+ghost use Rattle.send_model.specs.Map.{bytes_cmp};
+ghost use Rattle.inode_tree.specs.Openings.{byte_at, two_at, four_at, eight_at};
 
 use shared_map::{Copied, Key, Sought};
 use std::alloc::{AllocError, Global};
@@ -95,19 +97,65 @@ impl Sought<Bytes> for BytesRef<'_> {
     }
 }
 
-// A name in a directory, whose copies share the bytes.
+// The byte at a place, or zero where there is none.
+fn byte_at(bytes: &[u8], place: usize) -> u64
+    ensures value { result ≡ byte_at bytes.now place }
+    ensures small { result < 256 }
+{
+    match bytes.get(place) {
+        Some(byte) => u64::from(*byte),
+        None => 0,
+    }
+}
+
+// Two bytes from a place on as a number, the first the higher.
+#[tactic(auto, unfolding(crate::specs::Openings::two_at))]
+fn two_at(bytes: &[u8], place: usize) -> u64
+    requires { place < 16 }
+    ensures value { result ≡ two_at bytes.now place }
+    ensures small { result < 65_536 }
+{
+    byte_at(bytes, place) * 256 + byte_at(bytes, place + 1)
+}
+
+// Four bytes.
+#[tactic(auto, unfolding(crate::specs::Openings::four_at))]
+fn four_at(bytes: &[u8], place: usize) -> u64
+    requires { place < 14 }
+    ensures value { result ≡ four_at bytes.now place }
+    ensures small { result < 4_294_967_296 }
+{
+    two_at(bytes, place) * 65_536 + two_at(bytes, place + 2)
+}
+
+// Eight bytes.
+#[tactic(auto, unfolding(crate::specs::Openings::eight_at))]
+fn eight_at(bytes: &[u8], place: usize) -> u64
+    requires { place < 10 }
+    ensures { result ≡ eight_at bytes.now place }
+{
+    four_at(bytes, place) * 4_294_967_296 + four_at(bytes, place + 4)
+}
+
+// A name in a directory, whose copies share the bytes. Its first sixteen bytes stand beside them as numbers, so that most comparisons
+// need not look at bytes elsewhere.
 #[derive(Drop)]
 pub(crate) struct Name {
     directory: u64,
+    first: u64,
+    next: u64,
     bytes: Bytes,
 }
 
 impl Model for Name {
     ghost use Rattle.std.specs.Prelude.{ℕ, List};
+    ghost use Rattle.inode_tree.specs.Openings.{IsOpened};
 
     ghost Value = { ℕ × List ℕ };
 
     ghost view = { λ n. (n.directory, n.bytes) };
+
+    ghost invariant = { λ n. IsOpened n.bytes n.first n.next };
 }
 
 impl Name {
@@ -135,6 +183,8 @@ impl Key for Name {
     fn copy_key(&self) -> Result<Name, AllocError> {
         Ok(Name {
             directory: self.directory,
+            first: self.first,
+            next: self.next,
             bytes: self.bytes.copy()?,
         })
     }
@@ -142,26 +192,64 @@ impl Key for Name {
     ghost total = { named_cmp_total };
 }
 
-// A place for a name, as a path gives it.
+// A place for a name, as a path gives it, with the numbers of the name.
 #[derive(Drop)]
 pub(crate) struct Place<'a> {
     directory: u64,
+    first: u64,
+    next: u64,
     name: &'a [u8],
 }
 
 impl<'a> Model for Place<'a> {
     ghost use Rattle.std.specs.Prelude.{ℕ, List};
+    ghost use Rattle.inode_tree.specs.Openings.{IsOpened};
 
     ghost Value = { ℕ × List ℕ };
 
     ghost view = { λ p. (p.directory, p.name.now) };
+
+    ghost invariant = { λ p. IsOpened p.name.now p.first p.next };
 }
 
 impl<'a> Place<'a> {
     pub(crate) fn new(directory: u64, name: &'a [u8]) -> Place<'a>
         ensures { result ≡ (directory, name.now) }
     {
-        Place { directory, name }
+        Place {
+            directory,
+            first: eight_at(name, 0),
+            next: eight_at(name, 8),
+            name,
+        }
+    }
+
+    // The number of the directory.
+    pub(crate) fn directory(&self) -> u64
+        ensures { result ≡ self.now.0 }
+    {
+        self.directory
+    }
+
+    // The name alone.
+    pub(crate) fn name(&self) -> &'a [u8]
+        ensures { result.now ≡ self.now.1 }
+    {
+        self.name
+    }
+
+    // How a name compares with this one, whatever their directories.
+    fn against_bytes(&self, key: &Name) -> Ordering
+        ensures { result ≡ bytes_cmp key.now.1 self.now.1 }
+    {
+        match key.first.cmp(&self.first) {
+            Ordering::Equal => {}
+            other => return other,
+        }
+        match key.next.cmp(&self.next) {
+            Ordering::Equal => key.bytes.as_slice().cmp(self.name),
+            other => other,
+        }
     }
 }
 
@@ -170,7 +258,7 @@ impl Sought<Name> for Place<'_> {
 
     fn against(&self, key: &Name) -> Ordering {
         match key.directory.cmp(&self.directory) {
-            Ordering::Equal => key.bytes.as_slice().cmp(self.name),
+            Ordering::Equal => self.against_bytes(key),
             other => other,
         }
     }
@@ -178,6 +266,8 @@ impl Sought<Name> for Place<'_> {
     fn own(&self, alloc: Global) -> Result<Name, AllocError> {
         Ok(Name {
             directory: self.directory,
+            first: self.first,
+            next: self.next,
             bytes: Bytes::new(alloc, self.name)?,
         })
     }

@@ -1,6 +1,6 @@
 // Removing names.
 ghost use Rattle.std.specs.Prelude.{◌≡◌, ◌≢◌, ℕ, List, Some, OnOk};
-ghost use Rattle.send_model.specs.Subvolume.{named, is_empty_directory};
+ghost use Rattle.send_model.specs.Subvolume.{named, is_directory, is_empty_directory};
 ghost use Rattle.send_model.specs.Edit as edit;
 ghost use Rattle.inode_tree.specs.Answers.{MayChange};
 ghost use Rattle.inode_tree.specs.Places.{spot_of};
@@ -21,7 +21,7 @@ impl<O: Origin> Tree<O> {
     pub fn unlink(&mut self, path: &[u8]) -> Result<(), Stop>
         ensures { MayChange result self.old self.new (edit.unlink path.now self.old) }
     {
-        let place = self.spot(path)?;
+        let place = self.place(path)?;
         let Some(ino) = self.named(&place) else {
             return Err(Stop::Refused(Refusal::NoEntry));
         };
@@ -31,7 +31,7 @@ impl<O: Origin> Tree<O> {
         if !self.whole {
             return Err(Stop::NoMemory);
         }
-        self.take_name(&place, ino)?;
+        self.take_name(&place, ino, false)?;
         Ok(())
     }
 
@@ -43,7 +43,7 @@ impl<O: Origin> Tree<O> {
     pub fn rmdir(&mut self, path: &[u8]) -> Result<(), Stop>
         ensures { MayChange result self.old self.new (edit.rmdir path.now self.old) }
     {
-        let place = self.spot(path)?;
+        let place = self.place(path)?;
         let Some(ino) = self.named(&place) else {
             return Err(Stop::Refused(Refusal::NoEntry));
         };
@@ -53,7 +53,7 @@ impl<O: Origin> Tree<O> {
         if !self.is_empty(ino) {
             return Err(Stop::Refused(Refusal::NotEmpty));
         }
-        self.take_name(&place, ino)?;
+        self.take_name(&place, ino, true)?;
         Ok(())
     }
 
@@ -71,10 +71,16 @@ impl<O: Origin> Tree<O> {
         next.0.directory() != ino
     }
 
-    // A name of an inode with no names in it goes, and with its last name the inode.
-    pub(crate) fn take_name(&mut self, place: &Place<'_>, ino: u64) -> Result<(), AllocError>
+    // A name of an inode with no names in it goes, and with its last name the inode. It is a directory or not.
+    pub(crate) fn take_name(
+        &mut self,
+        place: &Place<'_>,
+        ino: u64,
+        directory: bool,
+    ) -> Result<(), AllocError>
         requires there { named self.old place.now.0 place.now.1 ≡ Some ino }
         requires leaf { (name : List ℕ) (below : ℕ) → named self.old ino name ≢ Some below }
+        requires kind { directory ≡ is_directory self.old ino }
         ensures { OnOk result (self.new ≡ edit.take_name (spot_of place.now) ino self.old) }
     {
         if !self.whole {
@@ -82,6 +88,7 @@ impl<O: Origin> Tree<O> {
         }
         let further = further_names(&self.further, ino);
         self.whole = false;
+        self.last.forget_name(directory);
         let _ino = self.names.remove(place)?;
         if further == 0 {
             let _inode = self.inodes.remove(&ino)?;

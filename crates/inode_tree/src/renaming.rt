@@ -1,12 +1,13 @@
 // Moving names.
-ghost use Rattle.std.specs.Prelude.{◌≡◌, ◌≢◌, ◌&&◌, ℕ, List, Some, None, OnOk};
-ghost use Rattle.send_model.specs.Subvolume.{IsSound, named, is_directory};
+ghost use Rattle.std.specs.Prelude.{◌≡◌, ◌≢◌, ◌&&◌, ℕ, List, Some, None, Ok, OnOk};
+ghost use Rattle.send_model.specs.Subvolume.{IsSound, named, is_directory, spot};
 ghost use Rattle.send_model.specs.Edit as edit;
 ghost use Rattle.inode_tree.specs.Answers.{Finds, MayChange};
 ghost use Rattle.inode_tree.specs.Places.{spot_of};
 
 use crate::name::Place;
-use crate::tree::{ROOT, Tree};
+use crate::tree::Tree;
+use crate::walked::ROOT;
 use extent_map::Origin;
 use path_rules::split;
 use std::alloc::AllocError;
@@ -22,11 +23,11 @@ impl<O: Origin> Tree<O> {
     pub fn rename(&mut self, path: &[u8], path_to: &[u8]) -> Result<(), Stop>
         ensures { MayChange result self.old self.new (edit.rename path.now path_to.now self.old) }
     {
-        let from = self.spot(path)?;
+        let from = self.place(path)?;
         let Some(moved) = self.named(&from) else {
             return Err(Stop::Refused(Refusal::NoEntry));
         };
-        let to = self.spot(path_to)?;
+        let to = self.place(path_to)?;
         let Some(there) = self.named(&to) else {
             if self.goes_into_itself(moved, path_to) {
                 return Err(Stop::Refused(Refusal::IntoItself));
@@ -34,7 +35,7 @@ impl<O: Origin> Tree<O> {
             if !self.whole {
                 return Err(Stop::NoMemory);
             }
-            self.move_name(&from, &to, moved)?;
+            self.move_to(&from, &to, moved, path_to)?;
             return Ok(());
         };
         if there == moved {
@@ -115,14 +116,46 @@ impl<O: Origin> Tree<O> {
         requires sound { IsSound (edit.move_name (spot_of from.now) (spot_of to.now) moved (edit.take_name (spot_of to.now) there self.old)) }
         ensures { OnOk result (self.new ≡ edit.move_name (spot_of from.now) (spot_of to.now) moved (edit.take_name (spot_of to.now) there self.old)) }
     {
-        self.take_name(to, there)?;
-        self.move_name(from, to, moved)
+        let directory_there = self.is_directory(there);
+        self.take_name(to, there, directory_there)?;
+        let directory = self.is_directory(moved);
+        self.move_name(from, to, moved, directory)
     }
 
-    // The name of an inode goes from one place to another, which is free.
-    fn move_name(&mut self, from: &Place<'_>, to: &Place<'_>, moved: u64) -> Result<(), AllocError>
+    // The name of an inode goes to the place that a path names, which is free.
+    fn move_to(
+        &mut self,
+        from: &Place<'_>,
+        to: &Place<'_>,
+        moved: u64,
+        path_to: &[u8],
+    ) -> Result<(), AllocError>
+        requires at { spot self.old path_to.now ≡ Ok (spot_of to.now) }
         requires there { named self.old from.now.0 from.now.1 ≡ Some moved }
         requires free { named self.old to.now.0 to.now.1 ≡ None }
+        requires sound { IsSound (edit.move_name (spot_of from.now) (spot_of to.now) moved self.old) }
+        ensures { OnOk result (self.new ≡ edit.move_name (spot_of from.now) (spot_of to.now) moved self.old) }
+    {
+        let directory = self.is_directory(moved);
+        self.move_name(from, to, moved, directory)?;
+        if directory {
+            return Ok(());
+        }
+        self.learn(path_to, moved);
+        Ok(())
+    }
+
+    // The name of an inode, a directory or not, goes from one place to another, which is free.
+    fn move_name(
+        &mut self,
+        from: &Place<'_>,
+        to: &Place<'_>,
+        moved: u64,
+        directory: bool,
+    ) -> Result<(), AllocError>
+        requires there { named self.old from.now.0 from.now.1 ≡ Some moved }
+        requires free { named self.old to.now.0 to.now.1 ≡ None }
+        requires kind { directory ≡ is_directory self.old moved }
         requires sound { IsSound (edit.move_name (spot_of from.now) (spot_of to.now) moved self.old) }
         ensures { OnOk result (self.new ≡ edit.move_name (spot_of from.now) (spot_of to.now) moved self.old) }
     {
@@ -130,6 +163,7 @@ impl<O: Origin> Tree<O> {
             return Err(AllocError);
         }
         self.whole = false;
+        self.last.forget_name(directory);
         let _moved = self.names.remove(from)?;
         self.names.insert(to, moved)?;
         self.whole = true;

@@ -5,6 +5,7 @@ ghost use Rattle.inode_tree.specs.Retraced.{retraced_inode, retraced, AreReached
 use crate::inode::Inode;
 use crate::starts::Starts;
 use crate::tree::Tree;
+use crate::walked::LastWalks;
 use extent_map::Origin;
 use shared_map::{Shared, SharedMap};
 use std::alloc::{AllocError, Global};
@@ -24,6 +25,7 @@ impl<O: Origin> Tree<O> {
             alloc: self.alloc,
             copied: 0,
             whole: self.whole,
+            last: LastWalks::new(self.alloc),
         })
     }
 }

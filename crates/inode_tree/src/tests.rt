@@ -180,6 +180,50 @@ fn names_move(rt: HostRuntime) -> Result<(), Fail> {
     Ok(())
 }
 
+// Each name goes or moves right after a walk by it.
+const WALKED: [(Call, Option<Refusal>); 21] = [
+    (Call::Make(b"d", NodeKind::Directory), None),
+    (Call::Make(b"d/e", NodeKind::Directory), None),
+    (Call::Make(b"d/e/x", NodeKind::File), None),
+    (Call::Rename(b"d", b"c"), None),
+    (Call::SetMode(b"d/e/x", 0o600), Some(Refusal::NoEntry)),
+    (Call::Make(b"d/e/y", NodeKind::File), Some(Refusal::NoEntry)),
+    (Call::SetMode(b"c/e/x", 0o600), None),
+    (Call::Unlink(b"c/e/x"), None),
+    (Call::SetMode(b"c/e/x", 0o600), Some(Refusal::NoEntry)),
+    (Call::Rmdir(b"c/e"), None),
+    (Call::Make(b"c/e/y", NodeKind::File), Some(Refusal::NoEntry)),
+    (Call::Make(b"c/e", NodeKind::File), None),
+    (
+        Call::Make(b"c/e/y", NodeKind::File),
+        Some(Refusal::NotDirectory),
+    ),
+    (Call::Make(b"z", NodeKind::File), None),
+    (Call::SetMode(b"c/e", 0o600), None),
+    (Call::Rename(b"z", b"c/e"), None),
+    (Call::Make(b"g", NodeKind::Directory), None),
+    (Call::Make(b"h", NodeKind::Directory), None),
+    (Call::Make(b"h/k", NodeKind::Directory), None),
+    (Call::SetMode(b"g", 0o700), None),
+    (Call::Rename(b"h", b"g"), None),
+];
+
+#[test]
+fn what_was_walked_may_go(rt: HostRuntime) -> Result<(), Fail> {
+    let tree = tree_after(&rt, rt.alloc(), &WALKED)?;
+    let table: [Leads; 7] = [
+        (b"c/e", Ok(261)),
+        (b"g", Ok(263)),
+        (b"g/k", Ok(264)),
+        (b"h/k", Err(Refusal::NoEntry)),
+        (b"g/k/", Err(Refusal::BadPath)),
+        (b"g/", Err(Refusal::BadPath)),
+        (b"g/.", Err(Refusal::BadPath)),
+    ];
+    leads(&rt, &tree, &table);
+    Ok(())
+}
+
 const MOMENT: Timestamp = Timestamp { secs: 7, nanos: 8 };
 
 const DEVICE: [(Call, Option<Refusal>); 2] = [

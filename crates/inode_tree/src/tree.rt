@@ -1,5 +1,5 @@
 // The tree, and what looks at it without changing it.
-ghost use Rattle.std.specs.Prelude.{◌≡◌, None, Some, Result, Ok, Err, IfOk};
+ghost use Rattle.std.specs.Prelude.{◌≡◌, None, Some, Result, Ok, Err, IfOk, IfSome};
 ghost use Rattle.std.specs.Option.{option_copied, option_map};
 ghost use Rattle.std.specs.Ordering.{nat_cmp};
 ghost use Rattle.send_model.specs.Map.{named_cmp};
@@ -7,19 +7,18 @@ ghost use Rattle.send_model.specs.Subvolume.{root_alone, inode_at, named, is_dir
 ghost use Rattle.shared_map.specs.Sought.{entry_after};
 ghost use Rattle.inode_tree.specs.Answers.{Finds};
 ghost use Rattle.inode_tree.specs.Places.{FindsSpot, one_step};
+ghost use Rattle.inode_tree.specs.Walked.{spot_below, Begins};
 
 use crate::inode::Inode;
 use crate::kind::NodeKind;
 use crate::name::{Name, Place};
+use crate::walked::{LastWalks, ROOT};
 use extent_map::Origin;
-use path_rules::split;
+use path_rules::{Parts, split};
 use shared_map::{Shared, SharedMap};
 use std::alloc::{AllocError, Global};
 use std::marker::Model;
 use sx_base::Refusal;
-
-// The number of the root of each subvolume. Source: BTRFS_FIRST_FREE_OBJECTID of Btrfs.
-pub(crate) const ROOT: u64 = 256;
 
 /// The inodes and names of a subvolume, seen as that of the definitions over cells that are an origin or zero. A copy shares
 /// all that neither changes.
@@ -35,18 +34,22 @@ pub struct Tree<O: Origin> {
     pub(crate) copied: u64,
     // Whether no call ran out of memory in the middle of a change. After that each change answers want of memory.
     pub(crate) whole: bool,
+    // Where the last walks led, while the tree is whole.
+    pub(crate) last: LastWalks,
 }
 
 impl<O: Origin> Model for Tree<O> {
     ghost use Rattle.std.specs.Prelude.{Option};
     ghost use Rattle.send_model.specs.Subvolume.{Subvolume};
     ghost use Rattle.inode_tree.specs.Trees.{IsWholeTree};
+    ghost use Rattle.inode_tree.specs.Walked.{IsRemembered};
 
     ghost Value = { Subvolume (Option O) };
 
     ghost view = { λ t. record { inodes = t.inodes; names = t.names; next = t.next } };
 
-    ghost invariant = { λ t. IsWholeTree t.whole (record { inodes = t.inodes; names = t.names; next = t.next }) t.further };
+    ghost invariant = { λ t. IsWholeTree t.whole (record { inodes = t.inodes; names = t.names; next = t.next }) t.further
+        × IsRemembered t.whole (record { inodes = t.inodes; names = t.names; next = t.next }) t.last };
 }
 
 impl<O: Origin> Tree<O> {
@@ -66,6 +69,7 @@ impl<O: Origin> Tree<O> {
             alloc,
             copied: 0,
             whole: true,
+            last: LastWalks::new(alloc),
         })
     }
 
@@ -81,6 +85,7 @@ impl<O: Origin> Tree<O> {
             alloc: self.alloc,
             copied: 0,
             whole: self.whole,
+            last: LastWalks::new(self.alloc),
         })
     }
 
@@ -131,24 +136,73 @@ impl<O: Origin> Tree<O> {
     pub fn find(&self, path: &[u8]) -> Result<u64, Refusal>
         ensures { Finds result (walk self.now path.now) }
     {
-        let Ok(names) = split(path) else {
-            return Err(Refusal::BadPath);
-        };
-        let mut ino = ROOT;
-        for name in names {
-            ino = self.step(ino, name)?;
+        if let Some(ino) = self.known(path) {
+            return Ok(ino);
         }
+        if path.is_empty() {
+            return Ok(ROOT);
+        }
+        let place = self.spot(path)?;
+        match self.named(&place) {
+            Some(ino) => Ok(ino),
+            None => Err(Refusal::NoEntry),
+        }
+    }
+
+    /// The number of the inode that a path leads to, from where the walk before came by if that serves; and remembers this walk.
+    ///
+    /// # Errors
+    /// The refusal of the walk: BadPath, NotDirectory or NoEntry.
+    pub fn reach(&mut self, path: &[u8]) -> Result<u64, Refusal>
+        ensures found { Finds result (walk self.old path.now) }
+        ensures same { self.new ≡ self.old }
+    {
+        if let Some(ino) = self.known(path) {
+            return Ok(ino);
+        }
+        if path.is_empty() {
+            return Ok(ROOT);
+        }
+        let place = self.place(path)?;
+        let Some(ino) = self.named(&place) else {
+            return Err(Refusal::NoEntry);
+        };
+        self.learn(path, ino);
         Ok(ino)
     }
 
-    // What a name in a directory leads to.
+    // What a path leads to, if that is remembered.
+    fn known(&self, path: &[u8]) -> Option<u64>
+        ensures { IfSome result (λ ino. walk self.now path.now ≡ Ok ino) }
+    {
+        if !self.whole {
+            return None;
+        }
+        self.last.known(path)
+    }
+
+    // Remembers what a path leads to.
+    pub(crate) fn learn(&mut self, path: &[u8], ino: u64)
+        requires { walk self.old path.now ≡ Ok ino }
+        ensures { self.new ≡ self.old }
+    {
+        self.last.learn_path(path, ino);
+    }
+
+    // What a name in a directory leads to. In a whole tree a name stands in a directory only.
     pub(crate) fn step(&self, directory: u64, name: &[u8]) -> Result<u64, Refusal>
         ensures { Finds result (one_step self.now directory name.now) }
     {
+        let below = self.named(&Place::new(directory, name));
+        if let Some(ino) = below {
+            if self.whole {
+                return Ok(ino);
+            }
+        }
         if !self.is_directory(directory) {
             return Err(Refusal::NotDirectory);
         }
-        match self.named(&Place::new(directory, name)) {
+        match below {
             Some(ino) => Ok(ino),
             None => Err(Refusal::NoEntry),
         }
@@ -166,6 +220,9 @@ impl<O: Origin> Tree<O> {
     pub(crate) fn is_directory(&self, ino: u64) -> bool
         ensures { result ≡ is_directory self.now ino }
     {
+        if self.whole && (ino == ROOT || ino == self.last.directory()) {
+            return true;
+        }
         match self.inodes.get(&ino) {
             Some(inode) => matches!(inode.get().kind(), NodeKind::Directory),
             None => false,
@@ -183,17 +240,26 @@ impl<O: Origin> Tree<O> {
         }
     }
 
+    // The place that a path names; remembers the way to its directory.
+    pub(crate) fn place<'p>(&mut self, path: &'p [u8]) -> Result<Place<'p>, Refusal>
+        ensures found { FindsSpot result (spot self.old path.now) }
+        ensures same { self.new ≡ self.old }
+    {
+        let place = self.spot(path)?;
+        let front = &path[..path.len() - place.name().len()];
+        self.last.learn_front(front, place.directory());
+        Ok(place)
+    }
+
     // The place that a path names.
     pub(crate) fn spot<'p>(&self, path: &'p [u8]) -> Result<Place<'p>, Refusal>
         ensures { FindsSpot result (spot self.now path.now) }
     {
-        let Ok(mut names) = split(path) else {
-            return Err(Refusal::BadPath);
-        };
+        let (start, mut names) = self.begin(path)?;
         let Some(mut name) = names.next() else {
             return Err(Refusal::IsRoot);
         };
-        let mut directory = ROOT;
+        let mut directory = start;
         for further in names {
             directory = self.step(directory, name)?;
             name = further;
@@ -202,5 +268,33 @@ impl<O: Origin> Tree<O> {
             return Err(Refusal::NotDirectory);
         }
         Ok(Place::new(directory, name))
+    }
+
+    // Where the walk to the place of a path may begin, and the names from there on: at the remembered directory, if the path goes
+    // on behind the remembered front, or at the root.
+    fn begin<'p>(&self, path: &'p [u8]) -> Result<(u64, Parts<'p>), Refusal>
+        ensures { Begins self.now path.now result }
+    {
+        if let Some(begin) = self.behind_front(path) {
+            return Ok(begin);
+        }
+        match split(path) {
+            Ok(names) => Ok((ROOT, names)),
+            Err(_) => Err(Refusal::BadPath),
+        }
+    }
+
+    // The remembered directory, and the names of a path that go on behind the remembered front.
+    fn behind_front<'p>(&self, path: &'p [u8]) -> Option<(u64, Parts<'p>)>
+        ensures { IfSome result (λ begin. spot self.now path.now ≡ spot_below self.now begin.0 begin.1) }
+    {
+        if !self.whole {
+            return None;
+        }
+        let rest = self.last.rest(path)?;
+        match split(rest) {
+            Ok(names) => Some((self.last.directory(), names)),
+            Err(_) => None,
+        }
     }
 }

@@ -3,3 +3,5 @@ pub mod Orders
 pub mod Homes
 pub mod Edits
 pub mod Parts
+pub mod Editing
+pub mod Fronts

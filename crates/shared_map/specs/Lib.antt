@@ -1,2 +1,3 @@
+pub mod Edited
 pub mod Pages
 pub mod Sought

@@ -1,5 +1,5 @@
 -- How pages hold the entries of a map, and where a key stands among them.
-use Rattle.std.specs.Prelude.{◌≡◌, ℕ, ◌+◌, ◌<◌, ◌≤◌, Bool, true, not, List, [], ◌∷◌, ◌++◌, length, take, drop, slice_index_or}
+use Rattle.std.specs.Prelude.{◌≡◌, ◌⊎◌, ℕ, ◌+◌, ◌<◌, ◌≤◌, Bool, true, not, List, [], ◌∷◌, ◌++◌, length, take, drop, slice_index_or}
 use Rattle.std.specs.List.{AllByRecursion}
 use Rattle.std.specs.Ordering.{is_gt}
 use Rattle.std.specs.declared.cmp.Ordering.{Ordering}
@@ -20,6 +20,11 @@ joined (p ∷ ps) = p ++ joined ps
 -- No page is empty.
 abbrev pub AreFilled : {X : Type 0} → List (List X) → Type 0
 AreFilled pages = AllByRecursion (λ p. 0 < length p) pages
+
+-- There are entries, and the first has this key.
+abbrev pub BeginsWith : {K V : Type 0} → K → Map K V → Type 0
+BeginsWith first [] = ⊥
+BeginsWith first (e ∷ es) = e.0 ≡ first
 
 -- What a map keeps of its pages.
 pub record AreKept {K V : Type 0} (order : K → K → Ordering) (pages : List (Map K V)) (len : ℕ) : Type 0 where
@@ -67,6 +72,18 @@ pub record IsSetAt {K V : Type 0} (old new : Map K V) (i : ℕ) (value : V) : Ty
   pub was : V
   pub before : old ≡ take i old ++ (key, was) ∷ drop (i + 1) old
   pub made : new ≡ take i old ++ (key, value) ∷ drop (i + 1) old
+
+-- The value of the entry at place i becomes another one, its key stays, and the edit is what it becomes by the value that was there.
+pub record IsEditedAt {K V E : Type 0} (become : V → V) (left : V → E) (old new : Map K V) (after : E) (i : ℕ) : Type 0 where
+  pub key : K
+  pub was : V
+  pub before : old ≡ take i old ++ (key, was) ∷ drop (i + 1) old
+  pub made : new ≡ take i old ++ (key, become was) ∷ drop (i + 1) old
+  pub edit : after ≡ left was
+
+-- Nothing changes but the value of the entry at place i, if anything.
+abbrev pub KeepsKeyAt : {K V : Type 0} → Map K V → Map K V → ℕ → Type 0
+KeepsKeyAt {V = V} old new i = (new ≡ old) ⊎ ((value : V) × IsSetAt old new i value)
 
 -- The entry at place i is taken out.
 pub record IsTakenAt {K V : Type 0} (old new : Map K V) (i : ℕ) (entry : K × V) : Type 0 where

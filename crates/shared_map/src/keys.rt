@@ -1,5 +1,5 @@
 // What a map asks of its keys and values.
-ghost use Rattle.std.specs.Prelude.{◌≡◌, IfOk};
+ghost use Rattle.std.specs.Prelude.{◌≡◌, IfOk, OnOk};
 ghost use Rattle.std.specs.Cmp.{IsTotalOrder};
 ghost use Rattle.std.specs.declared.cmp.Ordering.{Ordering};
 ghost use Rattle.std.specs.Ordering.{nat_cmp};
@@ -39,6 +39,20 @@ pub trait Sought<K: Key> {
     /// The key itself. Fails for want of memory alone.
     fn own(&self, alloc: Global) -> Result<K, AllocError>
         ensures { IfOk result (λ key. key ≡ sought self.now) };
+}
+
+/// A change of a value where it stands.
+pub trait Edit<V: Drop>: Drop {
+    /// What the value becomes.
+    ghost edited: { Self → V → V };
+
+    /// What the edit itself becomes, by the value as it was.
+    ghost left: { Self → V → Self };
+
+    /// Changes the value. Fails for want of memory alone, and then nothing is said of the value or of the edit.
+    fn edit(&mut self, value: &mut V) -> Result<(), AllocError>
+        ensures value { OnOk result (value.new ≡ edited self.old value.old) }
+        ensures edit { OnOk result (self.new ≡ left self.old value.old) };
 }
 
 impl Copied for u64 {

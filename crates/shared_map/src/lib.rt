@@ -2,6 +2,7 @@
 //! change of what is shared copies one small page.
 #![tactic(auto)]
 
+mod block;
 mod entries;
 mod keys;
 mod map;
@@ -12,6 +13,6 @@ mod shared;
 mod tests;
 
 pub use entries::Entries;
-pub use keys::{Copied, Key, Sought};
+pub use keys::{Copied, Edit, Key, Sought};
 pub use map::SharedMap;
-pub use shared::Shared;
+pub use shared::{InShared, Shared};

@@ -3,10 +3,11 @@ ghost use Rattle.std.specs.Prelude.{◌≡◌, ◌+◌, ◌<◌, ◌^◌, [], le
 ghost use Rattle.std.specs.Option.{option_copied};
 ghost use Rattle.send_model.specs.Map.{IsMap, value_at, with_value, without};
 ghost use Rattle.shared_map.specs.Sought.{entry_after};
+ghost use Rattle.shared_map.specs.Edited.{IsEdited};
 ghost use Rattle.shared_map.specs.Pages.{joined, AreFilled};
 
 use crate::entries::Entries;
-use crate::keys::{Copied, Key, Sought};
+use crate::keys::{Copied, Edit, Key, Sought};
 use crate::page::Page;
 use crate::place::{find, home, past};
 use std::alloc::{AllocError, Global};
@@ -143,6 +144,31 @@ impl<K: Key, V: Copied> SharedMap<K, V> {
                 shorten(&mut self.pages, alloc, at, place);
                 Ok(())
             }
+        }
+    }
+
+    /// Changes the value at a key where it stands, and says whether there is one; where there is none nothing changes. A page that
+    /// is shared is copied first. Fails for want of memory alone, and then nothing is said of the values or of the edit.
+    pub fn edit<Q: Sought<K>, E: Edit<V>>(
+        &mut self,
+        query: &Q,
+        edit: &mut E,
+    ) -> Result<bool, AllocError>
+        ensures { IfOk result (IsEdited (E.edited edit.old) (E.left edit.old) (value_at K.order (Q.sought query.now) self.old)
+            (λ value. with_value K.order (Q.sought query.now) value self.old) self.old self.new edit.old edit.new) }
+    {
+        let alloc = self.alloc;
+        let at = home(&self.pages, query);
+        if at >= self.pages.len() {
+            return Ok(false);
+        }
+        match find(self.pages[at].entries(), query) {
+            Ok(place) => {
+                let page = &mut self.pages[at];
+                page.edit_at(alloc, place, edit)?;
+                Ok(true)
+            }
+            Err(_) => Ok(false),
         }
     }
 

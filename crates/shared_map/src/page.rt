@@ -1,63 +1,64 @@
-// A run of entries that several maps may share.
-ghost use Rattle.std.specs.Prelude.{◌≡◌, ◌++◌, ◌<◌, ◌≤◌, List, length, IfOk, OnOk, OnErr};
+// A run of entries that several maps may share, with its first key.
+ghost use Rattle.std.specs.Prelude.{◌≡◌, ◌++◌, ◌<◌, ◌≤◌, length, IfOk, OnOk, OnErr};
 ghost use Rattle.std.specs.List.{insert};
-ghost use Rattle.shared_map.specs.Pages.{IsSetAt, IsTakenAt};
+ghost use Rattle.shared_map.specs.Pages.{BeginsWith, IsSetAt, IsEditedAt, KeepsKeyAt, IsTakenAt};
 
-use crate::keys::{Copied, Key};
+use crate::block::Block;
+use crate::keys::{Copied, Edit, Key};
 use std::alloc::{AllocError, Global};
 use std::marker::Model;
-use std::rc::Rc;
 
-// A run of entries. Its copies share them, and a change of what is shared copies them first.
+// A run of one entry or more, which copies share. The first key stands beside it once more, so that the search for a page follows
+// no pointer.
 #[derive(Drop)]
 pub(crate) struct Page<K, V> {
-    rc: Rc<Vec<(K, V)>>,
+    first: K,
+    block: Block<K, V>,
 }
 
 impl<K, V> Model for Page<K, V> {
+    ghost use Rattle.std.specs.Prelude.{List};
+    ghost use Rattle.shared_map.specs.Pages.{BeginsWith};
+
     ghost Value = { List (K × V) };
 
-    ghost view = { λ p. p.rc.value.items };
-}
+    ghost view = { λ p. p.block };
 
-// The entries, each copied, with room for one more.
-fn copied<K: Key, V: Copied>(alloc: Global, entries: &[(K, V)]) -> Result<Vec<(K, V)>, AllocError>
-    ensures { IfOk result (λ v. v.items ≡ entries.now) }
-{
-    let mut copies = Vec::with_capacity(alloc, entries.len().saturating_add(1))?;
-    for entry in entries {
-        copies.push((entry.0.copy_key()?, entry.1.copy()?))?;
-    }
-    Ok(copies)
+    ghost invariant = { λ p. BeginsWith p.first p.block };
 }
 
 impl<K: Key, V: Copied> Page<K, V> {
     // A page of these entries.
     pub(crate) fn new(alloc: Global, entries: Vec<(K, V)>) -> Result<Page<K, V>, AllocError>
+        requires { 0 < length entries.items }
         ensures { IfOk result (λ page. page ≡ entries.items) }
     {
+        let first = entries[0].0.copy_key()?;
         Ok(Page {
-            rc: Rc::new(alloc, entries)?,
+            first,
+            block: Block::new(alloc, entries)?,
         })
     }
 
     // A page of copies of these entries.
     pub(crate) fn of(alloc: Global, entries: &[(K, V)]) -> Result<Page<K, V>, AllocError>
+        requires { 0 < length entries.now }
         ensures { IfOk result (λ page. page ≡ entries.now) }
     {
-        let entries = copied(alloc, entries)?;
-        Page::new(alloc, entries)
+        Ok(Page {
+            first: entries[0].0.copy_key()?,
+            block: Block::of(alloc, entries)?,
+        })
     }
 
     // A page of copies of the entries of this page and of another.
     pub(crate) fn with(&self, alloc: Global, other: &Page<K, V>) -> Result<Page<K, V>, AllocError>
         ensures { IfOk result (λ page. page ≡ self.now ++ other.now) }
     {
-        let mut both = copied(alloc, self.entries())?;
-        for entry in other.entries() {
-            both.push((entry.0.copy_key()?, entry.1.copy()?))?;
-        }
-        Page::new(alloc, both)
+        Ok(Page {
+            first: self.first.copy_key()?,
+            block: self.block.with(alloc, &other.block)?,
+        })
     }
 
     // Another owner of the same entries.
@@ -65,15 +66,23 @@ impl<K: Key, V: Copied> Page<K, V> {
         ensures { IfOk result (λ page. page ≡ self.now) }
     {
         Ok(Page {
-            rc: self.rc.clone()?,
+            first: self.first.copy_key()?,
+            block: self.block.copy()?,
         })
+    }
+
+    // The key of the first entry.
+    pub(crate) fn first(&self) -> &K
+        ensures { BeginsWith result.now self.now }
+    {
+        &self.first
     }
 
     // The entries, in their order.
     pub(crate) fn entries(&self) -> &[(K, V)]
         ensures { result.now ≡ self.now }
     {
-        self.rc.as_ref().as_slice()
+        self.block.entries()
     }
 
     // Puts an entry before the one at `at`.
@@ -87,15 +96,14 @@ impl<K: Key, V: Copied> Page<K, V> {
         ensures ok { OnOk result (self.new ≡ insert self.old at entry) }
         ensures err { OnErr result (self.new ≡ self.old) }
     {
-        match Rc::get_mut(&mut self.rc) {
-            Some(entries) => Ok(entries.insert(at, entry)?),
-            None => {
-                let mut entries = copied(alloc, self.rc.as_ref().as_slice())?;
-                entries.insert(at, entry)?;
-                self.rc = Rc::new(alloc, entries)?;
-                Ok(())
-            }
+        if at > 0 {
+            self.block.put_at(alloc, at, entry)?;
+            return Ok(());
         }
+        let first = entry.0.copy_key()?;
+        self.block.put_at(alloc, at, entry)?;
+        self.first = first;
+        Ok(())
     }
 
     // Writes another value at `at`.
@@ -104,36 +112,39 @@ impl<K: Key, V: Copied> Page<K, V> {
         ensures ok { OnOk result (IsSetAt self.old self.new at value) }
         ensures err { OnErr result (self.new ≡ self.old) }
     {
-        match Rc::get_mut(&mut self.rc) {
-            Some(entries) => {
-                let entry = &mut entries[at];
-                entry.1 = value;
-                Ok(())
-            }
-            None => {
-                let mut entries = copied(alloc, self.rc.as_ref().as_slice())?;
-                let entry = &mut entries[at];
-                entry.1 = value;
-                self.rc = Rc::new(alloc, entries)?;
-                Ok(())
-            }
-        }
+        self.block.set_at(alloc, at, value)?;
+        Ok(())
     }
 
-    // Takes out the entry at `at`.
-    pub(crate) fn take_at(&mut self, alloc: Global, at: usize) -> Result<(K, V), AllocError>
+    // Changes the value at `at` where it stands.
+    pub(crate) fn edit_at<E: Edit<V>>(
+        &mut self,
+        alloc: Global,
+        at: usize,
+        edit: &mut E,
+    ) -> Result<(), AllocError>
         requires { at < length self.old }
+        ensures ok { OnOk result (IsEditedAt (E.edited edit.old) (E.left edit.old) self.old self.new edit.new at) }
+        ensures err { OnErr result (KeepsKeyAt self.old self.new at) }
+    {
+        self.block.edit_at(alloc, at, edit)?;
+        Ok(())
+    }
+
+    // Takes out the entry at `at`, where there are others.
+    pub(crate) fn take_at(&mut self, alloc: Global, at: usize) -> Result<(K, V), AllocError>
+        requires there { at < length self.old }
+        requires others { 1 < length self.old }
         ensures ok { IfOk result (λ entry. IsTakenAt self.old self.new at entry) }
         ensures err { OnErr result (self.new ≡ self.old) }
     {
-        match Rc::get_mut(&mut self.rc) {
-            Some(entries) => Ok(entries.remove(at)),
-            None => {
-                let mut entries = copied(alloc, self.rc.as_ref().as_slice())?;
-                let entry = entries.remove(at);
-                self.rc = Rc::new(alloc, entries)?;
-                Ok(entry)
-            }
+        if at > 0 {
+            let entry = self.block.take_at(alloc, at)?;
+            return Ok(entry);
         }
+        let first = self.block.entries()[1].0.copy_key()?;
+        let entry = self.block.take_at(alloc, at)?;
+        self.first = first;
+        Ok(entry)
     }
 }

@@ -26,10 +26,7 @@ pub(crate) fn find<K: Key, V: Copied, Q: Sought<K>>(
 fn starts<K: Key, V: Copied, Q: Sought<K>>(page: &Page<K, V>, query: &Q) -> bool
     ensures { result ≡ starts_by K.order (Q.sought query.now) page.now }
 {
-    match page.entries() {
-        [] => true,
-        [entry, ..] => !query.against(&entry.0).is_gt(),
-    }
+    !query.against(page.first()).is_gt()
 }
 
 // The page that holds the key if any does.

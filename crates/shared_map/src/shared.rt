@@ -1,7 +1,7 @@
 // A value with several owners, seen as the value.
-ghost use Rattle.std.specs.Prelude.{◌≡◌, IfOk};
+ghost use Rattle.std.specs.Prelude.{◌≡◌, IfOk, OnOk};
 
-use crate::keys::Copied;
+use crate::keys::{Copied, Edit};
 use std::alloc::{AllocError, Global};
 use std::marker::Model;
 use std::rc::Rc;
@@ -35,16 +35,25 @@ impl<T: Drop> Shared<T> {
         &self.rc
     }
 
-    /// The value itself, and whether it had to be copied for that, since something else shares it. Fails for want of memory
-    /// alone.
-    pub fn own(self) -> Result<(T, bool), AllocError>
+    /// Changes the value, and says whether it had to be copied for that, since something else shares it. Fails for want of memory
+    /// alone, and then nothing is said of the value or of the edit.
+    pub fn edit<E: Edit<T>>(&mut self, alloc: Global, edit: &mut E) -> Result<bool, AllocError>
     where
         T: Copied,
-        ensures { IfOk result (λ own. own.0 ≡ self) }
+        ensures value { OnOk result (self.new ≡ E.edited edit.old self.old) }
+        ensures edit { OnOk result (edit.new ≡ E.left edit.old self.old) }
     {
-        match Rc::try_unwrap(self.rc) {
-            Ok(value) => Ok((value, false)),
-            Err(rc) => Ok((rc.as_ref().copy()?, true)),
+        match Rc::get_mut(&mut self.rc) {
+            Some(value) => {
+                edit.edit(value)?;
+                Ok(false)
+            }
+            None => {
+                let mut value = self.rc.as_ref().copy()?;
+                edit.edit(&mut value)?;
+                self.rc = Rc::new(alloc, value)?;
+                Ok(true)
+            }
         }
     }
 }
@@ -54,5 +63,55 @@ impl<T: Drop> Copied for Shared<T> {
         Ok(Shared {
             rc: self.rc.clone()?,
         })
+    }
+}
+
+/// An edit of a value that may be shared, seen as the edit of the value itself. It tells whether the value had to be copied.
+#[derive(Drop)]
+pub struct InShared<E> {
+    edit: E,
+    alloc: Global,
+    copied: bool,
+}
+
+impl<E> Model for InShared<E> {
+    ghost Value = { E };
+
+    ghost view = { λ s. s.edit };
+}
+
+impl<E: Drop> InShared<E> {
+    /// The edit of a value, for one that may be shared.
+    pub fn new(alloc: Global, edit: E) -> InShared<E>
+        ensures { result ≡ edit }
+    {
+        InShared {
+            edit,
+            alloc,
+            copied: false,
+        }
+    }
+
+    /// The edit itself.
+    pub fn into_inner(self) -> E
+        ensures { result ≡ self }
+    {
+        self.edit
+    }
+
+    /// Whether the value that was changed last had to be copied, since something else shared it.
+    pub fn copied(&self) -> bool {
+        self.copied
+    }
+}
+
+impl<T: Copied, E: Edit<T>> Edit<Shared<T>> for InShared<E> {
+    ghost edited = { λ s value. E.edited s value };
+
+    ghost left = { λ s value. E.left s value };
+
+    fn edit(&mut self, value: &mut Shared<T>) -> Result<(), AllocError> {
+        self.copied = value.edit(self.alloc, &mut self.edit)?;
+        Ok(())
     }
 }

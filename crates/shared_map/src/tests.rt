@@ -1,6 +1,7 @@
 // Maps and their copies.
+ghost use Rattle.std.specs.Prelude.{◌+◌, ◌%◌, ◌^◌};
 
-use crate::{Copied, Shared, SharedMap};
+use crate::{Copied, Edit, InShared, Shared, SharedMap};
 use std::alloc::{AllocError, Global};
 use std::test::Fail;
 
@@ -57,12 +58,55 @@ fn a_copy_keeps_what_the_other_loses(rt: HostRuntime) -> Result<(), Fail> {
     Ok(())
 }
 
+// Adds to a number, and remembers what it was.
+#[derive(Drop)]
+struct Add {
+    more: u64,
+    was: u64,
+}
+
+impl Edit<u64> for Add {
+    ghost edited = { λ a n. (n + a.more) % 2 ^ 64 };
+
+    ghost left = { λ a n. record a { was = n } };
+
+    fn edit(&mut self, value: &mut u64) -> Result<(), AllocError> {
+        self.was = *value;
+        *value = value.wrapping_add(self.more);
+        Ok(())
+    }
+}
+
 #[test]
-fn what_is_shared_is_copied_and_nothing_else(rt: HostRuntime) -> Result<(), Fail> {
-    let one = Shared::new(rt.alloc(), 5_u64)?;
-    let other = one.copy()?;
-    assert_eq!(rt; *other.get(), 5);
-    assert_eq!(rt; one.own()?, (5, true));
-    assert_eq!(rt; other.own()?, (5, false));
+fn a_value_is_changed_where_it_stands(rt: HostRuntime) -> Result<(), Fail> {
+    let before = doubles(rt.alloc())?;
+    let mut after = before.copy()?;
+    let mut add = Add { more: 3, was: 0 };
+    assert_eq!(rt; after.edit(&500, &mut add)?, true);
+    assert_eq!(rt; add.was, 1_000);
+    assert_eq!(rt; after.edit(&1_000, &mut add)?, false);
+    assert_eq!(rt; add.was, 1_000);
+    assert_eq!(rt; after.get(&500), Some(&1_003));
+    assert_eq!(rt; after.get(&501), Some(&1_002));
+    assert_eq!(rt; after.len(), COUNT);
+    assert_eq!(rt; before.get(&500), Some(&1_000));
+    Ok(())
+}
+
+#[test]
+fn what_is_shared_is_copied_to_change_it(rt: HostRuntime) -> Result<(), Fail> {
+    let mut map = SharedMap::new(rt.alloc());
+    let five = Shared::new(rt.alloc(), 5_u64)?;
+    map.insert(&7, five.copy()?)?;
+    let mut add = InShared::new(rt.alloc(), Add { more: 1, was: 0 });
+    assert_eq!(rt; map.edit(&7, &mut add)?, true);
+    assert_eq!(rt; add.copied(), true);
+    assert_eq!(rt; map.edit(&7, &mut add)?, true);
+    assert_eq!(rt; add.copied(), false);
+    assert_eq!(rt; add.into_inner().was, 6);
+    assert_eq!(rt; *five.get(), 5);
+    if let Some(value) = map.get(&7) {
+        assert_eq!(rt; *value.get(), 7);
+    }
     Ok(())
 }

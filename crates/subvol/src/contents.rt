@@ -30,7 +30,7 @@ impl<O: Origin> Subvol<O> {
         ensures { MayChange result self.old self.new
             (edit.change_contents path.now (at + len) (edit.written_at None at (run_cells O.advanced origin len)) self.old) }
     {
-        let ino = file_at(&self.tree, path)?;
+        let ino = self.file(path)?;
         check_end(at, len)?;
         let mut contents = self.take_contents(ino)?;
         contents.put_run(at, origin, len)?;
@@ -46,7 +46,7 @@ impl<O: Origin> Subvol<O> {
     pub fn truncate(&mut self, path: &[u8], size: u64) -> Result<(), Stop>
         ensures { MayChange result self.old self.new (edit.change_contents path.now size (edit.resized None size) self.old) }
     {
-        let ino = file_at(&self.tree, path)?;
+        let ino = self.file(path)?;
         check_end(0, size)?;
         let mut contents = self.take_contents(ino)?;
         contents.cut_to(size)?;
@@ -63,7 +63,7 @@ impl<O: Origin> Subvol<O> {
     pub fn fallocate(&mut self, path: &[u8], mode: u32, at: u64, len: u64) -> Result<(), Stop>
         ensures { MayChange result self.old self.new (edit.fallocate None path.now at len mode self.old) }
     {
-        let ino = file_at(&self.tree, path)?;
+        let ino = self.file(path)?;
         let Some(allocation) = allocation_of(mode) else {
             return Err(Stop::Refused(Refusal::BadFallocate(mode)));
         };
@@ -72,6 +72,18 @@ impl<O: Origin> Subvol<O> {
         allocate(&mut contents, allocation, at, len)?;
         self.put_contents(ino, contents)?;
         Ok(())
+    }
+
+    // The file that a path leads to; the walk is remembered.
+    fn file(&mut self, path: &[u8]) -> Result<u64, Refusal>
+        ensures found { Finds result (file_at self.old path.now) }
+        ensures same { self.new ≡ self.old }
+    {
+        let ino = self.tree.reach(path)?;
+        if !is_file(&self.tree, ino) {
+            return Err(Refusal::NotFile);
+        }
+        Ok(ino)
     }
 
     // Takes the contents of a file, which leaves it empty.

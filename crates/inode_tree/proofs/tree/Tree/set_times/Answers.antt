@@ -1,13 +1,16 @@
 -- Each way out of the change.
-use Rattle.std.proofs.Common.{Ok, refl, ap, ◌∙◌, sym}
+use Rattle.std.proofs.Common.{Ok, ap, ◌∙◌, sym}
 use Rattle.std.proofs.lemmas.Result.{err_from_is_err_and}
+use Rattle.send_model.specs.Edit.{change_inode}
 use Rattle.inode_tree.proofs.EditSteps.{change_lost, change_made}
 use Rattle.inode_tree.proofs.tree.Tree.set_times.Goals as goal
 
 pub returns-in_err-ino : goal.returns-in_err-ino
 returns-in_err-ino g c =
     let p = err_from_is_err_and c.from_residual.result c.from_residual.ensures.1 in
-    rw (p.1, p.2) (change_lost c.args.self.now c.args.path.now _ _ c.in_err-ino.ensures, refl)
+    rw (p.1, p.2) (change_lost c.args.self.now c.args.path.now _ _ c.in_err-ino.ensures.found, c.in_err-ino.ensures.same)
 
 pub returns : goal.returns
-returns g c = change_made c.args.self.now c.args.path.now _ c.in_ok-ino.ino c.in_ok-ino.ensures ∙ ap Ok (sym c.in_ok-change.ensures)
+returns g c =
+    change_made c.args.self.now c.args.path.now _ c.in_ok-ino.ino c.in_ok-ino.ensures.found
+    ∙ ap Ok (sym (c.in_ok-change.ensures ∙ ap (change_inode c.in_ok-ino.ino _) c.in_ok-ino.ensures.same))

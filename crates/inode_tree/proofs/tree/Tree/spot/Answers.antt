@@ -1,30 +1,25 @@
 -- Each way out of the walk to a place.
-use Rattle.std.proofs.Common.{◌≡◌, [], ◌∷◌, Some, true, false, sym, ap, ◌∙◌, rules}
+use Rattle.std.proofs.Common.{◌≡◌, true, false, sym, ap, ◌∙◌, rules}
 use Rattle.std.proofs.lemmas.Result.{err_from_is_err_and}
-use Rattle.send_model.specs.Path.{path_names}
-use Rattle.send_model.specs.Subvolume.{root, is_directory}
+use Rattle.send_model.specs.Subvolume.{is_directory}
 use Rattle.inode_tree.specs.Places.{spot_from}
-use Rattle.inode_tree.proofs.Walks.{spot_begins, spot_refused, spot_root, spot_goes_on, spot_stops, spot_ends_there, spot_ends_nowhere}
+use Rattle.inode_tree.specs.Walked.{spot_below}
+use Rattle.inode_tree.proofs.Walks.{spot_goes_on, spot_stops, spot_ends_there, spot_ends_nowhere}
 use Rattle.inode_tree.proofs.tree.Tree.spot.Goals as goal
 
 pub returns-in_default : goal.returns-in_default
-returns-in_default g c = spot_refused c.args.self.now c.args.path.now c.in_default.ensures
-
-pub returns-in_default-next : goal.returns-in_default-next
-returns-in_default-next g c =
-    let e : path_names c.args.path.now ≡ Some [] = c.in-Ok.ensures ∙ ap Some c.in_default-next.ensures.steps.0 in
-    spot_root c.args.self.now c.args.path.now e
+returns-in_default g c = c.in_ok-start.ensures ∙ ap (spot_below c.args.self.now c.in_ok-start.start) c.in_default.ensures.steps.0
 
 pub loop-further-init : goal.loop-further-init
 loop-further-init g c =
-    let e : path_names c.args.path.now ≡ Some (c.in-Some.name.now ∷ c.next.new.self) = c.in-Ok.ensures ∙ ap Some c.in-Some.ensures.steps in
-    spot_begins c.args.self.now c.args.path.now c.in-Some.name.now c.next.new.self e
-    ∙ ap (spot_from c.args.self.now root c.in-Some.name.now) (sym c.into_iter-further-iterator.ensures.into_iter_gives)
+    let s = c.args.self.now in
+    c.in_ok-start.ensures ∙ ap (spot_below s c.in_ok-start.start) c.in-Some.ensures.steps
+    ∙ ap (spot_from s c.in_ok-start.start c.in-Some.name.now) (sym c.into_iter-further-iterator.ensures.into_iter_gives)
 
 pub returns-in_err-directory : goal.returns-in_err-directory
 returns-in_err-directory g c =
     let s = c.args.self.now in
-    let p = err_from_is_err_and c.from_residual.result c.from_residual.ensures.1 in
+    let p = err_from_is_err_and c.from_residual-in_err-directory.result c.from_residual-in_err-directory.ensures.1 in
     rw (p.1, p.2) (c.loop-further.invariant ∙ ap (spot_from s c.loop-further.directory c.loop-further.name.now) c.in-Some-further.ensures.steps
     ∙ spot_stops s c.loop-further.directory c.loop-further.name.now c.in-Some-further.further.now c.next-in-loop-further.new.self _ c.in_err-directory.ensures)
 

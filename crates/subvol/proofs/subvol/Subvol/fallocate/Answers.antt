@@ -1,33 +1,35 @@
 -- Each way out of a FALLOCATE.
-use Rattle.std.proofs.Common.{None, Ok, refl, ap, ◌∙◌, sym}
+use Rattle.std.proofs.Common.{[], None, Ok, ap, ◌∙◌, sym}
 use Rattle.std.proofs.lemmas.Result.{err_from_is_err_and}
-use Rattle.send_model.specs.Edit.{fallocated}
+use Rattle.send_model.specs.Edit.{fallocated, change_inode, set_cells}
+use Rattle.send_model.specs.Clone.{cells_of}
 use Rattle.subvol.specs.Allocations.{meant_by}
-use Rattle.subvol.specs.Files.{file_at}
 use Rattle.subvol.proofs.FileSteps.{is_file_at, fallocate_lost, fallocate_bad, fallocate_big, fallocate_made, put_back}
 use Rattle.subvol.proofs.subvol.Subvol.fallocate.Goals as goal
 
 pub returns-in_err-ino : goal.returns-in_err-ino
 returns-in_err-ino g c =
     let p = err_from_is_err_and c.from_residual.result c.from_residual.ensures.1 in
-    let lost = ap (λ s. file_at s c.args.path.now) (sym c.self.view_is) ∙ c.in_err-ino.ensures in
-    rw (p.1, p.2) (fallocate_lost c.args.self.now c.args.path.now _ _ _ _ _ lost, refl)
+    rw (p.1, p.2) (fallocate_lost c.args.self.now c.args.path.now _ _ _ _ _ c.in_err-ino.ensures.found, c.in_err-ino.ensures.same)
 
 pub returns-in_default : goal.returns-in_default
 returns-in_default g c =
-    let there = ap (λ s. file_at s c.args.path.now) (sym c.self.view_is) ∙ c.in_ok-ino.ensures in
-    (fallocate_bad c.args.self.now c.args.path.now None c.args.at c.args.len c.args.mode c.in_ok-ino.ino there (sym c.in_default.ensures), refl)
+    let there = c.in_ok-ino.ensures.found in
+    (fallocate_bad c.args.self.now c.args.path.now None c.args.at c.args.len c.args.mode c.in_ok-ino.ino there (sym c.in_default.ensures), c.in_ok-ino.ensures.same)
 
 pub returns-in_err-check_end : goal.returns-in_err-check_end
 returns-in_err-check_end g c =
     let p = err_from_is_err_and c.from_residual-in_err-check_end.result c.from_residual-in_err-check_end.ensures.1 in
-    let there = ap (λ s. file_at s c.args.path.now) (sym c.self.view_is) ∙ c.in_ok-ino.ensures in
-    rw (p.1, p.2) (fallocate_big c.args.self.now c.args.path.now _ _ _ _ c.in_ok-ino.ino there (meant_by c.in-Some.allocation) (sym c.in-Some.ensures) _ c.in_err-check_end.ensures.tested, refl)
+    let there = c.in_ok-ino.ensures.found in
+    rw (p.1, p.2) (fallocate_big c.args.self.now c.args.path.now _ _ _ _ c.in_ok-ino.ino there (meant_by c.in-Some.allocation) (sym c.in-Some.ensures) _ c.in_err-check_end.ensures.tested, c.in_ok-ino.ensures.same)
 
 pub returns : goal.returns
 returns g c =
     let s = c.args.self.now in
-    let there = ap (λ t. file_at t c.args.path.now) (sym c.self.view_is) ∙ c.in_ok-ino.ensures in
-    let same = put_back s c.in_ok-ino.ino (is_file_at s c.args.path.now c.in_ok-ino.ino there) _ c.in_ok-contents.ensures.tree
-    (fallocated None (meant_by c.in-Some.allocation) c.args.at c.args.len) _ _ c.in_ok-contents.ensures.contents c.in_ok-allocate.ensures _ c.in_ok-put_contents.ensures in
+    let there = c.in_ok-ino.ensures.found in
+    let still = c.in_ok-ino.ensures.same in
+    let emptied = c.in_ok-contents.ensures.tree ∙ ap (change_inode c.in_ok-ino.ino (set_cells (λ _. []))) still in
+    let contents = c.in_ok-contents.ensures.contents ∙ ap (λ t. cells_of t c.in_ok-ino.ino) still in
+    let same = put_back s c.in_ok-ino.ino (is_file_at s c.args.path.now c.in_ok-ino.ino there) _ emptied
+    (fallocated None (meant_by c.in-Some.allocation) c.args.at c.args.len) _ _ contents c.in_ok-allocate.ensures _ c.in_ok-put_contents.ensures in
     fallocate_made s c.args.path.now None c.args.at c.args.len c.args.mode c.in_ok-ino.ino there (meant_by c.in-Some.allocation) (sym c.in-Some.ensures) c.in_ok-check_end.ensures.tested ∙ ap Ok (sym same)

@@ -1,6 +1,6 @@
 use Rattle.std.proofs.Common.{◌≡◌, ap, refl, rules}
 use Rattle.shared_map.proofs.Lists.{split_pair, set_at}
-use Rattle.shared_map.proofs.page.Page.set_at.Goals as goal
+use Rattle.shared_map.proofs.block.Block.set_at.Goals as goal
 
 pub returns-in-Some-clause-ok : goal.returns-in-Some-clause-ok
 returns-in-Some-clause-ok g c =

@@ -1,0 +1,9 @@
+-- The value at a key is changed where it stands. Source: this program's own.
+use Rattle.std.specs.Prelude.{◌≡◌, Bool, true, false, Option, None, Some}
+use Rattle.send_model.specs.Map.{Map}
+
+-- Where a key has a value, it becomes another one, and the edit becomes what it is by the value that was there; where it has none,
+-- nothing changes. The value as it was is given, and the map with any value at the key.
+abbrev pub IsEdited : {K V E : Type 0} → (become : V → V) (left : V → E) (was : Option V) (put : V → Map K V) (old new : Map K V) (before after : E) (there : Bool) → Type 0
+IsEdited become left None put old new before after there = (there ≡ false) × (new ≡ old) × (after ≡ before)
+IsEdited become left (Some value) put old new before after there = (there ≡ true) × (new ≡ put (become value)) × (after ≡ left value)
