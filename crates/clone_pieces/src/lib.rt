@@ -13,4 +13,4 @@ mod tests;
 pub use no_base::NoBase;
 pub use outside::{Known, OutsideBytes};
 pub use redirecting::{redirect, uncarried};
-pub use sending::{put, send};
+pub use sending::{put, put_bytes, send};

@@ -32,6 +32,20 @@ pub fn put<O: Sink>(
     Ok(())
 }
 
+/// Adds bytes to what is pending, and writes what is pending where it is 65,536 bytes or more.
+pub fn put_bytes<O: Sink>(bytes: &[u8], pending: &mut Blob, out: &mut O) -> Result<(), Outcome>
+    ensures later { O.faults out.old ≤ O.faults out.new }
+    ensures put { PutEnd (O.taken out.old) (O.taken out.new) pending.old pending.new bytes.now (O.faults out.old) (O.faults out.new) result }
+{
+    if pending.push_all(bytes).is_err() {
+        return Err(Outcome::NoMemory);
+    }
+    if pending.as_slice().len() >= PIECE {
+        return send(pending, out);
+    }
+    Ok(())
+}
+
 /// Writes what is pending.
 pub fn send<O: Sink>(pending: &mut Blob, out: &mut O) -> Result<(), Outcome>
     ensures later { O.faults out.old ≤ O.faults out.new }

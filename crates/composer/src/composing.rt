@@ -15,7 +15,7 @@ ghost use Rattle.sx_base.specs.Calls.{IfAllTold, verdict_meant};
 ghost use Rattle.sx_base.specs.Refusals.{refusal_of};
 ghost use Rattle.sx_base.specs.declared.outcome.Outcome.TheVariants as ended;
 ghost use Rattle.send_commands.specs.Meaning.{meaning_of};
-ghost use Rattle.send_commands.specs.Writing.{IsWritable};
+ghost use Rattle.send_commands.specs.Writing.{IsWritable, IsShortEnough};
 ghost use Rattle.extent_map.specs.Cells.{cells_between};
 ghost use Rattle.subvol_catalog.specs.Entries.{key_of, head_with};
 ghost use Rattle.cmd_reader.specs.Next.{item_of};
@@ -29,7 +29,7 @@ ghost use Rattle.composer.specs.Files.{plan_with};
 ghost use Rattle.composer.specs.Taking.{DataStand, ItemEnd, ErrCausedAgain, StopEnd, EndEnd, is_at_last};
 ghost use Rattle.composer.specs.Adding.{Led, stands_out, begun_with, AddEnd, IsSourceOf, AddsRange};
 
-use clone_pieces::{Known, OutsideBytes, put, redirect, send, uncarried};
+use clone_pieces::{Known, OutsideBytes, put, put_bytes, redirect, send, uncarried};
 use clone_resolve::{EditCore, Key, Part, head_of};
 use cmd_reader::Item;
 use extent_map::Extents;
@@ -99,8 +99,9 @@ impl Composer {
         }
     }
 
-    /// One item of the input file with this number, counted from 1. What it adds is written where much is pending; of a clone
-    /// from an earlier part what stands for it is written piece by piece, and the bytes of other pieces are read again.
+    /// One item of the input file with this number, counted from 1, and the bytes of its frame as they came: where they are the
+    /// canonical spelling that is due, they go out as they are. What it adds is written where much is pending; of a clone from an
+    /// earlier part what stands for it is written piece by piece, and the bytes of other pieces are read again.
     ///
     /// # Errors
     /// The refusal of the item's command, or `NotConsecutive` at a head that does not name the part before it as its parent or
@@ -109,6 +110,7 @@ impl Composer {
     pub fn take<I: Inputs, E: Known, B: OutsideBytes, O: Sink>(
         &mut self,
         item: &Item,
+        frame: &[u8],
         file: u64,
         survey: &Survey,
         files: &[String],
@@ -118,6 +120,7 @@ impl Composer {
         out: &mut O,
     ) -> Result<(), Outcome>
         requires numbered { (1 ≤ file) × (file ≤ length files.now) }
+        requires frame { item.now.canonical ≡ true → frame.now ≡ canonical item.now.version (meaning_of item.now.command) }
         requires version { (item.now.version ≡ 1) ⊎ (item.now.version ≡ 2) }
         requires fits { item.now.version ≤ survey.now.version }
         requires can_write { CanWrite item.now.version (meaning_of item.now.command) }
@@ -165,7 +168,17 @@ impl Composer {
         let Some(last) = survey.last() else {
             return Ok(());
         };
-        self.add(item, last.key(), survey, files, inputs, known, bytes, out)
+        self.add(
+            item,
+            frame,
+            last.key(),
+            survey,
+            files,
+            inputs,
+            known,
+            bytes,
+            out,
+        )
     }
 
     // Whether a head with this parent follows the part before it, and was seen by the survey.
@@ -211,6 +224,7 @@ impl Composer {
     fn add<I: Inputs, E: Known, B: OutsideBytes, O: Sink>(
         &mut self,
         item: &Item,
+        frame: &[u8],
         last: Key,
         survey: &Survey,
         files: &[String],
@@ -219,6 +233,7 @@ impl Composer {
         bytes: &mut B,
         out: &mut O,
     ) -> Result<(), Outcome>
+        requires frame { item.now.canonical ≡ true → frame.now ≡ canonical item.now.version (meaning_of item.now.command) }
         requires edit { head_of (meaning_of item.now.command) ≡ None }
         requires led { (before : State (Option Trace)) × (put : List (Option Trace)) × Led before self.old.state put (meaning_of item.now.command) }
         requires version { (item.now.version ≡ 1) ⊎ (item.now.version ≡ 2) }
@@ -275,11 +290,11 @@ impl Composer {
                     return self.add_own(&range, last, survey, out);
                 }
                 if !survey.has_part(*clone_uuid) {
-                    return put(&item.command, survey.version(), &mut self.pending, out);
+                    return put_item(item, frame, survey.version(), &mut self.pending, out);
                 }
                 self.add_redirected(&range, survey, files, inputs, known, bytes, out)
             }
-            _ => put(&item.command, survey.version(), &mut self.pending, out),
+            _ => put_item(item, frame, survey.version(), &mut self.pending, out),
         }
     }
 
@@ -433,6 +448,27 @@ impl Composer {
         }
         send(&mut self.pending, out)
     }
+}
+
+// Adds an item's command as it is: its frame as it came, where that is the canonical spelling of the version, or spelled anew.
+fn put_item<O: Sink>(
+    item: &Item,
+    frame: &[u8],
+    version: u32,
+    pending: &mut Blob,
+    out: &mut O,
+) -> Result<(), Outcome>
+    requires frame { item.now.canonical ≡ true → frame.now ≡ canonical item.now.version (meaning_of item.now.command) }
+    requires writable { IsWritable version (meaning_of item.now.command) }
+    requires short { IsShortEnough version (meaning_of item.now.command) }
+    ensures later { O.faults out.old ≤ O.faults out.new }
+    ensures put { PutEnd (O.taken out.old) (O.taken out.new) pending.old pending.new (canonical version (meaning_of item.now.command))
+        (O.faults out.old) (O.faults out.new) result }
+{
+    if item.canonical && item.version == version {
+        return put_bytes(frame, pending, out);
+    }
+    put(&item.command, version, pending, out)
 }
 
 // The contents of the file that a path leads to in a complete subvolume.

@@ -193,7 +193,10 @@ fn write_file<I: Inputs, E: Known, B: OutsideBytes, O: Sink>(
                     let refused = place.refused(Refusal::NotConsecutive);
                     return Err(composer.stopped(Outcome::Refused(refused), out));
                 }
-                let taken = composer.take(&item, file, survey, files, inputs, known, bytes, out);
+                let frame = reader.last_frame();
+                let taken = composer.take(
+                    &item, frame, file, survey, files, inputs, known, bytes, out,
+                );
                 drop(item);
                 if let Err(outcome) = taken {
                     return Err(outcome);

@@ -42,27 +42,27 @@ returns-then-is_own-clause-added g c =
     (g.O.Sink.faults c.args.out.now) (g.O.Sink.faults c.add_own.new.out) c.add_own.result (sym c.is_own.ensures ∙ c.if-is_own.true) c.add_own.ensures.put c.add_own.ensures.sum
     (subst (λ (k : Kept). k.sum ≤ most_literal) c.self-in-Clone.view_is c.self-in-Clone.invariant.1)))
 
-pub put-requires-clause-writable : goal.put-requires-clause-writable
-put-requires-clause-writable g c =
+pub put_item-requires-clause-writable : goal.put_item-requires-clause-writable
+put_item-requires-clause-writable g c =
     (later_writable c.args.item.now.version c.version.result (meaning_of c.args.item.now.command) c.requires.can_write c.version.ensures.known (omega (arith, c.requires.fits, c.version.ensures.version))).0
 
-pub put-requires-clause-short : goal.put-requires-clause-short
-put-requires-clause-short g c =
+pub put_item-requires-clause-short : goal.put_item-requires-clause-short
+put_item-requires-clause-short g c =
     (later_writable c.args.item.now.version c.version.result (meaning_of c.args.item.now.command) c.requires.can_write c.version.ensures.known (omega (arith, c.requires.fits, c.version.ensures.version))).1
 
 pub returns-then-not-has_part-clause-added : goal.returns-then-not-has_part-clause-added
 returns-then-not-has_part-clause-added g c =
     let C : List ℕ → List ℕ → Command = λ p q. Clone p c.in-Clone.offset c.in-Clone.clone_uuid c.in-Clone.clone_ctransid q c.in-Clone.clone_offset c.in-Clone.clone_len in
     let is : meaning_of c.args.item.now.command ≡ C c.in-Clone.path c.in-Clone.clone_path = ap meaning_of c.in-Clone.is in
-    let new : Kept = record (the_view c.self-in-Clone.inside) { pending = c.put.new.pending } in
+    let new : Kept = record (the_view c.self-in-Clone.inside) { pending = c.put_item.new.pending } in
     all_always (g.I.Inputs.told c.args.inputs.now) (map string_bytes c.args.files.now) _ (λ told.
-    subst (λ (m : Command). AddEnd told (g.E.Known.base c.args.known.now) c.args.survey.now (key_of c.args.last) c.args.self.now new m (g.O.Sink.taken c.args.out.now) (g.O.Sink.taken c.put.new.out) c.put.result) (sym is)
-    (kept_adds told (g.E.Known.base c.args.known.now) c.args.survey.now (key_of c.args.last) c.args.self.now new (g.O.Sink.taken c.args.out.now) (g.O.Sink.taken c.put.new.out)
+    subst (λ (m : Command). AddEnd told (g.E.Known.base c.args.known.now) c.args.survey.now (key_of c.args.last) c.args.self.now new m (g.O.Sink.taken c.args.out.now) (g.O.Sink.taken c.put_item.new.out) c.put_item.result) (sym is)
+    (kept_adds told (g.E.Known.base c.args.known.now) c.args.survey.now (key_of c.args.last) c.args.self.now new (g.O.Sink.taken c.args.out.now) (g.O.Sink.taken c.put_item.new.out)
     c.in-Clone.path c.in-Clone.offset c.in-Clone.clone_uuid c.in-Clone.clone_ctransid c.in-Clone.clone_path c.in-Clone.clone_offset c.in-Clone.clone_len
-    (g.O.Sink.faults c.args.out.now) (g.O.Sink.faults c.put.new.out) c.put.result (sym c.is_own.ensures ∙ c.if-is_own.false) (sym c.has_part.ensures ∙ c.if-not-has_part.true)
-    (subst (λ (m : Command). PutEnd (g.O.Sink.taken c.args.out.now) (g.O.Sink.taken c.put.new.out) c.args.self.now.pending c.put.new.pending (canonical c.args.survey.now.version m) (g.O.Sink.faults c.args.out.now) (g.O.Sink.faults c.put.new.out) c.put.result) is
-    (subst (λ (v : ℕ). PutEnd (g.O.Sink.taken c.args.out.now) (g.O.Sink.taken c.put.new.out) c.args.self.now.pending c.put.new.pending (canonical v (meaning_of c.args.item.now.command)) (g.O.Sink.faults c.args.out.now) (g.O.Sink.faults c.put.new.out) c.put.result) c.version.ensures.version
-    (subst (λ (k : Kept). PutEnd (g.O.Sink.taken c.args.out.now) (g.O.Sink.taken c.put.new.out) k.pending c.put.new.pending (canonical c.version.result (meaning_of c.args.item.now.command)) (g.O.Sink.faults c.args.out.now) (g.O.Sink.faults c.put.new.out) c.put.result) c.self-in-Clone.view_is c.put.ensures.put)))
+    (g.O.Sink.faults c.args.out.now) (g.O.Sink.faults c.put_item.new.out) c.put_item.result (sym c.is_own.ensures ∙ c.if-is_own.false) (sym c.has_part.ensures ∙ c.if-not-has_part.true)
+    (subst (λ (m : Command). PutEnd (g.O.Sink.taken c.args.out.now) (g.O.Sink.taken c.put_item.new.out) c.args.self.now.pending c.put_item.new.pending (canonical c.args.survey.now.version m) (g.O.Sink.faults c.args.out.now) (g.O.Sink.faults c.put_item.new.out) c.put_item.result) is
+    (subst (λ (v : ℕ). PutEnd (g.O.Sink.taken c.args.out.now) (g.O.Sink.taken c.put_item.new.out) c.args.self.now.pending c.put_item.new.pending (canonical v (meaning_of c.args.item.now.command)) (g.O.Sink.faults c.args.out.now) (g.O.Sink.faults c.put_item.new.out) c.put_item.result) c.version.ensures.version
+    (subst (λ (k : Kept). PutEnd (g.O.Sink.taken c.args.out.now) (g.O.Sink.taken c.put_item.new.out) k.pending c.put_item.new.pending (canonical c.version.result (meaning_of c.args.item.now.command)) (g.O.Sink.faults c.args.out.now) (g.O.Sink.faults c.put_item.new.out) c.put_item.result) c.self-in-Clone.view_is c.put_item.ensures.put)))
     (ap (λ (k : Kept). k.sum) c.self-in-Clone.view_is)
     (subst (λ (k : Kept). k.sum ≤ most_literal) c.self-in-Clone.view_is c.self-in-Clone.invariant.1)))
 
@@ -83,10 +83,10 @@ add_redirected-requires-clause-short g c =
     (paths_short c.args.item.now.version c.as_slice.result.now c.in-Clone.offset c.in-Clone.clone_uuid c.in-Clone.clone_ctransid c.as_slice-in-Clone.result.now c.in-Clone.clone_offset c.in-Clone.clone_len
     (spellable_is_writable c.args.item.now.version (C c.as_slice.result.now c.as_slice-in-Clone.result.now) (subst (λ (m : Command). CanWrite c.args.item.now.version m) is c.requires.can_write).spellable)).0
 
-pub put-requires-in_default : goal.put-requires-in_default
-put-requires-in_default g c =
+pub put_item-requires-in_default : goal.put_item-requires-in_default
+put_item-requires-in_default g c =
     let w = later_writable c.args.item.now.version c.version-in_default.result (meaning_of c.args.item.now.command) c.requires.can_write c.version-in_default.ensures.known (omega (arith, c.requires.fits, c.version-in_default.ensures.version)) in
-    record { writable = w.0; short = w.1 }
+    record { frame = c.requires.frame; writable = w.0; short = w.1 }
 
 pub returns-in-End-clause-added : goal.returns-in-End-clause-added
 returns-in-End-clause-added g c =
@@ -110,7 +110,7 @@ returns-else-not-has_part-clause-added g c =
 
 pub returns-in_default : goal.returns-in_default
 returns-in_default g c =
-    let new : Kept = record (the_view c.self-in_default.inside) { pending = c.put-in_default.new.pending } in
+    let new : Kept = record (the_view c.self-in_default.inside) { pending = c.put_item-in_default.new.pending } in
     record {
       state = ap (λ (k : Kept). k.state) c.self-in_default.view_is;
       latest = ap (λ (k : Kept). k.latest) c.self-in_default.view_is;
@@ -119,13 +119,13 @@ returns-in_default g c =
       later = omega arith;
       ends_later = omega arith;
       bytes_later = omega arith;
-      out_later = c.put-in_default.ensures.later;
-      cause = put_caused _ _ _ _ _ _ _ _ _ _ _ c.put-in_default.result c.put-in_default.ensures.put;
+      out_later = c.put_item-in_default.ensures.later;
+      cause = put_caused _ _ _ _ _ _ _ _ _ _ _ c.put_item-in_default.result c.put_item-in_default.ensures.put;
       added = all_always (g.I.Inputs.told c.args.inputs.now) (map string_bytes c.args.files.now) _ (λ told.
-          plain_adds told (g.E.Known.base c.args.known.now) c.args.survey.now (key_of c.args.last) c.args.self.now new (meaning_of c.args.item.now.command) (g.O.Sink.taken c.args.out.now) (g.O.Sink.taken c.put-in_default.new.out)
-          (g.O.Sink.faults c.args.out.now) (g.O.Sink.faults c.put-in_default.new.out) c.put-in_default.result (plain_of c.args.item.now.command c.requires.edit c.in_default.not-End c.in_default.not-Clone)
-          (subst (λ (v : ℕ). PutEnd (g.O.Sink.taken c.args.out.now) (g.O.Sink.taken c.put-in_default.new.out) c.args.self.now.pending c.put-in_default.new.pending (canonical v (meaning_of c.args.item.now.command)) (g.O.Sink.faults c.args.out.now) (g.O.Sink.faults c.put-in_default.new.out) c.put-in_default.result) c.version-in_default.ensures.version
-          (subst (λ (k : Kept). PutEnd (g.O.Sink.taken c.args.out.now) (g.O.Sink.taken c.put-in_default.new.out) k.pending c.put-in_default.new.pending (canonical c.version-in_default.result (meaning_of c.args.item.now.command)) (g.O.Sink.faults c.args.out.now) (g.O.Sink.faults c.put-in_default.new.out) c.put-in_default.result) c.self-in_default.view_is c.put-in_default.ensures.put))
+          plain_adds told (g.E.Known.base c.args.known.now) c.args.survey.now (key_of c.args.last) c.args.self.now new (meaning_of c.args.item.now.command) (g.O.Sink.taken c.args.out.now) (g.O.Sink.taken c.put_item-in_default.new.out)
+          (g.O.Sink.faults c.args.out.now) (g.O.Sink.faults c.put_item-in_default.new.out) c.put_item-in_default.result (plain_of c.args.item.now.command c.requires.edit c.in_default.not-End c.in_default.not-Clone)
+          (subst (λ (v : ℕ). PutEnd (g.O.Sink.taken c.args.out.now) (g.O.Sink.taken c.put_item-in_default.new.out) c.args.self.now.pending c.put_item-in_default.new.pending (canonical v (meaning_of c.args.item.now.command)) (g.O.Sink.faults c.args.out.now) (g.O.Sink.faults c.put_item-in_default.new.out) c.put_item-in_default.result) c.version-in_default.ensures.version
+          (subst (λ (k : Kept). PutEnd (g.O.Sink.taken c.args.out.now) (g.O.Sink.taken c.put_item-in_default.new.out) k.pending c.put_item-in_default.new.pending (canonical c.version-in_default.result (meaning_of c.args.item.now.command)) (g.O.Sink.faults c.args.out.now) (g.O.Sink.faults c.put_item-in_default.new.out) c.put_item-in_default.result) c.self-in_default.view_is c.put_item-in_default.ensures.put))
           (ap (λ (k : Kept). k.sum) c.self-in_default.view_is)
           (subst (λ (k : Kept). k.sum ≤ most_literal) c.self-in_default.view_is c.self-in_default.invariant.1));
     }
