@@ -193,7 +193,8 @@ run compose none; refused 'no files' 2 usage
 run compose some small; refused 'another store' 2 usage
 run --help --version; refused 'two words' 2 usage
 for words in 'audit none' 'audit some small' 'audit guard:bytes none small' 'audit guard:nodev' 'dump' 'dump small second' \
-    'export' 'gen 1' 'gen 0 1' 'gen 4097 1' 'gen 1 18446744073709551616' 'gen 1 x' 'compose guard:nodev none small'; do
+    'export' 'gen 1' 'gen 0 1' 'gen 4097 1' 'gen 1 18446744073709551616' 'gen 1 x' 'trial 1' 'trial 0 1' 'trial 4097 1' \
+    'compose guard:nodev none small'; do
     run $words; refused "the words $words" 2 usage
 done
 run ''; refused 'an empty word' 2 usage
@@ -258,7 +259,7 @@ head -c 113 small >shorter
 run dump shorter; refused 'dump of a file that is cut' 1 'refused 1 4 113 3 Truncated'
 head -n 4 printed | cmp -s - out; case_is 'dump prints what it can' "$([ $? = 0 ] || echo 'it printed something else')"
 run export damaged; refused 'export of a damaged file' 1 "$(cat damaged-note)"
-for words in 'audit none small' 'dump small' 'export small' 'gen 3 1'; do
+for words in 'audit none small' 'dump small' 'export small' 'gen 3 1' 'trial 3 1'; do
     : >out
     timeout 20 "$program" $words >/dev/full 2>note; status=$?
     refused "a full device, $words" 4 'output fault'
@@ -269,6 +270,8 @@ for words in 'audit none' 'dump' 'export'; do
     run $words missing; refused "a missing file, $words" 3 'input fault'
 done
 run gen 4096 1; case_is 'the longest chain' "$([ "$status" = 0 ] && [ ! -s note ] || echo "status $status")"
+run trial 4096 1
+echo 'trial 4096 24588 17992809 34079076 0 16773120' | cmp -s - out; case_is 'a trial of the longest chain' "$([ $? = 0 ] || echo 'other numbers')"
 
 # ---- files
 

@@ -8,6 +8,7 @@ usage: btrsend audit [GUARD..] none FILE..
        btrsend export FILE > STREAM
        btrsend dump FILE
        btrsend gen COUNT SEED > CHAIN
+       btrsend trial COUNT SEED
        btrsend --help | --version
 
   audit     checks each command of all FILEs in order, as a receiver would, and names the first that it would
@@ -19,6 +20,8 @@ usage: btrsend audit [GUARD..] none FILE..
   export    writes the streams of FILE in the spelling that `btrfs receive` takes; what `compose` writes is not
   dump      prints the commands of FILE, a line each
   gen       writes a lawful chain of COUNT parts, 1 to 4096, that SEED gives. Each part after the first has a clone
+  trial     composes that chain in memory and writes `trial PARTS COMMANDS IN OUT CLONES REDIRECTED`: of the chain its
+            parts, commands and bytes; of the merged stream its bytes and clones, and the bytes written for a clone
 
   none      where the subvolumes are that the streams stand on: nowhere
   FILE      a file that `btrfs send` wrote, with one stream or several

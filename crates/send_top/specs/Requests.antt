@@ -11,14 +11,14 @@ use Rattle.send_top.specs.declared.words.Request.TheVariants as made
 abbrev pub is_none_at : List (List ℕ) → ℕ → Bool
 is_none_at words at = bytes_eq (slice_index_or words at []) (codes "none")
 
--- The requests that are answered today: those over no store, and no trial, which would compose clones.
+-- The requests that are answered today: those over no store.
 abbrev pub is_answered : List (List ℕ) → meant.Request → Bool
 is_answered words (Compose store files) = is_none_at words store
 is_answered words (Audit guards store files) = is_none_at words store
 is_answered words (Dump file) = true
 is_answered words (Export file) = true
 is_answered words (Gen count seed) = true
-is_answered words (Trial count seed) = false
+is_answered words (Trial count seed) = true
 
 abbrev pub if_answered : List (List ℕ) → Option meant.Request → Option meant.Request
 if_answered words None = None
@@ -69,6 +69,7 @@ guard_words words (made.Audit store files) = before_store words store
 guard_words words (made.Dump file) = []
 guard_words words (made.Export file) = []
 guard_words words (made.Gen count seed) = []
+guard_words words (made.Trial count seed) = []
 
 -- The code's request among words as that of the definitions.
 abbrev pub request_meant : List (List ℕ) → Request → meant.Request
@@ -77,6 +78,7 @@ request_meant words (made.Audit store files) = Audit (guards_in (before_store wo
 request_meant words (made.Dump file) = Dump file
 request_meant words (made.Export file) = Export file
 request_meant words (made.Gen count seed) = Gen count seed
+request_meant words (made.Trial count seed) = Trial count seed
 
 -- The names of the files that a request asks for.
 abbrev pub names_asked : meant.Request → List (List ℕ) → List (List ℕ)
@@ -94,3 +96,4 @@ IsWithin count (made.Audit store files) = (1 ≤ store) × (store + 1 ≡ files)
 IsWithin count (made.Dump file) = file < count
 IsWithin count (made.Export file) = file < count
 IsWithin count (made.Gen number seed) = (1 ≤ number) × (number ≤ 4_096)
+IsWithin count (made.Trial number seed) = (1 ≤ number) × (number ≤ 4_096)

@@ -326,7 +326,7 @@ fn a_failed_note_leaves_the_status(rt: HostRuntime) -> Result<(), Fail> {
 
 #[test]
 fn other_words_mean_nothing(rt: HostRuntime) -> Result<(), Fail> {
-    let table: [&[&str]; 18] = [
+    let table: [&[&str]; 20] = [
         &[],
         &["compose"],
         &["compose", "none"],
@@ -344,7 +344,9 @@ fn other_words_mean_nothing(rt: HostRuntime) -> Result<(), Fail> {
         &["gen", "4097", "1"],
         &["gen", "1"],
         &["gen", "1", "18446744073709551616"],
-        &["trial", "1", "1"],
+        &["trial", "0", "1"],
+        &["trial", "4097", "1"],
+        &["trial", "1"],
     ];
     for words in table {
         let words = words_of(rt.alloc(), words)?;
@@ -383,7 +385,7 @@ fn files_are_checked_and_printed(rt: HostRuntime) -> Result<(), Fail> {
         rt.alloc(),
         &[HEADER, SUBVOL_A, MKFILE_X_WITH_INO, WRITE_HI, END],
     )?;
-    let table: [(&[&str], u8, &[u8], &[u8]); 6] = [
+    let table: [(&[&str], u8, &[u8], &[u8]); 7] = [
         (&["audit", "none", "first"], 0, b"accepted 1 4\n", b""),
         (
             &["audit", "none", "first", "second"],
@@ -400,6 +402,12 @@ fn files_are_checked_and_printed(rt: HostRuntime) -> Result<(), Fail> {
         (&["dump", "first"], 0, DUMPED, b""),
         (&["export", "first"], 0, exported.as_slice(), b""),
         (&["export", "none"], 1, b"", b"refused 1 1 0 3 Truncated\n"),
+        (
+            &["trial", "2", "7"],
+            0,
+            b"trial 2 24 103130 107061 0 4096\n",
+            b"",
+        ),
     ];
     for (words, status, written, note) in table {
         let words = words_of(rt.alloc(), words)?;

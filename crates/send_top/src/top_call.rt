@@ -15,6 +15,7 @@ use crate::fitting::guards_fit;
 use crate::noting::{Answer, status, write_note};
 use crate::words::{Request, read_words};
 use auditor::audit;
+use chain_trial::write_trial;
 use clone_resolve::EditCore;
 use composer::compose;
 use extent_map::Nowhere;
@@ -116,6 +117,7 @@ fn end_of<I: Inputs, O: Sink>(
         Request::Dump { file } => dump(alloc, inputs, name_at(words, file), out),
         Request::Export { file } => export(alloc, inputs, name_at(words, file), out),
         Request::Gen { count, seed } => write_chain(alloc, count, seed, out),
+        Request::Trial { count, seed } => write_trial(alloc, count, seed, out),
     }
 }
 

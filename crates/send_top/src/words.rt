@@ -3,7 +3,7 @@ ghost use Rattle.std.specs.Prelude.{◌≡◌, ◌≤◌, length, drop, map, opt
 ghost use Rattle.std.specs.Option.{IfNone};
 ghost use Rattle.std.specs.String.{string_bytes};
 ghost use Rattle.send_model.specs.Guards.{is_guard_word};
-ghost use Rattle.send_model.specs.Words.{Compose, Dump, Export, Gen, store_and_files, one_file, guards_and_files, count_and_seed};
+ghost use Rattle.send_model.specs.Words.{Compose, Dump, Export, Gen, Trial, store_and_files, one_file, guards_and_files, count_and_seed};
 ghost use Rattle.send_top.specs.Requests.{request_meant, answered_request, if_answered, guard_words, AreGuardWords, IsWithin};
 ghost use Rattle.send_top.specs.AuditWords.{HasStore};
 
@@ -43,6 +43,13 @@ pub enum Request {
         /// The number that it is made from.
         seed: u64,
     },
+    /// Such a chain is to be composed over no store, and what came of it is to be counted.
+    Trial {
+        /// How many parts it has, from 1 to 4,096.
+        count: u64,
+        /// The number that it is made from.
+        seed: u64,
+    },
 }
 
 // The word that stands for the store without subvolumes.
@@ -65,6 +72,7 @@ pub fn read_words(words: &[String]) -> Option<Request>
         "dump" => read_dump(words),
         "export" => read_export(words),
         "gen" => read_gen(words),
+        "trial" => read_trial(words),
         _ => None,
     }
 }
@@ -171,4 +179,22 @@ fn read_gen(words: &[String]) -> Option<Request>
         return None;
     }
     Some(Request::Gen { count, seed })
+}
+
+// `trial COUNT SEED`
+fn read_trial(words: &[String]) -> Option<Request>
+    ensures meaning { option_map (request_meant (map string_bytes words.now)) result
+        ≡ if_answered (map string_bytes words.now) (count_and_seed Trial (drop 1 (map string_bytes words.now))) }
+    ensures within { IfSome result (IsWithin (length words.now)) }
+    ensures guards { IfSome result (λ request. AreGuardWords (guard_words (map string_bytes words.now) request)) }
+{
+    let [_, count, seed] = words else {
+        return None;
+    };
+    let count = number_of(count.as_bytes())?;
+    let seed = number_of(seed.as_bytes())?;
+    if count == 0 || count > MOST_PARTS {
+        return None;
+    }
+    Some(Request::Trial { count, seed })
 }

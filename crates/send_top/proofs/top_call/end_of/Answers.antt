@@ -90,5 +90,8 @@ returns-in-Dump-clause-cause g c = caused_again (g.I.Inputs.ends c.args.inputs.n
 pub returns-in-Export-clause-cause : goal.returns-in-Export-clause-cause
 returns-in-Export-clause-cause g c = caused_again (g.I.Inputs.ends c.args.inputs.now) (g.I.Inputs.ends c.export.new.inputs) (g.I.Inputs.faults c.args.inputs.now) (g.I.Inputs.faults c.export.new.inputs) (g.O.Sink.faults c.args.out.now) (g.O.Sink.faults c.export.new.out) c.export.result c.export.ensures.cause
 
+pub returns-in-Trial-clause-cause : goal.returns-in-Trial-clause-cause
+returns-in-Trial-clause-cause g c = caused_unread (g.I.Inputs.ends c.args.inputs.now) (g.I.Inputs.ends c.args.inputs.now) (g.I.Inputs.faults c.args.inputs.now) (g.I.Inputs.faults c.args.inputs.now) (g.O.Sink.faults c.args.out.now) (g.O.Sink.faults c.write_trial.new.out) c.write_trial.result c.write_trial.ensures.cause
+
 pub returns-in-Gen-clause-cause : goal.returns-in-Gen-clause-cause
 returns-in-Gen-clause-cause g c = caused_unread (g.I.Inputs.ends c.args.inputs.now) (g.I.Inputs.ends c.args.inputs.now) (g.I.Inputs.faults c.args.inputs.now) (g.I.Inputs.faults c.args.inputs.now) (g.O.Sink.faults c.args.out.now) (g.O.Sink.faults c.write_chain.new.out) c.write_chain.result c.write_chain.ensures.cause
