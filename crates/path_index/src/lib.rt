@@ -1,0 +1,11 @@
+//! The first paths of the inodes of a complete subvolume, by an index that is made once.
+#![tactic(auto)]
+
+mod building;
+mod index;
+mod links;
+#[cfg(test)]
+mod tests;
+mod writing;
+
+pub use index::PathIndex;
