@@ -2,12 +2,20 @@
 #![tactic(auto)]
 
 mod help;
+mod line;
 mod out_sink;
 mod path_inputs;
 mod program;
+mod progress;
+mod screen;
+#[cfg(test)]
+mod showing_tests;
 #[cfg(test)]
 mod tests;
 
+pub use line::line_of;
 pub use out_sink::OutSink;
 pub use path_inputs::PathInputs;
 pub use program::start;
+pub use progress::{Progress, Tally, millis_of};
+pub use screen::{AfterLine, Screen, end_line};

@@ -2,12 +2,16 @@
 use crate::help::{HELP, VERSION};
 use crate::out_sink::OutSink;
 use crate::path_inputs::PathInputs;
+use crate::progress::{Progress, millis_of};
+use crate::screen::{AfterLine, Screen, end_line};
 use guard_rules::{ByteGuard, CommandGuard, DeviceGuard, EndGuard, Guard, GuardSpec, parse_guard};
 use send_top::{Answer, run, status, write_note};
 use std::alloc::AllocError;
-use std::io::ErrorKind;
+use std::cell::RefCell;
+use std::io::{ErrorKind, IsTerminal};
 use std::process::ExitCode;
-use std::{env, io};
+use std::rt::Files;
+use std::{env, fs, io};
 use sx_base::{Outcome, Sink, write_whole};
 
 /// Does what the words after the program's name ask for, over the files and standard streams of the system, and gives the
@@ -60,8 +64,81 @@ fn run_words<O: Sink, N: Sink>(
             None => break,
         }
     }
+    if let Some((began, first)) = what_to_show(rt, words) {
+        return Ok(run_shown(rt, words, guards, began, first));
+    }
     let mut inputs = PathInputs::new(rt, rt.alloc());
     Ok(run(rt.alloc(), words, guards, &mut inputs, out, notes))
+}
+
+// Runs the words, and shows meanwhile on standard error, a terminal, how far the run is.
+fn run_shown(
+    rt: &HostRuntime,
+    words: &[String],
+    guards: Vec<Box<dyn Guard>>,
+    began: u64,
+    first: String,
+) -> u8 {
+    let alloc = rt.alloc();
+    let screen = RefCell::new(Screen::new(OutSink::new(rt.stderr()), began));
+    let all = all_bytes(rt, files_of(words));
+    let files = PathInputs::new(rt, alloc);
+    let mut inputs = Progress::new(files, rt, &screen, alloc, first, all);
+    let mut notes = AfterLine::new(OutSink::new(rt.stderr()), &screen);
+    let status = if rt.stdout().is_terminal() {
+        let mut out = AfterLine::new(OutSink::new(rt.stdout()), &screen);
+        run(alloc, words, guards, &mut inputs, &mut out, &mut notes)
+    } else {
+        let mut out = OutSink::new(rt.stdout());
+        run(alloc, words, guards, &mut inputs, &mut out, &mut notes)
+    };
+    end_line(&screen);
+    status
+}
+
+// The time now and the name of the file that each pass reads first, where standard error is a terminal; nothing, too, where there
+// is no clock or no memory.
+fn what_to_show(rt: &HostRuntime, words: &[String]) -> Option<(u64, String)> {
+    if !rt.stderr().is_terminal() {
+        return None;
+    }
+    let began = millis_of(rt)?;
+    let first = files_of(words).first()?;
+    let first = String::from_str(rt.alloc(), first.as_str()).ok()?;
+    Some((began, first))
+}
+
+// The words that name files.
+fn files_of(words: &[String]) -> &[String] {
+    let Some(word) = words.first() else {
+        return &[];
+    };
+    match word.as_str() {
+        "audit" | "compose" => behind_none(&words[1..]),
+        "export" | "dump" => &words[1..],
+        _ => &[],
+    }
+}
+
+// The words behind the first `none`.
+fn behind_none(words: &[String]) -> &[String] {
+    match words.iter().position(|word| word.as_str() == "none") {
+        Some(place) => &words[place + 1..],
+        None => &[],
+    }
+}
+
+// The bytes of all files, where each is a regular one.
+fn all_bytes<R: Files>(files: &R, names: &[String]) -> Option<u64> {
+    let mut sum: u64 = 0;
+    for name in names {
+        let about = fs::metadata(files, name.as_str()).ok()?;
+        if !about.is_file() {
+            return None;
+        }
+        sum = sum.checked_add(about.len())?;
+    }
+    Some(sum)
 }
 
 // The words behind `audit`, of which the first are guard words; none of any other request.
