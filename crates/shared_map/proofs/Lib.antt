@@ -4,4 +4,5 @@ pub mod Homes
 pub mod Edits
 pub mod Parts
 pub mod Editing
+pub mod Spots
 pub mod Fronts

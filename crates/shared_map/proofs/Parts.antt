@@ -1,6 +1,6 @@
 -- The entries of pages, around the page that a key's place is in.
 use Rattle.std.proofs.Common.{◌≡◌, ℕ, suc, ◌+◌, ◌-◌, ◌<◌, ◌≤◌, ◌≢◌, Some, None, List, [], ◌∷◌, ◌++◌, length, get_or, set, take, drop, slice_get, refl, sym, ap, ◌∙◌, subst, arith, add-one, append_assoc, length-append, length-drop}
-use Rattle.std.proofs.lemmas.List.{get_or_default, get_or_at, length-take-le, nil_from_length, drop_more, drop_all, take_more, take_more_set, drop-set-lt, take-append-drop, set_at as write_at}
+use Rattle.std.proofs.lemmas.List.{get_or_default, get_or_at, length-take-le, nil_from_length, drop_more, drop_all, take_more_set, drop-set-lt, take-append-drop}
 use Rattle.std.proofs.lemmas.List.Edits.{length-insert}
 use Rattle.std.specs.Cmp.{IsTotalOrder}
 use Rattle.std.specs.declared.cmp.Ordering.{Ordering}
@@ -186,17 +186,17 @@ module _ {K V : Type 0} {order : K → K → Ordering} (total : IsTotalOrder ord
 
 -- a page in two
 module _ {X : Type 0} (ps : List (List X)) (i cut : ℕ) (p f b : List X) (lt : i < length ps) (read : p ≡ get_or ps i p) (front : f ≡ take cut p) (back : b ≡ drop cut p) where
-  split_is : set (insert ps (i + 1) b) i f ≡ take i ps ++ f ∷ b ∷ drop (i + 1) ps
+  split_is : insert (set ps i f) (i + 1) b ≡ take i ps ++ f ∷ b ∷ drop (i + 1) ps
   split_is =
-      ap (λ l. set (l ++ b ∷ drop (i + 1) ps) i f) (take_more ps i p lt) ∙ ap (λ l. set l i f) (append_assoc (take i ps) (get_or ps i p ∷ []) (b ∷ drop (i + 1) ps)) ∙ write_at (take i ps) (get_or ps i p) (b ∷ drop (i + 1) ps) f i (length-take-le i ps (omega arith))
+      ap (λ l. l ++ b ∷ drop (i + 1) (set ps i f)) (take_more_set ps i f lt) ∙ append_assoc (take i ps) (f ∷ []) (b ∷ drop (i + 1) (set ps i f)) ∙ ap (λ l. take i ps ++ f ∷ b ∷ l) (drop-set-lt (i + 1) ps i f (omega arith))
 
-  pub split_joined : joined (set (insert ps (i + 1) b) i f) ≡ joined ps
+  pub split_joined : joined (insert (set ps i f) (i + 1) b) ≡ joined ps
   split_joined =
       let both : f ++ b ≡ p = ap (λ l. l ++ b) front ∙ ap (λ l. take cut p ++ l) back ∙ take-append-drop cut p in
       let rest = joined (drop (i + 1) ps) in
       ap joined split_is ∙ joined_append (take i ps) (f ∷ b ∷ drop (i + 1) ps) ∙ ap (λ l. joined (take i ps) ++ l) (sym (append_assoc f b rest) ∙ ap (λ l. l ++ rest) both) ∙ sym (joined_split ps i p lt read)
 
-  pub split_filled : 0 < cut → cut < length p → AreFilled ps → AreFilled (set (insert ps (i + 1) b) i f)
+  pub split_filled : 0 < cut → cut < length p → AreFilled ps → AreFilled (insert (set ps i f) (i + 1) b)
   split_filled low high filled =
       let some_f : 0 < length f = omega (arith, ap length front, length-take-le cut p (omega arith)) in
       let some_b : 0 < length b = omega (arith, ap length back, length-drop cut p) in

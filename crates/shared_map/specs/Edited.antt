@@ -1,4 +1,4 @@
--- The value at a key is changed where it stands. Source: this program's own.
+-- The value at a key is changed where it stands, or set where there is none. Source: this program's own.
 use Rattle.std.specs.Prelude.{◌≡◌, Bool, true, false, Option, None, Some}
 use Rattle.send_model.specs.Map.{Map}
 
@@ -7,3 +7,8 @@ use Rattle.send_model.specs.Map.{Map}
 abbrev pub IsEdited : {K V E : Type 0} → (become : V → V) (left : V → E) (was : Option V) (put : V → Map K V) (old new : Map K V) (before after : E) (there : Bool) → Type 0
 IsEdited become left None put old new before after there = (there ≡ false) × (new ≡ old) × (after ≡ before)
 IsEdited become left (Some value) put old new before after there = (there ≡ true) × (new ≡ put (become value)) × (after ≡ left value)
+
+-- A key that had no value gets one; where it had one, nothing changes. The value that was there is given, and the map with the new one.
+abbrev pub PutsNew : {K V : Type 0} → (was : Option V) (put old new : Map K V) (fresh : Bool) → Type 0
+PutsNew None put old new fresh = (fresh ≡ true) × (new ≡ put)
+PutsNew (Some value) put old new fresh = (fresh ≡ false) × (new ≡ old)

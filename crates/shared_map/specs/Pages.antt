@@ -51,6 +51,17 @@ pub record IsHome {K V : Type 0} (order : K → K → Ordering) (key : K) (pages
   pub below : AllByRecursion (λ e. order e.0 key ≡ Less) (joined (take i pages))
   pub after : AllByRecursion (λ e. order e.0 key ≡ Greater) (joined (drop (i + 1) pages))
 
+-- The entry of the key stands at a place of a page.
+pub record IsThere {K V : Type 0} (order : K → K → Ordering) (key : K) (pages : List (Map K V)) (page place : ℕ) : Type 0 where
+  pub home : IsHome order key pages page
+  pub in_range : page < length pages
+  pub here : IsAt order key (slice_index_or pages page []) place
+
+-- The key has no entry, and a new one would go to a place of a page. Where there are no pages, it would begin the first.
+pub record IsFree {K V : Type 0} (order : K → K → Ordering) (key : K) (pages : List (Map K V)) (page place : ℕ) : Type 0 where
+  pub home : IsHome order key pages page
+  pub gap : page < length pages → IsGap order key (slice_index_or pages page []) place
+
 -- A page begins with a key that is not above this one.
 abbrev pub starts_by : {K V : Type 0} → (K → K → Ordering) → K → Map K V → Bool
 starts_by order key [] = true

@@ -1,5 +1,5 @@
 // A run of entries that several maps may share.
-ghost use Rattle.std.specs.Prelude.{◌≡◌, ◌++◌, ◌<◌, ◌≤◌, List, length, IfOk, OnOk, OnErr};
+ghost use Rattle.std.specs.Prelude.{◌≡◌, ◌++◌, ◌<◌, ◌≤◌, List, length, take, drop, IfOk, OnOk, OnErr};
 ghost use Rattle.std.specs.List.{insert};
 ghost use Rattle.shared_map.specs.Pages.{IsSetAt, IsEditedAt, KeepsKeyAt, IsTakenAt};
 
@@ -7,6 +7,9 @@ use crate::keys::{Copied, Edit, Key};
 use std::alloc::{AllocError, Global};
 use std::marker::Model;
 use std::rc::Rc;
+
+// How many entries a block has at most. Splitting and merging keep to it where there is memory, and no contract rests on it.
+pub(crate) const BLOCK_ENTRIES: usize = 128;
 
 // A run of entries. Its copies share them, and a change of what is shared copies them first.
 #[derive(Drop)]
@@ -31,6 +34,27 @@ fn copied<K: Key, V: Copied>(alloc: Global, entries: &[(K, V)]) -> Result<Vec<(K
     Ok(copies)
 }
 
+// Moves the entries from `at` on into a block of their own, which has room for more. All memory that this needs is taken before
+// they move.
+fn moved<K: Key, V: Copied>(
+    alloc: Global,
+    entries: &mut Vec<(K, V)>,
+    at: usize,
+) -> Result<Block<K, V>, AllocError>
+    requires { at ≤ length entries.old.items }
+    ensures low { OnOk result (entries.new.items ≡ take at entries.old.items) }
+    ensures high { IfOk result (λ block. block ≡ drop at entries.old.items) }
+    ensures err { OnErr result (entries.new.items ≡ entries.old.items) }
+{
+    let mut rc = Rc::new(alloc, Vec::new(alloc))?;
+    let Some(high) = Rc::get_mut(&mut rc) else {
+        return Err(AllocError);
+    };
+    *high = entries.split_off(at)?;
+    let _ = high.reserve((BLOCK_ENTRIES + 1).saturating_sub(high.len()));
+    Ok(Block { rc })
+}
+
 impl<K: Key, V: Copied> Block<K, V> {
     // A block of these entries.
     pub(crate) fn new(alloc: Global, entries: Vec<(K, V)>) -> Result<Block<K, V>, AllocError>
@@ -39,14 +63,6 @@ impl<K: Key, V: Copied> Block<K, V> {
         Ok(Block {
             rc: Rc::new(alloc, entries)?,
         })
-    }
-
-    // A block of copies of these entries.
-    pub(crate) fn of(alloc: Global, entries: &[(K, V)]) -> Result<Block<K, V>, AllocError>
-        ensures { IfOk result (λ block. block ≡ entries.now) }
-    {
-        let entries = copied(alloc, entries)?;
-        Block::new(alloc, entries)
     }
 
     // A block of copies of the entries of this block and of another.
@@ -94,6 +110,24 @@ impl<K: Key, V: Copied> Block<K, V> {
                 entries.insert(at, entry)?;
                 self.rc = Rc::new(alloc, entries)?;
                 Ok(())
+            }
+        }
+    }
+
+    // Takes the entries from `at` on out, as a block of their own. They are moved, where nothing shares them.
+    pub(crate) fn split_off(&mut self, alloc: Global, at: usize) -> Result<Block<K, V>, AllocError>
+        requires { at ≤ length self.old }
+        ensures low { OnOk result (self.new ≡ take at self.old) }
+        ensures high { IfOk result (λ block. block ≡ drop at self.old) }
+        ensures err { OnErr result (self.new ≡ self.old) }
+    {
+        match Rc::get_mut(&mut self.rc) {
+            Some(entries) => Ok(moved(alloc, entries, at)?),
+            None => {
+                let mut entries = copied(alloc, self.rc.as_ref().as_slice())?;
+                let high = moved(alloc, &mut entries, at)?;
+                self.rc = Rc::new(alloc, entries)?;
+                Ok(high)
             }
         }
     }

@@ -3,18 +3,16 @@ ghost use Rattle.std.specs.Prelude.{◌≡◌, ◌+◌, ◌<◌, ◌^◌, [], le
 ghost use Rattle.std.specs.Option.{option_copied};
 ghost use Rattle.send_model.specs.Map.{IsMap, value_at, with_value, without};
 ghost use Rattle.shared_map.specs.Sought.{entry_after};
-ghost use Rattle.shared_map.specs.Edited.{IsEdited};
-ghost use Rattle.shared_map.specs.Pages.{joined, AreFilled};
+ghost use Rattle.shared_map.specs.Edited.{IsEdited, PutsNew};
+ghost use Rattle.shared_map.specs.Pages.{joined, AreFilled, AreKept, IsFree};
 
+use crate::block::BLOCK_ENTRIES;
 use crate::entries::Entries;
 use crate::keys::{Copied, Edit, Key, Sought};
 use crate::page::Page;
-use crate::place::{find, home, past};
+use crate::place::{Spot, home, past, seek};
 use std::alloc::{AllocError, Global};
 use std::marker::Model;
-
-// How many entries a page has at most. Splitting and merging keep to it where there is memory, and no contract rests on it.
-const PAGE_ENTRIES: usize = 128;
 
 /// An ordered map, seen as the list of its entries in rising order of their keys. Copies share their entries.
 #[derive(Drop)]
@@ -83,13 +81,8 @@ impl<K: Key, V: Copied> SharedMap<K, V> {
     pub fn get<Q: Sought<K>>(&self, query: &Q) -> Option<&V>
         ensures { option_copied result ≡ value_at K.order (Q.sought query.now) self.now }
     {
-        let at = home(&self.pages, query);
-        if at >= self.pages.len() {
-            return None;
-        }
-        let entries = self.pages[at].entries();
-        match find(entries, query) {
-            Ok(place) => Some(&entries[place].1),
+        match seek(&self.pages, query) {
+            Ok(spot) => Some(&self.pages[spot.page].entries()[spot.place].1),
             Err(_) => None,
         }
     }
@@ -119,30 +112,32 @@ impl<K: Key, V: Copied> SharedMap<K, V> {
         ensures err { OnErr result (self.new ≡ self.old) }
     {
         let alloc = self.alloc;
-        let at = home(&self.pages, query);
-        if at >= self.pages.len() {
-            let mut entries = Vec::new(alloc);
-            entries.push((query.own(alloc)?, value))?;
-            self.pages.push(Page::new(alloc, entries)?)?;
-            self.len = 1;
-            return Ok(());
-        }
-        match find(self.pages[at].entries(), query) {
-            Ok(place) => {
-                let page = &mut self.pages[at];
-                page.set_at(alloc, place, value)?;
+        match seek(&self.pages, query) {
+            Ok(spot) => {
+                let page = &mut self.pages[spot.page];
+                page.set_at(alloc, spot.place, value)?;
                 Ok(())
             }
-            Err(place) => {
-                let Some(len) = self.len.checked_add(1) else {
-                    return Err(AllocError);
-                };
-                let key = query.own(alloc)?;
-                let page = &mut self.pages[at];
-                page.put_at(alloc, place, (key, value))?;
-                self.len = len;
-                shorten(&mut self.pages, alloc, at, place);
+            Err(spot) => {
+                self.len = put_new(&mut self.pages, self.len, alloc, spot, query, value)?;
                 Ok(())
+            }
+        }
+    }
+
+    /// Sets the value at a key that has none, and says whether it had none; where the key has a value nothing changes. Fails for
+    /// want of memory alone, and then nothing changes.
+    pub fn insert_new<Q: Sought<K>>(&mut self, query: &Q, value: V) -> Result<bool, AllocError>
+        ensures ok { IfOk result (λ fresh. PutsNew (value_at K.order (Q.sought query.now) self.old)
+            (with_value K.order (Q.sought query.now) value self.old) self.old self.new fresh) }
+        ensures err { OnErr result (self.new ≡ self.old) }
+    {
+        let alloc = self.alloc;
+        match seek(&self.pages, query) {
+            Ok(_) => Ok(false),
+            Err(spot) => {
+                self.len = put_new(&mut self.pages, self.len, alloc, spot, query, value)?;
+                Ok(true)
             }
         }
     }
@@ -158,18 +153,12 @@ impl<K: Key, V: Copied> SharedMap<K, V> {
             (λ value. with_value K.order (Q.sought query.now) value self.old) self.old self.new edit.old edit.new) }
     {
         let alloc = self.alloc;
-        let at = home(&self.pages, query);
-        if at >= self.pages.len() {
+        let Ok(spot) = seek(&self.pages, query) else {
             return Ok(false);
-        }
-        match find(self.pages[at].entries(), query) {
-            Ok(place) => {
-                let page = &mut self.pages[at];
-                page.edit_at(alloc, place, edit)?;
-                Ok(true)
-            }
-            Err(_) => Ok(false),
-        }
+        };
+        let page = &mut self.pages[spot.page];
+        page.edit_at(alloc, spot.place, edit)?;
+        Ok(true)
     }
 
     /// Takes out the entry of a key, if there is one, and hands over its value. Fails for want of memory alone, and then
@@ -180,26 +169,53 @@ impl<K: Key, V: Copied> SharedMap<K, V> {
         ensures err { OnErr result (self.new ≡ self.old) }
     {
         let alloc = self.alloc;
-        let at = home(&self.pages, query);
-        if at >= self.pages.len() {
-            return Ok(None);
-        }
-        let entries = self.pages[at].entries();
-        let Ok(place) = find(entries, query) else {
+        let Ok(spot) = seek(&self.pages, query) else {
             return Ok(None);
         };
+        let entries = self.pages[spot.page].entries();
         if entries.len() == 1 {
-            let was = entries[place].1.copy()?;
-            let _page = self.pages.remove(at);
+            let was = entries[spot.place].1.copy()?;
+            let _page = self.pages.remove(spot.page);
             self.len -= 1;
             return Ok(Some(was));
         }
-        let page = &mut self.pages[at];
-        let (_key, was) = page.take_at(alloc, place)?;
+        let page = &mut self.pages[spot.page];
+        let (_key, was) = page.take_at(alloc, spot.place)?;
         self.len -= 1;
-        lengthen(&mut self.pages, alloc, at);
+        lengthen(&mut self.pages, alloc, spot.page);
         Ok(Some(was))
     }
+}
+
+// Puts a new entry where its key would stand, and says how many entries there are then.
+fn put_new<K: Key, V: Copied, Q: Sought<K>>(
+    pages: &mut Vec<Page<K, V>>,
+    len: u64,
+    alloc: Global,
+    spot: Spot,
+    query: &Q,
+    value: V,
+) -> Result<u64, AllocError>
+    requires kept { AreKept K.order pages.old.items len }
+    requires free { IsFree K.order (Q.sought query.now) pages.old.items spot.page spot.place }
+    ensures kept { IfOk result (AreKept K.order pages.new.items) }
+    ensures ok { OnOk result (joined pages.new.items ≡ with_value K.order (Q.sought query.now) value (joined pages.old.items)) }
+    ensures err { OnErr result (pages.new.items ≡ pages.old.items) }
+{
+    let Some(more) = len.checked_add(1) else {
+        return Err(AllocError);
+    };
+    let key = query.own(alloc)?;
+    if spot.page >= pages.len() {
+        let mut entries = Vec::new(alloc);
+        entries.push((key, value))?;
+        pages.push(Page::new(alloc, entries)?)?;
+        return Ok(more);
+    }
+    let page = &mut pages[spot.page];
+    page.put_at(alloc, spot.place, (key, value))?;
+    shorten(pages, alloc, spot.page, spot.place);
+    Ok(more)
 }
 
 // Splits a page that has too many entries, if there is memory for that.
@@ -209,13 +225,13 @@ fn shorten<K: Key, V: Copied>(pages: &mut Vec<Page<K, V>>, alloc: Global, at: us
     ensures filled { AreFilled pages.old.items → AreFilled pages.new.items }
 {
     let count = pages[at].entries().len();
-    if count > PAGE_ENTRIES {
+    if count > BLOCK_ENTRIES {
         let cut = if place == count - 1 { place } else { count / 2 };
         let _ = split(pages, alloc, at, cut);
     }
 }
 
-// Makes two pages of one.
+// Makes two pages of one. All memory that this needs is taken before an entry moves.
 fn split<K: Key, V: Copied>(
     pages: &mut Vec<Page<K, V>>,
     alloc: Global,
@@ -228,11 +244,10 @@ fn split<K: Key, V: Copied>(
     ensures same { joined pages.new.items ≡ joined pages.old.items }
     ensures filled { AreFilled pages.old.items → AreFilled pages.new.items }
 {
-    let (low, high) = pages[at].entries().split_at(cut);
-    let back = Page::of(alloc, high)?;
-    let front = Page::of(alloc, low)?;
-    pages.insert(at + 1, back)?;
-    pages[at] = front;
+    pages.reserve(1)?;
+    let page = &mut pages[at];
+    let high = page.split_off(alloc, cut)?;
+    pages.insert(at + 1, high)?;
     Ok(())
 }
 
@@ -243,8 +258,8 @@ fn lengthen<K: Key, V: Copied>(pages: &mut Vec<Page<K, V>>, alloc: Global, at: u
     ensures filled { AreFilled pages.old.items → AreFilled pages.new.items }
 {
     if pages.len() - at > 1 {
-        let few = pages[at].entries().len() < PAGE_ENTRIES / 4;
-        let next_few = pages[at + 1].entries().len() < PAGE_ENTRIES / 4;
+        let few = pages[at].entries().len() < BLOCK_ENTRIES / 4;
+        let next_few = pages[at + 1].entries().len() < BLOCK_ENTRIES / 4;
         if few && next_few {
             let _ = join(pages, alloc, at);
         }

@@ -1,5 +1,5 @@
 // A run of entries that several maps may share, with its first key.
-ghost use Rattle.std.specs.Prelude.{◌≡◌, ◌++◌, ◌<◌, ◌≤◌, length, IfOk, OnOk, OnErr};
+ghost use Rattle.std.specs.Prelude.{◌≡◌, ◌++◌, ◌<◌, ◌≤◌, length, take, drop, IfOk, OnOk, OnErr};
 ghost use Rattle.std.specs.List.{insert};
 ghost use Rattle.shared_map.specs.Pages.{BeginsWith, IsSetAt, IsEditedAt, KeepsKeyAt, IsTakenAt};
 
@@ -37,17 +37,6 @@ impl<K: Key, V: Copied> Page<K, V> {
         Ok(Page {
             first,
             block: Block::new(alloc, entries)?,
-        })
-    }
-
-    // A page of copies of these entries.
-    pub(crate) fn of(alloc: Global, entries: &[(K, V)]) -> Result<Page<K, V>, AllocError>
-        requires { 0 < length entries.now }
-        ensures { IfOk result (λ page. page ≡ entries.now) }
-    {
-        Ok(Page {
-            first: entries[0].0.copy_key()?,
-            block: Block::of(alloc, entries)?,
         })
     }
 
@@ -104,6 +93,19 @@ impl<K: Key, V: Copied> Page<K, V> {
         self.block.put_at(alloc, at, entry)?;
         self.first = first;
         Ok(())
+    }
+
+    // Takes the entries from `at` on out, as a page of their own.
+    pub(crate) fn split_off(&mut self, alloc: Global, at: usize) -> Result<Page<K, V>, AllocError>
+        requires some { 0 < at }
+        requires more { at < length self.old }
+        ensures low { OnOk result (self.new ≡ take at self.old) }
+        ensures high { IfOk result (λ page. page ≡ drop at self.old) }
+        ensures err { OnErr result (self.new ≡ self.old) }
+    {
+        let first = self.block.entries()[at].0.copy_key()?;
+        let block = self.block.split_off(alloc, at)?;
+        Ok(Page { first, block })
     }
 
     // Writes another value at `at`.

@@ -58,6 +58,24 @@ fn a_copy_keeps_what_the_other_loses(rt: HostRuntime) -> Result<(), Fail> {
     Ok(())
 }
 
+#[test]
+fn a_new_key_is_told_from_one_that_is_there(rt: HostRuntime) -> Result<(), Fail> {
+    let mut map = SharedMap::new(rt.alloc());
+    for key in 0..COUNT {
+        assert_eq!(rt; map.insert_new(&key, key * 2)?, true);
+    }
+    let before = map.copy()?;
+    assert_eq!(rt; map.insert_new(&500, 1)?, false);
+    assert_eq!(rt; map.get(&500), Some(&1_000));
+    assert_eq!(rt; map.insert_new(&1_000, 1)?, true);
+    assert_eq!(rt; map.get(&1_000), Some(&1));
+    assert_eq!(rt; map.next_after(&999), Some(&(1_000, 1)));
+    assert_eq!(rt; map.len(), 1_001);
+    assert_eq!(rt; before.len(), COUNT);
+    assert_eq!(rt; before.get(&1_000), None);
+    Ok(())
+}
+
 // Adds to a number, and remembers what it was.
 #[derive(Drop)]
 struct Add {
