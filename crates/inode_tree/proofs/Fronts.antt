@@ -9,7 +9,7 @@ use Rattle.std.proofs.Math.Seq.{take-append_seam}
 use Rattle.std.proofs.lemmas.List.Splits.{join_with_byte-slice_split}
 use Rattle.send_model.specs.Path.{slash, is_name, between_slashes, path_names}
 use Rattle.send_model.specs.Subvolume.{all_but_last}
-use Rattle.send_model.proofs.PathLaws.{between_slashes-split, path_by_pieces, path_names_pieces, path_names_all}
+use Rattle.send_model.proofs.PathLaws.{between_slashes-split, path_by_pieces, path_names_pieces, path_names_all, is_name_length}
 use Rattle.send_model.proofs.Stores.{or_parts}
 use Rattle.inode_tree.specs.Places.{last_of}
 use Rattle.inode_tree.specs.Walked.{front_of, GoesOn}
@@ -54,6 +54,19 @@ names_behind names path rest more good goes found =
     let all : list_all is_name (between_slashes path) ≡ true = ap (list_all is_name) pieces ∙ list_all-append is_name names more ∙ ap (λ (b : Bool). b && list_all is_name more) good ∙ path_names_all rest more found in
     let long : length path ≡ length (front_of names) + length rest = ap length goes.is ∙ length-append (front_of names) rest in
     path_by_pieces path true (omega (arith, goes.some)) goes.short all ∙ ap (λ (x : List (List ℕ)). Some x) pieces
+
+whole_piece : (name : List ℕ) → list_any (λ b. b == slash) name ≡ false → between_slashes name ≡ name ∷ []
+unfolding between_slashes
+whole_piece [] none = refl
+whole_piece (b ∷ name) none = let p = or_parts (b == slash) (list_any (λ c. c == slash) name) none in rw (p.0, whole_piece name p.1) refl
+
+-- A name is a path of that one name.
+pub one_name : (name : List ℕ) → is_name name ≡ true → path_names name ≡ Some (name ∷ [])
+one_name name good =
+    let pieces = whole_piece name (name_has_no_slash name good) in
+    let size = is_name_length name good in
+    let all : list_all is_name (between_slashes name) ≡ true = ap (list_all is_name) pieces ∙ ap (λ (b : Bool). b && true) good in
+    path_by_pieces name true (omega (arith, size.0)) (omega (arith, size.1)) all ∙ ap (λ (x : List (List ℕ)). Some x) pieces
 
 -- ---- a path is its front and its last name
 

@@ -4,7 +4,7 @@ use Rattle.std.proofs.Common.{refl, sym, ap, subst, ◌∙◌, arith, inl, inr}
 use Rattle.std.proofs.lemmas.Bool.{true≢false}
 use Rattle.send_model.specs.Refusal.{Refusal, BadPath, NoEntry, NotDirectory}
 use Rattle.send_model.specs.Chain.{◌>>=◌, ◌>>◌, require, found}
-use Rattle.send_model.specs.Path.{path_names}
+use Rattle.send_model.specs.Path.{is_name, path_names}
 use Rattle.send_model.specs.Subvolume.{Subvolume, Spot, root, is_directory, named, walk_names, walk, spot, all_but_last, IsSound}
 use Rattle.send_model.specs.Edit.{at_spot}
 use Rattle.send_model.proofs.Fuel.{bound, required, ok_same}
@@ -13,7 +13,7 @@ use Rattle.send_model.proofs.WalkLaws.{Step, Leads, leads-map, leads-leaf, leads
 use Rattle.inode_tree.specs.Places.{one_step, last_of, spot_from}
 use Rattle.inode_tree.specs.Walked.{Walked, nothing, front_of, IsFront, LeadsTo, IsKnown, LearnsFront, LearnsPath, without_name, GoesOn, spot_below}
 use Rattle.inode_tree.proofs.Chains.{goes_on, stops}
-use Rattle.inode_tree.proofs.Fronts.{names_behind, front_and_name, front_lawful, front_cut, some_name}
+use Rattle.inode_tree.proofs.Fronts.{names_behind, front_and_name, front_lawful, front_cut, some_name, one_name}
 use Rattle.inode_tree.proofs.Walks.{walk_begins, walk_refused, walk_goes_on, walk_stops, walk_ends, spot_refused, spot_root, spot_begins, spot_goes_on, spot_stops, spot_ends_there, spot_ends_nowhere}
 
 no_names : path_names [] ≡ Some []
@@ -54,6 +54,13 @@ module _ {C : Type 0} (s : Subvolume C) where
 
   pub root_begins : (path : List ℕ) (names : List (List ℕ)) → path_names path ≡ Some names → spot s path ≡ spot_below s root names
   root_begins = by_names
+
+  -- One name behind a front, or alone, is a place in the directory of the front, or in the root.
+  pub name_behind : (front : List ℕ) (directory : ℕ) → IsFront s front directory → (path rest : List ℕ) → GoesOn front path rest → is_name rest ≡ true → spot s path ≡ Ok (record { directory = directory; name = rest })
+  name_behind front directory is path rest goes good = front_begins front directory is path rest (rest ∷ []) goes (one_name rest good) ∙ spot_ends_there s directory rest is.there
+
+  pub name_alone : is_directory s root ≡ true → (path : List ℕ) → is_name path ≡ true → spot s path ≡ Ok (record { directory = root; name = path })
+  name_alone there path good = by_names path (path ∷ []) (one_name path good) ∙ spot_ends_there s root path there
 
   -- ---- a walk by its place
 
@@ -112,6 +119,14 @@ module _ {C : Type 0} (s : Subvolume C) where
 
     pub walk_finds : (ino : ℕ) → at_spot s place ≡ Some ino → walk s path ≡ Ok ino
     walk_finds ino e = walk_by_place path (placed_some path place at) ∙ goes_on (spot s path) (λ p. found (at_spot s p) NoEntry) place at ∙ ap (λ (o : Option ℕ). found o NoEntry) e
+
+    -- What a path leads to stands at its place.
+    pub what_stands : (ino : ℕ) → walk s path ≡ Ok ino → at_spot s place ≡ Some ino
+    what_stands ino walked = one (at_spot s place) refl
+      where
+        one : (o : Option ℕ) → at_spot s place ≡ o → at_spot s place ≡ Some ino
+        one None e = cc (sym walked ∙ walk_misses e)
+        one (Some x) e = e ∙ (let some : ℕ → Option ℕ = λ n. Some n in ap some (ok_same (sym (walk_finds x e) ∙ walked)))
 
     -- ---- a place gives a front
 

@@ -2,11 +2,13 @@ pub mod Chains
 pub mod ChangeLaws
 pub mod EditSteps
 pub mod Empties
+pub mod FreePlaces
 pub mod Fronts
 pub mod Known
 pub mod KnownEdits
 pub mod OpeningLaws
 pub mod OtherContents
+pub mod PlainSteps
 pub mod RenameSteps
 pub mod TreeLaws
 pub mod Walks

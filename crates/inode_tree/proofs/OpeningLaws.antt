@@ -1,5 +1,6 @@
 -- The first bytes of two lists as numbers compare as the lists do.
-use Rattle.std.specs.Prelude.{◌≡◌, ℕ, zero, suc, ◌+◌, ◌*◌, ◌<◌, ◌≤◌, List, [], ◌∷◌, ◌⊎◌}
+use Rattle.std.specs.Prelude.{◌≡◌, ℕ, zero, suc, ◌+◌, ◌*◌, ◌<◌, ◌≤◌, ◌-◌, List, [], ◌∷◌, ◌++◌, length, take, drop, replicate, ◌⊎◌}
+use Rattle.std.specs.Int.{w64, from_be_bytes}
 use Rattle.std.specs.declared.cmp.Ordering.{Ordering}
 use Rattle.std.specs.declared.cmp.Ordering.TheVariants.{Less, Equal, Greater}
 use Rattle.std.specs.Ordering.{nat_cmp, ordering_then, ordering_reverse}
@@ -7,8 +8,10 @@ use Rattle.std.specs.Cmp.{ranked, nat_cmp_is}
 use Rattle.std.proofs.Common.{refl, sym, ap, subst, ◌∙◌, arith, inl, inr}
 use Rattle.std.proofs.lemmas.Bool.{cases_lt}
 use Rattle.std.proofs.lemmas.Cmp.{nat_list_cmp_total}
+use Rattle.std.proofs.lemmas.List.{get_or_past, get_or_append_left, get_or-append_right, get_or-drop, get_or-replicate, get_or-take, length-replicate}
+use Rattle.std.proofs.Math.Seq.{take-append_seam}
 use Rattle.send_model.specs.Map.{bytes_cmp}
-use Rattle.inode_tree.specs.Openings.{byte_at, two_at, four_at, eight_at, IsOpened}
+use Rattle.inode_tree.specs.Openings.{byte_at, two_at, four_at, eight_at, IsOpened, IsOpening}
 
 -- Two lists have the same bytes from a place on, for so many places.
 abbrev pub Agree : List ℕ → List ℕ → ℕ → ℕ → Type 0
@@ -21,6 +24,103 @@ pub record Below (a b : List ℕ) (from count : ℕ) : Type 0 where
   pub before : at < from + count
   pub same : (place : ℕ) → from ≤ place → place < at → byte_at a place ≡ byte_at b place
   pub less : byte_at a at < byte_at b at
+
+-- ---- all eight bytes, or none
+
+-- Eight bytes that are there, read at once.
+pub eight_read : (bytes : List ℕ) (place n : ℕ)
+    → n ≡ from_be_bytes w64 (byte_at bytes place ∷ byte_at bytes (place + 1) ∷ byte_at bytes (place + 2) ∷ byte_at bytes (place + 3) ∷ byte_at bytes (place + 4) ∷ byte_at bytes (place + 5) ∷ byte_at bytes (place + 6) ∷ byte_at bytes (place + 7) ∷ [])
+    → n ≡ eight_at bytes place
+unfolding two_at four_at eight_at
+eight_read bytes place n e =
+    let third : byte_at bytes (place + 2 + 1) ≡ byte_at bytes (place + 3) = ap (byte_at bytes) (omega arith) in
+    let fifth : byte_at bytes (place + 4 + 1) ≡ byte_at bytes (place + 5) = ap (byte_at bytes) (omega arith) in
+    let sixth : byte_at bytes (place + 4 + 2) ≡ byte_at bytes (place + 6) = ap (byte_at bytes) (omega arith) in
+    let seventh : byte_at bytes (place + 4 + 2 + 1) ≡ byte_at bytes (place + 7) = ap (byte_at bytes) (omega arith) in
+    omega arith
+
+-- Behind the end there are none.
+pub eight_past : (bytes : List ℕ) (place : ℕ) → length bytes ≤ place → 0 ≡ eight_at bytes place
+unfolding two_at four_at eight_at
+eight_past bytes place le =
+    let past : (p : ℕ) → place ≤ p → byte_at bytes p ≡ 0 = λ p le2. get_or_past bytes p 0 (omega arith) in
+    let a = past place (omega arith) in
+    let b = past (place + 1) (omega arith) in
+    let c = past (place + 2) (omega arith) in
+    let d = past (place + 2 + 1) (omega arith) in
+    let e = past (place + 4) (omega arith) in
+    let f = past (place + 4 + 1) (omega arith) in
+    let g = past (place + 4 + 2) (omega arith) in
+    let h = past (place + 4 + 2 + 1) (omega arith) in
+    omega arith
+
+-- ---- sixteen bytes that stand for a list
+
+module _ (bytes opening : List ℕ) (len : ℕ) (is : IsOpening bytes opening len) where
+  opening_first : eight_at opening 0 ≡ eight_at bytes 0
+  unfolding two_at four_at eight_at
+  opening_first =
+      let a = is.same 0 (omega arith) in
+      let b = is.same 1 (omega arith) in
+      let c = is.same 2 (omega arith) in
+      let d = is.same 3 (omega arith) in
+      let e = is.same 4 (omega arith) in
+      let f = is.same 5 (omega arith) in
+      let g = is.same 6 (omega arith) in
+      let h = is.same 7 (omega arith) in
+      omega arith
+
+  opening_next : eight_at opening 8 ≡ eight_at bytes 8
+  unfolding two_at four_at eight_at
+  opening_next =
+      let a = is.same 8 (omega arith) in
+      let b = is.same 9 (omega arith) in
+      let c = is.same 10 (omega arith) in
+      let d = is.same 11 (omega arith) in
+      let e = is.same 12 (omega arith) in
+      let f = is.same 13 (omega arith) in
+      let g = is.same 14 (omega arith) in
+      let h = is.same 15 (omega arith) in
+      omega arith
+
+  pub opened_first : (first : ℕ) → first ≡ eight_at opening 0 → IsOpened bytes first (eight_at bytes 8)
+  opened_first first e = record { first_is = e ∙ opening_first; next_is = refl; small = is.small }
+
+  pub opened_both : (first next : ℕ) → first ≡ eight_at opening 0 → next ≡ eight_at opening 8 → IsOpened bytes first next
+  opened_both first next e f = record { first_is = e ∙ opening_first; next_is = f ∙ opening_next; small = is.small }
+
+-- Of a long list the first sixteen.
+pub long_opening : (bytes opening : List ℕ) → ((place : ℕ) → byte_at bytes place < 256) → opening ≡ take 16 bytes → IsOpening bytes opening 0
+long_opening bytes opening small e = record {
+  same = λ place low. ap (λ (o : List ℕ). byte_at o place) e ∙ get_or-take 16 bytes place 0 low;
+  small = small;
+  fits = omega arith;
+}
+
+abbrev zeros : ℕ → List ℕ
+zeros count = replicate count 0
+
+zero_at : (count place : ℕ) → byte_at (zeros count) place ≡ 0
+zero_at count place = elim (cases_lt place count) [
+  | inl inside ↦ get_or-replicate count place 0 0 inside
+  | inr outside ↦ get_or_past (zeros count) place 0 (let l = length-replicate {A = ℕ} count 0 in omega arith)
+]
+
+-- Of a short one all of it, and then zero bytes.
+pub short_opening : (bytes opening : List ℕ) (len : ℕ) → ((place : ℕ) → byte_at bytes place < 256) → len ≡ length bytes → length bytes ≤ 16 → opening ≡ bytes ++ drop (length bytes) (zeros 16) → IsOpening bytes opening len
+short_opening bytes opening len small is le e = record {
+  same = λ place low. ap (λ (o : List ℕ). byte_at o place) e ∙ elim (cases_lt place (length bytes)) [
+    | inl inside ↦ get_or_append_left bytes (drop (length bytes) (zeros 16)) 0 place inside
+    | inr outside ↦
+        get_or-append_right bytes (drop (length bytes) (zeros 16)) (length bytes) place 0 refl outside
+        ∙ get_or-drop (length bytes) (zeros 16) (place - length bytes) 0 ∙ zero_at 16 (length bytes + (place - length bytes)) ∙ sym (get_or_past bytes place 0 outside)
+  ];
+  small = small;
+  fits = omega arith;
+}
+
+pub short_taken : (bytes opening : List ℕ) (len : ℕ) → len ≡ length bytes → opening ≡ bytes ++ drop (length bytes) (zeros 16) → take len opening ≡ bytes
+short_taken bytes opening len is e = ap (λ (n : ℕ). take n opening) is ∙ ap (take (length bytes)) e ∙ take-append_seam bytes (drop (length bytes) (zeros 16))
 
 -- ---- parts
 

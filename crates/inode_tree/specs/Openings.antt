@@ -1,5 +1,5 @@
 -- The first sixteen bytes of a name as two numbers, which compare as the bytes do. Source: this program's own.
-use Rattle.std.specs.Prelude.{◌≡◌, ℕ, ◌+◌, ◌*◌, ◌<◌, List}
+use Rattle.std.specs.Prelude.{◌≡◌, ℕ, ◌+◌, ◌*◌, ◌<◌, ◌≤◌, List}
 use Rattle.std.proofs.Math.ListN.{get_or}
 
 -- The byte at a place, or zero where there is none; two, four and eight bytes from a place on, the first the highest.
@@ -20,3 +20,9 @@ pub record IsOpened (bytes : List ℕ) (first next : ℕ) : Type 0 where
   pub first_is : first ≡ eight_at bytes 0
   pub next_is : next ≡ eight_at bytes 8
   pub small : (place : ℕ) → byte_at bytes place < 256
+
+-- Sixteen bytes that begin as a list does, with zero bytes behind its end; and how many of them are of it, if all are.
+pub record IsOpening (bytes opening : List ℕ) (len : ℕ) : Type 0 where
+  pub same : (place : ℕ) → place < 16 → byte_at opening place ≡ byte_at bytes place
+  pub small : (place : ℕ) → byte_at bytes place < 256
+  pub fits : len ≤ 16

@@ -1,8 +1,9 @@
 -- Where a path leads in a tree. Source: this program's own; the walks are those of the definitions.
 use Rattle.std.specs.Prelude.{◌≡◌, ℕ, List, [], ◌∷◌, Result, Ok, Err}
 use Rattle.send_model.specs.Refusal as meant
-use Rattle.send_model.specs.Chain.{◌>>=◌, ◌>>◌, require, found}
+use Rattle.send_model.specs.Chain.{◌>>=◌, ◌>>◌, require, refuse_if, found}
 use Rattle.send_model.specs.Subvolume.{Subvolume, Spot, named, is_directory, walk_names, all_but_last}
+use Rattle.send_model.specs.Edit.{at_spot, take_name}
 use Rattle.sx_base.specs.declared.refusal.Refusal.{Refusal}
 use Rattle.sx_base.specs.Refusals.{refusal_of}
 
@@ -13,6 +14,10 @@ spot_of place = record { directory = place.0; name = place.1 }
 abbrev pub FindsSpot : Result (ℕ × List ℕ) Refusal → Result Spot meant.Refusal → Type 0
 FindsSpot (Ok place) said = said ≡ Ok (spot_of place)
 FindsSpot (Err refusal) said = said ≡ Err (refusal_of refusal)
+
+-- The name at a place goes, if an inode that is no directory stands there.
+abbrev pub unlink_at : {C : Type 0} → Spot → Subvolume C → Result (Subvolume C) meant.Refusal
+unlink_at place s = found (at_spot s place) meant.NoEntry >>= λ ino. refuse_if (is_directory s ino) meant.IsDirectory >> Ok (take_name place ino s)
 
 -- One step of a walk: what a name in a directory leads to.
 abbrev pub one_step : {C : Type 0} → Subvolume C → ℕ → List ℕ → Result ℕ meant.Refusal

@@ -2,6 +2,7 @@
 ghost use Rattle.std.specs.Prelude.{◌≡◌, ◌<◌, ◌≤◌, ◌^◌, length, IfOk, OnOk};
 ghost use Rattle.extent_map.specs.Pieces.{run_cells};
 ghost use Rattle.send_model.specs.Provenance.{inode_with};
+ghost use Rattle.send_model.specs.Subvolume.{is_directory_kind};
 ghost use Rattle.inode_tree.specs.Changes.{changed};
 ghost use Rattle.inode_tree.specs.Kinds.{kind_of, time_of, new_of_kind, mode_of};
 
@@ -83,6 +84,13 @@ impl<O: Origin> Inode<O> {
         ensures { kind_of result ≡ self.now.kind }
     {
         self.kind
+    }
+
+    // Whether it is a directory.
+    pub(crate) fn is_directory(&self) -> bool
+        ensures { result ≡ is_directory_kind self.now.kind }
+    {
+        matches!(self.kind, NodeKind::Directory)
     }
 
     /// The permission bits, the low twelve bits of a mode.

@@ -30,20 +30,23 @@ impl<O: Origin> Tree<O> {
         ensures number { IfOk result (λ ino. ino ≡ self.old.next) }
     {
         let place = self.place(path)?;
-        if self.named(&place).is_some() {
-            return Err(Stop::Refused(Refusal::EntryThere));
-        }
-        if self.next == u64::MAX {
-            return Err(Stop::Refused(Refusal::NoNumber));
-        }
         if !self.whole {
             return Err(Stop::NoMemory);
         }
-        let inode = Inode::new(self.alloc, kind, rdev, target)?;
+        if self.next == u64::MAX {
+            if self.named(&place).is_some() {
+                return Err(Stop::Refused(Refusal::EntryThere));
+            }
+            return Err(Stop::Refused(Refusal::NoNumber));
+        }
         let ino = self.next;
         self.whole = false;
+        if !self.names.insert_new(&place, ino)? {
+            self.whole = true;
+            return Err(Stop::Refused(Refusal::EntryThere));
+        }
+        let inode = Inode::new(self.alloc, kind, rdev, target)?;
         self.inodes.insert(&ino, Shared::new(self.alloc, inode)?)?;
-        self.names.insert(&place, ino)?;
         self.next = ino + 1;
         self.whole = true;
         self.learn(path, ino);

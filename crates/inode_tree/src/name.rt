@@ -1,5 +1,5 @@
 // Names and bytes as keys of maps.
-ghost use Rattle.std.specs.Prelude.{◌≡◌, ◌<◌, IfOk};
+ghost use Rattle.std.specs.Prelude.{◌≡◌, ◌<◌, ◌≤◌, ◌+◌, length, IfOk};
 ghost use Rattle.send_model.specs.Map.{bytes_cmp};
 ghost use Rattle.inode_tree.specs.Openings.{byte_at, two_at, four_at, eight_at};
 
@@ -9,19 +9,22 @@ use std::cmp::Ordering;
 use std::marker::Model;
 use std::rc::RcSlice;
 
-/// Bytes that their copies share, seen as their list: a name, or the value of an extended attribute.
+/// Bytes that their copies share, seen as their list: the target of a symbolic link, or the name or the value of an extended
+/// attribute.
 #[derive(Drop)]
 pub struct Bytes {
-    bytes: RcSlice<u8>,
+    // None where there are no bytes, so that these take no memory.
+    bytes: Option<RcSlice<u8>>,
 }
 
 impl Model for Bytes {
-    ghost use Rattle.std.specs.Prelude.{ℕ, List};
+    ghost use Rattle.std.specs.Prelude.{ℕ, List, []};
+    ghost use Rattle.std.specs.Option.{option_map_or};
     ghost use Rattle.std.specs.Rc.{rc_slice_items};
 
     ghost Value = { List ℕ };
 
-    ghost view = { λ b. rc_slice_items b.bytes };
+    ghost view = { λ b. option_map_or rc_slice_items b.bytes [] };
 }
 
 impl Bytes {
@@ -29,24 +32,33 @@ impl Bytes {
     pub(crate) fn new(alloc: Global, bytes: &[u8]) -> Result<Bytes, AllocError>
         ensures { IfOk result (λ copy. copy ≡ bytes.now) }
     {
-        Ok(Bytes {
-            bytes: RcSlice::from_slice(alloc, bytes)?,
-        })
+        if bytes.is_empty() {
+            return Ok(Bytes { bytes: None });
+        }
+        let copy = RcSlice::from_slice(alloc, bytes)?;
+        Ok(Bytes { bytes: Some(copy) })
     }
 
     /// The bytes.
     pub fn as_slice(&self) -> &[u8]
         ensures { result.now ≡ self.now }
     {
-        self.bytes.as_slice()
+        match &self.bytes {
+            Some(bytes) => bytes.as_slice(),
+            None => b"",
+        }
     }
 }
 
 impl Copied for Bytes {
     fn copy(&self) -> Result<Bytes, AllocError> {
-        Ok(Bytes {
-            bytes: self.bytes.clone()?,
-        })
+        match &self.bytes {
+            Some(bytes) => {
+                let copy = bytes.clone()?;
+                Ok(Bytes { bytes: Some(copy) })
+            }
+            None => Ok(Bytes { bytes: None }),
+        }
     }
 }
 
@@ -89,7 +101,7 @@ impl Sought<Bytes> for BytesRef<'_> {
     ghost sought = { λ b. b };
 
     fn against(&self, key: &Bytes) -> Ordering {
-        key.bytes.as_slice().cmp(self.bytes)
+        key.as_slice().cmp(self.bytes)
     }
 
     fn own(&self, alloc: Global) -> Result<Bytes, AllocError> {
@@ -128,42 +140,100 @@ fn four_at(bytes: &[u8], place: usize) -> u64
     two_at(bytes, place) * 65_536 + two_at(bytes, place + 2)
 }
 
-// Eight bytes.
+// Eight bytes. All eight are there for most names, or none.
 #[tactic(auto, unfolding(crate::specs::Openings::eight_at))]
 fn eight_at(bytes: &[u8], place: usize) -> u64
     requires { place < 10 }
     ensures { result ≡ eight_at bytes.now place }
 {
+    if bytes.len() >= place + 8 {
+        return eight_in(bytes, place);
+    }
+    if bytes.len() <= place {
+        return 0;
+    }
     four_at(bytes, place) * 4_294_967_296 + four_at(bytes, place + 4)
 }
 
-// A name in a directory, whose copies share the bytes. Its first sixteen bytes stand beside them as numbers, so that most comparisons
-// need not look at bytes elsewhere.
+// Eight bytes that are there.
+fn eight_in(bytes: &[u8], place: usize) -> u64
+    requires { place + 8 ≤ length bytes.now }
+    ensures { result ≡ eight_at bytes.now place }
+{
+    u64::from_be_bytes([
+        bytes[place],
+        bytes[place + 1],
+        bytes[place + 2],
+        bytes[place + 3],
+        bytes[place + 4],
+        bytes[place + 5],
+        bytes[place + 6],
+        bytes[place + 7],
+    ])
+}
+
+// How many bytes of a name stand in it.
+const OPENING: usize = 16;
+
+// A name in a directory. Its first sixteen bytes stand in it, so that most comparisons need not look elsewhere, and a name that has no
+// more takes no memory. Copies of a longer one share its bytes.
 #[derive(Drop)]
 pub(crate) struct Name {
     directory: u64,
-    first: u64,
-    next: u64,
-    bytes: Bytes,
+    // The first bytes, and zero bytes behind the end of a name that has fewer.
+    opening: [u8; OPENING],
+    // How many bytes a name has that all stand in it.
+    len: u8,
+    // All bytes of a longer one.
+    long: Option<RcSlice<u8>>,
 }
 
 impl Model for Name {
-    ghost use Rattle.std.specs.Prelude.{ℕ, List};
-    ghost use Rattle.inode_tree.specs.Openings.{IsOpened};
+    ghost use Rattle.std.specs.Prelude.{ℕ, List, take};
+    ghost use Rattle.std.specs.Option.{option_map_or};
+    ghost use Rattle.std.specs.Rc.{rc_slice_items};
+    ghost use Rattle.inode_tree.specs.Openings.{IsOpening};
 
     ghost Value = { ℕ × List ℕ };
 
-    ghost view = { λ n. (n.directory, n.bytes) };
+    ghost view = { λ n. (n.directory, option_map_or rc_slice_items n.long (take n.len n.opening)) };
 
-    ghost invariant = { λ n. IsOpened n.bytes n.first n.next };
+    ghost invariant = { λ n. IsOpening (option_map_or rc_slice_items n.long (take n.len n.opening)) n.opening n.len };
 }
 
 impl Name {
+    // A name. Fails for want of memory alone.
+    fn new(alloc: Global, directory: u64, name: &[u8]) -> Result<Name, AllocError>
+        ensures { IfOk result (λ n. n ≡ (directory, name.now)) }
+    {
+        let mut opening = [0; OPENING];
+        if name.len() > OPENING {
+            opening.copy_from_slice(&name[..OPENING]);
+            let bytes = RcSlice::from_slice(alloc, name)?;
+            return Ok(Name {
+                directory,
+                opening,
+                len: 0,
+                long: Some(bytes),
+            });
+        }
+        opening[..name.len()].copy_from_slice(name);
+        Ok(Name {
+            directory,
+            opening,
+            len: name.len() as u8,
+            long: None,
+        })
+    }
+
     // The name alone.
     pub(crate) fn bytes(&self) -> &[u8]
         ensures { result.now ≡ self.now.1 }
     {
-        self.bytes.as_slice()
+        match &self.long {
+            Some(bytes) => bytes.as_slice(),
+            None => &self.opening[..usize::from(self.len)],
+        }
     }
 
     // The number of the directory.
@@ -181,11 +251,15 @@ impl Key for Name {
     ghost order = { named_cmp };
 
     fn copy_key(&self) -> Result<Name, AllocError> {
+        let long = match &self.long {
+            Some(bytes) => Some(bytes.clone()?),
+            None => None,
+        };
         Ok(Name {
             directory: self.directory,
-            first: self.first,
-            next: self.next,
-            bytes: self.bytes.copy()?,
+            opening: self.opening,
+            len: self.len,
+            long,
         })
     }
 
@@ -242,12 +316,12 @@ impl<'a> Place<'a> {
     fn against_bytes(&self, key: &Name) -> Ordering
         ensures { result ≡ bytes_cmp key.now.1 self.now.1 }
     {
-        match key.first.cmp(&self.first) {
+        match eight_in(&key.opening, 0).cmp(&self.first) {
             Ordering::Equal => {}
             other => return other,
         }
-        match key.next.cmp(&self.next) {
-            Ordering::Equal => key.bytes.as_slice().cmp(self.name),
+        match eight_in(&key.opening, 8).cmp(&self.next) {
+            Ordering::Equal => key.bytes().cmp(self.name),
             other => other,
         }
     }
@@ -264,11 +338,6 @@ impl Sought<Name> for Place<'_> {
     }
 
     fn own(&self, alloc: Global) -> Result<Name, AllocError> {
-        Ok(Name {
-            directory: self.directory,
-            first: self.first,
-            next: self.next,
-            bytes: Bytes::new(alloc, self.name)?,
-        })
+        Name::new(alloc, self.directory, self.name)
     }
 }

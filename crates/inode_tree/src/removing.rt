@@ -3,7 +3,7 @@ ghost use Rattle.std.specs.Prelude.{◌≡◌, ◌≢◌, ℕ, List, Some, OnOk}
 ghost use Rattle.send_model.specs.Subvolume.{named, is_directory, is_empty_directory};
 ghost use Rattle.send_model.specs.Edit as edit;
 ghost use Rattle.inode_tree.specs.Answers.{MayChange};
-ghost use Rattle.inode_tree.specs.Places.{spot_of};
+ghost use Rattle.inode_tree.specs.Places.{spot_of, unlink_at};
 
 use crate::making::further_names;
 use crate::name::Place;
@@ -22,17 +22,7 @@ impl<O: Origin> Tree<O> {
         ensures { MayChange result self.old self.new (edit.unlink path.now self.old) }
     {
         let place = self.place(path)?;
-        let Some(ino) = self.named(&place) else {
-            return Err(Stop::Refused(Refusal::NoEntry));
-        };
-        if self.is_directory(ino) {
-            return Err(Stop::Refused(Refusal::IsDirectory));
-        }
-        if !self.whole {
-            return Err(Stop::NoMemory);
-        }
-        self.take_name(&place, ino, false)?;
-        Ok(())
+        self.take_plain(&place)
     }
 
     /// Takes away an empty directory. After `NoMemory` nothing is said of the tree: what a snapshot shares is copied before it is
@@ -69,6 +59,39 @@ impl<O: Origin> Tree<O> {
             return true;
         };
         next.0.directory() != ino
+    }
+
+    // The name at a place goes, and with its last name the inode. Where that is a directory, both come back.
+    fn take_plain(&mut self, place: &Place<'_>) -> Result<(), Stop>
+        ensures { MayChange result self.old self.new (unlink_at (spot_of place.now) self.old) }
+    {
+        if !self.whole {
+            return Err(Stop::NoMemory);
+        }
+        self.whole = false;
+        let Some(ino) = self.names.remove(place)? else {
+            self.whole = true;
+            return Err(Stop::Refused(Refusal::NoEntry));
+        };
+        let further = further_names(&self.further, ino);
+        if further > 0 {
+            self.further.insert(&ino, further - 1)?;
+            self.last.forget_name(false);
+            self.whole = true;
+            return Ok(());
+        }
+        let Some(inode) = self.inodes.remove(&ino)? else {
+            return Err(Stop::NoMemory);
+        };
+        if inode.get().is_directory() {
+            self.names.insert(place, ino)?;
+            self.inodes.insert(&ino, inode)?;
+            self.whole = true;
+            return Err(Stop::Refused(Refusal::IsDirectory));
+        }
+        self.last.forget_name(false);
+        self.whole = true;
+        Ok(())
     }
 
     // A name of an inode with no names in it goes, and with its last name the inode. It is a directory or not.

@@ -1,8 +1,8 @@
 // Moving names.
-ghost use Rattle.std.specs.Prelude.{◌≡◌, ◌≢◌, ◌&&◌, ℕ, List, Some, None, Ok, OnOk};
+ghost use Rattle.std.specs.Prelude.{◌≡◌, ◌≢◌, ◌&&◌, ℕ, List, Some, None, Ok, IfOk, OnOk};
 ghost use Rattle.send_model.specs.Subvolume.{IsSound, named, is_directory, spot};
 ghost use Rattle.send_model.specs.Edit as edit;
-ghost use Rattle.inode_tree.specs.Answers.{Finds, MayChange};
+ghost use Rattle.inode_tree.specs.Answers.{Finds, MayChange, MovesIfFree};
 ghost use Rattle.inode_tree.specs.Places.{spot_of};
 
 use crate::name::Place;
@@ -24,39 +24,54 @@ impl<O: Origin> Tree<O> {
         ensures { MayChange result self.old self.new (edit.rename path.now path_to.now self.old) }
     {
         let from = self.place(path)?;
-        let Some(moved) = self.named(&from) else {
+        let Some(moved) = self.standing(path, &from) else {
             return Err(Stop::Refused(Refusal::NoEntry));
         };
         let to = self.place(path_to)?;
-        let Some(there) = self.named(&to) else {
-            if self.goes_into_itself(moved, path_to) {
+        if !self.whole {
+            return Err(Stop::NoMemory);
+        }
+        let directory = self.is_directory(moved);
+        if self.goes_into_itself(moved, directory, path_to) {
+            let Some(there) = self.named(&to) else {
+                return Err(Stop::Refused(Refusal::IntoItself));
+            };
+            if there != moved {
                 return Err(Stop::Refused(Refusal::IntoItself));
             }
-            if !self.whole {
-                return Err(Stop::NoMemory);
-            }
-            self.move_to(&from, &to, moved, path_to)?;
             return Ok(());
+        }
+        if self.move_to(&from, &to, moved, directory, path_to)? {
+            return Ok(());
+        }
+        let Some(there) = self.named(&to) else {
+            return Err(Stop::NoMemory);
         };
         if there == moved {
             return Ok(());
         }
-        if self.goes_into_itself(moved, path_to) {
-            return Err(Stop::Refused(Refusal::IntoItself));
-        }
         self.check_replace(moved, there)?;
-        if !self.whole {
-            return Err(Stop::NoMemory);
-        }
         self.move_onto(&from, &to, moved, there)?;
         Ok(())
     }
 
-    // Whether a directory would move to a place in it or below it.
-    fn goes_into_itself(&self, moved: u64, path_to: &[u8]) -> bool
+    // What stands at the place of a path, which may be what that path is known to lead to.
+    fn standing(&self, path: &[u8], place: &Place<'_>) -> Option<u64>
+        requires { spot self.now path.now ≡ Ok (spot_of place.now) }
+        ensures { result ≡ named self.now place.now.0 place.now.1 }
+    {
+        if let Some(ino) = self.known(path) {
+            return Some(ino);
+        }
+        self.named(place)
+    }
+
+    // Whether what moves, a directory or not, would go to a place in it or below it.
+    fn goes_into_itself(&self, moved: u64, directory: bool, path_to: &[u8]) -> bool
+        requires { directory ≡ is_directory self.now moved }
         ensures { result ≡ (is_directory self.now moved && edit.lies_below self.now moved path_to.now) }
     {
-        self.is_directory(moved) && self.lies_below(moved, path_to)
+        directory && self.lies_below(moved, path_to)
     }
 
     // Whether the walk to the directory of a path passes an inode.
@@ -119,54 +134,60 @@ impl<O: Origin> Tree<O> {
         let directory_there = self.is_directory(there);
         self.take_name(to, there, directory_there)?;
         let directory = self.is_directory(moved);
-        self.move_name(from, to, moved, directory)
+        let _free = self.move_name(from, to, moved, directory)?;
+        Ok(())
     }
 
-    // The name of an inode goes to the place that a path names, which is free.
+    // The name of an inode, a directory or not, goes to the place that a path names, if it is free.
     fn move_to(
         &mut self,
         from: &Place<'_>,
         to: &Place<'_>,
         moved: u64,
+        directory: bool,
         path_to: &[u8],
-    ) -> Result<(), AllocError>
+    ) -> Result<bool, AllocError>
         requires at { spot self.old path_to.now ≡ Ok (spot_of to.now) }
         requires there { named self.old from.now.0 from.now.1 ≡ Some moved }
-        requires free { named self.old to.now.0 to.now.1 ≡ None }
-        requires sound { IsSound (edit.move_name (spot_of from.now) (spot_of to.now) moved self.old) }
-        ensures { OnOk result (self.new ≡ edit.move_name (spot_of from.now) (spot_of to.now) moved self.old) }
+        requires kind { directory ≡ is_directory self.old moved }
+        requires sound { named self.old to.now.0 to.now.1 ≡ None → IsSound (edit.move_name (spot_of from.now) (spot_of to.now) moved self.old) }
+        ensures { IfOk result (MovesIfFree (named self.old to.now.0 to.now.1) (edit.move_name (spot_of from.now) (spot_of to.now) moved self.old) self.old self.new) }
     {
-        let directory = self.is_directory(moved);
-        self.move_name(from, to, moved, directory)?;
+        let free = self.move_name(from, to, moved, directory)?;
+        if !free {
+            return Ok(false);
+        }
         if directory {
-            return Ok(());
+            return Ok(true);
         }
         self.learn(path_to, moved);
-        Ok(())
+        Ok(true)
     }
 
-    // The name of an inode, a directory or not, goes from one place to another, which is free.
+    // The name of an inode, a directory or not, goes from one place to another, if that is free.
     fn move_name(
         &mut self,
         from: &Place<'_>,
         to: &Place<'_>,
         moved: u64,
         directory: bool,
-    ) -> Result<(), AllocError>
+    ) -> Result<bool, AllocError>
         requires there { named self.old from.now.0 from.now.1 ≡ Some moved }
-        requires free { named self.old to.now.0 to.now.1 ≡ None }
         requires kind { directory ≡ is_directory self.old moved }
-        requires sound { IsSound (edit.move_name (spot_of from.now) (spot_of to.now) moved self.old) }
-        ensures { OnOk result (self.new ≡ edit.move_name (spot_of from.now) (spot_of to.now) moved self.old) }
+        requires sound { named self.old to.now.0 to.now.1 ≡ None → IsSound (edit.move_name (spot_of from.now) (spot_of to.now) moved self.old) }
+        ensures { IfOk result (MovesIfFree (named self.old to.now.0 to.now.1) (edit.move_name (spot_of from.now) (spot_of to.now) moved self.old) self.old self.new) }
     {
         if !self.whole {
             return Err(AllocError);
         }
         self.whole = false;
-        self.last.forget_name(directory);
+        if !self.names.insert_new(to, moved)? {
+            self.whole = true;
+            return Ok(false);
+        }
         let _moved = self.names.remove(from)?;
-        self.names.insert(to, moved)?;
+        self.last.forget_name(directory);
         self.whole = true;
-        Ok(())
+        Ok(true)
     }
 }

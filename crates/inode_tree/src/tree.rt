@@ -6,7 +6,7 @@ ghost use Rattle.send_model.specs.Map.{named_cmp};
 ghost use Rattle.send_model.specs.Subvolume.{root_alone, inode_at, named, is_directory, is_file, walk, spot};
 ghost use Rattle.shared_map.specs.Sought.{entry_after};
 ghost use Rattle.inode_tree.specs.Answers.{Finds};
-ghost use Rattle.inode_tree.specs.Places.{FindsSpot, one_step};
+ghost use Rattle.inode_tree.specs.Places.{spot_of, FindsSpot, one_step};
 ghost use Rattle.inode_tree.specs.Walked.{spot_below, Begins};
 
 use crate::inode::Inode;
@@ -14,7 +14,7 @@ use crate::kind::NodeKind;
 use crate::name::{Name, Place};
 use crate::walked::{LastWalks, ROOT};
 use extent_map::Origin;
-use path_rules::{Parts, split};
+use path_rules::{Parts, name_ok, split};
 use shared_map::{Shared, SharedMap};
 use std::alloc::{AllocError, Global};
 use std::marker::Model;
@@ -172,7 +172,7 @@ impl<O: Origin> Tree<O> {
     }
 
     // What a path leads to, if that is remembered.
-    fn known(&self, path: &[u8]) -> Option<u64>
+    pub(crate) fn known(&self, path: &[u8]) -> Option<u64>
         ensures { IfSome result (λ ino. walk self.now path.now ≡ Ok ino) }
     {
         if !self.whole {
@@ -255,6 +255,9 @@ impl<O: Origin> Tree<O> {
     pub(crate) fn spot<'p>(&self, path: &'p [u8]) -> Result<Place<'p>, Refusal>
         ensures { FindsSpot result (spot self.now path.now) }
     {
+        if let Some(place) = self.near(path) {
+            return Ok(place);
+        }
         let (start, mut names) = self.begin(path)?;
         let Some(mut name) = names.next() else {
             return Err(Refusal::IsRoot);
@@ -268,6 +271,25 @@ impl<O: Origin> Tree<O> {
             return Err(Refusal::NotDirectory);
         }
         Ok(Place::new(directory, name))
+    }
+
+    // The place of a path that is one name behind the remembered front, or one name in the root.
+    fn near<'p>(&self, path: &'p [u8]) -> Option<Place<'p>>
+        ensures { IfSome result (λ place. spot self.now path.now ≡ Ok (spot_of place)) }
+    {
+        if !self.whole {
+            return None;
+        }
+        if let Some(rest) = self.last.rest(path) {
+            if name_ok(rest) {
+                return Some(Place::new(self.last.directory(), rest));
+            }
+            return None;
+        }
+        if name_ok(path) {
+            return Some(Place::new(ROOT, path));
+        }
+        None
     }
 
     // Where the walk to the place of a path may begin, and the names from there on: at the remembered directory, if the path goes

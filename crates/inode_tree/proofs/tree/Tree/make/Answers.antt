@@ -9,6 +9,7 @@ use Rattle.send_model.specs.Edit.{greatest_number}
 use Rattle.inode_tree.specs.Kinds.{kind_of, new_of_kind}
 use Rattle.inode_tree.specs.Places.{spot_of}
 use Rattle.inode_tree.proofs.EditSteps.{make_nowhere, make_there}
+use Rattle.inode_tree.proofs.FreePlaces.{was_taken, was_free, same_fields}
 use Rattle.inode_tree.proofs.TreeLaws.{whole_is, numberless, made_whole}
 use Rattle.inode_tree.proofs.KnownEdits.{remembered, made_known}
 use Rattle.inode_tree.proofs.tree.Tree.make.Goals as goal
@@ -33,43 +34,56 @@ returns-then-self-clause-made g c =
     let last : c.self.inside.next ≡ greatest_number = search rules in
     (numberless _ _ (c.self.view_is ∙ same) _ c.args.path.now place c.in_ok-place.ensures.found (subst (λ s. is_some (named s place.0 place.1) ≡ false) same free) last, same)
 
+pub returns-then-not-branch-clause-made : goal.returns-then-not-branch-clause-made
+returns-then-not-branch-clause-made g c =
+    let place = c.in_ok-place.place in
+    let same = c.in_ok-place.ensures.same in
+    let stale : c.in_ok-insert_new.field-0 ≡ false = search rules in
+    let stays = was_taken _ _ _ _ _ stale c.in_ok-insert_new.ensures.ok in (
+      make_there c.args.self.now c.args.path.now _ (spot_of place) c.in_ok-place.ensures.found (subst (λ s. is_some (named s place.0 place.1) ≡ true) (c.self.view_is ∙ same) stays.0),
+      same_fields _ _ refl stays.1 refl ∙ c.self.view_is ∙ same,
+    )
+
 pub invariant_of-self-2 : goal.invariant_of-self-2
 invariant_of-self-2 g c =
     let place = c.in_ok-place.place in
     let same = c.in_ok-place.ensures.same in
-    let free_there : is_some (named c.place.new.self place.0 place.1) ≡ false = search rules in
-    let free = subst (λ s. is_some (named s place.0 place.1) ≡ false) same free_there in
+    let fresh : c.in_ok-insert_new.field-0 ≡ true = search rules in
+    let puts = was_free _ _ _ _ _ fresh c.in_ok-insert_new.ensures.ok in
+    let free = subst (λ s. is_some (named s place.0 place.1) ≡ false) (c.self.view_is ∙ same) (ap is_some puts.0) in
     let more : c.self.inside.next ≢ greatest_number = search rules in
     let whole : c.self.inside.whole ≡ true = search rules in
     let tree = whole_is _ _ _ whole c.self.invariant.0 in
     let inode = new_of_kind (kind_of c.args.kind) c.args.rdev c.args.target.now in
     let inodes = c.in_ok-insert.ensures.ok ∙ ap (λ i. with_value nat_cmp c.self.inside.next i c.self.inside.inodes) (c.in_ok-new.ensures ∙ c.in_ok-inode.ensures) in (
-      (made_whole _ _ (c.self.view_is ∙ same) c.self.inside.further tree place inode c.args.path.now c.in_ok-place.ensures.found free more _ inodes c.in_ok-insert-2.ensures.ok refl).tree,
-      (made_known _ _ (c.self.view_is ∙ same) c.self.inside.last (remembered _ _ c.self.inside.last whole c.self.invariant.1) tree.sound c.args.path.now place inode c.in_ok-place.ensures.found free _ inodes c.in_ok-insert-2.ensures.ok).0,
+      (made_whole _ _ (c.self.view_is ∙ same) c.self.inside.further tree place inode c.args.path.now c.in_ok-place.ensures.found free more _ inodes puts.1 refl).tree,
+      (made_known _ _ (c.self.view_is ∙ same) c.self.inside.last (remembered _ _ c.self.inside.last whole c.self.invariant.1) tree.sound c.args.path.now place inode c.in_ok-place.ensures.found free _ inodes puts.1).0,
     )
 
 pub learn-requires : goal.learn-requires
 learn-requires g c =
     let place = c.in_ok-place.place in
     let same = c.in_ok-place.ensures.same in
-    let free_there : is_some (named c.place.new.self place.0 place.1) ≡ false = search rules in
-    let free = subst (λ s. is_some (named s place.0 place.1) ≡ false) same free_there in
+    let fresh : c.in_ok-insert_new.field-0 ≡ true = search rules in
+    let puts = was_free _ _ _ _ _ fresh c.in_ok-insert_new.ensures.ok in
+    let free = subst (λ s. is_some (named s place.0 place.1) ≡ false) (c.self.view_is ∙ same) (ap is_some puts.0) in
     let whole : c.self.inside.whole ≡ true = search rules in
     let tree = whole_is _ _ _ whole c.self.invariant.0 in
     let inode = new_of_kind (kind_of c.args.kind) c.args.rdev c.args.target.now in
     let inodes = c.in_ok-insert.ensures.ok ∙ ap (λ i. with_value nat_cmp c.self.inside.next i c.self.inside.inodes) (c.in_ok-new.ensures ∙ c.in_ok-inode.ensures) in
-    (made_known _ _ (c.self.view_is ∙ same) c.self.inside.last (remembered _ _ c.self.inside.last whole c.self.invariant.1) tree.sound c.args.path.now place inode c.in_ok-place.ensures.found free _ inodes c.in_ok-insert-2.ensures.ok).1
+    (made_known _ _ (c.self.view_is ∙ same) c.self.inside.last (remembered _ _ c.self.inside.last whole c.self.invariant.1) tree.sound c.args.path.now place inode c.in_ok-place.ensures.found free _ inodes puts.1).1
 
 pub returns-clause-made : goal.returns-clause-made
 returns-clause-made g c =
     let place = c.in_ok-place.place in
     let same = c.in_ok-place.ensures.same in
-    let free_there : is_some (named c.place.new.self place.0 place.1) ≡ false = search rules in
-    let free = subst (λ s. is_some (named s place.0 place.1) ≡ false) same free_there in
+    let fresh : c.in_ok-insert_new.field-0 ≡ true = search rules in
+    let puts = was_free _ _ _ _ _ fresh c.in_ok-insert_new.ensures.ok in
+    let free = subst (λ s. is_some (named s place.0 place.1) ≡ false) (c.self.view_is ∙ same) (ap is_some puts.0) in
     let more : c.self.inside.next ≢ greatest_number = search rules in
     let whole : c.self.inside.whole ≡ true = search rules in
     let tree = whole_is _ _ _ whole c.self.invariant.0 in
     let inode = new_of_kind (kind_of c.args.kind) c.args.rdev c.args.target.now in
     let inodes = c.in_ok-insert.ensures.ok ∙ ap (λ i. with_value nat_cmp c.self.inside.next i c.self.inside.inodes) (c.in_ok-new.ensures ∙ c.in_ok-inode.ensures) in
-    (made_whole _ _ (c.self.view_is ∙ same) c.self.inside.further tree place inode c.args.path.now c.in_ok-place.ensures.found free more _ inodes c.in_ok-insert-2.ensures.ok refl).says
+    (made_whole _ _ (c.self.view_is ∙ same) c.self.inside.further tree place inode c.args.path.now c.in_ok-place.ensures.found free more _ inodes puts.1 refl).says
     ∙ ap Ok (sym c.learn.ensures)

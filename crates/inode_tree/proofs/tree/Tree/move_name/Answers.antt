@@ -1,6 +1,7 @@
 -- The tree with the name in its new place.
-use Rattle.std.proofs.Common.{◌≡◌, true, refl, ap, ◌∙◌, rules}
-use Rattle.send_model.specs.Map.{named_cmp, with_value}
+use Rattle.std.proofs.Common.{◌≡◌, Some, None, true, refl, sym, subst, rules}
+use Rattle.send_model.specs.Subvolume.{named}
+use Rattle.inode_tree.proofs.FreePlaces.{was_free, has_moved, stands_in, moved_names}
 use Rattle.inode_tree.proofs.RenameSteps.{moved_whole}
 use Rattle.inode_tree.proofs.TreeLaws.{whole_is}
 use Rattle.inode_tree.proofs.KnownEdits.{remembered, moved_known}
@@ -9,15 +10,26 @@ use Rattle.inode_tree.proofs.tree.Tree.move_name.Goals as goal
 pub invariant_of-self-2 : goal.invariant_of-self-2
 invariant_of-self-2 g c =
     let whole : c.self.inside.whole ≡ true = search rules in
-    let became = moved_whole _ _ c.self.view_is c.self.inside.further (whole_is _ _ _ whole c.self.invariant.0) c.args.from.now c.args.to.now c.args.moved c.requires.there c.requires.free c.requires.sound
-    _ refl (c.in_ok-insert.ensures.ok ∙ ap (with_value named_cmp c.args.to.now c.args.moved) c.in_ok-_moved.ensures.ok) refl in (
+    let tree = whole_is _ _ _ whole c.self.invariant.0 in
+    let fresh : c.in_ok-insert_new.field-0 ≡ true = search rules in
+    let puts = was_free _ _ _ _ _ fresh c.in_ok-insert_new.ensures.ok in
+    let free = stands_in _ _ c.self.view_is c.args.to.now None puts.0 in
+    let mine = subst (λ s. named s c.args.from.now.0 c.args.from.now.1 ≡ Some c.args.moved) (sym c.self.view_is) c.requires.there in
+    let names = moved_names c.args.from.now c.args.to.now c.args.moved c.self.inside.names _ _ tree.sound.names_in_order mine puts.0 puts.1 c.in_ok-_moved.ensures.ok in
+    let became = moved_whole _ _ c.self.view_is c.self.inside.further tree c.args.from.now c.args.to.now c.args.moved c.requires.there free (c.requires.sound free) _ refl names refl in (
       became.tree,
-      moved_known _ _ c.self.view_is c.self.inside.last (remembered _ _ c.self.inside.last whole c.self.invariant.1) c.args.from.now c.args.to.now c.args.moved c.args.directory c.requires.there c.requires.free c.requires.kind
+      moved_known _ _ c.self.view_is c.self.inside.last (remembered _ _ c.self.inside.last whole c.self.invariant.1) c.args.from.now c.args.to.now c.args.moved c.args.directory c.requires.there free c.requires.kind
           _ became.is became.tree.sound _ c.forget_name.ensures,
     )
 
 pub returns : goal.returns
 returns g c =
     let whole : c.self.inside.whole ≡ true = search rules in
-    (moved_whole _ _ c.self.view_is c.self.inside.further (whole_is _ _ _ whole c.self.invariant.0) c.args.from.now c.args.to.now c.args.moved c.requires.there c.requires.free c.requires.sound
-    _ refl (c.in_ok-insert.ensures.ok ∙ ap (with_value named_cmp c.args.to.now c.args.moved) c.in_ok-_moved.ensures.ok) refl).is
+    let tree = whole_is _ _ _ whole c.self.invariant.0 in
+    let fresh : c.in_ok-insert_new.field-0 ≡ true = search rules in
+    let puts = was_free _ _ _ _ _ fresh c.in_ok-insert_new.ensures.ok in
+    let free = stands_in _ _ c.self.view_is c.args.to.now None puts.0 in
+    let mine = subst (λ s. named s c.args.from.now.0 c.args.from.now.1 ≡ Some c.args.moved) (sym c.self.view_is) c.requires.there in
+    let names = moved_names c.args.from.now c.args.to.now c.args.moved c.self.inside.names _ _ tree.sound.names_in_order mine puts.0 puts.1 c.in_ok-_moved.ensures.ok in
+    let became = moved_whole _ _ c.self.view_is c.self.inside.further tree c.args.from.now c.args.to.now c.args.moved c.requires.there free (c.requires.sound free) _ refl names refl in
+    has_moved _ _ _ _ free became.is

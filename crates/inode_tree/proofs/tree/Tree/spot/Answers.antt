@@ -7,14 +7,14 @@ use Rattle.inode_tree.specs.Walked.{spot_below}
 use Rattle.inode_tree.proofs.Walks.{spot_goes_on, spot_stops, spot_ends_there, spot_ends_nowhere}
 use Rattle.inode_tree.proofs.tree.Tree.spot.Goals as goal
 
-pub returns-in_default : goal.returns-in_default
-returns-in_default g c = c.in_ok-start.ensures ∙ ap (spot_below c.args.self.now c.in_ok-start.start) c.in_default.ensures.steps.0
+pub returns-in_default-next : goal.returns-in_default-next
+returns-in_default-next g c = c.in_ok-start.ensures ∙ ap (spot_below c.args.self.now c.in_ok-start.start) c.in_default-next.ensures.steps.0
 
 pub loop-further-init : goal.loop-further-init
 loop-further-init g c =
     let s = c.args.self.now in
-    c.in_ok-start.ensures ∙ ap (spot_below s c.in_ok-start.start) c.in-Some.ensures.steps
-    ∙ ap (spot_from s c.in_ok-start.start c.in-Some.name.now) (sym c.into_iter-further-iterator.ensures.into_iter_gives)
+    c.in_ok-start.ensures ∙ ap (spot_below s c.in_ok-start.start) c.in-Some-next.ensures.steps
+    ∙ ap (spot_from s c.in_ok-start.start c.in-Some-next.name.now) (sym c.into_iter-further-iterator.ensures.into_iter_gives)
 
 pub returns-in_err-directory : goal.returns-in_err-directory
 returns-in_err-directory g c =

@@ -1,10 +1,8 @@
--- Each way out of an unlink.
-use Rattle.std.proofs.Common.{◌≡◌, Some, None, Ok, true, false, ap, ◌∙◌, rules, sym, subst}
+-- What is taken from the place of a path.
 use Rattle.std.proofs.lemmas.Result.{err_from_is_err_and}
-use Rattle.send_model.specs.Subvolume.{named, is_directory, spot}
-use Rattle.send_model.specs.Edit.{unlink}
 use Rattle.inode_tree.specs.Places.{spot_of}
-use Rattle.inode_tree.proofs.EditSteps.{unlink_nowhere, unlink_absent, unlink_directory, unlink_made}
+use Rattle.inode_tree.proofs.EditSteps.{unlink_nowhere}
+use Rattle.inode_tree.proofs.PlainSteps.{unlink_placed}
 use Rattle.inode_tree.proofs.tree.Tree.unlink.Goals as goal
 
 pub returns-in_err-place : goal.returns-in_err-place
@@ -12,28 +10,5 @@ returns-in_err-place g c =
     let p = err_from_is_err_and c.from_residual.result c.from_residual.ensures.1 in
     rw (p.1, p.2) (unlink_nowhere c.args.self.now c.args.path.now _ c.in_err-place.ensures.found, c.in_err-place.ensures.same)
 
-pub returns-in_default : goal.returns-in_default
-returns-in_default g c =
-    let place = c.in_ok-place.place in
-    let same = c.in_ok-place.ensures.same in
-    let at = subst (λ s. spot s c.args.path.now ≡ Ok (spot_of place)) (sym same) c.in_ok-place.ensures.found in
-    let absent : named c.place.new.self place.0 place.1 ≡ None = search rules in
-    (ap (unlink c.args.path.now) (sym same) ∙ unlink_absent c.place.new.self c.args.path.now (spot_of place) at absent, same)
-
-pub returns-then-is_directory : goal.returns-then-is_directory
-returns-then-is_directory g c =
-    let place = c.in_ok-place.place in
-    let same = c.in_ok-place.ensures.same in
-    let at = subst (λ s. spot s c.args.path.now ≡ Ok (spot_of place)) (sym same) c.in_ok-place.ensures.found in
-    let there : named c.place.new.self place.0 place.1 ≡ Some c.in-Some.ino = search rules in
-    let d : is_directory c.place.new.self c.in-Some.ino ≡ true = search rules in
-    (ap (unlink c.args.path.now) (sym same) ∙ unlink_directory c.place.new.self c.args.path.now (spot_of place) at c.in-Some.ino there d, same)
-
 pub returns : goal.returns
-returns g c =
-    let place = c.in_ok-place.place in
-    let same = c.in_ok-place.ensures.same in
-    let at = subst (λ s. spot s c.args.path.now ≡ Ok (spot_of place)) (sym same) c.in_ok-place.ensures.found in
-    let there : named c.place.new.self place.0 place.1 ≡ Some c.in-Some.ino = search rules in
-    let d : is_directory c.place.new.self c.in-Some.ino ≡ false = search rules in
-    ap (unlink c.args.path.now) (sym same) ∙ unlink_made c.place.new.self c.args.path.now (spot_of place) at c.in-Some.ino there d ∙ ap Ok (sym c.in_ok-take_name.ensures)
+returns g c = unlink_placed c.take_plain.result c.place.new.self c.args.self.now c.in_ok-place.ensures.same c.take_plain.new.self c.args.path.now (spot_of c.in_ok-place.place) c.in_ok-place.ensures.found c.take_plain.ensures
