@@ -36,16 +36,6 @@ use Rattle.composer.specs.Taking.{StopEnd, ErrCausedAgain}
 use Rattle.composer.specs.Adding.{Led, uncarried_by, Adds, AddsCommand, AddEnd, IsSourceOf, AddsRange}
 use Rattle.composer.proofs.OverBaseAdds.{sum_redirected}
 
--- ---- facts of all files, where the inputs tell them
-
-pub all_always : (told : Option (List (List ℕ × List ℕ))) (names : List (List ℕ)) (P : List (List ℕ) → Type 0) → ((files : List (List ℕ)) → P files) → IfAllTold told names P
-all_always None names P f = tt
-all_always (Some table) names P f = f _
-
-pub all_map : (told : Option (List (List ℕ × List ℕ))) (names : List (List ℕ)) (P Q : List (List ℕ) → Type 0) → ((files : List (List ℕ)) → P files → Q files) → IfAllTold told names P → IfAllTold told names Q
-all_map None names P Q f p = tt
-all_map (Some table) names P Q f p = f _ p
-
 -- ---- the contents of a source
 
 some_is : {A : Type 0} (x y : A) → ◌≡◌ {A = Option A} (Some x) (Some y) → x ≡ y
@@ -319,10 +309,6 @@ put_caused e0 e1 i0 i1 before now out_old out_new old new bytes (Err ended.Input
 put_caused e0 e1 i0 i1 before now out_old out_new old new bytes (Err (ended.InputTooLong file)) put = elim put [ ]
 put_caused e0 e1 i0 i1 before now out_old out_new old new bytes (Err (ended.TooMuch sum)) put = elim put [ ]
 put_caused e0 e1 i0 i1 before now out_old out_new old new bytes (Err (ended.InputChanged file place)) put = elim put [ ]
-
-pub all_two : (told : Option (List (List ℕ × List ℕ))) (names : List (List ℕ)) (P Q R : List (List ℕ) → Type 0) → ((files : List (List ℕ)) → P files → Q files → R files) → IfAllTold told names P → IfAllTold told names Q → IfAllTold told names R
-all_two None names P Q R f p q = tt
-all_two (Some table) names P Q R f p q = f _ p q
 
 -- What is no value is none.
 pub is_none_of : {A : Type 0} (o : Option A) → ((x : A) → o ≡ Some x → ⊥) → o ≡ None

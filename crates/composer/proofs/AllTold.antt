@@ -8,22 +8,6 @@ use Rattle.sx_base.specs.Outside.{file_at}
 use Rattle.sx_base.specs.Calls.{contents, IfAllTold}
 use Rattle.cmd_reader.specs.Places.{IfTold}
 
-pub all_always : (told : Option (List (List ℕ × List ℕ))) (names : List (List ℕ)) (P : List (List ℕ) → Type 0) → ((files : List (List ℕ)) → P files) → IfAllTold told names P
-all_always None names P f = tt
-all_always (Some table) names P f = f _
-
-pub all_map : (told : Option (List (List ℕ × List ℕ))) (names : List (List ℕ)) (P Q : List (List ℕ) → Type 0) → ((files : List (List ℕ)) → P files → Q files) → IfAllTold told names P → IfAllTold told names Q
-all_map None names P Q f p = tt
-all_map (Some table) names P Q f p = f _ p
-
-pub all_both : (told : Option (List (List ℕ × List ℕ))) (names : List (List ℕ)) (P Q R : List (List ℕ) → Type 0) → ((files : List (List ℕ)) → P files → Q files → R files) → IfAllTold told names P → IfAllTold told names Q → IfAllTold told names R
-all_both None names P Q R f p q = tt
-all_both (Some table) names P Q R f p q = f _ p q
-
--- The same inputs.
-pub all_moved : (told now : Option (List (List ℕ × List ℕ))) (names : List (List ℕ)) (P : List (List ℕ) → Type 0) → now ≡ told → IfAllTold now names P → IfAllTold told names P
-all_moved told now names P e p = subst (λ (t : Option (List (List ℕ × List ℕ))). IfAllTold t names P) e p
-
 -- What is found of the file of one name.
 pub told_file : (told now : Option (List (List ℕ × List ℕ))) (names : List (List ℕ)) (n : ℕ) (name : List ℕ) (P : List ℕ → Type 0) → now ≡ told → n < length names → name ≡ get_or names n [] → IfTold now name P → IfAllTold told names (λ files. P (get_or files n []))
 told_file told now names n name P same less is p = by_told told (subst (λ (t : Option (List (List ℕ × List ℕ))). IfTold t name P) same p)

@@ -37,7 +37,9 @@ use Rattle.clone_resolve.proofs.TakenStates.{AllCells}
 use Rattle.composer.specs.Kept.{Kept, composing_of}
 use Rattle.composer.specs.Taking.{DataStand, ItemTaken, ItemWhy, ItemStops, ItemKept, ItemEnd, StopEnd}
 use Rattle.composer.specs.Files.{IsPlace, IsLastPlace, FileTaken, NextHalts, FileWhy, FileStops}
-use Rattle.composer.proofs.AllTold.{all_always, all_map, all_both, all_moved, told_file}
+use Rattle.clone_pieces.proofs.Told.{all_always, all_map, all_two}
+use Rattle.clone_pieces.proofs.Told as all
+use Rattle.composer.proofs.AllTold.{told_file}
 use Rattle.composer.proofs.LastHeads.{latest_none, latest_more}
 use Rattle.composer.proofs.DataAhead.{data_left, data_stand}
 use Rattle.composer.proofs.OverBaseFolds.{advance_unsent_ok, advance_unsent_err, unsent_more, all_more, all_one}
@@ -115,7 +117,7 @@ pub data_there : (told : Option (List (List ℕ × List ℕ))) (names : List (Li
     → file ≡ number + 1 → old.file ≡ file → IfAllTold told names (λ files. IsNext old new item (get_or files number [])) → IfAllTold told names (λ files. Stands files plan file c0 out0 old now out_now before place (get_or files number []))
     → IfAllTold told names (λ files. AllCells (IsInInput files) now.state × DataStand files (item_of file item))
 data_there told names plan number file c0 out0 old new now out_now before place item file_is old_file next stands =
-    all_both told names (λ files. IsNext old new item (get_or files number [])) (λ files. Stands files plan file c0 out0 old now out_now before place (get_or files number []))
+    all_two told names (λ files. IsNext old new item (get_or files number [])) (λ files. Stands files plan file c0 out0 old now out_now before place (get_or files number []))
     (λ files. AllCells (IsInInput files) now.state × DataStand files (item_of file item))
     (λ files n s. (
       s.there,
@@ -154,12 +156,12 @@ pub stands_after : (told inputs : Option (List (List ℕ × List ℕ))) (names :
     → IfAllTold told names (λ files. Stands files plan file c0 out0 old now out_now before place (get_or files number []))
     → IfAllTold told names (λ files. Stands files plan file c0 out0 new next out_next before after (get_or files number []))
 stands_after told inputs names plan number file c0 out0 old new now next out_now out_next before place after item old_file at_item same next_is taken stands =
-    all_both told names (λ files. IsNext old new item (get_or files number []) × ItemEnd files plan now next meant_item out_now out_next (Ok tt))
+    all_two told names (λ files. IsNext old new item (get_or files number []) × ItemEnd files plan now next meant_item out_now out_next (Ok tt))
     (λ files. Stands files plan file c0 out0 old now out_now before place (get_or files number [])) (λ files. Stands files plan file c0 out0 new next out_next before after (get_or files number []))
     (λ files p s. step files (get_or files number []) p.0 p.1.0 p.1.1 s)
-    (all_both told names (λ files. IsNext old new item (get_or files number [])) (λ files. ItemEnd files plan now next meant_item out_now out_next (Ok tt))
+    (all_two told names (λ files. IsNext old new item (get_or files number [])) (λ files. ItemEnd files plan now next meant_item out_now out_next (Ok tt))
     (λ files. IsNext old new item (get_or files number []) × ItemEnd files plan now next meant_item out_now out_next (Ok tt)) (λ files a b. (a, b)) next_is
-    (all_moved told inputs names (λ files. ItemEnd files plan now next meant_item out_now out_next (Ok tt)) same taken))
+    (all.told_moved told inputs names (λ files. ItemEnd files plan now next meant_item out_now out_next (Ok tt)) same taken))
     stands
   where
     meant_item : Item
@@ -187,7 +189,7 @@ pub file_ends : (told inputs : Option (List (List ℕ × List ℕ))) (names : Li
     → IfAllTold told names (λ files. Stands files plan file c0 out0 old now out_now before place (get_or files number []))
     → IfAllTold told names (λ files. FileTaken files plan file c0 now out0 out_now before place (get_or files number []))
 file_ends told inputs names plan number file c0 out0 old new now out_now before place f0 f1 o e same less is says stands =
-    all_both told names (λ files. HasEnded old (get_or files number [])) (λ files. Stands files plan file c0 out0 old now out_now before place (get_or files number []))
+    all_two told names (λ files. HasEnded old (get_or files number [])) (λ files. Stands files plan file c0 out0 old now out_now before place (get_or files number []))
     (λ files. FileTaken files plan file c0 now out0 out_now before place (get_or files number [])) (λ files. step files (get_or files number []))
     (told_file told inputs names number old.name (HasEnded old) same less is (subst (λ (x : Option read.Item). NextSays inputs old new f0 f1 (Ok x)) e says)) stands
   where
@@ -257,7 +259,7 @@ pub file_stops : (told inputs : Option (List (List ℕ × List ℕ))) (names : L
     → IfAllTold told names (λ files. FileStops files plan file c0 out0 out_next result (get_or files number []))
 unfolding Unread
 file_stops told inputs names plan number file c0 out0 old new now out_now out_next before place f0 f1 g0 g1 why outcome result same less is says outcome_is stopped alike stands =
-    all_both told names (λ files. Unread plan file old why (get_or files number [])) (λ files. Stands files plan file c0 out0 old now out_now before place (get_or files number []))
+    all_two told names (λ files. Unread plan file old why (get_or files number [])) (λ files. Stands files plan file c0 out0 old now out_now before place (get_or files number []))
     (λ files. FileStops files plan file c0 out0 out_next result (get_or files number [])) (λ files. step files (get_or files number []))
     (told_file told inputs names number old.name (Unread plan file old why) same less is (unread inputs plan file old new f0 f1 why says alike)) stands
   where
@@ -282,7 +284,7 @@ pub file_above : (told : Option (List (List ℕ × List ℕ))) (names : List (Li
     → IfAllTold told names (λ files. Stands files plan file c0 out0 old now out_now before place (get_or files number []))
     → IfAllTold told names (λ files. FileStops files plan file c0 out0 out_next result (get_or files number []))
 file_above told names plan number file c0 out0 old new now out_now out_next before place g0 g1 item verdict result above old_file stopped next_is stands =
-    all_both told names (λ files. IsNext old new item (get_or files number [])) (λ files. Stands files plan file c0 out0 old now out_now before place (get_or files number []))
+    all_two told names (λ files. IsNext old new item (get_or files number [])) (λ files. Stands files plan file c0 out0 old now out_now before place (get_or files number []))
     (λ files. FileStops files plan file c0 out0 out_next result (get_or files number [])) (λ files. step files (get_or files number [])) next_is stands
   where
     step : (files : List (List ℕ)) (bytes : List ℕ) → IsNext old new item bytes → Stands files plan file c0 out0 old now out_now before place bytes → FileStops files plan file c0 out0 out_next result bytes
@@ -365,11 +367,11 @@ pub item_stops : (told inputs : Option (List (List ℕ × List ℕ))) (names : L
     → IfAllTold told names (λ files. FileStops files plan file c0 out0 out_next outcome (get_or files number []))
 unfolding so_far
 item_stops told inputs names plan number file c0 out0 old new now next out_now out_next before place item outcome old_file same next_is stops stands =
-    all_both told names (λ files. IsNext old new item (get_or files number []) × ItemStops plan (composing_of files plan.base now) (item_of file item) outcome out_now out_next)
+    all_two told names (λ files. IsNext old new item (get_or files number []) × ItemStops plan (composing_of files plan.base now) (item_of file item) outcome out_now out_next)
     (λ files. Stands files plan file c0 out0 old now out_now before place (get_or files number [])) (λ files. FileStops files plan file c0 out0 out_next outcome (get_or files number []))
     (λ files p s. item_ends files plan file c0 out0 old new now out_now out_next before place (item_of file item) (get_or files number []) s
     (left_next file old new item (get_or files number []) old_file p.0) outcome p.1.next p.1.why p.1.front)
-    (all_both told names (λ files. IsNext old new item (get_or files number [])) (λ files. ItemStops plan (composing_of files plan.base now) (item_of file item) outcome out_now out_next)
+    (all_two told names (λ files. IsNext old new item (get_or files number [])) (λ files. ItemStops plan (composing_of files plan.base now) (item_of file item) outcome out_now out_next)
     (λ files. IsNext old new item (get_or files number []) × ItemStops plan (composing_of files plan.base now) (item_of file item) outcome out_now out_next) (λ files a b. (a, b)) next_is
-    (all_moved told inputs names (λ files. ItemStops plan (composing_of files plan.base now) (item_of file item) outcome out_now out_next) same stops))
+    (all.told_moved told inputs names (λ files. ItemStops plan (composing_of files plan.base now) (item_of file item) outcome out_now out_next) same stops))
     stands

@@ -41,7 +41,7 @@ use Rattle.clone_resolve.proofs.TakenStates.{AllCells}
 use Rattle.composer.specs.Kept.{Kept, composing_of}
 use Rattle.composer.specs.Taking.{EndEnd, is_at_last}
 use Rattle.composer.specs.Files.{plan_with, AllSayable, IsLastPlace, FileTaken, NextHalts, NextAbove, FileWhy, FileStops, ComposeEnds, outcome_in}
-use Rattle.composer.proofs.AllTold.{all_map, all_both}
+use Rattle.clone_pieces.proofs.Told.{all_map, all_two}
 use Rattle.composer.proofs.LastHeads.{latest_none, latest_append, latest_alone}
 use Rattle.composer.proofs.FileWriting.{front_after}
 use Rattle.composer.proofs.OverBaseProgress.{Progress, progress_start, progress_all}
@@ -257,7 +257,7 @@ pub record HasBegun (base : Store ℕ) (survey : Surveyed) (old : Kept) (files :
 pub begun : (told : Option (List (List ℕ × List ℕ))) (names : List (List ℕ)) (base : Store ℕ) (survey : Surveyed) (old : Kept) → store_without survey.parts base ≡ base → AllSayable base → IfAllTold told names (AllRead survey)
     → IfAllTold told names (λ files. composing_of files base old ≡ at_start (plan_with base survey)) → IfAllTold told names (HasBegun base survey old)
 begun told names base survey old apart sayable read start =
-    all_both told names (AllRead survey) (λ files. composing_of files base old ≡ at_start (plan_with base survey)) (HasBegun base survey old) (λ files r s. record { known = known base survey files apart sayable r; start = s }) read start
+    all_two told names (AllRead survey) (λ files. composing_of files base old ≡ at_start (plan_with base survey)) (HasBegun base survey old) (λ files r s. record { known = known base survey files apart sayable r; start = s }) read start
 
 pub files_stopped : {Z : Type 0} (told inputs : Option (List (List ℕ × List ℕ))) (names : List (String Z)) (base : Store ℕ) (survey : Surveyed) (old : Kept) (out0 : Option (List ℕ)) (number : ℕ) (now : Kept) (out_now out_next : Option (List ℕ)) (before place : Place) (outcome : Outcome)
     → inputs ≡ told → number < length names → IfAllTold told (map string_bytes names) (HasBegun base survey old)

@@ -16,7 +16,7 @@ use Rattle.clone_pieces.specs.Seen.{seen}
 use Rattle.composer.specs.OverBase.{Composing, at_start}
 use Rattle.composer.specs.Kept.{Kept, kept_at_start, composing_of}
 use Rattle.composer.specs.Files.{plan_with, AllSayable}
-use Rattle.composer.proofs.AllTold.{all_always}
+use Rattle.clone_pieces.proofs.Told.{all_always}
 
 -- Each cell of the base's subvolumes is traced to its own place.
 abbrev pub IsTraced : Store ℕ → Store (Option Trace) → Type 0

@@ -9,7 +9,8 @@ use Rattle.clone_pieces.specs.Origins.{IsInInput}
 use Rattle.clone_resolve.proofs.TakenStates.{AllCells}
 use Rattle.composer.specs.Taking.{DataStand}
 use Rattle.composer.specs.Files.{plan_with}
-use Rattle.composer.proofs.AllTold.{all_moved, name_at, count_names}
+use Rattle.clone_pieces.proofs.Told as all
+use Rattle.composer.proofs.AllTold.{name_at, count_names}
 use Rattle.composer.proofs.FileWriting.{EndsAlike, stands_at_start, alike_at_start, alike_after, next_of_all, data_there, stands_after, file_unopened, file_ends, file_stops, file_above, item_stops}
 use Rattle.composer.proofs.whole.write_file.Goals as goal
 
@@ -46,7 +47,7 @@ take-taken-requires-clause-there g c =
     let i = c.loop-reader.invariant in
     let e = c.in-Ok-Some.ensures in
     let next = next_of_all (g.I.Inputs.told c.args.inputs.now) _ (map string_bytes c.args.files.now) c.args.number c.loop-reader.reader c.next.new.self 0 0 c.in-Ok-Some.field-0 c.in-Ok-Some.item c.in-Ok-Some.field-0-is i.same (count_names c.args.files.now c.args.number c.requires.numbered) i.name e.read in
-    all_moved (g.I.Inputs.told c.next.new.inputs) (g.I.Inputs.told c.args.inputs.now) (map string_bytes c.args.files.now)
+    all.told_moved (g.I.Inputs.told c.next.new.inputs) (g.I.Inputs.told c.args.inputs.now) (map string_bytes c.args.files.now)
     (λ files. AllCells (IsInInput files) c.loop-reader.composer.state × DataStand files (item_of (c.args.number + 1) c.in-Ok-Some.item)) (sym (e.same ∙ i.same))
     (data_there (g.I.Inputs.told c.args.inputs.now) (map string_bytes c.args.files.now) (plan_with (g.E.Known.base c.args.known.now) c.args.survey.now) c.args.number (c.args.number + 1) c.args.composer.now _ c.loop-reader.reader c.next.new.self c.loop-reader.composer _ c.args.before c.loop-reader.place c.in-Ok-Some.item refl i.file next i.stands)
 

@@ -4,7 +4,7 @@ use Rattle.std.proofs.Common.{refl, sym, ◌∙◌, arith}
 use Rattle.clone_pieces.specs.Origins.{IsInInput}
 use Rattle.clone_resolve.proofs.TakenStates.{AllCells}
 use Rattle.composer.specs.Files.{plan_with}
-use Rattle.composer.proofs.AllTold.{all_moved}
+use Rattle.clone_pieces.proofs.Told.{told_moved}
 use Rattle.composer.proofs.FilesWriting.{files_start, files_there, files_after, begun, files_stopped, files_empty, files_ended}
 use Rattle.composer.proofs.whole.write_files.Goals as goal
 
@@ -24,7 +24,7 @@ loop-file-init g c = record {
 pub write_file-requires-clause-there : goal.write_file-requires-clause-there
 write_file-requires-clause-there g c =
     let i = c.loop-file.invariant in
-    all_moved (g.I.Inputs.told c.loop-file.inputs) (g.I.Inputs.told c.args.inputs.now) (map string_bytes c.args.files.now) (λ files. AllCells (IsInInput files) c.loop-file.composer.state) (sym i.same)
+    told_moved (g.I.Inputs.told c.loop-file.inputs) (g.I.Inputs.told c.args.inputs.now) (map string_bytes c.args.files.now) (λ files. AllCells (IsInInput files) c.loop-file.composer.state) (sym i.same)
     (files_there (g.I.Inputs.told c.args.inputs.now) (map string_bytes c.args.files.now) (plan_with (g.E.Known.base c.args.known.now) c.args.survey.now) c.args.composer.now _ c.loop-file.file c.loop-file.composer _ c.start-place.result c.loop-file.place i.stand)
 
 pub returns-in-Err-clause-ends : goal.returns-in-Err-clause-ends

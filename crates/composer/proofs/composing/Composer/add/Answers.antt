@@ -19,7 +19,8 @@ use Rattle.composer.specs.Kept.{Kept}
 use Rattle.composer.specs.Adding.{Led, AddEnd, IsSourceOf, AddsRange}
 use Rattle.composer.specs.contracts.composing.Composer.{the_view}
 use Rattle.composer.proofs.EditSpelling.{paths_short}
-use Rattle.composer.proofs.AddingItems.{all_always, all_map, led_taken, own_adds, kept_adds, redirected_adds, plain_of, plain_adds, end_adds, put_caused}
+use Rattle.clone_pieces.proofs.Told.{all_always, all_map}
+use Rattle.composer.proofs.AddingItems.{led_taken, own_adds, kept_adds, redirected_adds, plain_of, plain_adds, end_adds, put_caused}
 use Rattle.composer.proofs.composing.Composer.add.Goals as goal
 
 pub add_own-requires : goal.add_own-requires

@@ -11,7 +11,8 @@ use Rattle.sx_base.specs.declared.outcome.Outcome.TheVariants as ended
 use Rattle.composer.specs.Taking.{StopEnd}
 use Rattle.composer.specs.Kept.{Kept}
 use Rattle.composer.specs.contracts.composing.Composer.{the_view}
-use Rattle.composer.proofs.AddingItems.{all_always, all_map, source_cells, source_exceeds, source_added, range_had}
+use Rattle.clone_pieces.proofs.Told.{all_always, all_map}
+use Rattle.composer.proofs.AddingItems.{source_cells, source_exceeds, source_added, range_had}
 use Rattle.composer.proofs.composing.Composer.add_redirected.Goals as goal
 
 pub returns-then-sum-gt-MOST_LITERAL-clause-added : goal.returns-then-sum-gt-MOST_LITERAL-clause-added

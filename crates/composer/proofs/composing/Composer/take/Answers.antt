@@ -26,7 +26,8 @@ use Rattle.composer.specs.Files.{plan_with}
 use Rattle.composer.specs.Taking.{DataStand, ItemEnd}
 use Rattle.composer.specs.Adding.{AddEnd, stands_out}
 use Rattle.composer.specs.contracts.composing.Composer.{the_view}
-use Rattle.composer.proofs.AddingItems.{all_always, all_map, all_two, is_none_of, not_false, not_true, on_ok}
+use Rattle.clone_pieces.proofs.Told.{all_always, all_map, all_two}
+use Rattle.composer.proofs.AddingItems.{is_none_of, not_false, not_true, on_ok}
 use Rattle.composer.proofs.TakingItems.{stepped_seen, refused_ends, step_refused, head_refuses, no_memory, edit_ends, nothing_added, head_taken, put_had, put_there, led_cells}
 use Rattle.composer.proofs.composing.Composer.take.Goals as goal
 
