@@ -205,14 +205,15 @@ fn joined(alloc: Global, pieces: &[Piece]) -> Result<Vec<u8>, AllocError> {
     Ok(bytes)
 }
 
-// Composes up to four files over the subvolumes of others, where one call of the inputs fails, and gives the outcome and what is
-// written.
+// Composes up to four files over the subvolumes of others, where one call of the inputs and one of the output fail (none does at 0),
+// and gives the outcome and what is written.
 fn composed(
     rt: &impl Abort,
     alloc: Global,
     base: &[&[Piece]],
     files: &[&[Piece]],
     failing: u64,
+    failing_out: u64,
 ) -> Result<(Outcome, Vec<u8>), AllocError> {
     let mut store = MemoryBase::new(alloc);
     for file in base {
@@ -232,6 +233,7 @@ fn composed(
     assert!(rt; !names.is_empty());
     inputs.fail_call(failing)?;
     let mut out = MemSink::new(alloc);
+    out.fail_call(failing_out)?;
     let outcome = compose_over_base(alloc, &store, &mut inputs, &names, &mut out);
     Ok((outcome, Vec::from_slice(alloc, out.bytes())?))
 }
@@ -244,7 +246,7 @@ fn expect(
     files: &[&[Piece]],
     written: &[Piece],
 ) -> Result<(), AllocError> {
-    let (outcome, bytes) = composed(rt, alloc, base, files, 0)?;
+    let (outcome, bytes) = composed(rt, alloc, base, files, 0, 0)?;
     assert_eq!(rt; outcome, Outcome::Done);
     assert_eq!(rt; bytes.as_slice(), joined(alloc, written)?.as_slice());
     Ok(())
@@ -293,12 +295,33 @@ fn a_call_of_the_inputs_fails(rt: HostRuntime) -> Result<(), Fail> {
     let written = joined(alloc, LINKED_WRITTEN)?;
     let mut done = false;
     for failing in 1..30 {
-        let (outcome, bytes) = composed(&rt, alloc, &[LINKED_BASE], &files, failing)?;
+        let (outcome, bytes) = composed(&rt, alloc, &[LINKED_BASE], &files, failing, 0)?;
         if outcome == Outcome::Done {
             assert_eq!(rt; bytes.as_slice(), written.as_slice());
             done = true;
         } else {
             assert_eq!(rt; outcome, Outcome::InputFault);
+            assert!(rt; bytes.len() < written.len() && !done);
+        }
+    }
+    assert!(rt; done);
+    Ok(())
+}
+
+// Each call of the output fails in turn.
+#[test]
+fn a_call_of_the_output_fails(rt: HostRuntime) -> Result<(), Fail> {
+    let alloc = rt.alloc();
+    let files: [&[Piece]; 2] = [LINKED_FIRST, LINKED_SECOND];
+    let written = joined(alloc, LINKED_WRITTEN)?;
+    let mut done = false;
+    for failing in 1..10 {
+        let (outcome, bytes) = composed(&rt, alloc, &[LINKED_BASE], &files, 0, failing)?;
+        if outcome == Outcome::Done {
+            assert_eq!(rt; bytes.as_slice(), written.as_slice());
+            done = true;
+        } else {
+            assert_eq!(rt; outcome, Outcome::OutputFault);
             assert!(rt; bytes.len() < written.len() && !done);
         }
     }

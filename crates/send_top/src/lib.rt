@@ -7,6 +7,8 @@ mod fitting;
 mod noting;
 mod one_line;
 #[cfg(test)]
+mod reading_tests;
+#[cfg(test)]
 mod run_tests;
 #[cfg(test)]
 mod test_streams;

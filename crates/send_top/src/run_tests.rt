@@ -1,18 +1,18 @@
 // Runs over objects in memory. The expected bytes and notes are not this program's own.
 use crate::test_streams::{
-    CLONE_X, END, END_CUT, END_WITHOUT_SUM, FRAME_26, FRAME_TOO_LONG, HEADER, HEADER_OF_VERSION_3,
+    CLONE_X, DUMPED, END, END_CUT, END_WITHOUT_SUM, FRAME_26, FRAME_TOO_LONG, HEADER, HEADER_OF_VERSION_3,
     MKFILE_BELOW_X, MKFILE_NO_PATH, MKFILE_ROOT, MKFILE_UP, MKFILE_X, MKFILE_X_TWO_PATHS,
     MKFILE_X_WITH_INO, SNAPSHOT_A, SNAPSHOT_B, SNAPSHOT_B_OF_LATER, SNAPSHOT_B_SAME_UUID,
     SNAPSHOT_C_OF_A, SUBVOL_A, SUBVOL_A_LATER, SUBVOL_B, SUBVOL_B_SAME_UUID, SUBVOL_C, SUBVOL_DOT,
     TRUNCATE_1, TRUNCATE_GREATEST, TRUNCATE_PAST, UPDATE_EXTENT_X, WRITE_HI, WRITE_LAST,
-    WRITE_MARK, WRITE_NOTHING, WRITE_PAST_LAST, WRITE_ROOT, WRITE_Y,
+    WRITE_MARK, WRITE_NOTHING, WRITE_PAST_LAST, WRITE_ROOT, WRITE_Y, joined, words_of,
 };
 use crate::top_call::run;
 use guard_rules::{CommandGuard, Guard};
 use std::alloc::{AllocError, Global};
 use std::process::Abort;
 use std::test::Fail;
-use sx_base::{Blob, MemInputs, MemSink};
+use sx_base::{MemInputs, MemSink};
 
 // The headers and frames of a file, one after the other.
 type Pieces = &'static [&'static [u8]];
@@ -168,22 +168,6 @@ const REFUSED: [(&[Pieces], Pieces, &[u8]); 28] = [
         b"refused 1 4 106 27 FileTooBig\n",
     ),
 ];
-
-fn joined(alloc: Global, pieces: &[&[u8]]) -> Result<Blob, AllocError> {
-    let mut all = Blob::new(alloc);
-    for piece in pieces {
-        all.push_all(piece)?;
-    }
-    Ok(all)
-}
-
-fn words_of(alloc: Global, words: &[&str]) -> Result<Vec<String>, AllocError> {
-    let mut all = Vec::new(alloc);
-    for word in words {
-        all.push(String::from_str(alloc, word)?)?;
-    }
-    Ok(all)
-}
 
 // Composes at most three files, and gives the exit status.
 fn compose_files(
@@ -370,14 +354,6 @@ fn other_words_mean_nothing(rt: HostRuntime) -> Result<(), Fail> {
     }
     Ok(())
 }
-
-// The lines of the first file.
-const DUMPED: &[u8] = b"stream 1
-1 17 SUBVOL uuid=11111111-1111-1111-1111-111111111111 ctransid=1 path=a
-2 64 MKFILE path=x
-3 79 WRITE path=x offset=0 data=2
-4 112 END
-";
 
 #[test]
 fn files_are_checked_and_printed(rt: HostRuntime) -> Result<(), Fail> {

@@ -1,8 +1,13 @@
 // Headers of streams and frames of commands for tests, from another program. Beside a name, `11.. 1` is the uuid of sixteen
 // bytes 0x11 with the transaction number 1.
+use std::alloc::{AllocError, Global};
+use sx_base::Blob;
 
 // A stream of version 1.
 pub const HEADER: &[u8] = b"btrfs-stream\x00\x01\x00\x00\x00";
+
+// A stream of version 2.
+pub const HEADER_OF_VERSION_2: &[u8] = b"btrfs-stream\x00\x02\x00\x00\x00";
 
 // A stream of version 3.
 pub const HEADER_OF_VERSION_3: &[u8] = b"btrfs-stream\x00\x03\x00\x00\x00";
@@ -136,3 +141,29 @@ pub const CLONE_X: &[u8] =
 // MKFILE x with INO 0 before its path, as the receiver of btrfs-progs asks for
 pub const MKFILE_X_WITH_INO: &[u8] =
     b"\x11\x00\x00\x00\x03\x00N\x89\x81\xd0\x03\x00\x08\x00\x00\x00\x00\x00\x00\x00\x00\x00\x0f\x00\x01\x00x";
+
+// The lines of SUBVOL a, MKFILE x, WRITE x 0 "hi" and END.
+pub const DUMPED: &[u8] = b"stream 1
+1 17 SUBVOL uuid=11111111-1111-1111-1111-111111111111 ctransid=1 path=a
+2 64 MKFILE path=x
+3 79 WRITE path=x offset=0 data=2
+4 112 END
+";
+
+// Headers and frames, one after the other.
+pub fn joined(alloc: Global, pieces: &[&[u8]]) -> Result<Blob, AllocError> {
+    let mut all = Blob::new(alloc);
+    for piece in pieces {
+        all.push_all(piece)?;
+    }
+    Ok(all)
+}
+
+// The words of a run.
+pub fn words_of(alloc: Global, words: &[&str]) -> Result<Vec<String>, AllocError> {
+    let mut all = Vec::new(alloc);
+    for word in words {
+        all.push(String::from_str(alloc, word)?)?;
+    }
+    Ok(all)
+}
