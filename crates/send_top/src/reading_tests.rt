@@ -1,8 +1,8 @@
 // Every fault of reading through each word that reads one file to its end: what is written before it, and the note. The files, what is
 // written and the notes are not this program's own.
 use crate::test_streams::{
-    DUMPED, END, HEADER, HEADER_OF_VERSION_2, MKFILE_X, MKFILE_X_WITH_INO, SUBVOL_A, WRITE_HI, joined,
-    words_of,
+    DUMPED, END, HEADER, HEADER_OF_VERSION_2, MKFILE_X, MKFILE_X_WITH_INO, SUBVOL_A, WRITE_HI,
+    joined, words_of,
 };
 use crate::top_call::run;
 use std::alloc::{AllocError, Global};
@@ -202,7 +202,11 @@ fn frames_that_are_refused(rt: HostRuntime) -> Result<(), Fail> {
     let alloc = rt.alloc();
     for (header, lines, frames) in [
         (HEADER, &DUMPED[..100], FRAMES.as_slice()),
-        (HEADER_OF_VERSION_2, DUMPED_OF_VERSION_2, FRAMES_OF_VERSION_2.as_slice()),
+        (
+            HEADER_OF_VERSION_2,
+            DUMPED_OF_VERSION_2,
+            FRAMES_OF_VERSION_2.as_slice(),
+        ),
     ] {
         let exported = joined(alloc, &[header, SUBVOL_A, MKFILE_X_WITH_INO])?;
         let words: [Written<'_>; 3] = [

@@ -3,7 +3,7 @@
 use crate::dump;
 use std::alloc::Global;
 use std::test::Fail;
-use sx_base::{MemInputs, MemSink, Outcome, Refusal, Verdict};
+use sx_base::{MemInputs, MemSink, Outcome};
 
 const FILE: &[u8] =
     b"btrfs-stream\x00\x01\x00\x00\x00%\x00\x00\x00\x01\x0033C\xee\x01\x00\x10\x00\x11\x11\x11\x11\x11\x11\x11\x11\x11\x11\x11\x11\x11\x11\x11\x11\x02\x00\x08\x00\x01\x00\x00\x00\x00\x00\x00\x00\x0f\x00\x01\x00a\x05\x00\x00\x00\x03\x00/\x8a6s\x0f\x00\x01\x00x\x17\x00\x00\x00\x0f\x00C~\xee_\x0f\x00\x01\x00x\x12\x00\x08\x00\x00\x00\x00\x00\x00\x00\x00\x00\x13\x00\x02\x00hi\x00\x00\x00\x00\x15\x00Pl\xc9\x9d";
@@ -25,69 +25,20 @@ const BOTH: &[u8] =
 const BOTH_LINES: &[u8] =
     b"stream 1\n1 17 SUBVOL uuid=11111111-1111-1111-1111-111111111111 ctransid=1 path=a\n2 64 MKFILE path=x\n3 79 WRITE path=x offset=0 data=2\n4 112 END\nstream 2\n5 139 SNAPSHOT uuid=22222222-2222-2222-2222-222222222222 ctransid=2 path=b clone_uuid=11111111-1111-1111-1111-111111111111 clone_ctransid=1\n6 218 MKFILE path=y\n7 233 CLONE path=y offset=0 clone_uuid=11111111-1111-1111-1111-111111111111 clone_ctransid=1 clone_path=x clone_offset=0 clone_len=2\n8 321 WRITE path=x offset=2 data=1\n9 351 FALLOCATE size=1 path=x offset=0 fmode=3\n10 398 FILEATTR path=x flags=16\n11 425 END\n";
 
-// A front part of a file, where it is refused, and how many bytes of lines stand before.
-struct Cut {
-    at: usize,
-    command: u64,
-    offset: u64,
-    lines: usize,
-}
-
-const CUTS: [Cut; 4] = [
-    Cut {
-        at: 0,
-        command: 1,
-        offset: 0,
-        lines: 0,
-    },
-    Cut {
-        at: 17,
-        command: 1,
-        offset: 17,
-        lines: 0,
-    },
-    Cut {
-        at: 100,
-        command: 3,
-        offset: 79,
-        lines: 100,
-    },
-    Cut {
-        at: 121,
-        command: 4,
-        offset: 112,
-        lines: 134,
-    },
-];
-
-// Whether the bytes are dumped as these lines, with this outcome.
-fn dumps_as(alloc: Global, bytes: &[u8], outcome: Outcome, lines: &[u8]) -> Result<bool, Fail> {
+// Whether the bytes are dumped as these lines.
+fn dumps_as(alloc: Global, bytes: &[u8], lines: &[u8]) -> Result<bool, Fail> {
     let mut inputs = MemInputs::new(alloc);
     inputs.add("file", bytes)?;
     let mut out = MemSink::new(alloc);
     let answer = dump(alloc, &mut inputs, "file", &mut out);
-    Ok(answer == outcome && out.bytes() == lines)
+    Ok(answer == Outcome::Done && out.bytes() == lines)
 }
 
 #[test]
 fn whole_files(rt: HostRuntime) -> Result<(), Fail> {
-    assert!(rt; dumps_as(rt.alloc(), FILE, Outcome::Done, LINES)?);
-    assert!(rt; dumps_as(rt.alloc(), VALUES, Outcome::Done, VALUE_LINES)?);
-    assert!(rt; dumps_as(rt.alloc(), BOTH, Outcome::Done, BOTH_LINES)?);
-    Ok(())
-}
-
-#[test]
-fn lines_before_a_fault(rt: HostRuntime) -> Result<(), Fail> {
-    for cut in &CUTS {
-        let refused = Outcome::Refused(Verdict {
-            file: 1,
-            command: cut.command,
-            offset: cut.offset,
-            refusal: Refusal::Truncated,
-        });
-        assert!(rt; dumps_as(rt.alloc(), &FILE[..cut.at], refused, &LINES[..cut.lines])?);
-    }
+    assert!(rt; dumps_as(rt.alloc(), FILE, LINES)?);
+    assert!(rt; dumps_as(rt.alloc(), VALUES, VALUE_LINES)?);
+    assert!(rt; dumps_as(rt.alloc(), BOTH, BOTH_LINES)?);
     Ok(())
 }
 
