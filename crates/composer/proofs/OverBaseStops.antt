@@ -28,8 +28,7 @@ use Rattle.send_model.proofs.Fronts.{nothing_front}
 use Rattle.composer.specs.OverBase.{Plan, plan_of, Composing, Halt, Refuses, Exceeds, after_item, then_kept, advance, composed_up_to, written_with, current_after, AreWritable, HasNone}
 use Rattle.composer.proofs.OneMore.{composed_from-append, uncarried-append}
 use Rattle.composer.proofs.OverBaseProgress.{base_start, Progress, err_is, one_sum, front-append}
-use Rattle.send_model.proofs.Tracing.{byte_of}
-use Rattle.composer.proofs.OverBaseEnds.{taken_bytes, written_is}
+use Rattle.composer.proofs.OverBaseEnds.{byte_of, taken_bytes, written_is}
 use Rattle.composer.proofs.PartsSoFar.{InBoth, known_start, composed_alike}
 
 -- ---- the items before the first unlawful one

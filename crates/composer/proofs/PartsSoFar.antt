@@ -27,7 +27,7 @@ use Rattle.send_model.proofs.Stores.{bytes_eq_same, bytes_eq_true, finds_other, 
 use Rattle.send_model.proofs.Merging.{entered_taken, edited_taken}
 use Rattle.send_model.proofs.CellSteps.{find-cells}
 use Rattle.composer.specs.OverBase.{AreTaken, HasNone}
-use Rattle.send_model.proofs.Tracing.{byte_of, untraced_store}
+use Rattle.composer.proofs.OverBaseEnds.{byte_of, untraced_store}
 
 -- ---- uuids
 
