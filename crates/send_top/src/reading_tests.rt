@@ -169,14 +169,26 @@ fn expect_refused(
     Ok(())
 }
 
-// Where a file of so many bytes is cut short: the note, and how many bytes of lines and of exported commands stand before.
-fn cut_at(len: usize) -> (&'static [u8], usize, usize) {
+// Where a file of so many bytes is cut short: the note, and the lines and the exported frames before it.
+fn cut_at(len: usize) -> (&'static [u8], &'static [u8], &'static [&'static [u8]]) {
     match len {
-        0..17 => (b"refused 1 1 0 3 Truncated\n", 0, 0),
-        17..64 => (b"refused 1 1 17 3 Truncated\n", 0, 0),
-        64..79 => (b"refused 1 2 64 3 Truncated\n", 81, 64),
-        79..112 => (b"refused 1 3 79 3 Truncated\n", 100, 91),
-        _ => (b"refused 1 4 112 3 Truncated\n", 134, 124),
+        0..17 => (b"refused 1 1 0 3 Truncated\n", b"", &[]),
+        17..64 => (b"refused 1 1 17 3 Truncated\n", b"", &[]),
+        64..79 => (
+            b"refused 1 2 64 3 Truncated\n",
+            &DUMPED[..81],
+            &[HEADER, SUBVOL_A],
+        ),
+        79..112 => (
+            b"refused 1 3 79 3 Truncated\n",
+            &DUMPED[..100],
+            &[HEADER, SUBVOL_A, MKFILE_X_WITH_INO],
+        ),
+        _ => (
+            b"refused 1 4 112 3 Truncated\n",
+            &DUMPED[..134],
+            &[HEADER, SUBVOL_A, MKFILE_X_WITH_INO, WRITE_HI],
+        ),
     }
 }
 
@@ -184,15 +196,17 @@ fn cut_at(len: usize) -> (&'static [u8], usize, usize) {
 fn files_that_are_cut(rt: HostRuntime) -> Result<(), Fail> {
     let alloc = rt.alloc();
     let file = joined(alloc, &[HEADER, SUBVOL_A, MKFILE_X, WRITE_HI, END])?;
-    let exported = joined(alloc, &[HEADER, SUBVOL_A, MKFILE_X_WITH_INO, WRITE_HI, END])?;
-    for len in 0..122 {
+    let bytes = file.as_slice();
+    for len in 0..bytes.len() {
         let (note, lines, frames) = cut_at(len);
+        let lines = joined(alloc, &[lines])?;
+        let exported = joined(alloc, frames)?;
         let words: [Written<'_>; 3] = [
             (&["audit", "none"], b""),
-            (&["dump"], &DUMPED[..lines]),
-            (&["export"], &exported.as_slice()[..frames]),
+            (&["dump"], lines.as_slice()),
+            (&["export"], exported.as_slice()),
         ];
-        expect_refused(&rt, alloc, &file.as_slice()[..len], note, &words)?;
+        expect_refused(&rt, alloc, &bytes[..len], note, &words)?;
     }
     Ok(())
 }
