@@ -1,7 +1,7 @@
 // Makes send streams for the benchmarks, measures a program, and does in plain C what composing one stream costs.
 //
 //   streams full MIB                a stream on standard output: files of 1 MiB in WRITEs of 49,152 bytes
-//   streams chain FOLDER PARTS FILES   a full stream of FILES files of 4,096 bytes, and PARTS snapshots that write one each
+//   streams chain FOLDER PARTS FILES CHANGES   a full stream of FILES files of 4,096 bytes, and PARTS snapshots that write CHANGES each
 //   streams folder FOLDER TO        a full stream of half of the plain files of FOLDER in TO/first, a snapshot with the others
 //                                   in TO/second, and what the two are composed into in TO/both
 //   streams copy FILE               reads FILE twice, sums each byte three times and writes it to standard output
@@ -167,13 +167,15 @@ static FILE *open_part(const char *folder, long part) {
     return open_in(folder, text, "wb");
 }
 
-static void chain(const char *folder, long parts, long files) {
+static void chain(const char *folder, long parts, long files, long changes) {
     uint8_t bytes[4096];
     char path[32];
     for (long part = 0; part <= parts; part++) {
         FILE *to = open_part(folder, part);
         head(to, part);
-        for (long file = part ? part % files : 0; file < (part ? part % files + 1 : files); file++) {
+        long first = part * changes;
+        for (long place = part ? first : 0; place < (part ? first + changes : files); place++) {
+            long file = place % files;
             snprintf(path, sizeof path, "file%ld", file);
             fill(bytes, sizeof bytes, part * files + file);
             if (!part) make_file(to, path);
@@ -259,8 +261,8 @@ int main(int count, char **words) {
     make_tables();
     if (count == 3 && !strcmp(words[1], "full"))
         full(atol(words[2]));
-    else if (count == 5 && !strcmp(words[1], "chain"))
-        chain(words[2], atol(words[3]), atol(words[4]));
+    else if (count == 6 && !strcmp(words[1], "chain"))
+        chain(words[2], atol(words[3]), atol(words[4]), atol(words[5]));
     else if (count == 4 && !strcmp(words[1], "folder"))
         folder(words[2], words[3]);
     else if (count == 3 && !strcmp(words[1], "copy"))
