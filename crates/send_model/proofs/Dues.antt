@@ -23,11 +23,11 @@ plain_is state item =
     ap (λ (put : List ℕ). step 0 put (recelled_state byte_of state) item.command) (sym (bytes_fresh (bytes_of item.command)))
     ∙ all_steps-cells byte_of item.command (fresh 0) (map fresh (bytes_of item.command)) state
 
-abbrev literal_in : List Piece → ℕ
+abbrev pub literal_in : List Piece → ℕ
 literal_in pieces = sum_by literal_len pieces
 
 -- The uncarried bytes of an item and of those after it.
-uncarried_split : (base : Store ℕ) (parts : List (List ℕ)) (state : State Traced) (current : Option (List ℕ)) (item : Item) (items : List Item)
+pub uncarried_split : (base : Store ℕ) (parts : List (List ℕ)) (state : State Traced) (current : Option (List ℕ)) (item : Item) (items : List Item)
     → uncarried_in base (ranges_from parts state current (item ∷ items)) ≡ uncarried_of base parts state current item + uncarried_in base (ranges_from parts (traced_step state item).state (uuid_after current item.command) items)
 unfolding ranges_from
 uncarried_split base parts state current item items = one (is_redirected parts current item.command)

@@ -22,13 +22,13 @@ use Rattle.send_model.proofs.Judging.{empty_store, AreOrdered}
 
 -- ---- the commands that are taken
 
-lawful_on : (item : Item) (state : State ℕ) (o : Option Refusal) (breaks : Bool) (rest : List Item) → o ≡ None → breaks ≡ false → then_lawful item (record { state = state; refusal = o }) breaks rest ≡ item ∷ rest
+pub lawful_on : (item : Item) (state : State ℕ) (o : Option Refusal) (breaks : Bool) (rest : List Item) → o ≡ None → breaks ≡ false → then_lawful item (record { state = state; refusal = o }) breaks rest ≡ item ∷ rest
 lawful_on item state None false rest e b = refl
 lawful_on item state None true rest e b = cc
 lawful_on item state (Some r) breaks rest e b = cc
 
 -- Items that were taken in order stand in front of those that are taken.
-lawful_more : (items more : List Item) (previous : Option Key) (state end : State ℕ) → Takes state (commands_of items) end → AreOrdered previous items → (rest : List Item) × (lawful_items 0 byte_cells state previous (items ++ more) ≡ items ++ rest)
+pub lawful_more : (items more : List Item) (previous : Option Key) (state end : State ℕ) → Takes state (commands_of items) end → AreOrdered previous items → (rest : List Item) × (lawful_items 0 byte_cells state previous (items ++ more) ≡ items ++ rest)
 unfolding lawful_items
 lawful_more [] more previous state end t o = (lawful_items 0 byte_cells state previous more, refl)
 lawful_more (item ∷ items) more previous state end t o =

@@ -30,7 +30,7 @@ use Rattle.send_model.proofs.HeadlineLaw.{files_hold}
 -- ---- entries
 
 -- A subvolume that entries find can be said.
-find_sayable : (store : Store ℕ) (key : Key) (s : Subvolume ℕ) → AllByRecursion IsLawfulEntry store → find store key ≡ Some s → IsSayable s
+pub find_sayable : (store : Store ℕ) (key : Key) (s : Subvolume ℕ) → AllByRecursion IsLawfulEntry store → find store key ≡ Some s → IsSayable s
 unfolding find
 find_sayable [] key s all f = cc
 find_sayable (e ∷ store) key s all f = one (same_key e.key key) (λ q. find_sayable store key s all.1 q) f

@@ -87,7 +87,7 @@ third p q r s t u good =
     let to_r : (p && q && r) ≡ true = (and_parts _ s to_s).0 in
     (and_parts (p && q) r to_r).1
 
-name_has_no_slash : (name : List ℕ) → is_name name ≡ true → list_any (λ b. b == slash) name ≡ false
+pub name_has_no_slash : (name : List ℕ) → is_name name ≡ true → list_any (λ b. b == slash) name ≡ false
 unfolding is_name
 name_has_no_slash name good = not_true (list_any (λ b. b == slash) name) (third (nat_le 1 (length name)) (nat_le (length name) 255) (not (list_any (λ b. b == slash) name)) _ _ _ good)
 
@@ -217,21 +217,21 @@ module _ {C : Type 0} (s : Subvolume C) where
 -- ---- the order of paths
 
 -- A path is not after another by bytes.
-abbrev NotAfter : List ℕ → List ℕ → Type 0
+abbrev pub NotAfter : List ℕ → List ℕ → Type 0
 NotAfter p q = bytes_cmp p q ≢ Greater
 
-flipped : (p q : List ℕ) (r : Ordering) → bytes_cmp p q ≡ r → bytes_cmp q p ≡ ordering_reverse r
+pub flipped : (p q : List ℕ) (r : Ordering) → bytes_cmp p q ≡ r → bytes_cmp q p ≡ ordering_reverse r
 flipped p q r e = nat_list_cmp_total.antisymm q p ∙ ap ordering_reverse e
 
-not_after_itself : (p : List ℕ) → NotAfter p p
+pub not_after_itself : (p : List ℕ) → NotAfter p p
 not_after_itself p e = let t : bytes_cmp p p ≡ Equal = tied_itself nat_list_cmp_total p in cc
 
-not_after_one : (r : Ordering) → r ≢ Greater → (r ≡ Less) ⊎ (r ≡ Equal)
+pub not_after_one : (r : Ordering) → r ≢ Greater → (r ≡ Less) ⊎ (r ≡ Equal)
 not_after_one Less n = inl refl
 not_after_one Equal n = inr refl
 not_after_one Greater n = absurd (n refl)
 
-not_after_trans : (p q r : List ℕ) → NotAfter p q → NotAfter q r → NotAfter p r
+pub not_after_trans : (p q r : List ℕ) → NotAfter p q → NotAfter q r → NotAfter p r
 not_after_trans p q r a b e = elim (not_after_one (bytes_cmp p q) a) [
   | inr same ↦ b (sym (nat_list_cmp_total.congr p q r same) ∙ e)
   | inl less ↦ elim (not_after_one (bytes_cmp q r) b) [

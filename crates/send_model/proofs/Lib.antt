@@ -34,7 +34,7 @@ pub mod PathLaws
 pub mod CellSteps
 pub mod CellClones
 pub mod Held
-mod Tracing
+pub mod Tracing
 mod Counting
 mod CountLaws
 mod PieceRuns
@@ -43,7 +43,7 @@ pub mod SpelledPieces
 pub mod Rewriting
 mod Carrying
 mod FirstPaths
-mod LeastPaths
+pub mod LeastPaths
 pub mod LawfulPaths
 pub mod Overwriting
 pub mod Fuel
@@ -65,7 +65,7 @@ pub mod Fronts
 mod TracedBase
 mod Naming
 mod Elsewhere
-mod MergingClones
+pub mod MergingClones
 mod ComposingClones
 mod ComposedClones
 mod SpelledRuns
@@ -81,3 +81,4 @@ pub mod ExportedStreams
 mod ReceivableExamples
 pub mod EightFiles
 pub mod GeneratedChains
+pub mod TooLong

@@ -89,7 +89,7 @@ turned_false a b e = one (bytes_eq b a) refl
 
 -- ---- a clone without a source
 
-no_source : (x : Traced) (s next : Subvolume Traced) (own : Bool) (path : List ℕ) (offset : ℕ) (clone_path : List ℕ) (from len : ℕ) → clone x s None own path offset clone_path from len ≡ Ok next → ⊥
+pub no_source : (x : Traced) (s next : Subvolume Traced) (own : Bool) (path : List ℕ) (offset : ℕ) (clone_path : List ℕ) (from len : ℕ) → clone x s None own path offset clone_path from len ≡ Ok next → ⊥
 unfolding clone cloned
 no_source x s next own path offset clone_path from len e = one (is_some (path_names path)) (is_some (path_names clone_path)) e
   where

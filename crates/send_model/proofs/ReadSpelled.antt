@@ -280,7 +280,7 @@ all_there version attributes UPDATE_EXTENT t g = (number_there version attribute
 all_there version attributes FALLOCATE t g = (number_there version attributes _ refl t.0 g.0, (t.1.0, (number_there version attributes _ refl t.1.1.0 g.1.1.0, (short_number_there version attributes _ refl t.1.1.1.0 g.1.1.1.0, tt))))
 all_there version attributes FILEATTR t g = (t.0, (number_there version attributes _ refl t.1.0 g.1.0, tt))
 
-kind_with : (kind : Kind) (values : ℕ → List ℕ) → kind_of (command_with kind values) ≡ kind
+pub kind_with : (kind : Kind) (values : ℕ → List ℕ) → kind_of (command_with kind values) ≡ kind
 kind_with SUBVOL values = refl
 kind_with SNAPSHOT values = refl
 kind_with MKFILE values = refl
@@ -317,7 +317,7 @@ found_number : (number : ℕ) (kind : Kind) (kinds : List Kind) → find (λ k. 
 found_number number kind [] q = cc
 found_number number kind (k ∷ kinds) q = numbered_on number kind k ((row k).number == number) (find (λ x. (row x).number == number) kinds) refl (λ r. found_number number kind kinds r) q
 
-numbered : (version number : ℕ) (kind : Kind) → kind_of_number version number ≡ Some kind → (row kind).number ≡ number
+pub numbered : (version number : ℕ) (kind : Kind) → kind_of_number version number ≡ Some kind → (row kind).number ≡ number
 unfolding kind_of_number
 numbered version number kind e = found_number number kind (kinds_of version) e
 

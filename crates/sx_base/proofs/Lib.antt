@@ -5,3 +5,4 @@ pub mod Pieces
 pub mod DiskImages
 pub mod DiskMoments
 pub mod FilledBuffers
+pub mod NamedFiles
