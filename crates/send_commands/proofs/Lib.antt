@@ -1,4 +1,5 @@
-mod Rows
+mod WantedOnes
+mod LawfulKinds
 mod Spelled
 pub mod Writable
 pub mod Numbers

@@ -2,6 +2,8 @@
 use Rattle.send_model.specs.Attribute as attribute
 use Rattle.send_model.specs.Command as meant
 use Rattle.send_commands.specs.declared.command.Time.{Time}
+use Rattle.send_commands.specs.declared.form.Form.{Form}
+use Rattle.send_commands.specs.declared.form.Form.TheVariants as form
 use Rattle.send_commands.specs.declared.command.Command.{Command}
 use Rattle.send_commands.specs.declared.command.Command.TheVariants as made
 use Rattle.send_commands.specs.declared.kind.Kind.{Kind}
@@ -63,3 +65,12 @@ kind_meant named.End = meant.END
 kind_meant named.UpdateExtent = meant.UPDATE_EXTENT
 kind_meant named.Fallocate = meant.FALLOCATE
 kind_meant named.FileAttr = meant.FILEATTR
+
+-- The form of an attribute.
+abbrev pub form_meant : Form → attribute.Form
+form_meant form.Identifier = attribute.AnIdentifier
+form_meant form.Number = attribute.ANumber
+form_meant form.ShortNumber = attribute.AShortNumber
+form_meant form.Moment = attribute.AMoment
+form_meant form.Bytes = attribute.AnyBytes
+form_meant form.None = attribute.NoForm

@@ -5,10 +5,12 @@ mod attribute_numbers;
 mod command;
 mod decoding;
 mod encoding;
+mod form;
 mod kind;
 #[cfg(test)]
 mod tests;
 mod values;
+mod wanted;
 
 pub use command::{Command, Time};
 pub use decoding::decode;
