@@ -10,7 +10,6 @@ ghost use Rattle.send_commands.specs.Meaning.{meaning_of, kind_meant};
 ghost use Rattle.send_commands.specs.Values.{bytes_in, HaveForms, are_timely};
 ghost use Rattle.send_commands.specs.Writing.{IsWritable};
 
-use crate::attribute_numbers::*;
 use crate::command::Command;
 use crate::kind::Kind;
 use crate::values::{blob, identifier, moment, number, short_number};
@@ -18,6 +17,7 @@ use crate::wanted::{find_wanted, times_lawful};
 use std::alloc::{AllocError, Global};
 use sx_base::{Refusal, Stop};
 use tlv_frame::AttrTable;
+use tlv_frame::attribute_numbers::*;
 
 // The number of the command ENCODED_WRITE of version 2.
 const ENCODED_WRITE: u16 = 25;

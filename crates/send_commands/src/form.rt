@@ -4,7 +4,7 @@ ghost use Rattle.send_model.specs.Attribute as attribute;
 ghost use Rattle.send_model.specs.Reading.{form_fits};
 ghost use Rattle.send_commands.specs.Meaning.{form_meant};
 
-use crate::attribute_numbers::*;
+use tlv_frame::attribute_numbers::*;
 
 // What an attribute's bytes say.
 #[derive(Clone, Copy)]

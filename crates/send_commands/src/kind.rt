@@ -4,7 +4,7 @@ ghost use Rattle.std.specs.List.{find};
 ghost use Rattle.send_model.specs.Command.{row, first_kinds, kind_of_number};
 ghost use Rattle.send_commands.specs.Meaning.{kind_meant};
 
-use crate::attribute_numbers::*;
+use tlv_frame::attribute_numbers::*;
 
 /// The commands by name. Source: enum btrfs_send_cmd in send.h of btrfs-progs.
 #[derive(Debug, Clone, Copy, PartialEq, Eq)]

@@ -1,7 +1,6 @@
 //! The commands of a stream as values, read from the attributes of a frame and written as frames.
 #![tactic(auto)]
 
-mod attribute_numbers;
 mod command;
 mod decoding;
 mod encoding;

@@ -6,20 +6,12 @@ ghost use Rattle.tlv_frame.specs.Answers.{Reads};
 ghost use Rattle.tlv_frame.specs.Table.{Table, ReadsTable, value_at, place_at};
 ghost use Rattle.tlv_frame.specs.Front.{front_at};
 
+use crate::attribute_numbers::{CLONE_LEN, DATA, ENCRYPTION};
 use std::marker::Model;
 use sx_base::Refusal;
 
 // How many slots a table has: one for each attribute number up to the last of version 2, 31.
 const SLOTS: usize = 32;
-
-// The last attribute number of version 1.
-const LAST_OF_FIRST: u16 = 24;
-
-// The last attribute number of version 2.
-const LAST: u16 = 31;
-
-// The number of the attribute DATA.
-pub(crate) const DATA: u16 = 19;
 
 // An attribute's bytes, and the place of the first of them in the body.
 #[derive(Clone, Copy)]
@@ -91,7 +83,7 @@ pub fn attrs(body: &[u8], version: u32) -> Result<AttrTable<'_>, Refusal>
         if slots[kind as usize].is_some() {
             return Err(Refusal::BadAttribute(kind));
         }
-        let place = at + head_len(version, kind);
+        let place = at + attr_head_len(version, kind);
         slots[kind as usize] = Some(Slot { place, bytes });
         at = place + bytes.len();
     }
@@ -128,7 +120,7 @@ fn front(rest: &[u8], version: u32) -> Result<(u16, &[u8]), Refusal>
 fn last_number(version: u32) -> u16
     ensures { result ≡ last_attribute version }
 {
-    if version == 1 { LAST_OF_FIRST } else { LAST }
+    if version == 1 { CLONE_LEN } else { ENCRYPTION }
 }
 
 // Whether the bytes of an attribute are the rest of the body, since it has no length.
@@ -138,8 +130,8 @@ pub(crate) fn has_no_length(version: u32, kind: u16) -> bool
     version == 2 && kind == DATA
 }
 
-// How many bytes stand before those of an attribute.
-fn head_len(version: u32, kind: u16) -> usize
+/// How many bytes stand before those of an attribute in a body: its number, and its length where it has one.
+pub fn attr_head_len(version: u32, kind: u16) -> usize
     ensures { result ≡ attribute_head version kind }
 {
     if has_no_length(version, kind) { 2 } else { 4 }

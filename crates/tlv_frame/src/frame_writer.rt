@@ -6,7 +6,8 @@ ghost use Rattle.send_model.specs.Spelling.{attribute_bytes, frame_of};
 ghost use Rattle.sx_base.specs.Bytes.{IsFront};
 ghost use Rattle.tlv_frame.specs.Frame.{Begun, head_room};
 
-use crate::attribute_table::{DATA as DATA_NUMBER, has_no_length};
+use crate::attribute_numbers::DATA as DATA_NUMBER;
+use crate::attribute_table::has_no_length;
 use crate::frame_head::{checksum, header};
 use std::alloc::AllocError;
 use std::marker::Model;

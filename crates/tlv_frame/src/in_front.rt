@@ -5,9 +5,11 @@ use crate::frame_head::FrameHead;
 use crate::stream_head::StreamHead;
 use sx_base::Refusal;
 
-pub(crate) const HEADER_LEN: usize = 17;
+/// The length of a stream's header in bytes. Source: struct btrfs_stream_header in send.h of btrfs-progs.
+pub const HEADER_LEN: usize = 17;
 
-pub(crate) const FRAME_HEAD_LEN: usize = 10;
+/// The length of a frame's header in bytes. Source: struct btrfs_cmd_header in send.h of btrfs-progs.
+pub const FRAME_HEAD_LEN: usize = 10;
 
 // The header of a stream in front, None where it is cut short.
 pub(crate) fn head_in(left: &[u8]) -> Result<Option<StreamHead>, Refusal>

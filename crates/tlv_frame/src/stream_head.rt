@@ -1,4 +1,6 @@
 // The header of a stream.
+ghost use Rattle.std.specs.Prelude.{◌≡◌};
+ghost use Rattle.send_model.specs.Spelling.{stream_header};
 ghost use Rattle.send_model.specs.Reading.{stream_version};
 ghost use Rattle.tlv_frame.specs.Answers.{Reads};
 
@@ -26,5 +28,16 @@ impl StreamHead {
             return Err(Refusal::BadVersion(version));
         }
         Ok(StreamHead { version })
+    }
+
+    /// The header's bytes.
+    #[tactic(auto, unfolding(send_model::specs::Spelling::stream_header))]
+    pub fn bytes(self) -> [u8; 17]
+        ensures bytes { result ≡ stream_header self.version }
+    {
+        let [a, b, c, d] = self.version.to_le_bytes();
+        [
+            b'b', b't', b'r', b'f', b's', b'-', b's', b't', b'r', b'e', b'a', b'm', 0, a, b, c, d,
+        ]
     }
 }

@@ -45,7 +45,7 @@ overflow_add-at c =
     let a : Attribute = record { kind = c.in_ok-kind.kind; bytes = c.in_ok-kind.bytes.now } in
     let p = goes_on c.args.version body c.loop-at.at (map slot_of c.loop-at.slots) a c.loop-at.invariant c.loop-at-test.true (front_there body c.loop-at.at _ (front_at c.args.version) c.in_ok-kind.ensures.exact)
     (there_in_code c.loop-at.slots c.in_ok-kind.kind ∙ sym c.if-is_some.ensures) c.in_ok-kind.ensures.short in
-    let within = p.bytes.within in omega (arith, within, c.head_len.ensures)
+    let within = p.bytes.within in omega (arith, within, c.attr_head_len.ensures)
 
 pub loop-at-preserved : goal.loop-at-preserved
 loop-at-preserved c =
@@ -55,7 +55,7 @@ loop-at-preserved c =
     let p = goes_on c.args.version body c.loop-at.at (map slot_of c.loop-at.slots) a c.loop-at.invariant c.loop-at-test.true (front_there body c.loop-at.at _ (front_at c.args.version) c.in_ok-kind.ensures.exact)
     (there_in_code c.loop-at.slots c.in_ok-kind.kind ∙ sym c.if-is_some.ensures) c.in_ok-kind.ensures.short in
     let slots = map-set slot_of c.loop-at.slots c.in_ok-kind.kind (Some (record { place = c.loop-at.at + head; bytes = c.in_ok-kind.bytes })) in
-    rw (c.head_len.ensures, slots, add_assoc c.loop-at.at head (length c.in_ok-kind.bytes.now)) p
+    rw (c.attr_head_len.ensures, slots, add_assoc c.loop-at.at head (length c.in_ok-kind.bytes.now)) p
 
 pub returns-clause-exact : goal.returns-clause-exact
 returns-clause-exact c = is_done c.args.version c.args.body.now c.loop-at.at (map slot_of c.loop-at.slots) c.loop-at.invariant c.loop-at-test.false
