@@ -1,18 +1,30 @@
--- That the bytes a reader was given are the file's, for callers that read on in a loop.
-use Rattle.std.specs.Prelude.{◌≡◌, ℕ, List, Option, Some, Ok}
+-- What a reader says of its file, and that the bytes it was given are the file's: for callers that read on in a loop.
+use Rattle.std.specs.Prelude.{◌≡◌, ℕ, List, Option, None, Some, Ok}
 use Rattle.std.proofs.Common.{refl, sym, subst}
 use Rattle.cmd_reader.specs.declared.item.Item.{Item}
 use Rattle.cmd_reader.specs.Places.{IfTold}
 use Rattle.cmd_reader.specs.Left.{Reader, at_start, HasAhead}
-use Rattle.cmd_reader.specs.Next.{IsNext, NextSays}
+use Rattle.cmd_reader.specs.Next.{HasEnded, IsNext, NextSays}
 use Rattle.cmd_reader.proofs.Told.{told_map, told_always, told_moved}
 
 -- A new reader was given none.
 pub start_ahead : (told : Option (List (List ℕ × List ℕ))) (file : ℕ) (name : List ℕ) (r : Reader) → r ≡ at_start file name → IfTold told r.name (HasAhead r)
 start_ahead told file name r is = let A : Reader → Type 0 = λ x. IfTold told x.name (HasAhead x) in subst A (sym is) (told_always told name (HasAhead (at_start file name)) (λ bytes. record { good = refl; bytes = refl }))
 
+-- What a call said of the next command holds of the file that the inputs told before it.
+pub next_item : (told now : Option (List (List ℕ × List ℕ))) (name : List ℕ) (old new : Reader) (early late : ℕ) (o : Option Item) (item : Item)
+    → o ≡ Some item → now ≡ told → old.name ≡ name → NextSays now old new early late (Ok o) → IfTold told name (IsNext old new item)
+next_item told now name old new early late o item is same named says =
+    told_moved told now name old.name (IsNext old new item) same named (subst (λ (x : Option Item). NextSays now old new early late (Ok x)) is says)
+
+-- So does what it said of the end.
+pub next_end : (told now : Option (List (List ℕ × List ℕ))) (name : List ℕ) (old new : Reader) (early late : ℕ) (o : Option Item)
+    → o ≡ None → now ≡ told → old.name ≡ name → NextSays now old new early late (Ok o) → IfTold told name (HasEnded old)
+next_end told now name old new early late o none same named says =
+    told_moved told now name old.name (HasEnded old) same named (subst (λ (x : Option Item). NextSays now old new early late (Ok x)) none says)
+
 -- A reader that gave a command goes on.
 pub next_ahead : (told after : Option (List (List ℕ × List ℕ))) (old new : Reader) (before now : ℕ) (o : Option Item) (item : Item) → o ≡ Some item → after ≡ told → new.name ≡ old.name → NextSays told old new before now (Ok o) → IfTold after new.name (HasAhead new)
 next_ahead told after old new before now o item is same name says =
-    let next : IfTold told old.name (IsNext old new item) = subst (λ (x : Option Item). NextSays told old new before now (Ok x)) is says in
-    told_moved after told new.name old.name (HasAhead new) (sym same) (sym name) (told_map told old.name (IsNext old new item) (HasAhead new) (λ bytes n. n.ahead) next)
+    told_moved after told new.name old.name (HasAhead new) (sym same) (sym name)
+    (told_map told old.name (IsNext old new item) (HasAhead new) (λ bytes n. n.ahead) (next_item told told old.name old new before now o item is refl refl says))

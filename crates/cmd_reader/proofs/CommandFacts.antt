@@ -1,23 +1,24 @@
 -- Facts of a command that was read from a body.
-use Rattle.std.specs.Prelude.{◌≡◌, map, slice_index_or, ℕ, zero, suc, ◌+◌, ◌-◌, ◌^◌, ◌≤◌, ◌<◌, Bool, true, false, ◌&&◌, min, ◌==◌, List, [], ◌∷◌, ◌++◌, length, drop, Option, None, Some, Result, Ok, Err, if◌then◌else◌}
+use Rattle.std.specs.Prelude.{◌≡◌, map, slice_index_or, ℕ, zero, suc, ◌+◌, ◌-◌, ◌^◌, ◌≤◌, ◌<◌, Bool, true, false, min, ◌==◌, List, [], ◌∷◌, ◌++◌, length, drop, Option, None, Some, Result, Ok, Err, if◌then◌else◌}
 use Rattle.std.proofs.Common.{w8, Fits}
 use Rattle.std.proofs.Math.Facts.{Fits-lt-pow}
 use Rattle.std.specs.Option.{unwrap_or}
-use Rattle.std.specs.List.{list_all, find, AllByRecursion}
+use Rattle.std.specs.List.{list_all, AllByRecursion}
 use Rattle.std.specs.Int.{w16, w32, to_le_bytes}
 use Rattle.std.proofs.Common.{refl, sym, ap, subst, ◌∙◌, arith, length-take, length-drop, length-append, leb-true, zero-le, le_refl, eqb-true}
 use Rattle.send_model.specs.Refusal.{Refusal, BadAttribute, UnknownCommand, BadTime, Encoded}
 use Rattle.send_model.specs.Chain.{◌>>=◌, ◌>>◌, found, require}
 use Rattle.send_model.specs.Attribute.{DATA, IsBytes}
-use Rattle.send_model.specs.Command.{Kind, SUBVOL, SNAPSHOT, MKFILE, MKDIR, MKNOD, MKFIFO, MKSOCK, SYMLINK, RENAME, LINK, UNLINK, RMDIR, SET_XATTR, REMOVE_XATTR, WRITE, CLONE, TRUNCATE, CHMOD, CHOWN, UTIMES, END, UPDATE_EXTENT, FALLOCATE, FILEATTR, kinds_of, is_encoded, Command, row, kind_of, kind_of_number, command_with, fields_of}
+use Rattle.send_model.specs.Command.{Kind, SUBVOL, WRITE, is_encoded, Command, row, kind_of, kind_of_number, command_with, fields_of}
 use Rattle.send_model.specs.Spelling.{Attribute, value_of, frame_of, frame_checksum, greatest_body, attributes_of, body_of, AreAttributes}
 use Rattle.send_model.specs.Receive.{bytes_of}
 use Rattle.send_model.specs.Reading.{Frame, number16, attribute_head, attribute_len, attribute_end, attribute_in, attribute_lawful, attribute_number, attributes_from, attributes_at, bytes_at, command_of, place_of, data_place, frame_header_len, wanted_there, moment_lawful}
 use Rattle.send_model.specs.Laws.{CanWrite}
-use Rattle.send_model.proofs.Sound.{found_is}
+use Rattle.send_model.proofs.Sound.{found_is, and_both}
+use Rattle.send_model.proofs.Sorts.{same_inside}
 use Rattle.send_model.proofs.Canonical.{bytes_append, le2_bytes, le4_bytes, checksum_small, spelled_spellable}
 use Rattle.send_model.proofs.Frames.{frame_read_back}
-use Rattle.send_model.proofs.ReadSpelled.{rules_were_spelled}
+use Rattle.send_model.proofs.ReadSpelled.{kind_with, numbered, rules_were_spelled}
 use Rattle.tlv_frame.specs.Table.{Table, StandsFor}
 use Rattle.cmd_reader.specs.Alone.{stand, stand_of}
 use Rattle.cmd_reader.proofs.Alone.{Follow, follow_same, stand_follow, alone_stand, kinds_with, body_size, total as size_of}
@@ -31,16 +32,29 @@ total version (a ∷ rest) = (attribute_head version a.kind + length a.bytes) + 
 Within : ℕ → Type 0
 Within n = (version : ℕ) (seen body : List ℕ) (attributes : List Attribute) → attributes_from n version seen body ≡ Ok attributes → total version attributes ≤ length body
 
-and_both : (a b : Bool) → a && b ≡ true → (a ≡ true) × (b ≡ true)
-and_both true b e = (refl, e)
-and_both false b e = cc
-
 lawful_len : (version : ℕ) (seen body : List ℕ) → attribute_lawful version seen body ≡ true → attribute_end version body ≤ length body
 lawful_len version seen body e = leb-true _ _ (and_both _ _ e).1
 
 if_true : {A : Type 0} (b : Bool) (x : Result A Refusal) (refusal : Refusal) (y : A) → (if b then x else Err refusal) ≡ Ok y → (b ≡ true) × (x ≡ Ok y)
 if_true true x refusal y e = (refl, e)
 if_true false x refusal y e = cc
+
+-- Of a body that is not empty the first attribute fits into it, and the others were read behind it.
+pub record FirstRead (n version : ℕ) (seen body : List ℕ) (attributes : List Attribute) : Type 0 where
+  pub others : List Attribute
+  pub fits : attribute_end version body ≤ length body
+  pub read : attributes_from n version (number16 body ∷ seen) (drop (attribute_end version body) body) ≡ Ok others
+  pub are : attribute_in version body ∷ others ≡ attributes
+
+pub first_read : (n version : ℕ) (seen : List ℕ) (x : ℕ) (xs : List ℕ) (attributes : List Attribute) → attributes_from (suc n) version seen (x ∷ xs) ≡ Ok attributes → FirstRead n version seen (x ∷ xs) attributes
+unfolding attributes_from
+first_read n version seen x xs attributes e =
+    let body : List ℕ = x ∷ xs in
+    let rest = attributes_from n version (number16 body ∷ seen) (drop (attribute_end version body) body) in
+    let k : List Attribute → Result (List Attribute) Refusal = λ more. Ok (attribute_in version body ∷ more) in
+    let w = if_true (attribute_lawful version seen body) (rest >>= k) (BadAttribute (attribute_number body)) attributes e in
+    let a = bound rest k attributes w.1 in
+    record { others = a.0; fits = lawful_len version seen body w.0; read = a.1; are = ok_same a.2 }
 
 withins : (n : ℕ) → Within n
 unfolding Within attributes_from
@@ -51,24 +65,17 @@ withins (suc n) version seen (x ∷ xs) attributes e =
     let head : ℕ = attribute_head version (number16 body) in
     let len : ℕ = attribute_len version body in
     let one : Attribute = attribute_in version body in
-    let rest = attributes_from n version (number16 body ∷ seen) (drop (attribute_end version body) body) in
-    let k : List Attribute → Result (List Attribute) Refusal = λ more. Ok (one ∷ more) in
-    let w = if_true (attribute_lawful version seen body) (rest >>= k) (BadAttribute (attribute_number body)) attributes e in
-    let a = bound rest k attributes w.1 in
-    let lens = lawful_len version seen body w.0 in
-    let more = withins n version (number16 body ∷ seen) (drop (attribute_end version body) body) a.0 a.1 in
+    let first = first_read n version seen x xs attributes e in
+    let more = withins n version (number16 body ∷ seen) (drop (attribute_end version body) body) first.others first.read in
     let size : length one.bytes ≤ len = at_most len (length (drop head body)) (length one.bytes) (length-take len (drop head body)) in
     let T : List Attribute → Type 0 = λ list. total version list ≤ length body in
-    subst T (ok_same a.2) (sums head (length one.bytes) len (total version a.0) (length (drop (attribute_end version body) body)) (length body) size lens more (length-drop (attribute_end version body) body))
+    subst T first.are (sums head (length one.bytes) len (total version first.others) (length (drop (attribute_end version body) body)) (length body) size first.fits more (length-drop (attribute_end version body) body))
   where
     at_most : (m k n : ℕ) → n ≡ min m k → n ≤ m
     at_most m k n e = omega (arith, e)
 
     sums : (h b l t d n : ℕ) → b ≤ l → h + l ≤ n → t ≤ d → d ≡ n - (h + l) → (h + b) + t ≤ n
     sums h b l t d n p q s u = omega (arith, p, q, s, u)
-
-inside : {x y : ℕ} → Some x ≡ Some y → x ≡ y
-inside {x = x} q = ap (λ o. unwrap_or o x) q
 
 -- The place and the bytes of an attribute lie in the body.
 placed : (version kind : ℕ) (attributes : List Attribute) (place : ℕ) → place_of version kind attributes ≡ Some place → place + length (bytes_at attributes kind) ≤ total version attributes
@@ -79,9 +86,9 @@ placed version kind (a ∷ rest) place e =
   where
     placed_on : (b : Bool) (own head : ℕ) → (b ≡ true → own ≡ head) → (bytes : List ℕ) (value : Option (List ℕ)) (there : Option ℕ) (t place : ℕ) → ((p : ℕ) → there ≡ Some p → p + length (unwrap_or value []) ≤ t)
         → (if b then Some own else (elim there as (λ x. Option ℕ) [ None ↦ None | Some p ↦ Some (head + length bytes + p) ])) ≡ Some place → place + length (unwrap_or (if b then Some bytes else value) []) ≤ (head + length bytes) + t
-    placed_on true own head same bytes value there t place more q = let is = inside q in let s = same refl in omega (arith, is, s)
+    placed_on true own head same bytes value there t place more q = let is = same_inside q in let s = same refl in omega (arith, is, s)
     placed_on false own head same bytes value None t place more q = cc
-    placed_on false own head same bytes value (Some p) t place more q = let is = inside q in let m = more p refl in omega (arith, is, m)
+    placed_on false own head same bytes value (Some p) t place more q = let is = same_inside q in let m = more p refl in omega (arith, is, m)
 
 -- The place of an attribute lies in the body.
 pub place_in_body : (version : ℕ) (body : List ℕ) (attributes : List Attribute) (place : ℕ) → attributes_at version body ≡ Ok attributes → place_of version DATA attributes ≡ Some place → place ≤ length body
@@ -89,7 +96,7 @@ unfolding attributes_at Within
 place_in_body version body attributes place read there = let whole = withins (length body) version [] body attributes read in let p = placed version DATA attributes place there in omega (arith, whole, p)
 
 -- Where there is no such attribute there are no bytes.
-unplaced : (version kind : ℕ) (attributes : List Attribute) → place_of version kind attributes ≡ None → bytes_at attributes kind ≡ []
+pub unplaced : (version kind : ℕ) (attributes : List Attribute) → place_of version kind attributes ≡ None → bytes_at attributes kind ≡ []
 unplaced version kind [] e = refl
 unplaced version kind (a ∷ rest) e = unplaced_on (a.kind == kind) (attribute_head version kind) (attribute_head version a.kind) a.bytes (value_of kind rest) (place_of version kind rest) (λ q. unplaced version kind rest q) e
   where
@@ -98,6 +105,18 @@ unplaced version kind (a ∷ rest) e = unplaced_on (a.kind == kind) (attribute_h
     unplaced_on true own head bytes value there more q = cc
     unplaced_on false own head bytes value None more q = more refl
     unplaced_on false own head bytes value (Some p) more q = cc
+
+-- A command that was read is the one of its number's kind, with the bytes of the attributes.
+pub made_with : (version number : ℕ) (attributes : List Attribute) (c : Command) → command_of version number attributes ≡ Ok c
+    → (kind : Kind) × (kind_of_number version number ≡ Some kind) × (command_with kind (bytes_at attributes) ≡ c)
+unfolding command_of
+made_with version number attributes c e =
+    let last : Kind → Result Command Refusal = λ kind. require (list_all (moment_lawful attributes) (row kind).wanted) BadTime >> Ok (command_with kind (bytes_at attributes)) in
+    let plain = not_refused (is_encoded version number) Encoded (found (kind_of_number version number) (UnknownCommand number) >>= λ kind. wanted_there (row kind).wanted attributes >> last kind) c e in
+    let a = bound (found (kind_of_number version number) (UnknownCommand number)) (λ kind. wanted_there (row kind).wanted attributes >> last kind) c plain.1 in
+    let b = tested (wanted_there (row a.0).wanted attributes) (last a.0) c a.2 in
+    let d = required (list_all (moment_lawful attributes) (row a.0).wanted) BadTime (Ok (command_with a.0 (bytes_at attributes))) c b.1 in
+    (a.0, found_is (kind_of_number version number) (UnknownCommand number) a.0 a.1, ok_same d.1)
 
 data_with : (kind : Kind) (values : ℕ → List ℕ) → length (bytes_of (command_with kind values)) ≤ length (values DATA)
 data_with WRITE values = le_refl _
@@ -110,68 +129,18 @@ data_within version at attributes size payload (Some place) e t d = let p = plac
 
 -- The data of a command that was read lies in its frame.
 pub data_place_within : (at version number : ℕ) (body : List ℕ) (attributes : List Attribute) (c : Command) → attributes_at version body ≡ Ok attributes → command_of version number attributes ≡ Ok c → data_place version at attributes + length (bytes_of c) ≤ at + frame_header_len + length body
-unfolding attributes_at command_of Within
+unfolding attributes_at Within
 data_place_within at version number body attributes c read e =
-    let last : Kind → Result Command Refusal = λ kind. require (list_all (moment_lawful attributes) (row kind).wanted) BadTime >> Ok (command_with kind (bytes_at attributes)) in
-    let plain = not_refused (is_encoded version number) Encoded (found (kind_of_number version number) (UnknownCommand number) >>= λ kind. wanted_there (row kind).wanted attributes >> last kind) c e in
-    let a = bound (found (kind_of_number version number) (UnknownCommand number)) (λ kind. wanted_there (row kind).wanted attributes >> last kind) c plain.1 in
-    let b = tested (wanted_there (row a.0).wanted attributes) (last a.0) c a.2 in
-    let d = required (list_all (moment_lawful attributes) (row a.0).wanted) BadTime (Ok (command_with a.0 (bytes_at attributes))) c b.1 in
+    let made = made_with version number attributes c e in
     let P : Command → Type 0 = λ x. length (bytes_of x) ≤ length (bytes_at attributes DATA) in
-    data_within version at attributes (length body) (length (bytes_of c)) (place_of version DATA attributes) refl (withins (length body) version [] body attributes read) (subst P (ok_same d.1) (data_with a.0 (bytes_at attributes)))
+    data_within version at attributes (length body) (length (bytes_of c)) (place_of version DATA attributes) refl (withins (length body) version [] body attributes read) (subst P made.2 (data_with made.0 (bytes_at attributes)))
 
 -- The kind of a command that was read is the one of its number, so it is taken where that number is.
-kind_with : (kind : Kind) (values : ℕ → List ℕ) → kind_of (command_with kind values) ≡ kind
-kind_with SUBVOL values = refl
-kind_with SNAPSHOT values = refl
-kind_with MKFILE values = refl
-kind_with MKDIR values = refl
-kind_with MKNOD values = refl
-kind_with MKFIFO values = refl
-kind_with MKSOCK values = refl
-kind_with SYMLINK values = refl
-kind_with RENAME values = refl
-kind_with LINK values = refl
-kind_with UNLINK values = refl
-kind_with RMDIR values = refl
-kind_with SET_XATTR values = refl
-kind_with REMOVE_XATTR values = refl
-kind_with WRITE values = refl
-kind_with CLONE values = refl
-kind_with TRUNCATE values = refl
-kind_with CHMOD values = refl
-kind_with CHOWN values = refl
-kind_with UTIMES values = refl
-kind_with END values = refl
-kind_with UPDATE_EXTENT values = refl
-kind_with FALLOCATE values = refl
-kind_with FILEATTR values = refl
-
-kind_inside : {x y : Kind} → Some x ≡ Some y → x ≡ y
-kind_inside {x = x} q = ap (λ o. unwrap_or o x) q
-
-numbered_on : (number : ℕ) (kind k : Kind) (b : Bool) (rest : Option Kind) → (row k).number == number ≡ b → (rest ≡ Some kind → (row kind).number ≡ number) → (if b then Some k else rest) ≡ Some kind → (row kind).number ≡ number
-numbered_on number kind k true rest same more q = ap (λ (x : Kind). (row x).number) (sym (kind_inside q)) ∙ eqb-true ((row k).number) number same
-numbered_on number kind k false rest same more q = more q
-
-found_number : (number : ℕ) (kind : Kind) (kinds : List Kind) → find (λ k. (row k).number == number) kinds ≡ Some kind → (row kind).number ≡ number
-found_number number kind [] q = cc
-found_number number kind (k ∷ kinds) q = numbered_on number kind k ((row k).number == number) (find (λ x. (row x).number == number) kinds) refl (λ r. found_number number kind kinds r) q
-
-numbered : (version number : ℕ) (kind : Kind) → kind_of_number version number ≡ Some kind → (row kind).number ≡ number
-unfolding kind_of_number
-numbered version number kind e = found_number number kind (kinds_of version) e
-
 pub kind_is : (version number : ℕ) (attributes : List Attribute) (c : Command) → command_of version number attributes ≡ Ok c → (row (kind_of c)).number ≡ number
-unfolding command_of
 kind_is version number attributes c e =
-    let last : Kind → Result Command Refusal = λ kind. require (list_all (moment_lawful attributes) (row kind).wanted) BadTime >> Ok (command_with kind (bytes_at attributes)) in
-    let plain = not_refused (is_encoded version number) Encoded (found (kind_of_number version number) (UnknownCommand number) >>= λ kind. wanted_there (row kind).wanted attributes >> last kind) c e in
-    let a = bound (found (kind_of_number version number) (UnknownCommand number)) (λ kind. wanted_there (row kind).wanted attributes >> last kind) c plain.1 in
-    let b = tested (wanted_there (row a.0).wanted attributes) (last a.0) c a.2 in
-    let d = required (list_all (moment_lawful attributes) (row a.0).wanted) BadTime (Ok (command_with a.0 (bytes_at attributes))) c b.1 in
-    let kind : kind_of c ≡ a.0 = ap kind_of (sym (ok_same d.1)) ∙ kind_with a.0 (bytes_at attributes) in
-    ap (λ (k : Kind). (row k).number) kind ∙ numbered version number a.0 (found_is (kind_of_number version number) (UnknownCommand number) a.0 a.1)
+    let made = made_with version number attributes c e in
+    let kind : kind_of c ≡ made.0 = ap kind_of (sym made.2) ∙ kind_with made.0 (bytes_at attributes) in
+    ap (λ (k : Kind). (row k).number) kind ∙ numbered version number made.0 made.1
 
 -- A slice of bytes is bytes.
 pub slice_bytes : (bytes : List ℕ) → ((i : ℕ) → Fits w8 (slice_index_or bytes i 0)) → IsBytes bytes

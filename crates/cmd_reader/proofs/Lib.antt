@@ -3,7 +3,7 @@ mod Uncut
 mod Lefts
 mod Alone
 mod LastFrames
-mod CommandFacts
+pub mod CommandFacts
 mod Sourcing
 mod Goings
 mod Steps
