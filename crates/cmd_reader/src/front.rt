@@ -13,13 +13,8 @@ use crate::spelled::is_canonical;
 use send_commands::{Command, decode};
 use std::alloc::Global;
 use sx_base::{Stop, Verdict};
-use tlv_frame::attrs;
-
-const FRAME_HEAD_LEN: u64 = 10;
-
-const FRAME_HEAD: usize = 10;
-// The number of the attribute DATA.
-pub(crate) const DATA: u16 = 19;
+use tlv_frame::attribute_numbers::DATA;
+use tlv_frame::{FRAME_HEAD_LEN, attrs};
 
 // A command with what its frame says of it.
 #[derive(Drop)]
@@ -37,7 +32,7 @@ pub(crate) fn body_in(frame: &[u8]) -> &[u8]
     ensures body { result.now ≡ drop 10 frame.now }
     ensures bytes { IsBytes frame.now }
 {
-    &frame[FRAME_HEAD..]
+    &frame[FRAME_HEAD_LEN..]
 }
 
 // The item that a frame at the place is, of a stream of the version, by its command's number and
@@ -100,7 +95,7 @@ fn command_in(alloc: Global, at: u64, version: u32, cmd: u16, body: &[u8]) -> Re
         Err(refusal) => return Err(Fault::Refused(refusal)),
     };
     let data_at = match table.place(DATA) {
-        Some(place) => at + FRAME_HEAD_LEN + place as u64,
+        Some(place) => at + FRAME_HEAD_LEN as u64 + place as u64,
         None => 0,
     };
     let canonical = is_canonical(version, cmd, &table, body.len());

@@ -9,17 +9,13 @@ ghost use Rattle.cmd_reader.specs.Sources.{IsSource, SourceAhead, SourcePasses, 
 use crate::fault::Fault;
 use std::alloc::{AllocError, Global};
 use sx_base::Inputs;
-use tlv_frame::{Feed, Passed};
+use tlv_frame::{FRAME_HEAD_LEN, Feed, HEADER_LEN, Passed};
 
 // How many bytes of a file are read at the most.
 const LIMIT: u64 = 1 << 62;
 
 // How many bytes of a file are asked for at once.
 const PIECE: usize = 65_536;
-
-const HEADER_LEN: u64 = 17;
-
-const FRAME_HEAD_LEN: u64 = 10;
 
 // A file that is read from its front on, in pieces.
 #[derive(Drop)]
@@ -143,7 +139,7 @@ fn len_of(unit: Passed) -> u64
     ensures len { result ≡ unit_len unit }
 {
     match unit {
-        Passed::Head(_) => HEADER_LEN,
-        Passed::Frame { head, .. } => FRAME_HEAD_LEN + head.len as u64,
+        Passed::Head(_) => HEADER_LEN as u64,
+        Passed::Frame { head, .. } => FRAME_HEAD_LEN as u64 + head.len as u64,
     }
 }

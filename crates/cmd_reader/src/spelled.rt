@@ -2,13 +2,11 @@
 ghost use Rattle.std.specs.Prelude.{◌≡◌, ◌≤◌, IfSome};
 ghost use Rattle.send_model.specs.Command.{kind_of_number};
 ghost use Rattle.send_model.specs.Spelling.{greatest_body};
-ghost use Rattle.send_model.specs.Reading.{attribute_head};
 ghost use Rattle.tlv_frame.specs.Table.{slot_at};
 ghost use Rattle.cmd_reader.specs.Alone.{stand, stand_of, end_at};
 
-use crate::front::DATA;
 use send_commands::Kind;
-use tlv_frame::AttrTable;
+use tlv_frame::{AttrTable, attr_head_len};
 
 // Whether a body of this length has the wanted attributes of a command and nothing else.
 pub(crate) fn is_canonical(version: u32, cmd: u16, table: &AttrTable<'_>, len: usize) -> bool
@@ -49,15 +47,11 @@ fn end_of(table: &AttrTable<'_>, len: usize, kind: u16, at: usize) -> Option<usi
     let Some(bytes) = table.get(kind) else {
         return None;
     };
-    if place != at + head_len(table.version(), kind) || place > len || bytes.len() > len - place {
+    if place != at + attr_head_len(table.version(), kind)
+        || place > len
+        || bytes.len() > len - place
+    {
         return None;
     }
     Some(place + bytes.len())
-}
-
-// How many bytes stand before those of an attribute.
-fn head_len(version: u32, kind: u16) -> usize
-    ensures { result ≡ attribute_head version kind }
-{
-    if version == 2 && kind == DATA { 2 } else { 4 }
 }
