@@ -14,11 +14,7 @@ use send_commands::{Command, encode};
 use std::alloc::{AllocError, Global};
 use std::marker::Model;
 use sx_base::Blob;
-
-// The header of a stream of each version.
-const FIRST_HEADER: [u8; 17] = *b"btrfs-stream\0\x01\0\0\0";
-
-const SECOND_HEADER: [u8; 17] = *b"btrfs-stream\0\x02\0\0\0";
+use tlv_frame::StreamHead;
 
 /// The name, the key and the parent's key of a part. The name is shorter than 65,536 bytes.
 #[derive(Drop)]
@@ -129,7 +125,7 @@ impl PartHead {
     {
         let head = self.command(parent)?;
         let start = to.as_slice().len();
-        to.push_all(header_of(version))?;
+        to.push_all(&StreamHead { version }.bytes())?;
         // A head has no data, and both versions spell it in the same bytes.
         match encode(&head, 1, to) {
             Ok(()) => Ok(()),
@@ -138,18 +134,5 @@ impl PartHead {
                 Err(error)
             }
         }
-    }
-}
-
-// The header of a stream of the version.
-#[tactic(auto, unfolding(send_model::specs::Spelling::stream_header))]
-fn header_of(version: u32) -> &'static [u8]
-    requires version { (version ≡ 1) ⊎ (version ≡ 2) }
-    ensures header { result.now ≡ stream_header version }
-{
-    if version == 2 {
-        &SECOND_HEADER
-    } else {
-        &FIRST_HEADER
     }
 }

@@ -9,13 +9,8 @@ use crate::numbers::{push_decimal, push_octal, push_time, push_uuid};
 use send_commands::{Kind, Time};
 use std::alloc::AllocError;
 use sx_base::{Blob, escape_into};
+use tlv_frame::attribute_numbers::*;
 use uuid::Uuid;
-
-const MODE: u16 = 5;
-
-const XATTR_DATA: u16 = 14;
-
-const DATA: u16 = 19;
 
 /// A value of a command.
 #[derive(Clone, Copy)]
@@ -84,29 +79,29 @@ fn value_name(kind: u16) -> &'static [u8]
     ensures name { result.now ≡ name_of kind }
 {
     match kind {
-        1 => b"uuid",
-        2 => b"ctransid",
-        4 => b"size",
-        5 => b"mode",
-        6 => b"uid",
-        7 => b"gid",
-        8 => b"rdev",
-        10 => b"mtime",
-        11 => b"atime",
-        13 => b"xattr",
-        14 => b"value",
-        15 => b"path",
-        16 => b"to",
-        17 => b"link",
-        18 => b"offset",
-        19 => b"data",
-        20 => b"clone_uuid",
-        21 => b"clone_ctransid",
-        22 => b"clone_path",
-        23 => b"clone_offset",
-        24 => b"clone_len",
-        25 => b"fmode",
-        26 => b"flags",
+        UUID => b"uuid",
+        CTRANSID => b"ctransid",
+        SIZE => b"size",
+        MODE => b"mode",
+        UID => b"uid",
+        GID => b"gid",
+        RDEV => b"rdev",
+        MTIME => b"mtime",
+        ATIME => b"atime",
+        XATTR_NAME => b"xattr",
+        XATTR_DATA => b"value",
+        PATH => b"path",
+        PATH_TO => b"to",
+        PATH_LINK => b"link",
+        FILE_OFFSET => b"offset",
+        DATA => b"data",
+        CLONE_UUID => b"clone_uuid",
+        CLONE_CTRANSID => b"clone_ctransid",
+        CLONE_PATH => b"clone_path",
+        CLONE_OFFSET => b"clone_offset",
+        CLONE_LEN => b"clone_len",
+        FALLOCATE_MODE => b"fmode",
+        FILE_FLAGS => b"flags",
         _ => b"",
     }
 }

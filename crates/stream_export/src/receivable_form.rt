@@ -2,7 +2,7 @@
 ghost use Rattle.std.specs.Prelude.{◌≡◌, ◌++◌, ◌≤◌, OnOk, [], length};
 ghost use Rattle.std.specs.Int.{w32, w64, to_le_bytes};
 ghost use Rattle.send_model.specs.Command.{row};
-ghost use Rattle.send_model.specs.Spelling.{stream_header, attribute_bytes, frame_of, greatest_body, canonical};
+ghost use Rattle.send_model.specs.Spelling.{attribute_bytes, frame_of, greatest_body, canonical};
 ghost use Rattle.send_model.specs.Receivable.{receivable};
 ghost use Rattle.send_model.specs.Laws.{CanWrite};
 ghost use Rattle.send_commands.specs.Meaning.{meaning_of};
@@ -15,14 +15,8 @@ use send_commands::{Command, Time, encode};
 use std::alloc::{AllocError, Global};
 use stream_dump::ItemForm;
 use sx_base::Blob;
-use tlv_frame::FrameWriter;
-
-const INO: u16 = 3;
-
-const CTIME: u16 = 9;
-
-// The length of a frame's header in bytes.
-const HEAD_LEN: usize = 10;
+use tlv_frame::attribute_numbers::{CTIME, INO};
+use tlv_frame::{FRAME_HEAD_LEN, FrameWriter, StreamHead};
 
 /// The receivable spelling, each stream behind its header. It keeps the canonical frame of the command at hand.
 #[derive(Drop)]
@@ -35,7 +29,10 @@ impl ItemForm for ReceivableForm {
 
     fn add(&mut self, begins: bool, item: &Item, to: &mut Blob) -> Result<(), AllocError> {
         if begins {
-            push_header(item.version, to)?;
+            let header = StreamHead {
+                version: item.version,
+            };
+            to.push_all(&header.bytes())?;
         }
         self.push_receivable(&item.command, item.version, to)
     }
@@ -67,18 +64,9 @@ impl ReceivableForm {
         };
         self.frame.clear();
         encode(command, version, &mut self.frame)?;
-        let (_, body) = self.frame.as_slice().split_at(HEAD_LEN);
+        let (_, body) = self.frame.as_slice().split_at(FRAME_HEAD_LEN);
         push_frame(asked, version, body, to)
     }
-}
-
-// Appends the header of a stream.
-#[tactic(auto, unfolding(send_model::specs::Spelling::stream_header))]
-fn push_header(version: u32, to: &mut Blob) -> Result<(), AllocError>
-    ensures added { OnOk result (to.new ≡ to.old ++ stream_header version) }
-{
-    to.push_all(b"btrfs-stream\x00")?;
-    to.push_all(&version.to_le_bytes())
 }
 
 // Appends a frame with what is asked for and, behind it, these attributes.

@@ -14,6 +14,7 @@ use itoa::Buffer;
 use send_commands::{Command, encode};
 use std::alloc::{AllocError, Global};
 use sx_base::Blob;
+use tlv_frame::StreamHead;
 use uuid::Uuid;
 
 /// The length of a block in bytes.
@@ -61,11 +62,10 @@ pub fn uuid_of(seed: u64, part: u64) -> Uuid
 }
 
 /// Appends the header of a stream of version 1.
-#[tactic(auto, unfolding(send_model::specs::Spelling::stream_header))]
 pub fn push_header(to: &mut Blob) -> Result<(), AllocError>
     ensures appended { OnOk result (to.new ≡ to.old ++ stream_header 1) }
 {
-    to.push_all(b"btrfs-stream\x00\x01\x00\x00\x00")
+    to.push_all(&StreamHead { version: 1 }.bytes())
 }
 
 // Appends a command in its canonical spelling.
