@@ -77,12 +77,22 @@ read_of es i e lt split = sym (ap (λ l. get_or l i e) split ∙ get_or_at (take
 pub kept_same : {K V : Type 0} (order : K → K → Ordering) (ps qs : List (List (K × V))) (n : ℕ) → AreKept order ps n → joined qs ≡ joined ps → (AreFilled ps → AreFilled qs) → AreKept order qs n
 kept_same order ps qs n are same filled = record { rises = subst (Rises order) (sym same) are.rises; filled = filled are.filled; counted = are.counted ∙ ap length (sym same) }
 
+-- pages in which the key has a value now, and pages in which it has none, with what the map keeps
+pub record IsPutIn {K V : Type 0} (order : K → K → Ordering) (key : K) (ps qs : List (List (K × V))) (n : ℕ) (value : V) : Type 0 where
+  pub kept : AreKept order qs n
+  pub same : joined qs ≡ with_value order key value (joined ps)
+
+pub record IsTakenOut {K V : Type 0} (order : K → K → Ordering) (key : K) (ps qs : List (List (K × V))) (n : ℕ) (value : V) : Type 0 where
+  pub kept : AreKept order qs n
+  pub same : joined qs ≡ without order key (joined ps)
+  pub was : value_at order key (joined ps) ≡ Some value
+
 module _ {K V : Type 0} {order : K → K → Ordering} (total : IsTotalOrder order) (key : K) (ps : List (List (K × V))) (i : ℕ) (p : List (K × V)) (len : ℕ) (are : AreKept order ps len) (is : IsPart order key ps i p) where
   pub part_length : length p ≤ len
   part_length = omega (arith, are.counted, ap length is.split, length_joined order key ps i p p)
 
   -- a key that is there has its value written over
-  pub put_found : (value was : V) (place : ℕ) (k : K) (q : List (K × V)) → IsAt order key p place → p ≡ take place p ++ (k, was) ∷ drop (place + 1) p → q ≡ take place p ++ (k, value) ∷ drop (place + 1) p → record { kept : AreKept order (set ps i q) len; same : joined (set ps i q) ≡ with_value order key value (joined ps) }
+  pub put_found : (value was : V) (place : ℕ) (k : K) (q : List (K × V)) → IsAt order key p place → p ≡ take place p ++ (k, was) ∷ drop (place + 1) p → q ≡ take place p ++ (k, value) ∷ drop (place + 1) p → IsPutIn order key ps (set ps i q) len value
   put_found value was place k q at split made =
       let read = read_of p place (k, was) at.in_range split in
       let equal : order k key ≡ Equal = subst (λ x. order x.0 key ≡ Equal) (sym read) (at.here (k, was)) in
@@ -96,7 +106,7 @@ module _ {K V : Type 0} {order : K → K → Ordering} (total : IsTotalOrder ord
       }
 
   -- one that is not there gets an entry
-  pub put_new : (value : V) (place n : ℕ) (q : List (K × V)) → IsGap order key p place → q ≡ insert p place (key, value) → n ≡ len + 1 → record { kept : AreKept order (set ps i q) n; same : joined (set ps i q) ≡ with_value order key value (joined ps) }
+  pub put_new : (value : V) (place n : ℕ) (q : List (K × V)) → IsGap order key p place → q ≡ insert p place (key, value) → n ≡ len + 1 → IsPutIn order key ps (set ps i q) n value
   put_new value place n q gap made more =
       let page : with_value order key value p ≡ q = put_gap total key value p place gap ∙ sym made in
       let whole = put_part total key ps i p value q is page in
@@ -108,7 +118,7 @@ module _ {K V : Type 0} {order : K → K → Ordering} (total : IsTotalOrder ord
       }
 
   -- an entry is taken out, and others stay in its page
-  pub without_found : (place n : ℕ) (e : K × V) (q : List (K × V)) → IsAt order key p place → p ≡ take place p ++ e ∷ drop (place + 1) p → q ≡ take place p ++ drop (place + 1) p → length p ≢ 1 → n ≡ len - 1 → record { kept : AreKept order (set ps i q) n; same : joined (set ps i q) ≡ without order key (joined ps); was : value_at order key (joined ps) ≡ Some e.1 }
+  pub without_found : (place n : ℕ) (e : K × V) (q : List (K × V)) → IsAt order key p place → p ≡ take place p ++ e ∷ drop (place + 1) p → q ≡ take place p ++ drop (place + 1) p → length p ≢ 1 → n ≡ len - 1 → IsTakenOut order key ps (set ps i q) n e.1
   without_found place n e q at split made more less =
       let read = read_of p place e at.in_range split in
       let equal : order e.0 key ≡ Equal = subst (λ x. order x.0 key ≡ Equal) (sym read) (at.here e) in
@@ -125,7 +135,7 @@ module _ {K V : Type 0} {order : K → K → Ordering} (total : IsTotalOrder ord
       }
 
   -- an entry is taken out with its page
-  pub without_page : (place n : ℕ) (e : K × V) → IsAt order key p place → e ≡ get_or p place e → length p ≡ 1 → n ≡ len - 1 → record { kept : AreKept order (remove ps i) n; same : joined (remove ps i) ≡ without order key (joined ps); was : value_at order key (joined ps) ≡ Some e.1 }
+  pub without_page : (place n : ℕ) (e : K × V) → IsAt order key p place → e ≡ get_or p place e → length p ≡ 1 → n ≡ len - 1 → IsTakenOut order key ps (remove ps i) n e.1
   without_page place n e at read alone less =
       let split = split_at p place e at.in_range read in
       let equal : order e.0 key ≡ Equal = subst (λ x. order x.0 key ≡ Equal) (sym read) (at.here e) in

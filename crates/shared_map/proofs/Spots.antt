@@ -1,5 +1,5 @@
 -- What is found and done at the spot of a key: its page, and its place there.
-use Rattle.std.proofs.Common.{◌≡◌, ◌≢◌, ℕ, ◌+◌, ◌-◌, ◌<◌, ◌≤◌, true, false, Option, Some, None, List, [], ◌∷◌, length, get_or, set, refl, sym, ap, ◌∙◌, subst, arith, inl, inr}
+use Rattle.std.proofs.Common.{◌≡◌, ◌≢◌, ℕ, ◌+◌, ◌-◌, ◌<◌, ◌≤◌, true, false, Option, Some, None, List, [], ◌∷◌, length, get_or, set, refl, sym, ◌∙◌, subst, arith, inl, inr}
 use Rattle.std.proofs.lemmas.Bool.{cases_lt}
 use Rattle.std.proofs.lemmas.List.{get_or_default}
 use Rattle.std.specs.Cmp.{IsTotalOrder}
@@ -8,7 +8,7 @@ use Rattle.std.specs.List.{insert, remove}
 use Rattle.send_model.specs.Map.{Map, value_at, with_value, without}
 use Rattle.shared_map.specs.Edited.{IsEdited, PutsNew}
 use Rattle.shared_map.specs.Pages.{joined, AreKept, IsAt, IsGap, IsThere, IsFree, IsSetAt, IsEditedAt, IsTakenAt, KeepsKeyAt}
-use Rattle.shared_map.proofs.Parts.{IsPart, part, part_length, read_of, value_found, value_absent, without_absent, put_found, put_new, without_found, without_page}
+use Rattle.shared_map.proofs.Parts.{IsPart, IsPutIn, IsTakenOut, part, part_length, read_of, value_found, value_absent, without_absent, put_found, put_new, without_found, without_page}
 use Rattle.shared_map.proofs.Editing.{edited_there, edited_nowhere, kept_somehow}
 
 module _ {K V : Type 0} (order : K → K → Ordering) (key : K) (ps : List (List (K × V))) (i : ℕ) (p : List (K × V)) (place : ℕ) (read : p ≡ get_or ps i p) where
@@ -43,25 +43,22 @@ module _ {K V : Type 0} {order : K → K → Ordering} (total : IsTotalOrder ord
   pub value_there : (p : List (K × V)) (e : K × V) → p ≡ get_or ps i p → IsThere order key ps i place → e ≡ get_or p place e → value_at order key (joined ps) ≡ Some e.1
   value_there p e read there this = value_found total key ps i p place e (there_part order key ps i p place read there) (there_at order key ps i p place read there) this
 
-  pub value_nowhere : IsFree order key ps i place → value_at order key (joined ps) ≡ None
-  value_nowhere free =
+  -- what holds where the place is a gap of its page, and where there are no pages
+  nowhere : (P : List (List (K × V)) → Type 0) → IsFree order key ps i place → ((p : List (K × V)) → IsPart order key ps i p → IsGap order key p place → P ps) → P [] → P ps
+  nowhere P free here none =
       let p = get_or ps i [] in
       elim (cases_lt i (length ps)) [
         | inl lt ↦
             let read : p ≡ get_or ps i p = get_or_default ps i [] p lt in
-            value_absent total key ps i p place (free_part order key ps i p place read free lt) (free_gap order key ps i p place read free lt)
-        | inr all ↦ ap (λ l. value_at order key (joined l)) (none_at ps i free.home.in_range all)
+            here p (free_part order key ps i p place read free lt) (free_gap order key ps i p place read free lt)
+        | inr all ↦ subst P (sym (none_at ps i free.home.in_range all)) none
       ]
 
+  pub value_nowhere : IsFree order key ps i place → value_at order key (joined ps) ≡ None
+  value_nowhere free = nowhere (λ l. value_at order key (joined l) ≡ None) free (λ p is gap. value_absent total key ps i p place is gap) refl
+
   pub without_nowhere : IsFree order key ps i place → without order key (joined ps) ≡ joined ps
-  without_nowhere free =
-      let p = get_or ps i [] in
-      elim (cases_lt i (length ps)) [
-        | inl lt ↦
-            let read : p ≡ get_or ps i p = get_or_default ps i [] p lt in
-            without_absent total key ps i p place (free_part order key ps i p place read free lt) (free_gap order key ps i p place read free lt)
-        | inr all ↦ subst (λ l. without order key (joined l) ≡ joined l) (sym (none_at ps i free.home.in_range all)) refl
-      ]
+  without_nowhere free = nowhere (λ l. without order key (joined l) ≡ joined l) free (λ p is gap. without_absent total key ps i p place is gap) refl
 
   pub edit_nowhere : {E : Type 0} (become : V → V) (left : V → E) (before : E) → IsFree order key ps i place → IsEdited become left (value_at order key (joined ps)) (λ value. with_value order key value (joined ps)) (joined ps) (joined ps) before before false
   edit_nowhere become left before free = edited_nowhere become left (λ value. with_value order key value (joined ps)) _ (joined ps) before (value_nowhere free)
@@ -83,10 +80,10 @@ module _ {K V : Type 0} {order : K → K → Ordering} (total : IsTotalOrder ord
   pub count_there : IsThere order key ps i place → 0 < len
   count_there there = omega (arith, part_length total key ps i p len are (there_part order key ps i p place read there), (there_at order key ps i p place read there).in_range)
 
-  pub set_there : (value : V) → IsThere order key ps i place → IsSetAt p q place value → record { kept : AreKept order (set ps i q) len; same : joined (set ps i q) ≡ with_value order key value (joined ps) }
+  pub set_there : (value : V) → IsThere order key ps i place → IsSetAt p q place value → IsPutIn order key ps (set ps i q) len value
   set_there value there did = put_found total key ps i p len are (there_part order key ps i p place read there) value did.was place did.key q (there_at order key ps i p place read there) did.before did.made
 
-  pub put_free : (value : V) (n : ℕ) → IsFree order key ps i place → i < length ps → q ≡ insert p place (key, value) → n ≡ len + 1 → record { kept : AreKept order (set ps i q) n; same : joined (set ps i q) ≡ with_value order key value (joined ps) }
+  pub put_free : (value : V) (n : ℕ) → IsFree order key ps i place → i < length ps → q ≡ insert p place (key, value) → n ≡ len + 1 → IsPutIn order key ps (set ps i q) n value
   put_free value n free lt made more = put_new total key ps i p len are (free_part order key ps i p place read free lt) value place n q (free_gap order key ps i p place read free lt) made more
 
   pub keep_there : IsThere order key ps i place → KeepsKeyAt p q place → AreKept order (set ps i q) len
@@ -98,9 +95,9 @@ module _ {K V : Type 0} {order : K → K → Ordering} (total : IsTotalOrder ord
       let was = value_there total key ps i place p (did.key, did.was) read there (read_of p place (did.key, did.was) (there_at order key ps i p place read there).in_range did.before) in
       record { kept = put.kept; edited = edited_there become left (λ value. with_value order key value (joined ps)) _ did.was (joined ps) _ before after was put.same did.edit }
 
-  pub take_there : (e : K × V) → IsThere order key ps i place → IsTakenAt p q place e → length p ≢ 1 → record { kept : AreKept order (set ps i q) (len - 1); same : joined (set ps i q) ≡ without order key (joined ps); was : value_at order key (joined ps) ≡ Some e.1 }
+  pub take_there : (e : K × V) → IsThere order key ps i place → IsTakenAt p q place e → length p ≢ 1 → IsTakenOut order key ps (set ps i q) (len - 1) e.1
   take_there e there did more = without_found total key ps i p len are (there_part order key ps i p place read there) place (len - 1) e q (there_at order key ps i p place read there) did.before did.made more refl
 
 module _ {K V : Type 0} {order : K → K → Ordering} (total : IsTotalOrder order) (key : K) (ps : List (List (K × V))) (i : ℕ) (p : List (K × V)) (len place : ℕ) (are : AreKept order ps len) (read : p ≡ get_or ps i p) where
-  pub page_there : (e : K × V) → IsThere order key ps i place → e ≡ get_or p place e → length p ≡ 1 → record { kept : AreKept order (remove ps i) (len - 1); same : joined (remove ps i) ≡ without order key (joined ps); was : value_at order key (joined ps) ≡ Some e.1 }
+  pub page_there : (e : K × V) → IsThere order key ps i place → e ≡ get_or p place e → length p ≡ 1 → IsTakenOut order key ps (remove ps i) (len - 1) e.1
   page_there e there this alone = without_page total key ps i p len are (there_part order key ps i p place read there) place (len - 1) e (there_at order key ps i p place read there) this alone refl
