@@ -3,6 +3,7 @@ use Rattle.std.specs.Prelude.{◌≡◌, ℕ, true, false, List, Option, None, S
 use Rattle.std.proofs.Common.{refl, sym, ap, ◌∙◌}
 use Rattle.std.proofs.lemmas.Bool.{true≢false}
 use Rattle.send_model.specs.Refusal.{Refusal, BadPath, NoEntry, NotDirectory, EntryThere, IsDirectory, NotEmpty, NoNumber, BadXattr, NoXattr}
+use Rattle.send_model.specs.Chain.{◌>>=◌, ◌>>◌, require, found}
 use Rattle.send_model.specs.Path.{path_names}
 use Rattle.send_model.specs.Map.{bytes_cmp, with_value, without}
 use Rattle.send_model.specs.Subvolume.{Inode, Subvolume, Spot, walk, spot, is_directory, is_empty_directory}
@@ -82,35 +83,24 @@ module _ {C : Type 0} (s : Subvolume C) (path : List ℕ) where
   unfolding rmdir
   rmdir_nowhere refusal e = stops (spot s path) _ refusal e
 
-  module _ (place : Spot) (at : spot s path ≡ Ok place) where
-    pub unlink_absent : at_spot s place ≡ None → unlink path s ≡ Err NoEntry
-    unfolding unlink
-    unlink_absent e = goes_on (spot s path) _ place at ∙ misses (at_spot s place) NoEntry _ e
-
-    pub rmdir_absent : at_spot s place ≡ None → rmdir path s ≡ Err NoEntry
+  -- In a tree that is still the same once the place is found.
+  module _ (t : Subvolume C) (same : t ≡ s) (place : Spot) (at : spot s path ≡ Ok place) where
+    placed : rmdir path s ≡ (found (at_spot t place) NoEntry >>= λ ino. require (is_directory t ino) NotDirectory >> (require (is_empty_directory t ino) NotEmpty >> Ok (take_name place ino t)))
     unfolding rmdir
-    rmdir_absent e = goes_on (spot s path) _ place at ∙ misses (at_spot s place) NoEntry _ e
+    placed = goes_on (spot s path) _ place at ∙ ap (λ (x : Subvolume C). found (at_spot x place) NoEntry >>= λ ino. require (is_directory x ino) NotDirectory >> (require (is_empty_directory x ino) NotEmpty >> Ok (take_name place ino x))) (sym same)
 
-    module _ (ino : ℕ) (there : at_spot s place ≡ Some ino) where
-      pub unlink_directory : is_directory s ino ≡ true → unlink path s ≡ Err IsDirectory
-      unfolding unlink
-      unlink_directory d = goes_on (spot s path) _ place at ∙ (finds (at_spot s place) NoEntry _ ino there ∙ refuses (is_directory s ino) IsDirectory _ d)
+    pub rmdir_absent : at_spot t place ≡ None → rmdir path s ≡ Err NoEntry
+    rmdir_absent e = placed ∙ misses (at_spot t place) NoEntry _ e
 
-      pub unlink_made : is_directory s ino ≡ false → unlink path s ≡ Ok (take_name place ino s)
-      unfolding unlink
-      unlink_made d = goes_on (spot s path) _ place at ∙ (finds (at_spot s place) NoEntry _ ino there ∙ spares (is_directory s ino) IsDirectory _ d)
+    module _ (ino : ℕ) (there : at_spot t place ≡ Some ino) where
+      pub rmdir_plain : is_directory t ino ≡ false → rmdir path s ≡ Err NotDirectory
+      rmdir_plain d = placed ∙ finds (at_spot t place) NoEntry _ ino there ∙ fails (is_directory t ino) NotDirectory _ d
 
-      pub rmdir_plain : is_directory s ino ≡ false → rmdir path s ≡ Err NotDirectory
-      unfolding rmdir
-      rmdir_plain d = goes_on (spot s path) _ place at ∙ (finds (at_spot s place) NoEntry _ ino there ∙ fails (is_directory s ino) NotDirectory _ d)
+      pub rmdir_full : is_directory t ino ≡ true → is_empty_directory t ino ≡ false → rmdir path s ≡ Err NotEmpty
+      rmdir_full d full = placed ∙ finds (at_spot t place) NoEntry _ ino there ∙ passes (is_directory t ino) NotDirectory _ d ∙ fails (is_empty_directory t ino) NotEmpty _ full
 
-      pub rmdir_full : is_directory s ino ≡ true → is_empty_directory s ino ≡ false → rmdir path s ≡ Err NotEmpty
-      unfolding rmdir
-      rmdir_full d full = goes_on (spot s path) _ place at ∙ (finds (at_spot s place) NoEntry _ ino there ∙ (passes (is_directory s ino) NotDirectory _ d ∙ fails (is_empty_directory s ino) NotEmpty _ full))
-
-      pub rmdir_made : is_directory s ino ≡ true → is_empty_directory s ino ≡ true → rmdir path s ≡ Ok (take_name place ino s)
-      unfolding rmdir
-      rmdir_made d empty = goes_on (spot s path) _ place at ∙ (finds (at_spot s place) NoEntry _ ino there ∙ (passes (is_directory s ino) NotDirectory _ d ∙ passes (is_empty_directory s ino) NotEmpty _ empty))
+      pub rmdir_made : is_directory t ino ≡ true → is_empty_directory t ino ≡ true → rmdir path s ≡ Ok (take_name place ino t)
+      rmdir_made d empty = placed ∙ finds (at_spot t place) NoEntry _ ino there ∙ passes (is_directory t ino) NotDirectory _ d ∙ passes (is_empty_directory t ino) NotEmpty _ empty
 
   -- ---- changes of an inode
 

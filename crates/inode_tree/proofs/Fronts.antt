@@ -1,5 +1,5 @@
 -- Paths as the names in front of their last one, and that one. Of the definitions alone.
-use Rattle.std.specs.Prelude.{◌≡◌, ℕ, ◌+◌, ◌≤◌, ◌-◌, ◌==◌, Bool, true, false, ◌&&◌, List, [], ◌∷◌, ◌++◌, length, take, Some, not, nat_le}
+use Rattle.std.specs.Prelude.{◌≡◌, ℕ, ◌+◌, ◌≤◌, ◌-◌, ◌==◌, Bool, true, false, ◌&&◌, List, [], ◌∷◌, ◌++◌, length, take, Some}
 use Rattle.std.specs.List.{list_all, list_any, join_with_byte}
 use Rattle.std.proofs.Common.{refl, sym, ap, ◌∙◌, arith, length-append}
 use Rattle.std.proofs.lemmas.List.{append_assoc}
@@ -9,31 +9,16 @@ use Rattle.std.proofs.Math.Seq.{take-append_seam}
 use Rattle.std.proofs.lemmas.List.Splits.{join_with_byte-slice_split}
 use Rattle.send_model.specs.Path.{slash, is_name, between_slashes, path_names}
 use Rattle.send_model.specs.Subvolume.{all_but_last}
-use Rattle.send_model.proofs.PathLaws.{between_slashes-split, path_by_pieces, path_names_pieces, path_names_all, is_name_length}
+use Rattle.send_model.proofs.LeastPaths.{name_has_no_slash}
+use Rattle.send_model.proofs.PathLaws.{between_slashes-split, path_by_pieces, none_left, path_names_pieces, path_names_all, is_name_length}
 use Rattle.send_model.proofs.Stores.{or_parts}
 use Rattle.inode_tree.specs.Places.{last_of}
 use Rattle.inode_tree.specs.Walked.{front_of, GoesOn}
 
--- ---- names have no slash
-
-not_true : (b : Bool) → not b ≡ true → b ≡ false
-not_true true e = sym e
-not_true false e = refl
-
-third : (p q r s t u : Bool) → (p && q && r && s && t && u) ≡ true → r ≡ true
-third p q r s t u good =
-    let to_t : (p && q && r && s && t) ≡ true = (and_parts _ u good).0 in
-    let to_s : (p && q && r && s) ≡ true = (and_parts _ t to_t).0 in
-    let to_r : (p && q && r) ≡ true = (and_parts _ s to_s).0 in
-    (and_parts (p && q) r to_r).1
-
-name_has_no_slash : (name : List ℕ) → is_name name ≡ true → list_any (λ b. b == slash) name ≡ false
-unfolding is_name
-name_has_no_slash name good = not_true (list_any (λ b. b == slash) name) (third (nat_le 1 (length name)) (nat_le (length name) 255) (not (list_any (λ b. b == slash) name)) _ _ _ good)
-
 -- ---- pieces of names with slashes
 
-cut_off : (name rest : List ℕ) → list_any (λ b. b == slash) name ≡ false → between_slashes (name ++ slash ∷ rest) ≡ name ∷ between_slashes rest
+-- A name in front of a slash is the first piece.
+pub cut_off : (name rest : List ℕ) → list_any (λ b. b == slash) name ≡ false → between_slashes (name ++ slash ∷ rest) ≡ name ∷ between_slashes rest
 unfolding between_slashes
 cut_off [] rest none = refl
 cut_off (b ∷ name) rest none = let p = or_parts (b == slash) (list_any (λ c. c == slash) name) none in rw (p.0, cut_off name rest p.1) refl
@@ -55,7 +40,8 @@ names_behind names path rest more good goes found =
     let long : length path ≡ length (front_of names) + length rest = ap length goes.is ∙ length-append (front_of names) rest in
     path_by_pieces path true (omega (arith, goes.some)) goes.short all ∙ ap (λ (x : List (List ℕ)). Some x) pieces
 
-whole_piece : (name : List ℕ) → list_any (λ b. b == slash) name ≡ false → between_slashes name ≡ name ∷ []
+-- Bytes without a slash are one piece.
+pub whole_piece : (name : List ℕ) → list_any (λ b. b == slash) name ≡ false → between_slashes name ≡ name ∷ []
 unfolding between_slashes
 whole_piece [] none = refl
 whole_piece (b ∷ name) none = let p = or_parts (b == slash) (list_any (λ c. c == slash) name) none in rw (p.0, whole_piece name p.1) refl
@@ -70,17 +56,22 @@ one_name name good =
 
 -- ---- a path is its front and its last name
 
+-- Bytes are their pieces, joined.
+pub join_pieces : (bytes : List ℕ) → join_with_byte slash (between_slashes bytes) ≡ bytes
+join_pieces bytes = ap (join_with_byte slash) (between_slashes-split bytes) ∙ join_with_byte-slice_split slash bytes
+
+-- And a path is its names, joined.
+pub path_is : (path : List ℕ) (names : List (List ℕ)) → path_names path ≡ Some names → join_with_byte slash names ≡ path
+path_is [] names found = ap (join_with_byte slash) (none_left names found)
+path_is (b ∷ path) names found = ap (join_with_byte slash) (path_names_pieces (b ∷ path) names (omega arith) found).0 ∙ join_pieces (b ∷ path)
+
 joined : (name : List ℕ) (rest : List (List ℕ)) → join_with_byte slash (name ∷ rest) ≡ front_of (all_but_last (name ∷ rest)) ++ last_of name rest
 joined name [] = refl
 joined name (further ∷ rest) =
     ap (λ (x : List ℕ). name ++ slash ∷ x) (joined further rest) ∙ sym (append_assoc name (slash ∷ front_of (all_but_last (further ∷ rest))) (last_of further rest))
 
 pub front_and_name : (path name : List ℕ) (rest : List (List ℕ)) → path_names path ≡ Some (name ∷ rest) → path ≡ front_of (all_but_last (name ∷ rest)) ++ last_of name rest
-unfolding path_names
-front_and_name [] name rest found = cc
-front_and_name (b ∷ path) name rest found =
-    let p = path_names_pieces (b ∷ path) (name ∷ rest) (omega arith) found in
-    sym (join_with_byte-slice_split slash (b ∷ path)) ∙ ap (join_with_byte slash) (sym (p.0 ∙ between_slashes-split (b ∷ path))) ∙ joined name rest
+front_and_name path name rest found = sym (path_is path (name ∷ rest) found) ∙ joined name rest
 
 pub front_lawful : (name : List ℕ) (rest : List (List ℕ)) → list_all is_name (name ∷ rest) ≡ true → list_all is_name (all_but_last (name ∷ rest)) ≡ true
 front_lawful name [] good = refl
@@ -97,6 +88,4 @@ front_cut path front name is =
 
 -- A path that is not empty has a name.
 pub some_name : (b : ℕ) (path : List ℕ) → path_names (b ∷ path) ≡ Some [] → ⊥
-some_name b path found =
-    let p = path_names_pieces (b ∷ path) [] (omega arith) found in
-    let none : [] ≡ b ∷ path = ap (join_with_byte slash) (p.0 ∙ between_slashes-split (b ∷ path)) ∙ join_with_byte-slice_split slash (b ∷ path) in cc
+some_name b path found = let none : [] ≡ b ∷ path = path_is (b ∷ path) [] found in cc

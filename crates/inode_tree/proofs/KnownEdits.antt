@@ -1,22 +1,34 @@
 -- What is remembered of the last walks stays right through each edit.
-use Rattle.std.specs.Prelude.{◌≡◌, ℕ, ◌<◌, Bool, true, false, cond, List, None, Some, Ok, is_some, nat_le}
+use Rattle.std.specs.Prelude.{◌≡◌, ℕ, ◌<◌, Bool, true, false, cond, List, None, Some, Result, Ok, is_some, nat_le}
 use Rattle.std.specs.Ordering.{nat_cmp}
 use Rattle.std.specs.Cmp.{nat_cmp_total}
 use Rattle.std.proofs.Common.{refl, sym, ap, subst, ◌∙◌, arith, inl, inr}
 use Rattle.std.proofs.lemmas.Bool.{cases_eq, true≢false}
 use Rattle.std.proofs.lemmas.Map.Lookups.{exact_unsigned}
+use Rattle.send_model.specs.Refusal.{Refusal}
 use Rattle.send_model.specs.Map.{Map, named_cmp, value_at, with_value, without}
 use Rattle.send_model.specs.Subvolume.{Inode, Subvolume, Spot, is_directory_kind, passes_inode, inode_at, named, is_directory, name_count, walk, spot, IsSound}
-use Rattle.send_model.specs.Edit.{at_spot, take_name, remove_name, remove_inode, move_name}
+use Rattle.send_model.specs.Edit.{make, at_spot, take_name, remove_name, remove_inode, move_name}
 use Rattle.send_model.proofs.MapLaws.{with_value-here, with_value-other, without-other}
 use Rattle.send_model.proofs.Sorts.{same_inside}
 use Rattle.send_model.proofs.Soundness.{key, directory_by, directory_is_there, other_place, name_here, name_other, name_left}
 use Rattle.send_model.proofs.SoundRenames.{taken_names}
 use Rattle.inode_tree.specs.Places.{spot_of}
-use Rattle.inode_tree.specs.Trees.{IsWholeTree}
+use Rattle.inode_tree.specs.Trees.{IsTree, IsWholeTree}
 use Rattle.inode_tree.specs.Walked.{Walked, nothing, IsFront, IsKnown, IsRemembered, LearnsFront, without_name}
 use Rattle.inode_tree.proofs.TreeLaws.{none_by}
 use Rattle.inode_tree.proofs.Known.{Grows, GrowsBut, DirectoriesStay, growing_stays, plain_stays, known_grows, known_without, nothing_known, front_learnt, place_stays, walk_finds}
+
+-- What an edit left: it keeps the tree, what is remembered still serves, and it is what the definition says.
+pub record Edited {C : Type 0} (t : Subvolume C) (f : Map ℕ ℕ) (last : Walked) (said : Result (Subvolume C) Refusal) : Type 0 where
+  pub tree : IsTree t f
+  pub known : IsKnown t last
+  pub says : said ≡ Ok t
+
+-- A new inode stands at a path.
+pub record Made {C : Type 0} (S t : Subvolume C) (f : Map ℕ ℕ) (last : Walked) (path : List ℕ) (inode : Inode C) (ino : ℕ) : Type 0 where
+  pub edited : Edited t f last (make inode path S)
+  pub leads : walk t path ≡ Ok ino
 
 module _ {C : Type 0} where
   pub remembered : (b : Bool) (s : Subvolume C) (last : Walked) → b ≡ true → IsRemembered b s last → IsKnown s last

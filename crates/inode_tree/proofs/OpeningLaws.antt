@@ -57,37 +57,24 @@ eight_past bytes place le =
 -- ---- sixteen bytes that stand for a list
 
 module _ (bytes opening : List ℕ) (len : ℕ) (is : IsOpening bytes opening len) where
-  opening_first : eight_at opening 0 ≡ eight_at bytes 0
+  opening_at : (place : ℕ) → place ≤ 8 → eight_at opening place ≡ eight_at bytes place
   unfolding two_at four_at eight_at
-  opening_first =
-      let a = is.same 0 (omega arith) in
-      let b = is.same 1 (omega arith) in
-      let c = is.same 2 (omega arith) in
-      let d = is.same 3 (omega arith) in
-      let e = is.same 4 (omega arith) in
-      let f = is.same 5 (omega arith) in
-      let g = is.same 6 (omega arith) in
-      let h = is.same 7 (omega arith) in
-      omega arith
-
-  opening_next : eight_at opening 8 ≡ eight_at bytes 8
-  unfolding two_at four_at eight_at
-  opening_next =
-      let a = is.same 8 (omega arith) in
-      let b = is.same 9 (omega arith) in
-      let c = is.same 10 (omega arith) in
-      let d = is.same 11 (omega arith) in
-      let e = is.same 12 (omega arith) in
-      let f = is.same 13 (omega arith) in
-      let g = is.same 14 (omega arith) in
-      let h = is.same 15 (omega arith) in
+  opening_at place low =
+      let a = is.same place (omega arith) in
+      let b = is.same (place + 1) (omega arith) in
+      let c = is.same (place + 2) (omega arith) in
+      let d = is.same (place + 2 + 1) (omega arith) in
+      let e = is.same (place + 4) (omega arith) in
+      let f = is.same (place + 4 + 1) (omega arith) in
+      let g = is.same (place + 4 + 2) (omega arith) in
+      let h = is.same (place + 4 + 2 + 1) (omega arith) in
       omega arith
 
   pub opened_first : (first : ℕ) → first ≡ eight_at opening 0 → IsOpened bytes first (eight_at bytes 8)
-  opened_first first e = record { first_is = e ∙ opening_first; next_is = refl; small = is.small }
+  opened_first first e = record { first_is = e ∙ opening_at 0 (omega arith); next_is = refl; small = is.small }
 
   pub opened_both : (first next : ℕ) → first ≡ eight_at opening 0 → next ≡ eight_at opening 8 → IsOpened bytes first next
-  opened_both first next e f = record { first_is = e ∙ opening_first; next_is = f ∙ opening_next; small = is.small }
+  opened_both first next e f = record { first_is = e ∙ opening_at 0 (omega arith); next_is = f ∙ opening_at 8 (omega arith); small = is.small }
 
 -- Of a long list the first sixteen.
 pub long_opening : (bytes opening : List ℕ) → ((place : ℕ) → byte_at bytes place < 256) → opening ≡ take 16 bytes → IsOpening bytes opening 0

@@ -17,7 +17,7 @@ use Rattle.inode_tree.specs.Trees.{further_names, IsTree}
 use Rattle.inode_tree.specs.Walked.{Walked, IsKnown, without_name}
 use Rattle.inode_tree.proofs.Chains.{goes_on, finds, misses, spares, refuses}
 use Rattle.inode_tree.proofs.TreeLaws.{Became, last_whole, one_whole}
-use Rattle.inode_tree.proofs.KnownEdits.{taken_known}
+use Rattle.inode_tree.proofs.KnownEdits.{Edited, taken_known}
 use Rattle.inode_tree.proofs.FreePlaces.{put_back, none_taken, same_fields, stands_in}
 
 module _ {C : Type 0} where
@@ -37,12 +37,6 @@ module _ {C : Type 0} where
     pub tree : IsTree t f
     pub known : IsKnown t last
     pub says : (said ≡ Err refusal) × (t ≡ S)
-
-  -- What the taking of a name left.
-  pub record Taken (t : Subvolume C) (f : Map ℕ ℕ) (last : Walked) (said : Result (Subvolume C) Refusal) : Type 0 where
-    pub tree : IsTree t f
-    pub known : IsKnown t last
-    pub says : said ≡ Ok t
 
   -- For s the fields of the tree that contracts see as S.
   module _ (s S : Subvolume C) (view : s ≡ S) (f : Map ℕ ℕ) (last : Walked) (tree : IsTree s f) (known : IsKnown s last) where
@@ -74,7 +68,7 @@ module _ {C : Type 0} where
             finds (at_spot S (spot_of place)) NoEntry _ ino there_S ∙ spares (is_directory S ino) IsDirectory _ (subst (λ (x : Subvolume C). is_directory x ino ≡ false) view plain)
 
         taken : is_directory s ino ≡ false → (t : Subvolume C) (g : Map ℕ ℕ) (new : Walked) → Became t g (take_name (spot_of place) ino S) → new ≡ without_name false last
-            → Taken t g new (unlink_at (spot_of place) S)
+            → Edited t g new (unlink_at (spot_of place) S)
         taken plain t g new became e = record {
           tree = became.tree;
           known = taken_known s S view last known place ino false there_S (sym (subst (λ (x : Subvolume C). is_directory x ino ≡ false) view plain)) t became.is became.tree.sound new e;
@@ -83,7 +77,7 @@ module _ {C : Type 0} where
 
         -- An inode that has further names is no directory.
         pub one_less : 0 < further_names f ino → (t : Subvolume C) → t.inodes ≡ s.inodes → t.names ≡ without named_cmp place s.names → t.next ≡ s.next
-            → (g : Map ℕ ℕ) → g ≡ with_value nat_cmp ino (further_names f ino - 1) f → (new : Walked) → new ≡ without_name false last → Taken t g new (unlink_at (spot_of place) S)
+            → (g : Map ℕ ℕ) → g ≡ with_value nat_cmp ino (further_names f ino - 1) f → (new : Walked) → new ≡ without_name false last → Edited t g new (unlink_at (spot_of place) S)
         one_less some t a b c g less new e =
             let plain = one (is_directory s ino) refl in
             taken plain t g new (one_whole s S view f tree place ino there_S (plain_leaf ino plain) (λ none. omega arith) t a b c g less) e
@@ -103,7 +97,7 @@ module _ {C : Type 0} where
               (finds (at_spot S (spot_of place)) NoEntry _ ino there_S ∙ refuses (is_directory S ino) IsDirectory _ directory)
 
           pub last_gone : is_directory_kind inode.kind ≡ false → further_names f ino ≡ 0 → (t : Subvolume C) → t.inodes ≡ without nat_cmp ino s.inodes → t.names ≡ without named_cmp place s.names
-              → t.next ≡ s.next → (new : Walked) → new ≡ without_name false last → Taken t f new (unlink_at (spot_of place) S)
+              → t.next ≡ s.next → (new : Walked) → new ≡ without_name false last → Edited t f new (unlink_at (spot_of place) S)
           last_gone is none t a b c new e =
               let plain = kind_tells s ino inode found ∙ is in
               taken plain t f new (last_whole s S view f tree place ino there_S (plain_leaf ino plain) none t a b c) e

@@ -32,40 +32,71 @@ module _ {C : Type 0} (s : Subvolume C) (path path_to : List ℕ) where
       unfolding rename
       rename_lost refusal e = goes_on (spot s path) _ from at ∙ (finds (at_spot s from) NoEntry _ moved mine ∙ stops (spot s path_to) _ refusal e)
 
-      module _ (to : Spot) (at_to : spot s path_to ≡ Ok to) where
-        onto : (o : Option ℕ) → at_spot s to ≡ o → rename path path_to s ≡ rename_onto from to path_to moved o s
-        unfolding rename
-        onto o e = goes_on (spot s path) _ from at ∙ (finds (at_spot s from) NoEntry _ moved mine ∙ (goes_on (spot s path_to) _ to at_to ∙ ap (λ (x : Option ℕ). rename_onto from to path_to moved x s) e))
+-- Both places of a rename were found and a name stands at the first, in a tree that is still the one the rename began with.
+pub record AreFound {C : Type 0} (first s : Subvolume C) (path path_to : List ℕ) (from to : Spot) (moved : ℕ) : Type 0 where
+  pub same : s ≡ first
+  pub at : spot s path ≡ Ok from
+  pub mine : at_spot s from ≡ Some moved
+  pub at_to : spot s path_to ≡ Ok to
 
-        pub rename_into : at_spot s to ≡ None → (is_directory s moved && lies_below s moved path_to) ≡ true → rename path path_to s ≡ Err IntoItself
-        unfolding rename_onto
-        rename_into free into = onto None free ∙ refuses (is_directory s moved && lies_below s moved path_to) IntoItself _ into
+-- So it is where the first place was found in the tree before the second one.
+pub both_found : {C : Type 0} (first before s : Subvolume C) (path path_to : List ℕ) (from to : Spot) (moved : ℕ) → before ≡ first → s ≡ before → spot first path ≡ Ok from → at_spot before from ≡ Some moved → spot before path_to ≡ Ok to
+    → AreFound first s path path_to from to moved
+both_found {C} first before s path path_to from to moved same later at mine at_to = record {
+  same = later ∙ same;
+  at = subst (λ (x : Subvolume C). spot x path ≡ Ok from) (sym (later ∙ same)) at;
+  mine = subst (λ (x : Subvolume C). at_spot x from ≡ Some moved) (sym later) mine;
+  at_to = subst (λ (x : Subvolume C). spot x path_to ≡ Ok to) (sym later) at_to;
+}
 
-        pub rename_moved : at_spot s to ≡ None → (is_directory s moved && lies_below s moved path_to) ≡ false → rename path path_to s ≡ Ok (move_name from to moved s)
-        unfolding rename_onto
-        rename_moved free outside = onto None free ∙ spares (is_directory s moved && lies_below s moved path_to) IntoItself _ outside
+-- And in a tree that nothing has changed since.
+pub still_found : {C : Type 0} (first s t : Subvolume C) (path path_to : List ℕ) (from to : Spot) (moved : ℕ) → t ≡ s → AreFound first s path path_to from to moved → AreFound first t path path_to from to moved
+still_found {C} first s t path path_to from to moved stays f = subst (λ (x : Subvolume C). AreFound first x path path_to from to moved) (sym stays) f
 
-        module _ (there : ℕ) (stands : at_spot s to ≡ Some there) where
-          pub rename_same : (there == moved) ≡ true → rename path path_to s ≡ Ok s
-          unfolding rename_onto
-          rename_same same = onto (Some there) stands ∙ ap (λ (b : Bool). if b then Ok s else (refuse_if (is_directory s moved && lies_below s moved path_to) IntoItself >> (can_replace s moved there >> Ok (move_name from to moved (take_name to there s))))) same
+-- Another inode stands at the second place, which is not on its own way.
+pub record GivesWay {C : Type 0} (first s : Subvolume C) (path path_to : List ℕ) (from to : Spot) (moved there : ℕ) : Type 0 where
+  pub found : AreFound first s path path_to from to moved
+  pub stands : at_spot s to ≡ Some there
+  pub differ : (there == moved) ≡ false
+  pub outside : (is_directory s moved && lies_below s moved path_to) ≡ false
 
-          module _ (differ : (there == moved) ≡ false) where
-            onto_other : rename path path_to s ≡ (refuse_if (is_directory s moved && lies_below s moved path_to) IntoItself >> (can_replace s moved there >> Ok (move_name from to moved (take_name to there s))))
-            unfolding rename_onto
-            onto_other = onto (Some there) stands ∙ ap (λ (b : Bool). if b then Ok s else (refuse_if (is_directory s moved && lies_below s moved path_to) IntoItself >> (can_replace s moved there >> Ok (move_name from to moved (take_name to there s))))) differ
+module _ {C : Type 0} {first s : Subvolume C} {path path_to : List ℕ} {from to : Spot} {moved : ℕ} where
+  module _ (f : AreFound first s path path_to from to moved) where
+    onto : (o : Option ℕ) → at_spot s to ≡ o → rename path path_to first ≡ rename_onto from to path_to moved o s
+    unfolding rename
+    onto o e =
+        ap (rename path path_to) (sym f.same) ∙ goes_on (spot s path) _ from f.at ∙ (finds (at_spot s from) NoEntry _ moved f.mine ∙ (goes_on (spot s path_to) _ to f.at_to ∙ ap (λ (x : Option ℕ). rename_onto from to path_to moved x s) e))
 
-            pub rename_into_other : (is_directory s moved && lies_below s moved path_to) ≡ true → rename path path_to s ≡ Err IntoItself
-            rename_into_other into = onto_other ∙ refuses (is_directory s moved && lies_below s moved path_to) IntoItself _ into
+    pub rename_into : at_spot s to ≡ None → (is_directory s moved && lies_below s moved path_to) ≡ true → rename path path_to first ≡ Err IntoItself
+    unfolding rename_onto
+    rename_into free into = onto None free ∙ refuses (is_directory s moved && lies_below s moved path_to) IntoItself _ into
 
-            module _ (outside : (is_directory s moved && lies_below s moved path_to) ≡ false) where
-              pub rename_refused : (refusal : Refusal) → can_replace s moved there ≡ Err refusal → rename path path_to s ≡ Err refusal
-              rename_refused refusal e = onto_other ∙ spares (is_directory s moved && lies_below s moved path_to) IntoItself _ outside
-                  ∙ ap (λ (x : Result (Unit {0}) Refusal). x >> Ok (move_name from to moved (take_name to there s))) e
+    pub rename_moved : at_spot s to ≡ None → (is_directory s moved && lies_below s moved path_to) ≡ false → rename path path_to first ≡ Ok (move_name from to moved s)
+    unfolding rename_onto
+    rename_moved free outside = onto None free ∙ spares (is_directory s moved && lies_below s moved path_to) IntoItself _ outside
 
-              pub rename_replaced : can_replace s moved there ≡ Ok tt → rename path path_to s ≡ Ok (move_name from to moved (take_name to there s))
-              rename_replaced e = onto_other ∙ spares (is_directory s moved && lies_below s moved path_to) IntoItself _ outside
-                  ∙ ap (λ (x : Result (Unit {0}) Refusal). x >> Ok (move_name from to moved (take_name to there s))) e
+    module _ (there : ℕ) (stands : at_spot s to ≡ Some there) where
+      pub rename_same : (there == moved) ≡ true → rename path path_to first ≡ Ok s
+      unfolding rename_onto
+      rename_same same = onto (Some there) stands ∙ ap (λ (b : Bool). if b then Ok s else (refuse_if (is_directory s moved && lies_below s moved path_to) IntoItself >> (can_replace s moved there >> Ok (move_name from to moved (take_name to there s))))) same
+
+      onto_other : (there == moved) ≡ false → rename path path_to first ≡ (refuse_if (is_directory s moved && lies_below s moved path_to) IntoItself >> (can_replace s moved there >> Ok (move_name from to moved (take_name to there s))))
+      unfolding rename_onto
+      onto_other differ =
+          onto (Some there) stands ∙ ap (λ (b : Bool). if b then Ok s else (refuse_if (is_directory s moved && lies_below s moved path_to) IntoItself >> (can_replace s moved there >> Ok (move_name from to moved (take_name to there s))))) differ
+
+      pub rename_into_other : (there == moved) ≡ false → (is_directory s moved && lies_below s moved path_to) ≡ true → rename path path_to first ≡ Err IntoItself
+      rename_into_other differ into = onto_other differ ∙ refuses (is_directory s moved && lies_below s moved path_to) IntoItself _ into
+
+  module _ (there : ℕ) (w : GivesWay first s path path_to from to moved there) where
+    onto_outside : rename path path_to first ≡ (can_replace s moved there >> Ok (move_name from to moved (take_name to there s)))
+    onto_outside = onto_other w.found there w.stands w.differ ∙ spares (is_directory s moved && lies_below s moved path_to) IntoItself _ w.outside
+
+    pub rename_refused : (refusal : Refusal) → can_replace s moved there ≡ Err refusal → rename path path_to first ≡ Err refusal
+    rename_refused refusal e = onto_outside ∙ ap (λ (x : Result (Unit {0}) Refusal). x >> Ok (move_name from to moved (take_name to there s))) e
+
+    pub rename_replaced : can_replace s moved there ≡ Ok tt → rename path path_to first ≡ Ok (move_name from to moved (take_name to there s))
+    rename_replaced e = onto_outside ∙ ap (λ (x : Result (Unit {0}) Refusal). x >> Ok (move_name from to moved (take_name to there s))) e
 
 -- What RENAME makes of a sound subvolume is sound.
 pub rename_keeps_sound : {C : Type 0} → C → (path path_to : List ℕ) (s t : Subvolume C) → IsSound s → rename path path_to s ≡ Ok t → IsSound t

@@ -27,9 +27,7 @@ impl<O: Origin> Tree<O> {
     pub fn set_mode(&mut self, path: &[u8], mode: u16) -> Result<(), Stop>
         ensures { MayChange result self.old self.new (edit.change_at path.now (λ inode. record inode { mode = mode % 0o10_000 }) self.old) }
     {
-        let ino = self.reach(path)?;
-        self.change(ino, &Change::Mode(mode))?;
-        Ok(())
+        self.change_at(path, &Change::Mode(mode))
     }
 
     /// Sets owner and group, as CHOWN. After `NoMemory` nothing is said of the tree.
@@ -39,9 +37,7 @@ impl<O: Origin> Tree<O> {
     pub fn set_owner(&mut self, path: &[u8], uid: u64, gid: u64) -> Result<(), Stop>
         ensures { MayChange result self.old self.new (edit.change_at path.now (λ inode. record inode { uid = uid; gid = gid }) self.old) }
     {
-        let ino = self.reach(path)?;
-        self.change(ino, &Change::Owner(uid, gid))?;
-        Ok(())
+        self.change_at(path, &Change::Owner(uid, gid))
     }
 
     /// Sets the times, as UTIMES. After `NoMemory` nothing is said of the tree.
@@ -51,9 +47,7 @@ impl<O: Origin> Tree<O> {
     pub fn set_times(&mut self, path: &[u8], atime: Timestamp, mtime: Timestamp) -> Result<(), Stop>
         ensures { MayChange result self.old self.new (edit.change_at path.now (with_times (time_of atime) (time_of mtime)) self.old) }
     {
-        let ino = self.reach(path)?;
-        self.change(ino, &Change::Times(atime, mtime))?;
-        Ok(())
+        self.change_at(path, &Change::Times(atime, mtime))
     }
 
     /// Sets the flags, as FILEATTR. After `NoMemory` nothing is said of the tree.
@@ -63,9 +57,7 @@ impl<O: Origin> Tree<O> {
     pub fn set_flags(&mut self, path: &[u8], flags: u64) -> Result<(), Stop>
         ensures { MayChange result self.old self.new (edit.change_at path.now (λ inode. record inode { flags = flags }) self.old) }
     {
-        let ino = self.reach(path)?;
-        self.change(ino, &Change::Flags(flags))?;
-        Ok(())
+        self.change_at(path, &Change::Flags(flags))
     }
 
     /// Sets an extended attribute, or replaces it. After `NoMemory` nothing is said of the tree.
@@ -135,6 +127,15 @@ impl<O: Origin> Tree<O> {
             Some(inode) => inode.xattrs().get(&BytesRef::new(name)).is_some(),
             None => false,
         }
+    }
+
+    // A change of the inode that a path leads to.
+    fn change_at(&mut self, path: &[u8], change: &Change<'_>) -> Result<(), Stop>
+        ensures { MayChange result self.old self.new (edit.change_at path.now (changed change.now) self.old) }
+    {
+        let ino = self.reach(path)?;
+        self.change(ino, change)?;
+        Ok(())
     }
 
     // A change of an inode that is there. An inode that another tree shares is copied first.

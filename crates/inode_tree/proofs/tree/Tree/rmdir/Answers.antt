@@ -1,8 +1,7 @@
 -- Each way out of an rmdir.
-use Rattle.std.proofs.Common.{◌≡◌, Some, None, Ok, true, false, ap, ◌∙◌, rules, sym, subst}
+use Rattle.std.proofs.Common.{◌≡◌, Some, None, Ok, true, false, ap, ◌∙◌, rules, sym}
 use Rattle.std.proofs.lemmas.Result.{err_from_is_err_and}
-use Rattle.send_model.specs.Subvolume.{named, is_directory, is_empty_directory, spot}
-use Rattle.send_model.specs.Edit.{rmdir}
+use Rattle.send_model.specs.Subvolume.{named, is_directory, is_empty_directory}
 use Rattle.send_model.proofs.SoundEdits.{empty_is_leaf}
 use Rattle.inode_tree.specs.Places.{spot_of}
 use Rattle.inode_tree.proofs.EditSteps.{rmdir_nowhere, rmdir_absent, rmdir_plain, rmdir_full, rmdir_made}
@@ -17,28 +16,25 @@ pub returns-in_default : goal.returns-in_default
 returns-in_default g c =
     let place = c.in_ok-place.place in
     let same = c.in_ok-place.ensures.same in
-    let at = subst (λ s. spot s c.args.path.now ≡ Ok (spot_of place)) (sym same) c.in_ok-place.ensures.found in
     let absent : named c.place.new.self place.0 place.1 ≡ None = search rules in
-    (ap (rmdir c.args.path.now) (sym same) ∙ rmdir_absent c.place.new.self c.args.path.now (spot_of place) at absent, same)
+    (rmdir_absent c.args.self.now c.args.path.now c.place.new.self same (spot_of place) c.in_ok-place.ensures.found absent, same)
 
 pub returns-then-not-is_directory : goal.returns-then-not-is_directory
 returns-then-not-is_directory g c =
     let place = c.in_ok-place.place in
     let same = c.in_ok-place.ensures.same in
-    let at = subst (λ s. spot s c.args.path.now ≡ Ok (spot_of place)) (sym same) c.in_ok-place.ensures.found in
     let there : named c.place.new.self place.0 place.1 ≡ Some c.in-Some.ino = search rules in
     let d : is_directory c.place.new.self c.in-Some.ino ≡ false = search rules in
-    (ap (rmdir c.args.path.now) (sym same) ∙ rmdir_plain c.place.new.self c.args.path.now (spot_of place) at c.in-Some.ino there d, same)
+    (rmdir_plain c.args.self.now c.args.path.now c.place.new.self same (spot_of place) c.in_ok-place.ensures.found c.in-Some.ino there d, same)
 
 pub returns-then-not-is_empty : goal.returns-then-not-is_empty
 returns-then-not-is_empty g c =
     let place = c.in_ok-place.place in
     let same = c.in_ok-place.ensures.same in
-    let at = subst (λ s. spot s c.args.path.now ≡ Ok (spot_of place)) (sym same) c.in_ok-place.ensures.found in
     let there : named c.place.new.self place.0 place.1 ≡ Some c.in-Some.ino = search rules in
     let d : is_directory c.place.new.self c.in-Some.ino ≡ true = search rules in
     let full : is_empty_directory c.place.new.self c.in-Some.ino ≡ false = search rules in
-    (ap (rmdir c.args.path.now) (sym same) ∙ rmdir_full c.place.new.self c.args.path.now (spot_of place) at c.in-Some.ino there d full, same)
+    (rmdir_full c.args.self.now c.args.path.now c.place.new.self same (spot_of place) c.in_ok-place.ensures.found c.in-Some.ino there d full, same)
 
 pub take_name-requires-clause-leaf : goal.take_name-requires-clause-leaf
 take_name-requires-clause-leaf g c =
@@ -49,8 +45,7 @@ pub returns : goal.returns
 returns g c =
     let place = c.in_ok-place.place in
     let same = c.in_ok-place.ensures.same in
-    let at = subst (λ s. spot s c.args.path.now ≡ Ok (spot_of place)) (sym same) c.in_ok-place.ensures.found in
     let there : named c.place.new.self place.0 place.1 ≡ Some c.in-Some.ino = search rules in
     let d : is_directory c.place.new.self c.in-Some.ino ≡ true = search rules in
     let empty : is_empty_directory c.place.new.self c.in-Some.ino ≡ true = search rules in
-    ap (rmdir c.args.path.now) (sym same) ∙ rmdir_made c.place.new.self c.args.path.now (spot_of place) at c.in-Some.ino there d empty ∙ ap Ok (sym c.in_ok-take_name.ensures)
+    rmdir_made c.args.self.now c.args.path.now c.place.new.self same (spot_of place) c.in_ok-place.ensures.found c.in-Some.ino there d empty ∙ ap Ok (sym c.in_ok-take_name.ensures)

@@ -3,7 +3,7 @@ use Rattle.std.proofs.Common.{Ok, ap, ◌∙◌, sym}
 use Rattle.std.proofs.lemmas.Result.{err_from_is_err_and}
 use Rattle.send_model.specs.Edit.{change_inode}
 use Rattle.inode_tree.proofs.EditSteps.{change_lost, change_made}
-use Rattle.inode_tree.proofs.tree.Tree.set_mode.Goals as goal
+use Rattle.inode_tree.proofs.tree.Tree.change_at.Goals as goal
 
 pub returns-in_err-ino : goal.returns-in_err-ino
 returns-in_err-ino g c =
