@@ -1,12 +1,15 @@
-use Rattle.std.proofs.Common.{◌≡◌, ℕ, ◌+◌, ◌-◌, ◌≤◌, [], ◌∷◌, List, get_or, length, refl, sym, ◌∙◌, ap, subst, arith}
+use Rattle.std.proofs.Common.{◌≡◌, ℕ, ◌+◌, ◌-◌, ◌≤◌, [], ◌∷◌, ◌++◌, List, get_or, length, refl, sym, ◌∙◌, ap, subst, arith}
 use Rattle.sx_base.specs.Disk.{settled}
-use Rattle.sx_base.specs.Crash.{IsStableFront}
+use Rattle.sx_base.specs.Crash.{LeavesOnly, IsStableFront}
+use Rattle.send_model.specs.Image.{Header, HasGroups, front_of}
 use Rattle.sx_base.proofs.DiskMoments.{begins, goes_on}
 use Rattle.group_log.specs.State.{LogState}
 use Rattle.group_log.specs.Shown.{shown}
 use Rattle.group_log.specs.Journal.{IsInProgress, Grows}
 use Rattle.group_log.proofs.GatedGroups.{stable_has, grows_has}
 use Rattle.group_log.proofs.GroupWrites.{behind_same, keeps_written, length-grows, length-sealed, sealed_is, sealed_has}
+use Rattle.group_log.proofs.journal.Log.prepare.Given.{Over}
+use Rattle.group_log.proofs.journal.Log.prepare.Goals.{After-write_at-2}
 use Rattle.group_log.proofs.journal.Log.prepare.Goals as goal
 
 pub returns-in_err-write_at-clause-any_moment : goal.returns-in_err-write_at-clause-any_moment
@@ -19,10 +22,11 @@ returns-in_err-write_at-clause-any_moment g c tells header bodies body grows =
     let sized = goes_on start c.write_at.ensures.passes tells (λ image. stable_has header bodies log grew.gate _ image grew.behind grew.closed first) in
     sized
 
-pub returns-in_err-write_at-2-clause-any_moment : goal.returns-in_err-write_at-2-clause-any_moment
-returns-in_err-write_at-2-clause-any_moment g c tells header bodies body grows =
+-- With the length and the sum written a crash leaves the groups that there were, at each moment so far and from now on.
+summed : (g : Over) (c : After-write_at-2 g) → g.D.Disk.tells → (header : Header) (bodies : List (List ℕ)) (body : List ℕ) (grew : Grows header bodies body (shown c.self.inside) (g.D.Disk.seen c.args.disk.now) (g.D.Disk.pending c.args.disk.now))
+    → LeavesOnly g.D.Disk.moment g.D.Disk.left_since c.args.disk.now c.write_at-2.new.self (HasGroups header bodies) × IsStableFront (front_of header bodies ++ grew.gate ∷ []) (g.D.Disk.pending c.write_at-2.new.self)
+summed g c tells header bodies body grew =
     let log = shown c.self.inside in
-    let grew = subst (λ (l : LogState). Grows header bodies body l (g.D.Disk.seen c.args.disk.now) (g.D.Disk.pending c.args.disk.now)) (sym c.self.view_is) grows in
     let fits = subst (λ (l : LogState). IsInProgress (g.D.Disk.len c.args.disk.now) l) (sym c.self.view_is) c.requires in
     let at_gate : log.gate + 1 ≤ log.gate + 1 = omega arith in
     let start = begins c.args.disk.now (λ image. g.met.D.Disk.only_now c.args.disk.now image tells) (grows_has header bodies body log _ _ grew) in
@@ -30,23 +34,20 @@ returns-in_err-write_at-2-clause-any_moment g c tells header bodies body grows =
     let sized = goes_on start c.write_at.ensures.passes tells (λ image. stable_has header bodies log grew.gate _ image grew.behind grew.closed first) in
     let past : log.gate + 1 ≤ log.size = omega (arith, fits.begun) in
     let second = keeps_written header bodies log grew.gate log.size _ _ _ grew.behind past (c.write_at-2.ensures.pending tells) first in
-    let sealed = goes_on sized c.write_at-2.ensures.passes tells (λ image. stable_has header bodies log grew.gate _ image grew.behind grew.closed second) in
-    sealed
+    (goes_on sized c.write_at-2.ensures.passes tells (λ image. stable_has header bodies log grew.gate _ image grew.behind grew.closed second), second)
+
+pub returns-in_err-write_at-2-clause-any_moment : goal.returns-in_err-write_at-2-clause-any_moment
+returns-in_err-write_at-2-clause-any_moment g c tells header bodies body grows =
+    let grew = subst (λ (l : LogState). Grows header bodies body l (g.D.Disk.seen c.args.disk.now) (g.D.Disk.pending c.args.disk.now)) (sym c.self.view_is) grows in
+    (summed g (goal.at.returns-in_err-write_at-2-clause-any_moment g c).After-write_at-2 tells header bodies body grew).0
 
 pub returns-in_err-sync-clause-any_moment : goal.returns-in_err-sync-clause-any_moment
 returns-in_err-sync-clause-any_moment g c tells header bodies body grows =
     let log = shown c.self.inside in
     let grew = subst (λ (l : LogState). Grows header bodies body l (g.D.Disk.seen c.args.disk.now) (g.D.Disk.pending c.args.disk.now)) (sym c.self.view_is) grows in
-    let fits = subst (λ (l : LogState). IsInProgress (g.D.Disk.len c.args.disk.now) l) (sym c.self.view_is) c.requires in
-    let at_gate : log.gate + 1 ≤ log.gate + 1 = omega arith in
-    let start = begins c.args.disk.now (λ image. g.met.D.Disk.only_now c.args.disk.now image tells) (grows_has header bodies body log _ _ grew) in
-    let first = keeps_written header bodies log grew.gate (log.gate + 1) _ _ _ grew.behind at_gate (c.write_at.ensures.pending tells) grew.stable in
-    let sized = goes_on start c.write_at.ensures.passes tells (λ image. stable_has header bodies log grew.gate _ image grew.behind grew.closed first) in
-    let past : log.gate + 1 ≤ log.size = omega (arith, fits.begun) in
-    let second = keeps_written header bodies log grew.gate log.size _ _ _ grew.behind past (c.write_at-2.ensures.pending tells) first in
-    let sealed = goes_on sized c.write_at-2.ensures.passes tells (λ image. stable_has header bodies log grew.gate _ image grew.behind grew.closed second) in
-    let same = subst (IsStableFront _) (sym (c.in_err-sync.ensures.pending_err tells)) second in
-    goes_on sealed c.sync.ensures.passes tells (λ image. stable_has header bodies log grew.gate _ image grew.behind grew.closed same)
+    let so_far = summed g (goal.at.returns-in_err-sync-clause-any_moment g c).After-write_at-2 tells header bodies body grew in
+    let same = subst (IsStableFront _) (sym (c.in_err-sync.ensures.pending_err tells)) so_far.1 in
+    goes_on so_far.0 c.sync.ensures.passes tells (λ image. stable_has header bodies log grew.gate _ image grew.behind grew.closed same)
 
 -- what stands there when all is done
 pub returns-clause-ready : goal.returns-clause-ready
@@ -74,14 +75,6 @@ unfolding returns-clause-ready
 returns-clause-any_moment g c tells header bodies body grows =
     let log = shown c.self.inside in
     let grew = subst (λ (l : LogState). Grows header bodies body l (g.D.Disk.seen c.args.disk.now) (g.D.Disk.pending c.args.disk.now)) (sym c.self.view_is) grows in
-    let fits = subst (λ (l : LogState). IsInProgress (g.D.Disk.len c.args.disk.now) l) (sym c.self.view_is) c.requires in
     let ready = returns-clause-ready g c tells header bodies body grows in
-    let at_gate : log.gate + 1 ≤ log.gate + 1 = omega arith in
-    let start = begins c.args.disk.now (λ image. g.met.D.Disk.only_now c.args.disk.now image tells) (grows_has header bodies body log _ _ grew) in
-    let first = keeps_written header bodies log grew.gate (log.gate + 1) _ _ _ grew.behind at_gate (c.write_at.ensures.pending tells) grew.stable in
-    let sized = goes_on start c.write_at.ensures.passes tells (λ image. stable_has header bodies log grew.gate _ image grew.behind grew.closed first) in
-    let past : log.gate + 1 ≤ log.size = omega (arith, fits.begun) in
-    let second = keeps_written header bodies log grew.gate log.size _ _ _ grew.behind past (c.write_at-2.ensures.pending tells) first in
-    let sealed = goes_on sized c.write_at-2.ensures.passes tells (λ image. stable_has header bodies log grew.gate _ image grew.behind grew.closed second) in
-    goes_on sealed c.sync.ensures.passes tells
+    goes_on (summed g (goal.at.returns-clause-any_moment g c).After-write_at-2 tells header bodies body grew).0 c.sync.ensures.passes tells
     (λ image. sealed_has header bodies body log _ _ grew (g.D.Disk.seen c.sync.new.self) (g.D.Disk.pending c.sync.new.self) _ ready.bytes ready.stable image)
