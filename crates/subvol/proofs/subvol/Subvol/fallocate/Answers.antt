@@ -1,10 +1,9 @@
 -- Each way out of a FALLOCATE.
-use Rattle.std.proofs.Common.{[], None, Ok, ap, ◌∙◌, sym}
+use Rattle.std.proofs.Common.{None, ◌∙◌, sym}
 use Rattle.std.proofs.lemmas.Result.{err_from_is_err_and}
-use Rattle.send_model.specs.Edit.{fallocated, change_inode, set_cells}
-use Rattle.send_model.specs.Clone.{cells_of}
+use Rattle.send_model.specs.Edit.{fallocated}
 use Rattle.subvol.specs.Allocations.{meant_by}
-use Rattle.subvol.proofs.FileSteps.{is_file_at, fallocate_lost, fallocate_bad, fallocate_big, fallocate_made, put_back}
+use Rattle.subvol.proofs.FileSteps.{fallocate_lost, fallocate_bad, fallocate_big, fallocate_made, put_back_at}
 use Rattle.subvol.proofs.subvol.Subvol.fallocate.Goals as goal
 
 pub returns-in_err-ino : goal.returns-in_err-ino
@@ -27,9 +26,5 @@ pub returns : goal.returns
 returns g c =
     let s = c.args.self.now in
     let there = c.in_ok-ino.ensures.found in
-    let still = c.in_ok-ino.ensures.same in
-    let emptied = c.in_ok-contents.ensures.tree ∙ ap (change_inode c.in_ok-ino.ino (set_cells (λ _. []))) still in
-    let contents = c.in_ok-contents.ensures.contents ∙ ap (λ t. cells_of t c.in_ok-ino.ino) still in
-    let same = put_back s c.in_ok-ino.ino (is_file_at s c.args.path.now c.in_ok-ino.ino there) _ emptied
-    (fallocated None (meant_by c.in-Some.allocation) c.args.at c.args.len) _ _ contents c.in_ok-allocate.ensures _ c.in_ok-put_contents.ensures in
-    fallocate_made s c.args.path.now None c.args.at c.args.len c.args.mode c.in_ok-ino.ino there (meant_by c.in-Some.allocation) (sym c.in-Some.ensures) c.in_ok-check_end.ensures.tested ∙ ap Ok (sym same)
+    fallocate_made s c.args.path.now None c.args.at c.args.len c.args.mode c.in_ok-ino.ino there (meant_by c.in-Some.allocation) (sym c.in-Some.ensures) c.in_ok-check_end.ensures.tested
+    ∙ put_back_at s c.args.path.now c.in_ok-ino.ino there _ c.in_ok-ino.ensures.same _ c.in_ok-contents.ensures.tree (fallocated None (meant_by c.in-Some.allocation) c.args.at c.args.len) _ _ c.in_ok-contents.ensures.contents c.in_ok-allocate.ensures _ c.in_ok-put_contents.ensures

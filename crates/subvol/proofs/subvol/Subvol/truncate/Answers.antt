@@ -1,13 +1,12 @@
 -- Each way out of a truncation.
-use Rattle.std.proofs.Common.{[], None, Ok, ap, ◌∙◌, sym, zero-add}
+use Rattle.std.proofs.Common.{None, ap, ◌∙◌, sym, zero-add}
 use Rattle.std.specs.Prelude.{nat_le}
 use Rattle.std.proofs.lemmas.Result.{err_from_is_err_and}
 use Rattle.send_model.specs.Refusal.{FileTooBig}
 use Rattle.send_model.specs.Chain.{require}
-use Rattle.send_model.specs.Edit.{greatest_end, resized, change_inode, set_cells}
-use Rattle.send_model.specs.Clone.{cells_of}
+use Rattle.send_model.specs.Edit.{greatest_end, resized}
 use Rattle.subvol.proofs.CellLaws.{resized_is}
-use Rattle.subvol.proofs.FileSteps.{is_file_at, contents_lost, contents_big, contents_made, put_back}
+use Rattle.subvol.proofs.FileSteps.{contents_lost, contents_big, contents_made, put_back_at}
 use Rattle.subvol.proofs.subvol.Subvol.truncate.Goals as goal
 
 pub returns-in_err-ino : goal.returns-in_err-ino
@@ -26,10 +25,7 @@ pub returns : goal.returns
 returns g c =
     let s = c.args.self.now in
     let there = c.in_ok-ino.ensures.found in
-    let still = c.in_ok-ino.ensures.same in
-    let emptied = c.in_ok-contents.ensures.tree ∙ ap (change_inode c.in_ok-ino.ino (set_cells (λ _. []))) still in
-    let contents = c.in_ok-contents.ensures.contents ∙ ap (λ t. cells_of t c.in_ok-ino.ino) still in
     let fits = ap (λ n. require (nat_le n greatest_end) FileTooBig) (sym (zero-add c.args.size)) ∙ c.in_ok-check_end.ensures.tested in
     let made = c.in_ok-cut_to.ensures ∙ resized_is None c.args.size c.in_ok-contents.contents in
-    let same = put_back s c.in_ok-ino.ino (is_file_at s c.args.path.now c.in_ok-ino.ino there) _ emptied (resized None c.args.size) _ _ contents made _ c.in_ok-put_contents.ensures in
-    contents_made s c.args.path.now _ _ c.in_ok-ino.ino there fits ∙ ap Ok (sym same)
+    contents_made s c.args.path.now _ _ c.in_ok-ino.ino there fits
+    ∙ put_back_at s c.args.path.now c.in_ok-ino.ino there _ c.in_ok-ino.ensures.same _ c.in_ok-contents.ensures.tree (resized None c.args.size) _ _ c.in_ok-contents.ensures.contents made _ c.in_ok-put_contents.ensures

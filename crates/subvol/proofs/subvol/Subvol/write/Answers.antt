@@ -1,11 +1,10 @@
 -- Each way out of a write.
-use Rattle.std.proofs.Common.{[], None, Ok, ap, ◌∙◌, sym}
+use Rattle.std.proofs.Common.{None, ◌∙◌}
 use Rattle.std.proofs.lemmas.Result.{err_from_is_err_and}
-use Rattle.send_model.specs.Edit.{written_at, change_inode, set_cells}
-use Rattle.send_model.specs.Clone.{cells_of}
+use Rattle.send_model.specs.Edit.{written_at}
 use Rattle.extent_map.specs.Pieces.{run_cells}
 use Rattle.subvol.proofs.CellLaws.{written_is}
-use Rattle.subvol.proofs.FileSteps.{is_file_at, contents_lost, contents_big, contents_made, put_back}
+use Rattle.subvol.proofs.FileSteps.{contents_lost, contents_big, contents_made, put_back_at}
 use Rattle.subvol.proofs.subvol.Subvol.write.Goals as goal
 
 pub returns-in_err-ino : goal.returns-in_err-ino
@@ -23,10 +22,7 @@ pub returns : goal.returns
 returns g c =
     let s = c.args.self.now in
     let there = c.in_ok-ino.ensures.found in
-    let still = c.in_ok-ino.ensures.same in
-    let emptied = c.in_ok-contents.ensures.tree ∙ ap (change_inode c.in_ok-ino.ino (set_cells (λ _. []))) still in
-    let contents = c.in_ok-contents.ensures.contents ∙ ap (λ t. cells_of t c.in_ok-ino.ino) still in
     let run = run_cells g.O.Origin.advanced c.args.origin c.args.len in
     let made = c.in_ok-put_run.ensures ∙ written_is None c.args.at run c.in_ok-contents.contents in
-    let same = put_back s c.in_ok-ino.ino (is_file_at s c.args.path.now c.in_ok-ino.ino there) _ emptied (written_at None c.args.at run) _ _ contents made _ c.in_ok-put_contents.ensures in
-    contents_made s c.args.path.now _ _ c.in_ok-ino.ino there c.in_ok-check_end.ensures.tested ∙ ap Ok (sym same)
+    contents_made s c.args.path.now _ _ c.in_ok-ino.ino there c.in_ok-check_end.ensures.tested
+    ∙ put_back_at s c.args.path.now c.in_ok-ino.ino there _ c.in_ok-ino.ensures.same _ c.in_ok-contents.ensures.tree (written_at None c.args.at run) _ _ c.in_ok-contents.ensures.contents made _ c.in_ok-put_contents.ensures
