@@ -7,8 +7,6 @@ mod front;
 mod item;
 mod source;
 mod spelled;
-#[cfg(test)]
-mod tests;
 
 pub use command_reader::CmdReader;
 pub use item::{Item, ReadStop};

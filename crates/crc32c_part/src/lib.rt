@@ -2,8 +2,6 @@
 #![tactic(auto)]
 
 mod tables;
-#[cfg(test)]
-mod tests;
 
 ghost use Rattle.std.specs.Prelude.{◌≡◌, suc, ◌*◌, ◌<◌, drop, bit_xor};
 ghost use Rattle.send_model.specs.Checksum.{shifts, crc_byte, crc_of};

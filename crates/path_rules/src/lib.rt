@@ -3,8 +3,6 @@
 
 mod names;
 mod paths;
-#[cfg(test)]
-mod tests;
 
 pub use names::name_ok;
 pub use paths::{BadPath, Parts, split};

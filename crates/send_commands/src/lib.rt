@@ -6,8 +6,6 @@ mod decoding;
 mod encoding;
 mod form;
 mod kind;
-#[cfg(test)]
-mod tests;
 mod values;
 mod wanted;
 

@@ -17,8 +17,6 @@ mod refusal;
 mod sink;
 mod stop;
 mod stored;
-#[cfg(test)]
-mod tests;
 mod whole;
 
 pub use blob::Blob;

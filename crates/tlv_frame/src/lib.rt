@@ -4,15 +4,11 @@
 pub mod attribute_numbers;
 mod attribute_table;
 mod feed;
-#[cfg(test)]
-mod feed_tests;
 mod frame_head;
 mod frame_writer;
 mod in_front;
 mod laws;
 mod stream_head;
-#[cfg(test)]
-mod tests;
 
 pub use attribute_table::{AttrTable, attr_head_len, attrs};
 pub use feed::{Feed, Passed, Unit};

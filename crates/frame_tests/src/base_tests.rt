@@ -1,10 +1,10 @@
 // What no clause says: that each call succeeds where there is memory, and values from outside.
-use crate::{
+use std::process::Abort;
+use std::test::Fail;
+use sx_base::{
     Blob, Failed, Inputs, Lost, MemInputs, MemSink, PlainInputs, PlainSink, Refusal, Stop,
     escape_into, write_whole,
 };
-use std::process::Abort;
-use std::test::Fail;
 
 #[test]
 fn a_blob_takes_and_gives_bytes(rt: HostRuntime) -> Result<(), Fail> {
@@ -81,7 +81,7 @@ fn files_in_memory_are_read(rt: HostRuntime) -> Result<(), Fail> {
 }
 
 #[test]
-#[tactic(auto, unfolding(crate::specs::Outside::file_at))]
+#[tactic(auto, unfolding(sx_base::specs::Outside::file_at))]
 fn files_in_memory_are_read_again(rt: HostRuntime) -> Result<(), Fail> {
     let mut plain = PlainInputs::new(rt.alloc());
     plain.add("a", b"0123456789")?;

@@ -1,6 +1,6 @@
 //! Names and paths at the edges of their rules.
 
-use crate::{name_ok, split};
+use path_rules::{name_ok, split};
 
 // How many names a path has, or None where it is no path.
 fn count_names(path: &[u8]) -> Option<usize> {

@@ -1,6 +1,6 @@
 //! Published checksums, and long lists against a loop over single bits.
 
-use crate::update;
+use crc32c_part::update;
 
 fn bit_by_bit(crc: u32, bytes: &[u8]) -> u32 {
     let mut sum = crc;

@@ -3,7 +3,8 @@ ghost use Rattle.std.specs.Prelude.{IfOk};
 ghost use Rattle.send_commands.specs.Meaning.{meaning_of};
 ghost use Rattle.send_commands.specs.Writing.{IsWritable};
 
-use crate::{Command, data_place, decode, encode};
+use crate::frames::{END, WRITE_OF_VERSION_2};
+use send_commands::{Command, data_place, decode, encode};
 use std::alloc::Global;
 use std::test::Fail;
 use sx_base::{Blob, Refusal, Stop};
@@ -76,7 +77,7 @@ const FRAMES: [(u16, &[u8]); 22] = [
         20,
         b"%\x00\x00\x00\x14\x00\x97\x06\xe84\x0a\x00\x0c\x00\x02\x00\x00\x00\x00\x00\x00\x00\x05\x00\x00\x00\x0b\x00\x0c\x00\x01\x00\x00\x00\x00\x00\x00\x00\xff\xc9\x9a;\x0f\x00\x01\x00x",
     ),
-    (21, b"\x00\x00\x00\x00\x15\x00Pl\xc9\x9d"),
+    (21, END),
     (
         22,
         b"\x1d\x00\x00\x00\x16\x00\x9e Hh\x04\x00\x08\x00\x000\x00\x00\x00\x00\x00\x00\x0f\x00\x01\x00x\x12\x00\x08\x00\x00\x00\x00\x00\x00\x00\x00\x00",
@@ -228,7 +229,7 @@ fn the_first_rule_that_is_broken_refuses(rt: HostRuntime) {
 
 #[test]
 fn commands_of_version_two_are_read(rt: HostRuntime) -> Result<(), Fail> {
-    let write = b"\x0f\x00\x01\x00x\x12\x00\x08\x00\x05\x00\x00\x00\x00\x00\x00\x00\x13\x00hi";
+    let write = &WRITE_OF_VERSION_2[10..];
     let Command::Write { offset, bytes, .. } = read(rt.alloc(), 2, 15, write)? else {
         return Err(Fail::from("a write is read"));
     };
@@ -255,7 +256,7 @@ fn commands_of_version_two_are_read(rt: HostRuntime) -> Result<(), Fail> {
 }
 
 #[test]
-#[tactic(auto, unfolding(crate::specs::Writing::IsWritable, send_model::specs::Command::row, send_model::specs::Spelling::attributes_of, send_model::specs::Spelling::body_of, send_model::specs::Spelling::attribute_bytes))]
+#[tactic(auto, unfolding(send_commands::specs::Writing::IsWritable, send_model::specs::Command::row, send_model::specs::Spelling::attributes_of, send_model::specs::Spelling::body_of, send_model::specs::Spelling::attribute_bytes))]
 fn commands_of_version_two_are_written(rt: HostRuntime) -> Result<(), Fail> {
     let mut path = Blob::new(rt.alloc());
     path.push_all(b"x")?;
@@ -268,10 +269,7 @@ fn commands_of_version_two_are_written(rt: HostRuntime) -> Result<(), Fail> {
     };
     let mut to = Blob::new(rt.alloc());
     encode(&write, 2, &mut to)?;
-    assert_eq!(rt;
-        to.as_slice(),
-        b"\x15\x00\x00\x00\x0f\x00\x17\x15h\xc7\x0f\x00\x01\x00x\x12\x00\x08\x00\x05\x00\x00\x00\x00\x00\x00\x00\x13\x00hi".as_slice()
-    );
+    assert_eq!(rt; to.as_slice(), WRITE_OF_VERSION_2);
     assert_eq!(rt; data_place(&write, 2), Some(29));
     Ok(())
 }

@@ -1,7 +1,7 @@
 // A file that is read to its end, and one that is cut. The bytes are from another program.
 ghost use Rattle.std.specs.Prelude.{None};
 
-use crate::{CmdReader, ReadStop};
+use cmd_reader::{CmdReader, ReadStop};
 use std::test::Fail;
 use sx_base::{Failed, Inputs, Lost, PlainInputs, Refusal, Verdict};
 

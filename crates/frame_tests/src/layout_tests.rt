@@ -1,16 +1,14 @@
 // What no clause says: that each call succeeds where there is memory, and bytes from another program.
-use crate::{AttrTable, FrameHead, FrameWriter, StreamHead, attrs};
+use crate::frames::{END, WRITE_OF_VERSION_2};
 use std::test::Fail;
 use sx_base::{Blob, Refusal};
+use tlv_frame::{AttrTable, FrameHead, FrameWriter, StreamHead, attrs};
 
 // The header and the body of a frame that writes two bytes into the file x from place 5 on.
 const WRITE_HEAD: &[u8; 10] = b"\x17\x00\x00\x00\x0f\x00\xec\x08\x18^";
 
 const WRITE_BODY: &[u8] =
     b"\x0f\x00\x01\x00x\x12\x00\x08\x00\x05\x00\x00\x00\x00\x00\x00\x00\x13\x00\x02\x00hi";
-
-// The header of a frame for the end of a stream.
-const END: &[u8; 10] = b"\x00\x00\x00\x00\x15\x00Pl\xc9\x9d";
 
 #[test]
 fn stream_headers_are_read(rt: HostRuntime) {
@@ -123,10 +121,7 @@ fn frames_of_version_two_are_written(rt: HostRuntime) -> Result<(), Fail> {
     writer.attr_u64(&mut to, 18, 5)?;
     writer.attr_data(&mut to, b"hi")?;
     writer.finish(&mut to);
-    assert_eq!(rt;
-        to.as_slice(),
-        b"\x15\x00\x00\x00\x0f\x00\x17\x15h\xc7\x0f\x00\x01\x00x\x12\x00\x08\x00\x05\x00\x00\x00\x00\x00\x00\x00\x13\x00hi".as_slice()
-    );
+    assert_eq!(rt; to.as_slice(), WRITE_OF_VERSION_2);
     Ok(())
 }
 

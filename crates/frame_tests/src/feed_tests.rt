@@ -1,9 +1,9 @@
 // Feeds over a file in pieces. The bytes are from another program.
-use crate::{Feed, Passed, Unit};
 use std::alloc::AllocFailed;
 use std::process::Abort;
 use std::test::Fail;
 use sx_base::Refusal;
+use tlv_frame::{Feed, Passed, Unit};
 
 // A stream with a SNAPSHOT, a WRITE of one byte and END.
 const FILE: &[u8] =
