@@ -5,7 +5,5 @@ mod auditing;
 mod counts;
 mod files;
 mod following;
-#[cfg(test)]
-mod tests;
 
 pub use auditing::audit;

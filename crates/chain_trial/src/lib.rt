@@ -2,8 +2,6 @@
 #![tactic(auto)]
 
 mod counting;
-#[cfg(test)]
-mod tests;
 mod trying;
 
 pub use trying::write_trial;

@@ -8,4 +8,3 @@ pub mod Chunks
 pub mod Literals
 pub mod Rows
 pub mod Redirects
-pub mod Made

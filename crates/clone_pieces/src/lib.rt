@@ -7,8 +7,6 @@ mod no_base;
 mod outside;
 mod redirecting;
 mod sending;
-#[cfg(test)]
-mod tests;
 
 pub use no_base::NoBase;
 pub use outside::{Known, OutsideBytes};

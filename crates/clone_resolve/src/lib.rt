@@ -6,8 +6,6 @@ mod done;
 mod edit_core;
 mod head;
 mod part;
-#[cfg(test)]
-mod tests;
 mod tree_edits;
 
 pub use done::Done;

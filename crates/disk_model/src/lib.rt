@@ -8,6 +8,3 @@ mod tearing;
 
 pub use fuse_disk::FuseDisk;
 pub use mem_disk::MemDisk;
-
-#[cfg(test)]
-mod tests;

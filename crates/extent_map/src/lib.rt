@@ -5,11 +5,7 @@ mod extents;
 mod nowhere;
 mod origin;
 mod pieces;
-#[cfg(test)]
-mod plain;
 mod run;
-#[cfg(test)]
-mod table;
 
 pub use extents::Extents;
 pub use nowhere::Nowhere;

@@ -7,8 +7,6 @@ mod part_uuids;
 mod places;
 mod summary;
 mod surveying;
-#[cfg(test)]
-mod tests;
 
 pub use part_head::PartHead;
 pub use places::{Place, outcome_of};

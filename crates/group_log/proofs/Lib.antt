@@ -2,4 +2,3 @@ pub mod GatedGroups
 mod GroupReads
 mod GroupWrites
 pub mod OneJournal
-pub mod Publishing

@@ -1,5 +1,4 @@
 pub mod Journal
-pub mod Published
 pub mod Shown
 pub mod State
 pub mod Stopping

@@ -1,14 +1,9 @@
 //! The journal of a store: groups behind gates, which a loss of power leaves whole or not there at all.
 #![tactic(auto)]
 
-#[cfg(test)]
-mod client;
 mod filling;
 mod journal;
 mod stops;
 
 pub use journal::{GroupPlace, Log};
 pub use stops::LogStop;
-
-#[cfg(test)]
-mod tests;

@@ -6,8 +6,6 @@ mod asking;
 mod kinds;
 mod limits;
 mod sights;
-#[cfg(test)]
-mod tests;
 mod words;
 
 pub use asking::{Guard, look_all};

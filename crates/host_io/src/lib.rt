@@ -8,10 +8,6 @@ mod path_inputs;
 mod program;
 mod progress;
 mod screen;
-#[cfg(test)]
-mod showing_tests;
-#[cfg(test)]
-mod tests;
 
 pub use line::line_of;
 pub use out_sink::OutSink;

@@ -3,8 +3,6 @@
 
 mod attributes;
 mod change;
-#[cfg(test)]
-mod edits;
 mod inode;
 mod kind;
 mod making;
@@ -13,8 +11,6 @@ mod removing;
 mod renaming;
 mod retracing;
 mod starts;
-#[cfg(test)]
-mod tests;
 mod time;
 mod tree;
 mod walked;

@@ -7,8 +7,6 @@ mod filling;
 mod kept;
 mod receiving;
 mod standing;
-#[cfg(test)]
-mod tests;
 
 pub use base::MemoryBase;
 pub use composing::compose_over_base;

@@ -4,8 +4,6 @@
 mod building;
 mod index;
 mod links;
-#[cfg(test)]
-mod tests;
 mod writing;
 
 pub use index::PathIndex;

@@ -7,8 +7,6 @@ mod plan;
 mod plan_iter;
 mod retagging;
 mod step;
-#[cfg(test)]
-mod tests;
 mod trace;
 
 pub use ends::Ends;

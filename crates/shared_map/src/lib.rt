@@ -9,8 +9,6 @@ mod map;
 mod page;
 mod place;
 mod shared;
-#[cfg(test)]
-mod tests;
 
 pub use entries::Entries;
 pub use keys::{Copied, Edit, Key, Sought};

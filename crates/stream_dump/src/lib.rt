@@ -9,8 +9,6 @@ mod gathering;
 mod item_form;
 mod lines;
 mod numbers;
-#[cfg(test)]
-mod tests;
 mod values;
 
 pub use dumping::dump;

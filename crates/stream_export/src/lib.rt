@@ -6,7 +6,5 @@
 mod asked;
 mod exporting;
 mod receivable_form;
-#[cfg(test)]
-mod tests;
 
 pub use exporting::export;

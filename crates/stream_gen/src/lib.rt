@@ -6,8 +6,6 @@ mod commands;
 mod draws;
 mod generating;
 mod parts;
-#[cfg(test)]
-mod tests;
 
 pub use chain::Chain;
 pub use generating::{generate, write_chain};

@@ -5,7 +5,5 @@ mod allocation;
 mod cloning;
 mod contents;
 mod subvol;
-#[cfg(test)]
-mod tests;
 
 pub use subvol::Subvol;

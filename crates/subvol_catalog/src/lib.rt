@@ -4,8 +4,6 @@
 mod catalog;
 mod entry;
 mod key;
-#[cfg(test)]
-mod tests;
 
 pub use catalog::Catalog;
 pub use entry::Entry;

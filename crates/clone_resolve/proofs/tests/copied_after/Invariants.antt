@@ -1,5 +1,0 @@
-use Rattle.clone_resolve.specs.Steps.{Fits}
-use Rattle.clone_resolve.proofs.tests.copied_after.Given as goal
-
-abbrev pub invariant-loop-row : goal.invariant-loop-row
-invariant-loop-row g l = Fits l.core l.part

@@ -1,0 +1,165 @@
+// How compose asks for its files: what no clause says of it.
+ghost use Rattle.std.specs.Prelude.{None};
+
+use crate::streams::{CLONE_FROM_A, END, FIRST, HEADER, MKFILE_Y, SNAPSHOT_B, joined};
+use crate::values::two_names;
+use composer::compose;
+use std::alloc::{AllocError, Global};
+use std::test::Fail;
+use sx_base::{Failed, Inputs, Lost, MemSink, Outcome, PlainInputs};
+
+// A stream that goes on from the first, with a clone of its data.
+const SECOND: &[&[u8]] = &[HEADER, SNAPSHOT_B, MKFILE_Y, CLONE_FROM_A, END];
+
+// Where the data of the first stream stand.
+const PLACE: u64 = 110;
+
+// A call that gave bytes of a file, or none at its end.
+#[derive(Drop)]
+struct Call {
+    name: String,
+    at: u64,
+    count: usize,
+}
+
+// Files in memory that tell nothing and keep the list of their calls.
+#[derive(Drop)]
+struct ListedInputs {
+    alloc: Global,
+    files: PlainInputs,
+    calls: Vec<Call>,
+    again: Vec<Call>,
+    ended: bool,
+    faults: u64,
+    ends: u64,
+}
+
+impl Inputs for ListedInputs {
+    ghost told = { λ _. None };
+
+    ghost faults = { λ s. s.faults };
+
+    ghost ends = { λ s. s.ends };
+
+    fn read_at(&mut self, name: &str, at: u64, buf: &mut [u8]) -> Result<usize, Failed> {
+        self.faults = self.faults.saturating_add(1);
+        let Ok(copy) = String::from_str(self.alloc, name) else {
+            return Err(Failed);
+        };
+        let count = self.files.read_at(name, at, buf)?;
+        let call = Call {
+            name: copy,
+            at,
+            count,
+        };
+        if self.calls.push(call).is_err() {
+            return Err(Failed);
+        }
+        Ok(count)
+    }
+
+    fn read_again(&mut self, name: &str, at: u64, buf: &mut [u8]) -> Result<(), Lost> {
+        self.faults = self.faults.saturating_add(1);
+        if self.ended && !buf.is_empty() {
+            self.ends = self.ends.saturating_add(1);
+            return Err(Lost::Ended { place: at });
+        }
+        let Ok(name) = String::from_str(self.alloc, name) else {
+            return Err(Lost::Failed);
+        };
+        let again = Call {
+            name,
+            at,
+            count: buf.len(),
+        };
+        if self.again.push(again).is_err() {
+            return Err(Lost::Failed);
+        }
+        for byte in buf {
+            *byte = b'h';
+        }
+        Ok(())
+    }
+}
+
+// Whether the calls are for these files, one file after the other, each from its first byte to its last.
+fn read_in_order(calls: &[Call], files: &[(&str, u64)]) -> bool {
+    let mut read = 0;
+    let mut place = 0;
+    for call in calls {
+        let ended = files.get(read).is_some_and(|file| file.1 == place);
+        if ended && call.at == 0 {
+            read += 1;
+            place = 0;
+        }
+        let asked = files
+            .get(read)
+            .is_some_and(|file| file.0 == call.name.as_str());
+        if !asked || call.at != place {
+            return false;
+        }
+        place = place.saturating_add(call.count as u64);
+    }
+    files.len().checked_sub(1) == Some(read) && files.last().is_some_and(|file| file.1 == place)
+}
+
+// The two files, whose data are gone when they are asked for again, or are not.
+fn two_files(alloc: Global, ended: bool) -> Result<ListedInputs, AllocError> {
+    let mut files = PlainInputs::new(alloc);
+    files.add("first", joined(alloc, FIRST)?.as_slice())?;
+    files.add("other", b"never read")?;
+    files.add("second", joined(alloc, SECOND)?.as_slice())?;
+    Ok(ListedInputs {
+        alloc,
+        files,
+        calls: Vec::new(alloc),
+        again: Vec::new(alloc),
+        ended,
+        faults: 0,
+        ends: 0,
+    })
+}
+
+#[test]
+fn each_file_is_asked_for_once_in_a_pass(rt: HostRuntime) -> Result<(), Fail> {
+    let mut inputs = two_files(rt.alloc(), false)?;
+    let names = two_names(rt.alloc())?;
+    let mut out = MemSink::new(rt.alloc());
+    assert_eq!(rt;
+        compose(rt.alloc(), &mut inputs, &names, &mut out),
+        Outcome::Done
+    );
+    let first = joined(rt.alloc(), FIRST)?;
+    let second = joined(rt.alloc(), SECOND)?;
+    let passes = [
+        ("first", first.len() as u64),
+        ("second", second.len() as u64),
+        ("first", first.len() as u64),
+        ("second", second.len() as u64),
+    ];
+    assert!(rt; read_in_order(inputs.calls.as_slice(), &passes));
+    // The data of the vanishing part are asked for again, in a call of its own, and so no byte of them was kept.
+    assert_eq!(rt; inputs.again.len(), 1);
+    let again = inputs.again.iter().next();
+    assert!(rt;
+        again.is_some_and(|call| call.name.as_str() == "first"
+            && call.at == PLACE
+            && call.count == 2)
+    );
+    Ok(())
+}
+
+#[test]
+fn data_that_are_gone_are_no_data(rt: HostRuntime) -> Result<(), Fail> {
+    let mut inputs = two_files(rt.alloc(), true)?;
+    let names = two_names(rt.alloc())?;
+    let mut out = MemSink::new(rt.alloc());
+    assert_eq!(rt;
+        compose(rt.alloc(), &mut inputs, &names, &mut out),
+        Outcome::InputChanged {
+            file: 1,
+            place: PLACE
+        }
+    );
+    Ok(())
+}

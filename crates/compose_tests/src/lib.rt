@@ -1,0 +1,24 @@
+//! Tests of the calls of `clone_resolve`, `guard_rules`, `provenance`, `clone_pieces`, `file_survey`, `composer` and `memory_base`.
+//! Nothing stands here but tests.
+#![tactic(auto)]
+
+#[cfg(test)]
+mod base_tests;
+#[cfg(test)]
+mod call_tests;
+#[cfg(test)]
+mod guard_tests;
+#[cfg(test)]
+mod piece_tests;
+#[cfg(test)]
+mod step_tests;
+#[cfg(test)]
+mod streams;
+#[cfg(test)]
+mod survey_tests;
+#[cfg(test)]
+mod trace_tests;
+#[cfg(test)]
+mod values;
+#[cfg(test)]
+mod whole_tests;

@@ -1,0 +1,99 @@
+// That the calls succeed where there is memory, and the bytes that they write.
+ghost use Rattle.std.specs.Prelude.{◌≡◌, ℕ, ◌<◌, [], None, IfOk};
+ghost use Rattle.std.specs.List.{AllByRecursion};
+ghost use Rattle.extent_map.specs.Cells.{cells_between};
+ghost use Rattle.clone_pieces.specs.Origins.{IsHad};
+
+use clone_pieces::{NoBase, put, redirect, send, uncarried};
+use extent_map::Extents;
+use provenance::Trace;
+use send_commands::Command;
+use std::alloc::{AllocError, Global};
+use std::test::Fail;
+use sx_base::{Blob, Failed, Inputs, Lost, MemSink};
+
+// Files that do not tell, where the byte at each place is the remainder of its number by 251.
+#[derive(Drop)]
+struct Remainders;
+
+impl Inputs for Remainders {
+    ghost told = { λ inputs. None };
+
+    ghost faults = { λ inputs. 0 };
+
+    ghost ends = { λ inputs. 0 };
+
+    fn read_at(&mut self, name: &str, at: u64, buf: &mut [u8]) -> Result<usize, Failed> {
+        let _ = name;
+        let _ = (at, buf.len());
+        Ok(0)
+    }
+
+    fn read_again(&mut self, name: &str, at: u64, buf: &mut [u8]) -> Result<(), Lost> {
+        let _ = name;
+        let mut place = at % 251;
+        for i in 0..buf.len() {
+            buf[i] = (place % 251) as u8;
+            place = place.wrapping_add(1) % 251;
+        }
+        Ok(())
+    }
+}
+
+// Four zero bytes, and 99,996 bytes of the first input file, from the place 7 on.
+fn contents(alloc: Global) -> Result<Extents<Trace>, AllocError>
+    ensures { IfOk result (λ contents. (from len count : ℕ) → 0 < count → AllByRecursion (IsHad count []) (cells_between from len contents)) }
+{
+    let mut contents = Extents::new(alloc);
+    contents.zero_run(0, 4)?;
+    contents.put_run(4, Trace::Fresh { file: 0, at: 7 }, 99_996)?;
+    Ok(contents)
+}
+
+#[test]
+#[tactic(auto, unfolding(send_commands::specs::Writing::IsWritable, send_model::specs::Command::row, send_model::specs::Store::find))]
+fn bytes_are_written_again(rt: HostRuntime) -> Result<(), Fail> {
+    let contents = contents(rt.alloc())?;
+    let len = contents.size();
+    assert_eq!(rt; len, 100_000);
+    assert_eq!(rt; uncarried(&contents, 0, len, &NoBase), 100_000);
+    let files = [String::from_str(rt.alloc(), "a")?];
+    let mut bytes = NoBase;
+    let mut pending = Blob::new(rt.alloc());
+    let mut out = MemSink::new(rt.alloc());
+    let done = redirect(
+        rt.alloc(),
+        b"f",
+        8_192,
+        &contents,
+        0,
+        len,
+        1,
+        &files,
+        &mut Remainders,
+        &NoBase,
+        &mut bytes,
+        &mut pending,
+        &mut out,
+    );
+    assert_eq!(rt; done, Ok(()));
+    assert_eq!(rt; put(&Command::End, 1, &mut pending, &mut out), Ok(()));
+    assert_eq!(rt; send(&mut pending, &mut out), Ok(()));
+    let written = out.bytes();
+    // Of each WRITE 31 bytes stand around its data, and END has no body.
+    assert_eq!(rt; written.len(), 3 * 31 + 100_000 + 10);
+    // (where a WRITE begins, its body's length, its offset, and its first two bytes)
+    let table: [(usize, u32, u64, [u8; 2]); 3] = [
+        (0, 49_173, 8_192, [0, 0]),
+        (49_183, 49_173, 57_344, [210, 211]),
+        (98_366, 1_717, 106_496, [166, 167]),
+    ];
+    for (at, size, offset, first) in table {
+        assert_eq!(rt; &written[at..at + 4], size.to_le_bytes().as_slice());
+        assert_eq!(rt; &written[at + 10..at + 15], [15, 0, 1, 0, b'f'].as_slice());
+        assert_eq!(rt; &written[at + 19..at + 27], offset.to_le_bytes().as_slice());
+        assert_eq!(rt; &written[at + 31..at + 33], first.as_slice());
+    }
+    assert_eq!(rt; &written[33..37], [0, 0, 7, 8].as_slice());
+    Ok(())
+}

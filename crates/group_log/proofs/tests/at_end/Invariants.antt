@@ -1,5 +1,0 @@
-use Rattle.group_log.specs.Journal.{IsReading}
-use Rattle.group_log.proofs.tests.at_end.Given as goal
-
-abbrev pub invariant-loop-groups : goal.invariant-loop-groups
-invariant-loop-groups g l = IsReading (g.D.Disk.len l.disk) l.log

@@ -1,0 +1,347 @@
+// What no clause says: that calls succeed, and what stands on the disk byte for byte.
+ghost use Rattle.std.specs.Prelude.{IfOk, IfSome, OnOk};
+ghost use Rattle.group_log.specs.Journal.{IsAtRest};
+
+use crate::client::{publish_all, publish_and_read};
+use disk_model::{FuseDisk, MemDisk};
+use group_log::{GroupPlace, Log, LogStop};
+use std::alloc::Global;
+use std::process::Abort;
+use std::test::Fail;
+use sx_base::Disk;
+
+const NEW: [u8; 21] = *b"sndstore\x02\0\0\0\0\0\0\0\0\x01\0\0\0";
+
+// A store of the first format with a group that has no checksum.
+const FIRST: [u8; 32] = *b"sndstore\x01\0\0\0\0\0\0\0\0\x01\0\0\x01\x02\0\0\0\0\0\0\0ab\0";
+
+// The log at its end, and how many groups it has.
+fn at_end<D: Disk>(disk: &mut D) -> Result<Option<(Log, u64)>, LogStop>
+    ensures { IfOk result (λ found. IfSome found (λ end. IsAtRest (D.len disk.new) end.0)) }
+{
+    let mut log = Log::open(disk)?;
+    for groups in 0..100 {
+        if log.next(disk)?.is_none() {
+            return Ok(Some((log, groups)));
+        }
+    }
+    Ok(None)
+}
+
+// Publishes a group with these bytes, and counts what it did.
+fn publish<D: Disk>(
+    disk: &mut D,
+    log: &mut Log,
+    bytes: &[u8],
+    begun: &mut u64,
+    done: &mut u64,
+) -> Result<(), LogStop>
+    requires { IsAtRest (D.len disk.old) log.old }
+    ensures { OnOk result (IsAtRest (D.len disk.new) log.new) }
+{
+    log.body(disk)?;
+    log.append(disk, bytes)?;
+    log.append(disk, &[0xff])?;
+    log.prepare(disk)?;
+    *begun = begun.saturating_add(1);
+    log.publish(disk)?;
+    *done = done.saturating_add(1);
+    Ok(())
+}
+
+// Abandons a group and publishes two.
+fn publish_two<D: Disk>(disk: &mut D, begun: &mut u64, done: &mut u64) -> Result<bool, LogStop> {
+    let Some((mut log, _)) = at_end(disk)? else {
+        return Ok(false);
+    };
+    log.body(disk)?;
+    log.append(disk, &[1; 40])?;
+    log.abandon();
+    publish(disk, &mut log, b"one", begun, done)?;
+    publish(disk, &mut log, b"three", begun, done)?;
+    Ok(true)
+}
+
+// Crashes at each call that publishing two groups makes, on a disk with these bytes and so many groups.
+fn crash_at_each_call(
+    rt: &impl Abort,
+    alloc: Global,
+    image: &[u8],
+    groups: u64,
+) -> Result<(), Fail> {
+    let mut whole = false;
+    for calls in 0..60 {
+        let mut fuse = FuseDisk::new(MemDisk::new(alloc, image)?, calls);
+        let mut begun = groups;
+        let mut done = groups;
+        let outcome = publish_two(&mut fuse, &mut begun, &mut done);
+        whole = matches!(outcome, Ok(true));
+        let disk = fuse.into_inner();
+        for choice in 0..16 {
+            let mut left = disk.crash(alloc, choice)?;
+            let found = at_end(&mut left)?.map_or(99, |end| end.1);
+            assert!(rt;
+                done <= found && found <= begun,
+                "{calls} calls, choice {choice}: {found} groups"
+            );
+        }
+        if whole {
+            assert_eq!(rt; done, groups.saturating_add(2));
+            break;
+        }
+    }
+    assert!(rt; whole);
+    Ok(())
+}
+
+#[test]
+fn a_crash_leaves_whole_groups(rt: HostRuntime) -> Result<(), Fail> {
+    let alloc = rt.alloc();
+    crash_at_each_call(&rt, alloc, &NEW, 0)?;
+    crash_at_each_call(&rt, alloc, &FIRST, 1)
+}
+
+// The group at fault, or how many groups there are.
+fn judged(alloc: Global, bytes: &[u8]) -> Result<Result<u64, u64>, Fail> {
+    let mut disk = MemDisk::new(alloc, bytes)?;
+    match at_end(&mut disk) {
+        Ok(found) => Ok(Ok(found.map_or(99, |end| end.1))),
+        Err(LogStop::NotStore { group }) => Ok(Err(group)),
+        Err(_) => Ok(Err(99)),
+    }
+}
+
+#[test]
+fn each_fault_of_a_header_is_that_of_group_0(rt: HostRuntime) -> Result<(), Fail> {
+    let alloc = rt.alloc();
+    // One that is cut short, or has another text or format.
+    for bytes in [
+        b"".as_slice(),
+        b"sndstore\x02\0\0\0\0\0\0\0\0\x01\0".as_slice(),
+        b"sndstorf\x02\0\0\0\0\0\0\0\0\x01\0\0\0".as_slice(),
+        b"sndstore\0\0\0\0\0\0\0\0\0\x01\0\0\0".as_slice(),
+        b"sndstore\x03\0\0\0\0\0\0\0\0\x01\0\0\0".as_slice(),
+        b"sndstore\x02\0\0\x01\0\0\0\0\0\x01\0\0\0".as_slice(),
+    ] {
+        assert_eq!(rt; judged(alloc, bytes)?, Err(0));
+    }
+    Ok(())
+}
+
+#[test]
+fn each_fault_of_a_group_has_its_number(rt: HostRuntime) -> Result<(), Fail> {
+    let alloc = rt.alloc();
+    // What stands behind the header.
+    for (journal, verdict) in [
+        (b"".as_slice(), Err(1)),
+        (b"\0".as_slice(), Ok(0)),
+        (b"\x07".as_slice(), Ok(0)),
+        (b"\xff\x01\x02".as_slice(), Ok(0)),
+        (b"\x01".as_slice(), Err(1)),
+        (b"\x01\x02\0\0\0\0\0\0".as_slice(), Err(1)),
+        (b"\x01\x02\0\0\0\0\0\0\0a".as_slice(), Err(1)),
+        (b"\x01\xff\xff\xff\xff\xff\xff\xff\xffab".as_slice(), Err(1)),
+        (b"\x01\x02\0\0\0\0\0\0\0ab".as_slice(), Err(2)),
+        (b"\x01\x02\0\0\0\0\0\0\0ab\0".as_slice(), Ok(1)),
+        (
+            b"\x01\x02\0\0\0\0\0\0\0ab\x01\0\0\0\0\0\0\0\0\0".as_slice(),
+            Ok(2),
+        ),
+        (
+            b"\x01\0\0\0\0\0\0\0\0\x01\x01\0\0\0\0\0\0".as_slice(),
+            Err(2),
+        ),
+    ] {
+        for header in [&NEW[..20], &FIRST[..20]] {
+            let mut bytes = header.to_vec(alloc)?;
+            bytes.extend_from_slice(journal)?;
+            assert_eq!(rt; judged(alloc, &bytes)?, verdict);
+        }
+    }
+    Ok(())
+}
+
+// Adds a group to a log at its end, and reads seven bytes from this place on. Gives the format and the first group.
+fn added(
+    disk: &mut MemDisk,
+    at: u64,
+    back: &mut [u8; 7],
+) -> Result<Option<(u32, GroupPlace)>, LogStop> {
+    let Some((mut log, _)) = at_end(disk)? else {
+        return Ok(None);
+    };
+    publish(disk, &mut log, b"ab", &mut 0, &mut 0)?;
+    let size = disk.size()?;
+    if at > size || size - at < 7 {
+        return Ok(None);
+    }
+    log.read(disk, at, back)?;
+    let mut log = Log::open(disk)?;
+    let first = log.next(disk)?;
+    Ok(first.map(|place| (log.format(), place)))
+}
+
+#[test]
+fn a_new_store_takes_a_group(rt: HostRuntime) -> Result<(), Fail> {
+    let mut disk = MemDisk::new(rt.alloc(), b"")?;
+    let mut back = [0; 7];
+    assert!(rt; matches!(Log::create(&mut disk), Ok(())));
+    let first = GroupPlace {
+        number: 1,
+        at: 29,
+        len: 7,
+    };
+    assert!(rt; matches!(added(&mut disk, 29, &mut back), Ok(Some((2, place))) if place == first));
+    // The checksum of "ab\xff", taken bit by bit.
+    assert_eq!(rt; back, *b"ab\xff\x0a\xaf\xc4\x89");
+    assert_eq!(rt; disk.size()?, 37);
+    assert!(rt;
+        matches!(
+            Log::create(&mut disk),
+            Err(LogStop::StoreThere { size: 37 })
+        )
+    );
+    assert_eq!(rt; disk.refused(), 0);
+    Ok(())
+}
+
+#[test]
+fn a_store_is_not_made_over_another(rt: HostRuntime) -> Result<(), Fail> {
+    let alloc = rt.alloc();
+    // Where even the size is not told, the store must stay.
+    for calls in 0..5 {
+        let mut fuse = FuseDisk::new(MemDisk::new(alloc, &FIRST)?, calls);
+        assert!(rt; Log::create(&mut fuse).is_err());
+        let disk = fuse.into_inner();
+        for choice in 0..4 {
+            let mut image = [0; 32];
+            assert_eq!(rt; disk.crash(alloc, choice)?.read(0, &mut image)?, 32);
+            assert_eq!(rt; image, FIRST);
+        }
+    }
+    Ok(())
+}
+
+#[test]
+fn a_store_of_the_first_format_takes_a_group(rt: HostRuntime) -> Result<(), Fail> {
+    let mut disk = MemDisk::new(rt.alloc(), &FIRST)?;
+    let mut back = [0; 7];
+    let first = GroupPlace {
+        number: 1,
+        at: 29,
+        len: 2,
+    };
+    assert!(rt; matches!(added(&mut disk, 40, &mut back), Ok(Some((1, place))) if place == first));
+    assert_eq!(rt; back, *b"ab\xff\x0a\xaf\xc4\x89");
+    let mut before = [0; 31];
+    assert_eq!(rt; disk.read(0, &mut before)?, 31);
+    assert_eq!(rt;
+        &before,
+        b"sndstore\x01\0\0\0\0\0\0\0\0\x01\0\0\x01\x02\0\0\0\0\0\0\0ab"
+    );
+    let mut more = [0; 17];
+    assert_eq!(rt; disk.read(31, &mut more)?, 17);
+    assert_eq!(rt; &more, b"\x01\x07\0\0\0\0\0\0\0ab\xff\x0a\xaf\xc4\x89\0");
+    Ok(())
+}
+
+#[test]
+fn what_an_open_log_reads_is_stable(rt: HostRuntime) -> Result<(), Fail> {
+    let alloc = rt.alloc();
+    let mut disk = MemDisk::new(alloc, &NEW)?;
+    disk.write_at(20, &FIRST[20..])?;
+    let lost = at_end(&mut disk.crash(alloc, 1)?)?;
+    assert_eq!(rt; lost.map_or(99, |end| end.1), 0);
+    for _ in 0..2 {
+        let kept = at_end(&mut disk)?;
+        assert_eq!(rt; kept.map_or(99, |end| end.1), 1);
+        disk = disk.crash(alloc, 1)?;
+    }
+    Ok(())
+}
+
+// Adds so many bytes to a store with room for six, and one more group.
+fn filled(disk: &mut MemDisk, bytes: &[u8]) -> Result<u64, LogStop> {
+    let Some((mut log, _)) = at_end(disk)? else {
+        return Ok(0);
+    };
+    log.body(disk)?;
+    let end = log.end();
+    log.append(disk, bytes)?;
+    log.prepare(disk)?;
+    log.publish(disk)?;
+    log.body(disk)?;
+    Ok(end)
+}
+
+#[test]
+fn a_full_log_says_where_it_ends(rt: HostRuntime) -> Result<(), Fail> {
+    let alloc = rt.alloc();
+    // The limit, how many bytes are added, and where the log is full.
+    for (limit, count, end, wanted) in [
+        (40, 6, 39, 9),
+        (40, 7, 29, 7),
+        (34, 0, 33, 9),
+        (34, 1, 29, 1),
+        (33, 0, 20, 9),
+    ] {
+        let mut header = NEW;
+        header[12] = limit;
+        header[17] = 0;
+        let mut disk = MemDisk::new(alloc, &header)?;
+        match filled(&mut disk, &[1; 7][..count]) {
+            Err(
+                LogStop::LogFull {
+                    end: place,
+                    wanted: more,
+                    limit: most,
+                },
+            ) => assert_eq!(rt; (place, more, most), (end, wanted, limit as u64)),
+            _ => assert!(rt; false, "limit {limit}: not full"),
+        }
+    }
+    Ok(())
+}
+
+// Publishes these groups, and then the last of them again, the first bytes of which it reads back.
+fn publish_groups(
+    disk: &mut MemDisk,
+    groups: &[Vec<Vec<u8>>],
+    back: &mut [u8; 3],
+) -> Result<Option<u64>, LogStop> {
+    let Some((mut log, _)) = at_end(disk)? else {
+        return Ok(None);
+    };
+    publish_all(&mut log, disk, groups)?;
+    let [.., last] = groups else {
+        return Ok(None);
+    };
+    let [first, ..] = last.as_slice() else {
+        return Ok(None);
+    };
+    if first.len() < 3 {
+        return Ok(None);
+    }
+    publish_and_read(&mut log, disk, last.as_slice(), back)?;
+    Ok(at_end(disk)?.map(|end| end.1))
+}
+
+#[test]
+fn groups_of_several_pieces_are_published(rt: HostRuntime) -> Result<(), Fail> {
+    let alloc = rt.alloc();
+    let mut disk = MemDisk::new(alloc, &NEW)?;
+    let mut groups = Vec::new(alloc);
+    for count in 0..4_u8 {
+        let mut pieces = Vec::new(alloc);
+        for piece in 0..count {
+            pieces.push(vec![in alloc; piece; 3]?)?;
+        }
+        groups.push(pieces)?;
+    }
+    let mut back = [7; 3];
+    assert!(rt; matches!(publish_groups(&mut disk, &groups, &mut back), Ok(Some(5))));
+    assert_eq!(rt; back, [0; 3]);
+    // Five groups with their gates, lengths and checksums, and the pieces in them.
+    assert_eq!(rt; disk.size()?, 20 + 5 * 13 + 3 * (1 + 2 + 3 + 3) + 1);
+    Ok(())
+}

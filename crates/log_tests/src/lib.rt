@@ -1,0 +1,9 @@
+//! Tests of the calls of `disk_model` and `group_log`, and a caller of the log that they run. Nothing stands here but tests.
+#![tactic(auto)]
+
+#[cfg(test)]
+mod client;
+#[cfg(test)]
+mod disk_tests;
+#[cfg(test)]
+mod journal_tests;

@@ -1,0 +1,93 @@
+// What a run answers where calls of both the inputs and the output fail: the fault that comes first.
+use crate::streams::{END, HEADER, MKFILE_X, SUBVOL_A, words_of};
+use send_top::run;
+use std::alloc::{AllocError, Global};
+use std::process::Abort;
+use std::test::Fail;
+use sx_base::{Blob, MemInputs, MemSink};
+
+// WRITE x from 0, 49,152 times the letter a, up to its data
+const FIRST_WRITE: &[u8] =
+    b"\x15\xc0\x00\x00\x0f\x00q\x0cuO\x0f\x00\x01\x00x\x12\x00\x08\x00\x00\x00\x00\x00\x00\x00\x00\x00\x13\x00\x00\xc0";
+
+// WRITE x from 49,152, 49,152 times the letter a, up to its data
+const SECOND_WRITE: &[u8] =
+    b"\x15\xc0\x00\x00\x0f\x00\xa7\xed\x81\xdf\x0f\x00\x01\x00x\x12\x00\x08\x00\x00\xc0\x00\x00\x00\x00\x00\x00\x13\x00\x00\xc0";
+
+// WRITE x from 98,304, 49,152 times the letter a, up to its data
+const THIRD_WRITE: &[u8] =
+    b"\x15\xc0\x00\x00\x0f\x00,\xb9pk\x0f\x00\x01\x00x\x12\x00\x08\x00\x00\x80\x01\x00\x00\x00\x00\x00\x13\x00\x00\xc0";
+
+const LETTERS: &[u8] = b"aaaaaaaaaaaaaaaaaaaaaaaaaaaaaaaaaaaaaaaaaaaaaaaaaaaaaaaaaaaaaaaa";
+
+// More reads than there are in a run.
+const READS: u64 = 60;
+
+// A stream that is written in two calls of the output: one after its second WRITE, when enough has gathered, and one at
+// its end.
+fn long_stream(alloc: Global) -> Result<Blob, AllocError> {
+    let mut stream = Blob::new(alloc);
+    for piece in [HEADER, SUBVOL_A, MKFILE_X] {
+        stream.push_all(piece)?;
+    }
+    for front in [FIRST_WRITE, SECOND_WRITE, THIRD_WRITE] {
+        stream.push_all(front)?;
+        for _ in 0..768 {
+            stream.push_all(LETTERS)?;
+        }
+    }
+    stream.push_all(END)?;
+    Ok(stream)
+}
+
+// Composes a file where one call of the inputs and one of the output fails, and gives the exit status.
+fn status_with(alloc: Global, file: &[u8], read: u64, write: u64) -> Result<u8, AllocError> {
+    let words = words_of(alloc, &["compose", "none", "file"])?;
+    let mut inputs = MemInputs::new(alloc);
+    inputs.add("file", file)?;
+    inputs.fail_call(read)?;
+    let mut out = MemSink::new(alloc);
+    out.fail_call(write)?;
+    let mut notes = MemSink::new(alloc);
+    Ok(run(
+        alloc,
+        &words,
+        Vec::new(alloc),
+        &mut inputs,
+        &mut out,
+        &mut notes,
+    ))
+}
+
+// How many calls of the inputs come before the given call of the output, or in a whole run where there is no such call.
+fn reads_before(
+    rt: &impl Abort,
+    alloc: Global,
+    file: &[u8],
+    write: u64,
+    status: u8,
+) -> Result<u64, Fail> {
+    let mut before = 0;
+    for read in 1..=READS {
+        let answered = status_with(alloc, file, read, write)?;
+        if answered == 3 {
+            assert_eq!(rt; before, read - 1);
+            before = read;
+            continue;
+        }
+        assert_eq!(rt; answered, status);
+    }
+    Ok(before)
+}
+
+#[test]
+fn the_first_fault_decides(rt: HostRuntime) -> Result<(), Fail> {
+    let file = long_stream(rt.alloc())?;
+    let before_first = reads_before(&rt, rt.alloc(), file.as_slice(), 1, 4)?;
+    let before_second = reads_before(&rt, rt.alloc(), file.as_slice(), 2, 4)?;
+    let in_all = reads_before(&rt, rt.alloc(), file.as_slice(), 3, 0)?;
+    assert!(rt; 0 < before_first && before_first < before_second);
+    assert_eq!(rt; before_second, in_all);
+    assert!(rt; in_all < READS);
+    Ok(())
+}
