@@ -1,20 +1,18 @@
 -- The least of the paths that end with the names seen so far, and what it is once all names of an inode were seen.
-use Rattle.std.specs.Prelude.{◌≡◌, ◌≢◌, ◌⊎◌, ℕ, true, false, List, [], ◌∷◌, ◌++◌, Option, None, Some, Ok, is_some}
+use Rattle.std.specs.Prelude.{◌≡◌, ◌≢◌, ℕ, true, false, List, [], ◌∷◌, ◌++◌, Option, None, Some, Ok, is_some}
 use Rattle.std.specs.declared.cmp.Ordering.{Ordering}
 use Rattle.std.specs.declared.cmp.Ordering.TheVariants.{Less, Equal, Greater}
-use Rattle.std.specs.Ordering.{ordering_reverse}
-use Rattle.std.specs.Cmp.{tied_itself}
-use Rattle.std.specs.Cmp.Lexicographic.{nat_list_cmp_total}
 use Rattle.std.specs.List.{AllByRecursion}
-use Rattle.std.proofs.Common.{refl, sym, ap, subst, ◌∙◌, inl, inr}
-use Rattle.std.proofs.lemmas.Map.Lookups.{exact_bytes}
-use Rattle.send_model.specs.Refusal.{Refusal, BadPath}
+use Rattle.std.proofs.Common.{refl, sym, ap, subst, ◌∙◌}
+use Rattle.send_model.specs.Refusal.{BadPath}
 use Rattle.send_model.specs.Chain.{◌>>=◌, found}
 use Rattle.send_model.specs.Path.{path_names}
 use Rattle.send_model.specs.Map.{bytes_cmp}
 use Rattle.send_model.specs.Subvolume.{Subvolume, IsNameable, root, named, is_directory, walk_names, walk, lesser, first_path, is_nameable}
 use Rattle.send_model.specs.Laws.{FirstPathsAreLeast}
 use Rattle.send_model.proofs.ElementLaws.{all_both}
+use Rattle.send_model.proofs.LeastPaths.{NotAfter, flipped, not_after_itself, not_after_trans}
+use Rattle.send_model.proofs.Sound.{found_is}
 use Rattle.send_model.proofs.Fuel.{bound}
 use Rattle.send_model.proofs.WalkLaws.{Step, Leads, leads-append, leads_from_walk, walk_from_leads}
 use Rattle.path_index.specs.Places.{places_of}
@@ -23,29 +21,6 @@ use Rattle.path_index.proofs.Named.{Among, all_at, place_among}
 use Rattle.path_index.proofs.Upward.{some_step}
 
 -- ---- the order of paths
-
-abbrev NotAfter : List ℕ → List ℕ → Type 0
-NotAfter p q = bytes_cmp p q ≢ Greater
-
-flipped : (p q : List ℕ) (r : Ordering) → bytes_cmp p q ≡ r → bytes_cmp q p ≡ ordering_reverse r
-flipped p q r e = nat_list_cmp_total.antisymm q p ∙ ap ordering_reverse e
-
-not_after_itself : (p : List ℕ) → NotAfter p p
-not_after_itself p e = let t : bytes_cmp p p ≡ Equal = tied_itself nat_list_cmp_total p in cc
-
-not_after_one : (r : Ordering) → r ≢ Greater → (r ≡ Less) ⊎ (r ≡ Equal)
-not_after_one Less n = inl refl
-not_after_one Equal n = inr refl
-not_after_one Greater n = absurd (n refl)
-
-not_after_trans : (p q r : List ℕ) → NotAfter p q → NotAfter q r → NotAfter p r
-not_after_trans p q r a b e = elim (not_after_one (bytes_cmp p q) a) [
-  | inr same ↦ b (sym (nat_list_cmp_total.congr p q r same) ∙ e)
-  | inl less ↦ elim (not_after_one (bytes_cmp q r) b) [
-    | inl less' ↦ let t : bytes_cmp p r ≡ Less = nat_list_cmp_total.trans p q r less less' in cc (t, e)
-    | inr same ↦ let is : q ≡ r = exact_bytes q r same in a (ap (bytes_cmp p) is ∙ e)
-  ]
-]
 
 not_after_other : (p q : List ℕ) → bytes_cmp p q ≡ Greater → NotAfter q p
 not_after_other p q e g = let t : bytes_cmp q p ≡ Less = flipped p q Greater e in cc (t, g)
@@ -61,16 +36,12 @@ module _ {C : Type 0} (s : Subvolume C) where
       let whole : Leads (Step s) (o.before ++ place.1 ∷ []) root ino = leads-append (Step s) (Step s) o.before (place.1 ∷ []) root place.0 ino before (ino, (is, there), refl) in
       ap (λ (x : Option (List (List ℕ))). found x BadPath >>= λ names. walk_names s root names) o.names_are ∙ walk_from_leads s (o.before ++ place.1 ∷ []) root ino whole
 
-  found_some : {A : Type 0} (o : Option A) (refusal : Refusal) (x : A) → found o refusal ≡ Ok x → o ≡ Some x
-  found_some None refusal x e = cc
-  found_some (Some y) refusal x e = cc
-
   -- Each path that leads to another inode than the root ends at one of its places.
   pub walk_ends : (ino : ℕ) → (ino ≡ root → ⊥) → (path : List ℕ) → walk s path ≡ Ok ino → (place : ℕ × List ℕ) × Among place (places_of s.names ino) × EndsAt s place path
   unfolding walk
   walk_ends ino n path w =
       let a = bound (found (path_names path) BadPath) (λ names. walk_names s root names) ino w in
-      let some = found_some (path_names path) BadPath a.0 a.1 in
+      let some = found_is (path_names path) BadPath a.0 a.1 in
       let r = some_step s a.0 root ino n (leads_from_walk s a.0 root ino a.2) in (
         (r.directory, r.name),
         place_among s.names (r.directory, r.name) ino r.step.1,

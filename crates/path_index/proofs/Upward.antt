@@ -1,59 +1,26 @@
 -- The way up from a name, directory by directory: the bytes of the names passed so far end each path that ends with the name.
-use Rattle.std.specs.Prelude.{◌≡◌, ℕ, ◌+◌, ◌<◌, ◌≤◌, ◌==◌, Bool, true, false, cond, not, ◌&&◌, List, [], ◌∷◌, ◌++◌, length, Some, nat_le, codes}
+use Rattle.std.specs.Prelude.{◌≡◌, ℕ, ◌+◌, ◌<◌, ◌≤◌, Bool, true, false, cond, List, [], ◌∷◌, ◌++◌, length, Some}
 use Rattle.std.specs.Ordering.{eq_by_cmp}
 use Rattle.std.specs.Cmp.{Equal-is}
-use Rattle.std.specs.List.{AllByRecursion, list_all, list_any, join_with_byte}
-use Rattle.std.specs.Str.{bytes_eq}
+use Rattle.std.specs.List.{AllByRecursion, list_all, join_with_byte}
 use Rattle.std.proofs.Common.{refl, sym, ap, subst, ◌∙◌, arith, inl, append_assoc, append-nil, length-append}
-use Rattle.std.proofs.lemmas.Bool.{true≢false, and_parts}
-use Rattle.std.proofs.lemmas.List.Splits.{join_with_byte-slice_split}
+use Rattle.std.proofs.lemmas.Bool.{and_parts}
 use Rattle.send_model.specs.Path.{slash, is_name, between_slashes, path_names}
 use Rattle.send_model.specs.Map.{Map, named_cmp, value_at}
 use Rattle.send_model.specs.Subvolume.{Subvolume, IsSound, IsLawful, root, named, is_directory}
+use Rattle.inode_tree.proofs.Fronts.{cut_off, whole_piece, join_pieces, path_is}
+use Rattle.send_model.proofs.LeastPaths.{name_has_no_slash}
 use Rattle.send_model.proofs.MapLaws.{named_cmp_exact}
-use Rattle.send_model.proofs.Stores.{or_parts}
 use Rattle.send_model.proofs.WalkLaws.{Step, Leads, leads_from_walk, walk_from_leads}
-use Rattle.send_model.proofs.PathLaws.{between_slashes-split, path_by_pieces, none_left, path_names_pieces, path_names_short, is_name_length}
+use Rattle.send_model.proofs.PathLaws.{path_by_pieces, path_names_short, is_name_length}
 use Rattle.path_index.specs.Places.{places_of}
 use Rattle.path_index.specs.Ways.{EndsAt, IsOnlyPath}
 use Rattle.path_index.proofs.Named.{Among, place_among, among_named, directory_place}
 
 -- ---- names and slashes
 
-not_true : (b : Bool) → not b ≡ true → b ≡ false
-not_true true e = absurd (true≢false (sym e))
-not_true false e = refl
-
-third : (p q r s t u : Bool) → (p && q && r && s && t && u) ≡ true → r ≡ true
-third true true true s t u e = refl
-third true true false s t u e = absurd (true≢false (sym e))
-third true false r s t u e = absurd (true≢false (sym e))
-third false q r s t u e = absurd (true≢false (sym e))
-
-no_slash : (name : List ℕ) → is_name name ≡ true → list_any (λ b. b == slash) name ≡ false
-unfolding is_name
-no_slash name good = not_true (list_any (λ b. b == slash) name) (third (nat_le 1 (length name)) (nat_le (length name) 255) (not (list_any (λ b. b == slash) name)) (not (list_any (λ b. b == 0) name)) (not (bytes_eq name (codes "."))) (not (bytes_eq name (codes ".."))) good)
-
-one_piece : (name : List ℕ) → list_any (λ b. b == slash) name ≡ false → between_slashes name ≡ name ∷ []
-unfolding between_slashes
-one_piece [] h = refl
-one_piece (b ∷ name) h = let p = or_parts (b == slash) (list_any (λ c. c == slash) name) h in rw (p.0, one_piece name p.1) refl
-
 name_alone : (name : List ℕ) → is_name name ≡ true → between_slashes name ≡ name ∷ []
-name_alone name good = one_piece name (no_slash name good)
-
-name_in_front : (name bytes : List ℕ) → list_any (λ b. b == slash) name ≡ false → between_slashes (name ++ slash ∷ bytes) ≡ name ∷ between_slashes bytes
-unfolding between_slashes
-name_in_front [] bytes h = refl
-name_in_front (b ∷ name) bytes h = let p = or_parts (b == slash) (list_any (λ c. c == slash) name) h in rw (p.0, name_in_front name bytes p.1) refl
-
-join_pieces : (bytes : List ℕ) → join_with_byte slash (between_slashes bytes) ≡ bytes
-join_pieces bytes = ap (join_with_byte slash) (between_slashes-split bytes) ∙ join_with_byte-slice_split slash bytes
-
--- A path is its names, joined.
-path_is : (path : List ℕ) (names : List (List ℕ)) → path_names path ≡ Some names → join_with_byte slash names ≡ path
-path_is [] names e = ap (join_with_byte slash) (none_left names e)
-path_is (b ∷ path) names e = ap (join_with_byte slash) (path_names_pieces (b ∷ path) names (omega arith) e).0 ∙ join_pieces (b ∷ path)
+name_alone name good = whole_piece name (name_has_no_slash name good)
 
 same_names : (p q : List ℕ) (names : List (List ℕ)) → path_names p ≡ Some names → path_names q ≡ Some names → p ≡ q
 same_names p q names e f = sym (path_is p names e) ∙ path_is q names f
@@ -161,7 +128,7 @@ module _ {C : Type 0} (s : Subvolume C) where
       let is : is_directory s first.0 ≡ true = lawful.sound.in_directory first.0 first.1 directory there in record {
         passed = first.1 ∷ up.passed;
         some = omega (arith, up.some, length-append first.1 (slash ∷ bytes));
-        pieces = name_in_front first.1 bytes (no_slash first.1 good) ∙ ap (λ (ns : List (List ℕ)). first.1 ∷ ns) up.pieces;
+        pieces = cut_off first.1 bytes (name_has_no_slash first.1 good) ∙ ap (λ (ns : List (List ℕ)). first.1 ∷ ns) up.pieces;
         names = rw good up.names;
         is_one = is;
         leads = (directory, (is, there), up.leads);
