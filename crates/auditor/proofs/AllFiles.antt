@@ -13,11 +13,12 @@ use Rattle.sx_base.specs.Calls.{contents, IfAllTold, verdict_meant}
 use Rattle.sx_base.specs.declared.outcome.Outcome.{Outcome}
 use Rattle.sx_base.specs.declared.outcome.Outcome.TheVariants as ended_by
 use Rattle.cmd_reader.specs.Places.{IfTold}
-use Rattle.cmd_reader.proofs.Told.{told_moved}
+use Rattle.cmd_reader.proofs.Told.{told_next}
 use Rattle.auditor.specs.declared.counts.Counts.{Counts}
 use Rattle.auditor.specs.declared.counts.Totals.{Totals}
 use Rattle.auditor.specs.Following.{Followed, follow, AreAccepted, due_from_here, then_read, file_read, read_whole}
 use Rattle.auditor.specs.Answers.{Stops, AreCounted, FileAccepted, FileEnds, AllAccepted, AllEnd}
+use Rattle.sx_base.proofs.NamedFiles.{file_there, count_of_files}
 use Rattle.auditor.proofs.Runs.{none, run_on, refused_still}
 use Rattle.auditor.proofs.TooLong.{by_length, nothing_more, read_is}
 use Rattle.auditor.proofs.Dues.{due_stop, due_refused, refused_is, never_long, due_on}
@@ -156,28 +157,6 @@ all_done start number now totals files past s =
       done = ap (due_from_here start) read ∙ due_stop start now (read_whole s.items) s.all;
       counted = subst (λ (is : List Item). AreCounted totals.parts totals.commands is) (sym items_are) s.counted;
     }
-
--- ---- the files of names
-
-file_there : {Z : Type 0} (table : List (List ℕ × List ℕ)) (names : List (String Z)) (n : ℕ) (name : String Z) → n < length names → name ≡ slice_index_or names n name
-    → drop n (contents table (map string_bytes names)) ≡ file_at table (string_bytes name) ∷ drop (n + 1) (contents table (map string_bytes names))
-file_there {Z} table names n name less is =
-    let rest : List (String Z) = drop (n + 1) names in
-    let next : drop n names ≡ slice_index_or names n name ∷ rest = rw (add-one, drop-cons names n name) in
-    let here : drop n names ≡ name ∷ rest = next ∙ ap (λ (s : String Z). s ∷ rest) (sym is) in
-    drop_contents names n ∙ ap (λ (l : List (String Z)). contents table (map string_bytes l)) here
-    ∙ ap (λ (l : List (List ℕ)). file_at table (string_bytes name) ∷ l) (sym (drop_contents names (n + 1)))
-  where
-    drop_contents : (names : List (String Z)) (k : ℕ) → drop k (contents table (map string_bytes names)) ≡ contents table (map string_bytes (drop k names))
-    drop_contents names k = drop-map (file_at table) k (map string_bytes names) ∙ ap (contents table) (drop-map string_bytes k names)
-
-count_of_files : {Z : Type 0} (table : List (List ℕ × List ℕ)) (names : List (String Z)) → length (contents table (map string_bytes names)) ≡ length names
-count_of_files table names = length-map (map string_bytes names) (file_at table) ∙ length-map names string_bytes
-
--- What a call on the next file says of it, as of a table of files.
-told_next : {Z : Type 0} (table : List (List ℕ × List ℕ)) (inputs : Option (List (List ℕ × List ℕ))) (name : String Z) (spelled : List ℕ) (P : List ℕ → Type 0)
-    → inputs ≡ Some table → spelled ≡ string_bytes name → IfTold inputs spelled P → P (file_at table (string_bytes name))
-told_next table inputs name spelled P same is p = told_moved (Some table) inputs (string_bytes name) spelled P same is p (file_at table (string_bytes name)) refl
 
 -- The next file is accepted, of those that are told.
 pub all_next : {Z : Type 0} (told inputs : Option (List (List ℕ × List ℕ))) (names : List (String Z)) (start : Followed) (number : ℕ) (now next : Followed) (parts commands parts_now commands_now : ℕ) (name : String Z) (spelled : List ℕ) (r : Result Counts Outcome) (counts : Counts)

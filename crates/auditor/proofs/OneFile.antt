@@ -24,12 +24,14 @@ use Rattle.cmd_reader.specs.Places.{IfTold}
 use Rattle.cmd_reader.specs.Fronts.{IsRefused, IsLongAt}
 use Rattle.cmd_reader.specs.Left.{Reader, at_start, left}
 use Rattle.cmd_reader.specs.Next.{item_of, HasEnded, IsFaulty, OnlyEnds, IsNext, NextSays}
+use Rattle.cmd_reader.proofs.Aheads.{next_item, next_end}
 use Rattle.cmd_reader.proofs.Told.{Here, told_both, told_always, told_here, told_moved}
 use Rattle.auditor.specs.declared.counts.Counts.{Counts}
 use Rattle.auditor.specs.Following.{Followed, follow, follow_all, AreAccepted, due_from_here, file_read, read_whole}
 use Rattle.auditor.specs.Answers.{outcome_at, ItemStops, ItemEnds, parts_begun, AreCounted, FileAccepted, FileEnds}
 use Rattle.auditor.proofs.Runs.{none, one, run_on, refused_still}
-use Rattle.auditor.proofs.TooLong.{short_fits, fault_fits, long_is, whole_read, fault_read, long_read, read_either}
+use Rattle.send_model.proofs.TooLong.{short_fits, fault_fits, long_is}
+use Rattle.auditor.proofs.TooLong.{whole_read, fault_read, long_read, read_either}
 use Rattle.auditor.proofs.Dues.{due_stop, due_refused, refused_is}
 
 -- ---- what the loop keeps
@@ -89,9 +91,6 @@ counted_more items item parts commands c =
 then_item : (items : List Item) (item : Item) (r : Reading) → and_then items (with_item item r) ≡ and_then (items ++ item ∷ []) r
 then_item items item r = ap (λ (is : List Item). record { items = is; end = r.end }) (sym (append_assoc items (item ∷ []) r.items))
 
-next_item : (told : Option (List (List ℕ × List ℕ))) (old new : Reader) (before now : ℕ) (o : Option read.Item) (item : read.Item) → o ≡ Some item → NextSays told old new before now (Ok o) → IfTold told old.name (IsNext old new item)
-next_item told old new before now o item e says = subst (λ (x : Option read.Item). NextSays told old new before now (Ok x)) e says
-
 ended_ok : (old new : Followed) (item : Item) (r : Result Done Outcome) (done : Done) → r ≡ Ok done → ItemEnds old new item r → ItemEnds old new item (Ok done)
 ended_ok old new item r done e s = subst (λ (x : Result Done Outcome). ItemEnds old new item x) e s
 
@@ -104,7 +103,7 @@ pub stands_after : (told inputs : Option (List (List ℕ × List ℕ))) (file : 
     → IfTold told name (Stands file first old now parts commands) → IfTold told name (Stands file first new next parts_now commands_now)
 stands_after told inputs file name first old new now next parts commands parts_now commands_now f0 f1 o item r done e same name_is file_is says was ends p c stands =
     told_both told name (IsNext old new item) (Stands file first old now parts commands) (Stands file first new next parts_now commands_now) step
-    (told_moved told inputs name old.name (IsNext old new item) same name_is (next_item inputs old new f0 f1 o item e says)) stands
+    (next_item told inputs name old new f0 f1 o item e same name_is says) stands
   where
     meant_item : Item
     meant_item = item_of file item
@@ -134,7 +133,7 @@ pub file_ends : (told inputs : Option (List (List ℕ × List ℕ))) (file : ℕ
     → IfTold told name (FileEnds file first now (Ok counts))
 file_ends told inputs file name first old new now counts f0 f1 o e same name_is says stands =
     told_both told name (HasEnded old) (Stands file first old now counts.parts counts.commands) (FileEnds file first now (Ok counts)) step
-    (told_moved told inputs name old.name (HasEnded old) same name_is (subst (λ (x : Option read.Item). NextSays inputs old new f0 f1 (Ok x)) e says)) stands
+    (next_end told inputs name old new f0 f1 o e same name_is says) stands
   where
     step : (bytes : List ℕ) → HasEnded old bytes → Stands file first old now counts.parts counts.commands bytes → FileAccepted file first now counts bytes
     step bytes (is, less) s = record {
@@ -180,7 +179,7 @@ item_ends told inputs file name first old new now next parts commands f0 f1 o it
     by_outcome (ended_by.Refused verdict) stops =
         told_both told name (Here (IsNext old new item)) (Here (Stands file first old now parts commands)) (FileEnds file first next (Err (ended_by.Refused verdict)))
         (step verdict (refused_is now (meant_item ∷ []) (verdict_meant verdict) stops))
-        (told_here told name (IsNext old new item) (told_moved told inputs name old.name (IsNext old new item) same name_is (next_item inputs old new f0 f1 o item e says)))
+        (told_here told name (IsNext old new item) (next_item told inputs name old new f0 f1 o item e same name_is says))
         (told_here told name (Stands file first old now parts commands) stands)
     by_outcome (ended_by.InputTooLong number) stops = absurd stops
     by_outcome (ended_by.TooMuch sum) stops = absurd stops

@@ -12,6 +12,7 @@ use Rattle.cmd_reader.specs.declared.item.Item as read
 use Rattle.cmd_reader.specs.Places.{IfTold}
 use Rattle.cmd_reader.specs.Left.{Reader, at_start, left}
 use Rattle.cmd_reader.specs.Next.{item_of, HasEnded, ItemFits, IfItem, IsNext, NextSays}
+use Rattle.cmd_reader.proofs.Aheads.{next_item, next_end}
 use Rattle.cmd_reader.proofs.Told.{told_both, told_always, told_moved}
 use Rattle.chain_trial.specs.declared.counting.Counted.{Counted}
 use Rattle.chain_trial.specs.Counting.{AreCounted, FileCounted, IfCounted}
@@ -62,7 +63,7 @@ pub stands_after : (told inputs : Option (List (List ℕ × List ℕ))) (name : 
     → IfTold told name (Stands old counted) → IfTold told name (Stands new more)
 stands_after told inputs name old new counted more f0 f1 o item e same name_is file_is says m stands =
     told_both told name (IsNext old new item) (Stands old counted) (Stands new more) step
-    (told_moved told inputs name old.name (IsNext old new item) same name_is (subst (λ (x : Option read.Item). NextSays inputs old new f0 f1 (Ok x)) e says)) stands
+    (next_item told inputs name old new f0 f1 o item e same name_is says) stands
   where
     now : Item
     now = item_of 1 item
@@ -79,7 +80,7 @@ pub file_ends : (told inputs : Option (List (List ℕ × List ℕ))) (name : Lis
     → o ≡ None → inputs ≡ told → old.name ≡ name → NextSays inputs old new f0 f1 (Ok o) → IfTold told name (Stands old counted) → IfTold told name (IfCounted (Some counted))
 file_ends told inputs name old new counted f0 f1 o e same name_is says stands =
     told_both told name (HasEnded old) (Stands old counted) (IfCounted (Some counted)) step
-    (told_moved told inputs name old.name (HasEnded old) same name_is (subst (λ (x : Option read.Item). NextSays inputs old new f0 f1 (Ok x)) e says)) stands
+    (next_end told inputs name old new f0 f1 o e same name_is says) stands
   where
     step : (bytes : List ℕ) → HasEnded old bytes → Stands old counted bytes → FileCounted counted bytes
     step bytes (is, less) s =

@@ -10,11 +10,8 @@ use Rattle.send_model.specs.Clone.{block_len}
 use Rattle.send_model.specs.Composed.{writes_from, piece_commands}
 use Rattle.send_model.specs.Store.{Store}
 use Rattle.send_model.specs.Provenance.{Traced, Place, Piece, Carried, Literal, same_place, place_after, blocks_from, blocks, carried_from, join_piece, pieces_from, pieces_of}
+use Rattle.send_model.proofs.Tracing.{byte_of}
 use Rattle.send_model.proofs.Overwriting.{drop_twice}
-
--- The byte of a cell.
-abbrev pub byte_of : Traced → ℕ
-byte_of c = c.byte
 
 -- A literal piece has the bytes that stand at its place.
 abbrev pub IsThere : List ℕ → Piece → Type 0

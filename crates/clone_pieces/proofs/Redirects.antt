@@ -28,7 +28,8 @@ use Rattle.clone_pieces.specs.Sending.{GoesOut, PutEnd}
 use Rattle.clone_pieces.specs.Filling.{byte_in, IsHadIn}
 use Rattle.clone_pieces.specs.Cutting.{cut_len, rest_cells, cut_commands, all_commands}
 use Rattle.clone_pieces.specs.Redirecting.{seen_cells, pieces_spelled, RedirectEnd}
-use Rattle.clone_pieces.proofs.LiteralBytes.{byte_of, again, pieces_again}
+use Rattle.send_model.proofs.Tracing.{byte_of}
+use Rattle.clone_pieces.proofs.LiteralBytes.{again, pieces_again}
 use Rattle.clone_pieces.proofs.Told.{all_always, all_map, all_two, told_moved}
 use Rattle.clone_pieces.proofs.Flow.{goes_none, goes_then, stops_then, put_ends}
 use Rattle.clone_pieces.proofs.Literals.{part_all}

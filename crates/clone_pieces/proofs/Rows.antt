@@ -15,7 +15,8 @@ use Rattle.provenance.specs.Traces.{place_of, place_in}
 use Rattle.provenance.specs.Cuts.{Cut, Run, Rest, AreEndsOf, IsCutAsMeant, shown, succeed, may_serve, carrier, cut_of, join_cut, cuts_from, cuts_of}
 use Rattle.clone_pieces.specs.Seen.{seen}
 use Rattle.clone_pieces.specs.Cutting.{cut_len, rest_len, StandsIn, IsNamed, all_commands}
-use Rattle.clone_pieces.proofs.LiteralBytes.{byte_of, len_of, joined, blocks_of, of_blocks, one_more, blocks_joined, again}
+use Rattle.send_model.proofs.Tracing.{byte_of}
+use Rattle.clone_pieces.proofs.LiteralBytes.{len_of, joined, blocks_of, of_blocks, one_more, blocks_joined, again}
 use Rattle.clone_pieces.proofs.LiteralBytes as piece
 use Rattle.clone_pieces.proofs.Chunks.{bytes_within}
 

@@ -16,6 +16,7 @@ use Rattle.send_model.specs.Store.{Key, same_key, Head, head_of, Entry, Store, P
 use Rattle.send_model.specs.Provenance.{Traced, inode_with, uuid_after, is_own, clone_range}
 use Rattle.send_model.specs.Cells.{recelled, recelled_store, recelled_part, recelled_state}
 use Rattle.send_model.specs.Counts.{is_clone}
+use Rattle.send_model.proofs.MergingClones.{turned_false}
 use Rattle.send_model.proofs.Sorts.{by_sort, is_plain, head_step, plain_step_edit, plain_edit_part, same_inside}
 use Rattle.send_model.proofs.Fuel.{ok_same}
 use Rattle.send_model.proofs.Stores.{bytes_eq_same, bytes_eq_true}
@@ -257,10 +258,6 @@ pub cells_weaker : {C : Type 0} (P Q : C → Type 0) (state : State C) → ((x :
 cells_weaker P Q state weaker all = record { complete = holds_store P Q weaker state.store all.complete; part = holds_part P Q weaker state.part all.part }
 
 -- ---- a clone from a complete subvolume
-
-turned_false : (a b : List ℕ) → bytes_eq a b ≡ false → bytes_eq b a ≡ false
-turned_false a b e =
-    false_from_ne_true (bytes_eq b a) (λ t. true≢false (sym (bytes_eq_same b) ∙ ap (λ (x : List ℕ). bytes_eq x b) (bytes_eq_true b a t) ∙ e))
 
 -- Where the cells come from that a clone puts: a range of a file of a complete subvolume of the store, which stays as it was.
 pub record TakenFrom {C : Type 0} (state after : State C) (path : List ℕ) (offset : ℕ) (key : Key) (clone_path : List ℕ) (from len : ℕ) : Type 0 where

@@ -12,6 +12,8 @@ use Rattle.send_model.specs.Spelling.{Attribute, value_of, frame_checksum, great
 use Rattle.send_model.specs.Receive.{bytes_of}
 use Rattle.send_model.specs.Reading.{Item, Reading, Frame, Front, Due, HeaderDue, CommandDue, ended, faulty, go_on, with_item, header_len, frame_header_len, number16, number32, attribute_number, attribute_head, attribute_len, attribute_end, attribute_lawful, attribute_in, attributes_from, attributes_at, bytes_at, moment_lawful, wanted_there, command_of, place_of, item_at, stream_version, frame_with, frame_at, front_of, reads_from}
 use Rattle.send_model.proofs.Fuel.{required, not_refused, tested, bound, ok_same, header_there}
+use Rattle.cmd_reader.proofs.CommandFacts.{first_read, unplaced, made_with}
+use Rattle.send_model.proofs.Sorts.{same_inside}
 use Rattle.cmd_reader.specs.Left.{Reader, is_header_due, is_empty, left}
 use Rattle.composer.specs.Taking.{DataStand}
 
@@ -41,16 +43,13 @@ nothing_there place bytes less = record { there = refl; within = omega (arith, l
 
 -- ---- attributes
 
-inside : {x y : ℕ} → Some x ≡ Some y → x ≡ y
-inside {x = x} q = ap (λ o. unwrap_or o x) q
-
 one_there : (b : Bool) (own head len : ℕ) (body bytes : List ℕ) (value : Option (List ℕ)) (there : Option ℕ) (place : ℕ)
     → (b ≡ true → own ≡ head) → bytes ≡ take len (drop head body) → head + len ≤ length body
     → ((p : ℕ) → there ≡ Some p → IsThere p (drop (head + len) body) (unwrap_or value []))
     → (if b then Some own else (elim there as (λ x. Option ℕ) [ None ↦ None | Some p ↦ Some (head + length bytes + p) ])) ≡ Some place
     → IsThere place body (unwrap_or (if b then Some bytes else value) [])
 one_there true own head len body bytes value there place own_is is less more q =
-    let place_is : head ≡ place = sym (own_is refl) ∙ inside q in
+    let place_is : head ≡ place = sym (own_is refl) ∙ same_inside q in
     let size : length bytes ≡ len = ap length is ∙ length-take-le len (drop head body) (omega (arith, less, length-drop head body)) in
     subst (λ (p : ℕ). IsThere p body bytes) place_is (record {
       there = ap (λ (n : ℕ). take n (drop head body)) size ∙ sym is;
@@ -59,19 +58,8 @@ one_there true own head len body bytes value there place own_is is less more q =
 one_there false own head len body bytes value None place own_is is less more q = cc
 one_there false own head len body bytes value (Some p) place own_is is less more q =
     let size : length bytes ≡ len = ap length is ∙ length-take-le len (drop head body) (omega (arith, less, length-drop head body)) in
-    let place_is : head + len + p ≡ place = ap (λ (n : ℕ). head + n + p) (sym size) ∙ inside q in
+    let place_is : head + len + p ≡ place = ap (λ (n : ℕ). head + n + p) (sym size) ∙ same_inside q in
     subst (λ (k : ℕ). IsThere k body (unwrap_or value [])) place_is (there_before (head + len) p body (unwrap_or value []) less (more p refl))
-
-and_both : (a b : Bool) → a && b ≡ true → (a ≡ true) × (b ≡ true)
-and_both true b e = (refl, e)
-and_both false b e = cc
-
-lawful_len : (version : ℕ) (seen body : List ℕ) → attribute_lawful version seen body ≡ true → attribute_end version body ≤ length body
-lawful_len version seen body e = leb-true _ _ (and_both _ _ e).1
-
-if_true : {A : Type 0} (b : Bool) (x : Result A Refusal) (refusal : Refusal) (y : A) → (if b then x else Err refusal) ≡ Ok y → (b ≡ true) × (x ≡ Ok y)
-if_true true x refusal y e = (refl, e)
-if_true false x refusal y e = cc
 
 AreThere : ℕ → Type 0
 AreThere n = (version kind : ℕ) (seen body : List ℕ) (attributes : List Attribute) (place : ℕ) → attributes_from n version seen body ≡ Ok attributes → place_of version kind attributes ≡ Some place → IsThere place body (bytes_at attributes kind)
@@ -85,30 +73,13 @@ are_there zero version kind seen body attributes place e there = none_placed ver
 are_there (suc n) version kind seen [] attributes place e there = none_placed version kind place [] attributes (ok_same e) there
 are_there (suc n) version kind seen (x ∷ xs) attributes place e there =
     let body : List ℕ = x ∷ xs in
-    let head : ℕ = attribute_head version (number16 body) in
-    let len : ℕ = attribute_len version body in
     let one : Attribute = attribute_in version body in
-    let rest = attributes_from n version (number16 body ∷ seen) (drop (attribute_end version body) body) in
-    let k : List Attribute → Result (List Attribute) Refusal = λ more. Ok (one ∷ more) in
-    let w = if_true (attribute_lawful version seen body) (rest >>= k) (BadAttribute (attribute_number body)) attributes e in
-    let a = bound rest k attributes w.1 in
-    let same : one ∷ a.0 ≡ attributes = ok_same a.2 in
-    let placed : place_of version kind (one ∷ a.0) ≡ Some place = ap (place_of version kind) same ∙ there in
-    subst (λ (list : List Attribute). IsThere place body (bytes_at list kind)) same
-    (one_there (one.kind == kind) (attribute_head version kind) head len body one.bytes (value_of kind a.0) (place_of version kind a.0) place
-    (λ q. ap (attribute_head version) (sym (eqb-true one.kind kind q))) refl (lawful_len version seen body w.0)
-    (λ p q. are_there n version kind (number16 body ∷ seen) (drop (attribute_end version body) body) a.0 p a.1 q) placed)
-
--- Where there is no such attribute there are no bytes.
-unplaced : (version kind : ℕ) (attributes : List Attribute) → place_of version kind attributes ≡ None → bytes_at attributes kind ≡ []
-unplaced version kind [] e = refl
-unplaced version kind (a ∷ rest) e = unplaced_on (a.kind == kind) (attribute_head version kind) (attribute_head version a.kind) a.bytes (value_of kind rest) (place_of version kind rest) (λ q. unplaced version kind rest q) e
-  where
-    unplaced_on : (b : Bool) (own head : ℕ) (bytes : List ℕ) (value : Option (List ℕ)) (there : Option ℕ) → (there ≡ None → unwrap_or value [] ≡ [])
-        → (if b then Some own else (elim there as (λ x. Option ℕ) [ None ↦ None | Some p ↦ Some (head + length bytes + p) ])) ≡ None → unwrap_or (if b then Some bytes else value) [] ≡ []
-    unplaced_on true own head bytes value there more q = cc
-    unplaced_on false own head bytes value None more q = more refl
-    unplaced_on false own head bytes value (Some p) more q = cc
+    let first = first_read n version seen x xs attributes e in
+    let placed : place_of version kind (one ∷ first.others) ≡ Some place = ap (place_of version kind) first.are ∙ there in
+    subst (λ (list : List Attribute). IsThere place body (bytes_at list kind)) first.are
+    (one_there (one.kind == kind) (attribute_head version kind) (attribute_head version (number16 body)) (attribute_len version body) body one.bytes (value_of kind first.others) (place_of version kind first.others) place
+    (λ q. ap (attribute_head version) (sym (eqb-true one.kind kind q))) refl first.fits
+    (λ p q. are_there n version kind (number16 body ∷ seen) (drop (attribute_end version body) body) first.others p first.read q) placed)
 
 -- ---- a command
 
@@ -119,14 +90,9 @@ data_with _ values = inl refl
 
 -- The data of a command are none, or the bytes of the attribute DATA.
 data_of_command : (version number : ℕ) (attributes : List Attribute) (c : Command) → command_of version number attributes ≡ Ok c → (bytes_of c ≡ []) ⊎ (bytes_of c ≡ bytes_at attributes DATA)
-unfolding command_of
 data_of_command version number attributes c e =
-    let last : Kind → Result Command Refusal = λ kind. require (list_all (moment_lawful attributes) (row kind).wanted) BadTime >> Ok (command_with kind (bytes_at attributes)) in
-    let plain = not_refused (is_encoded version number) Encoded (found (kind_of_number version number) (UnknownCommand number) >>= λ kind. wanted_there (row kind).wanted attributes >> last kind) c e in
-    let a = bound (found (kind_of_number version number) (UnknownCommand number)) (λ kind. wanted_there (row kind).wanted attributes >> last kind) c plain.1 in
-    let b = tested (wanted_there (row a.0).wanted attributes) (last a.0) c a.2 in
-    let d = required (list_all (moment_lawful attributes) (row a.0).wanted) BadTime (Ok (command_with a.0 (bytes_at attributes))) c b.1 in
-    subst (λ (x : Command). (bytes_of x ≡ []) ⊎ (bytes_of x ≡ bytes_at attributes DATA)) (ok_same d.1) (data_with a.0 (bytes_at attributes))
+    let made = made_with version number attributes c e in
+    subst (λ (x : Command). (bytes_of x ≡ []) ⊎ (bytes_of x ≡ bytes_at attributes DATA)) made.2 (data_with made.0 (bytes_at attributes))
 
 -- The body of the frame in front stands behind its header.
 frame_behind : (bytes : List ℕ) (frame : Frame) → frame_at bytes ≡ Ok frame → (rest : List ℕ) × (drop frame_header_len bytes ≡ frame.body ++ rest) × (frame_header_len ≤ length bytes)

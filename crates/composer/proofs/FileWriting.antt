@@ -24,12 +24,13 @@ use Rattle.cmd_reader.specs.Places.{IfTold}
 use Rattle.cmd_reader.specs.Fronts.{IsRefused, IsLongAt}
 use Rattle.cmd_reader.specs.Left.{Reader, at_start, left}
 use Rattle.cmd_reader.specs.Next.{item_of, HasEnded, IsFaulty, OnlyEnds, IsNext, NextSays}
+use Rattle.cmd_reader.proofs.Aheads.{next_item, next_end}
 use Rattle.cmd_reader.proofs.Told.{Here, told_map, told_both, told_always, told_here, told_moved}
 use Rattle.file_survey.specs.declared.places.Place.{Place}
 use Rattle.file_survey.specs.Ahead.{then_reading}
 use Rattle.file_survey.specs.Stopping.{outcome_at}
 use Rattle.file_survey.proofs.AheadSteps.{then_item, last_item_after}
-use Rattle.file_survey.proofs.TooLong.{short_fits, long_is}
+use Rattle.send_model.proofs.TooLong.{short_fits, long_is}
 use Rattle.clone_pieces.specs.Origins.{IsInInput}
 use Rattle.clone_pieces.specs.Sending.{AppendsFront}
 use Rattle.composer.specs.OverBase.{Plan, Composing, Halt, Refuses, Exceeds, advance, advance_all, unsent}
@@ -97,20 +98,17 @@ stand_there told names plan number file c0 out0 reader now out_now before place 
 
 -- ---- the next item
 
-next_item : (told : Option (List (List ℕ × List ℕ))) (old new : Reader) (before now : ℕ) (o : Option read.Item) (item : read.Item) → o ≡ Some item → NextSays told old new before now (Ok o) → IfTold told old.name (IsNext old new item)
-next_item told old new before now o item e says = subst (λ (x : Option read.Item). NextSays told old new before now (Ok x)) e says
-
 -- What is found of the next item, of the file among all files.
 pub next_of_all : (told inputs : Option (List (List ℕ × List ℕ))) (names : List (List ℕ)) (number : ℕ) (old new : Reader) (f0 f1 : ℕ) (o : Option read.Item) (item : read.Item) → o ≡ Some item → inputs ≡ told
     → number < length names → old.name ≡ get_or names number [] → NextSays inputs old new f0 f1 (Ok o) → IfAllTold told names (λ files. IsNext old new item (get_or files number []))
 next_of_all told inputs names number old new f0 f1 o item e same less is says =
-    told_file told inputs names number old.name (IsNext old new item) same less is (next_item inputs old new f0 f1 o item e says)
+    told_file told inputs names number old.name (IsNext old new item) same less is (next_item inputs inputs old.name old new f0 f1 o item e refl refl says)
 
 pub alike_after : (told inputs : Option (List (List ℕ × List ℕ))) (file : ℕ) (name : List ℕ) (old new : Reader) (f0 f1 : ℕ) (o : Option read.Item) (item : read.Item) → o ≡ Some item → inputs ≡ told → old.name ≡ name
     → NextSays inputs old new f0 f1 (Ok o) → IfTold told name (EndsAlike file old) → IfTold told name (EndsAlike file new)
 alike_after told inputs file name old new f0 f1 o item e same name_is says alike =
     told_both told name (IsNext old new item) (EndsAlike file old) (EndsAlike file new) (λ bytes n a. a ∙ ap (λ (r : Reading). r.end) n.left_is)
-    (told_moved told inputs name old.name (IsNext old new item) same name_is (next_item inputs old new f0 f1 o item e says)) alike
+    (next_item told inputs name old new f0 f1 o item e same name_is says) alike
 
 -- The data of the next item stand in its file, and the cells so far in theirs.
 pub data_there : (told : Option (List (List ℕ × List ℕ))) (names : List (List ℕ)) (plan : Plan) (number file : ℕ) (c0 : Kept) (out0 : Option (List ℕ)) (old new : Reader) (now : Kept) (out_now : Option (List ℕ)) (before place : Place) (item : read.Item)
@@ -191,7 +189,7 @@ pub file_ends : (told inputs : Option (List (List ℕ × List ℕ))) (names : Li
 file_ends told inputs names plan number file c0 out0 old new now out_now before place f0 f1 o e same less is says stands =
     all_two told names (λ files. HasEnded old (get_or files number [])) (λ files. Stands files plan file c0 out0 old now out_now before place (get_or files number []))
     (λ files. FileTaken files plan file c0 now out0 out_now before place (get_or files number [])) (λ files. step files (get_or files number []))
-    (told_file told inputs names number old.name (HasEnded old) same less is (subst (λ (x : Option read.Item). NextSays inputs old new f0 f1 (Ok x)) e says)) stands
+    (told_file told inputs names number old.name (HasEnded old) same less is (next_end inputs inputs old.name old new f0 f1 o e refl refl says)) stands
   where
     step : (files : List (List ℕ)) (bytes : List ℕ) → HasEnded old bytes → Stands files plan file c0 out0 old now out_now before place bytes → FileTaken files plan file c0 now out0 out_now before place bytes
     step files bytes (ends, short) s = record {

@@ -16,6 +16,7 @@ use Rattle.send_model.specs.Counts.{is_clone}
 use Rattle.send_model.specs.Due.{Due, TooMuch, most_literal, uncarried_of, then_due, due_from}
 use Rattle.send_model.proofs.Sorts.{by_sort, plain_step_without}
 use Rattle.send_model.proofs.Judging.{previous_after, AreOrdered}
+use Rattle.send_model.proofs.Dues.{uncarried_split}
 use Rattle.composer.specs.OverBase.{AreTaken, current_after}
 
 pub AreTaken-append : (items more : List Item) (state middle end : State Traced) → AreTaken state items middle → AreTaken middle more end → AreTaken state (items ++ more) end
@@ -37,26 +38,6 @@ composed_from-append store parts last (item ∷ items) more state end current t 
     ∙ sym (append_assoc here (composed_from store parts last (traced_step state item).state (uuid_after current item.command) items) (composed_from store parts last end (current_after (uuid_after current item.command) items) more))
 
 -- ---- the sum of uncarried bytes
-
-abbrev literal_in : List Piece → ℕ
-literal_in pieces = sum_by literal_len pieces
-
--- The uncarried bytes of an item and of those after it.
-pub uncarried_split : (base : Store ℕ) (parts : List (List ℕ)) (state : State Traced) (current : Option (List ℕ)) (item : Item) (items : List Item)
-    → uncarried_in base (ranges_from parts state current (item ∷ items)) ≡ uncarried_of base parts state current item + uncarried_in base (ranges_from parts (traced_step state item).state (uuid_after current item.command) items)
-unfolding ranges_from
-uncarried_split base parts state current item items = one (is_redirected parts current item.command)
-  where
-    others : List (List Traced)
-    others = ranges_from parts (traced_step state item).state (uuid_after current item.command) items
-
-    one : (b : Bool) → uncarried_in base (if b then clone_range state item.command ∷ others else others) ≡ (if b then uncarried_in base (clone_range state item.command ∷ []) else 0) + uncarried_in base others
-    one true =
-        let x : List Piece = pieces_of base (clone_range state item.command) in
-        let a = sum_by-cons literal_in x (map (pieces_of base) others) in
-        let b = sum_by-cons literal_in x [] in
-        omega (arith, a, b)
-    one false = omega arith
 
 -- The uncarried bytes of items and then others.
 pub uncarried-append : (base : Store ℕ) (parts : List (List ℕ)) (items more : List Item) (state end : State Traced) (current : Option (List ℕ)) → AreTaken state items end

@@ -20,6 +20,7 @@ use Rattle.send_model.specs.Headline.{IsComposedOf, stream_front, output_of, who
 use Rattle.send_model.specs.Laws.{IsWhole, ReadingsHold}
 use Rattle.send_model.proofs.CellClones.{all_steps-cells}
 use Rattle.send_model.proofs.Runs.{step_of, Takes}
+use Rattle.send_model.proofs.Tracing.{byte_of, bytes_fresh, untraced_store}
 use Rattle.send_model.proofs.Judging.{each_follows}
 use Rattle.send_model.proofs.Dues.{is_judged_of}
 use Rattle.send_model.proofs.Headlines.{received_all}
@@ -88,13 +89,6 @@ due_done_whole base reading now sent p e some =
 
 -- ---- the run without traces
 
-abbrev pub byte_of : Traced → ℕ
-byte_of c = c.byte
-
-bytes_fresh : (bytes : List ℕ) → map byte_of (map fresh bytes) ≡ bytes
-bytes_fresh [] = refl
-bytes_fresh (b ∷ bytes) = ap (λ (r : List ℕ). b ∷ r) (bytes_fresh bytes)
-
 -- A traced step is the plain one.
 plain_step_is : (state : State Traced) (item : Item) → step_of (recelled_state byte_of state) item.command ≡ recelled_step byte_of (traced_step state item)
 plain_step_is state item =
@@ -106,30 +100,6 @@ pub taken_plain : (items : List Item) (state end : State Traced) → AreTaken st
 taken_plain [] state end t = ap (recelled_state byte_of) t
 taken_plain (item ∷ items) state end t =
     subst (λ (x : Stepped ℕ). (x.refusal ≡ None) × Takes x.state (commands_of items) (recelled_state byte_of end)) (sym (plain_step_is state item)) (t.0, taken_plain items (traced_step state item).state end t.1)
-
-untraced_bytes : (key : Key) (ino offset : ℕ) (bytes : List ℕ) → map byte_of (traced_from key ino offset bytes) ≡ bytes
-untraced_bytes key ino offset [] = refl
-untraced_bytes key ino offset (b ∷ bytes) = ap (λ (r : List ℕ). b ∷ r) (untraced_bytes key ino (offset + 1) bytes)
-
-untraced_inodes : (key : Key) (m : Map ℕ (Inode ℕ)) → map (λ (e : ℕ × Inode Traced). (e.0, inode_with e.1 (map byte_of e.1.cells))) (map (λ (e : ℕ × Inode ℕ). (e.0, inode_with e.1 (traced_from key e.0 0 e.1.cells))) m) ≡ m
-untraced_inodes key [] = refl
-untraced_inodes key (e ∷ m) = let one : List ℕ → ℕ × Inode ℕ = λ cells. (e.0, inode_with e.1 cells) in λ i. one (untraced_bytes key e.0 0 e.1.cells i) ∷ untraced_inodes key m i
-
-untraced : (key : Key) (s : Subvolume ℕ) → recelled byte_of (traced_subvolume key s) ≡ s
-unfolding traced_subvolume
-untraced key s = let at : Map ℕ (Inode ℕ) → Subvolume ℕ = λ m. record { inodes = m; names = s.names; next = s.next } in ap at (untraced_inodes key s.inodes)
-
-pub untraced_store : (store : Store ℕ) → recelled_store byte_of (traced_store store) ≡ store
-unfolding traced_store
-untraced_store [] = refl
-untraced_store (e ∷ store) = ap₂ (λ (a : Entry (Subvolume ℕ)) (r : Store ℕ). a ∷ r) (one e.contents) (untraced_store store)
-  where
-    with_those : Option (Subvolume ℕ) → Entry (Subvolume ℕ)
-    with_those o = record { name = e.name; key = e.key; parent = e.parent; contents = o }
-
-    one : (o : Option (Subvolume ℕ)) → recelled_entry byte_of (record { name = e.name; key = e.key; parent = e.parent; contents = elim o as (λ x. Option (Subvolume Traced)) [ None ↦ None | Some s ↦ Some (traced_subvolume e.key s) ] }) ≡ record { name = e.name; key = e.key; parent = e.parent; contents = o }
-    one None = refl
-    one (Some s) = let at : Subvolume ℕ → Entry (Subvolume ℕ) = λ x. record { name = e.name; key = e.key; parent = e.parent; contents = Some x } in ap at (untraced e.key s)
 
 -- The items so far are taken over the base's bytes.
 pub taken_bytes : (base : Store ℕ) (items : List Item) (end : State Traced) → AreTaken (start_of (traced_store base)) items end → Takes (start_of base) (commands_of items) (recelled_state byte_of end)

@@ -12,7 +12,8 @@ use Rattle.send_model.proofs.Runs.{runs_taken}
 use Rattle.send_model.proofs.Headlines.{without_finds}
 use Rattle.send_model.proofs.ReadCommands.{output_is_read}
 use Rattle.composer.specs.OverBase.{AreReady}
-use Rattle.composer.proofs.OverBaseEnds.{byte_of, taken_bytes}
+use Rattle.send_model.proofs.Tracing.{byte_of}
+use Rattle.composer.proofs.OverBaseEnds.{taken_bytes}
 
 pub are_ready : FrontsAreWritable → (store : Store ℕ) (files : List (List ℕ)) → FindsSayable (base_of store (input files).items) (keys_outside (input files).items)
     → AllByRecursion (λ item. CanWrite item.version item.command × (is_version item.version ≡ true)) (input files).items → AreReady (base_of store (input files).items) files

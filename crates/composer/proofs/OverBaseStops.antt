@@ -24,28 +24,15 @@ use Rattle.send_model.proofs.Judging.{AreOrdered}
 use Rattle.send_model.proofs.Composed.{first_there, last_of_some, items_with_heads}
 use Rattle.send_model.proofs.Writing.{heads_of-append, nothing_unfinished, unfinished_part}
 use Rattle.send_model.proofs.Streams.{canonical_long}
-use Rattle.send_model.proofs.Fronts.{nothing_front}
+use Rattle.send_model.proofs.Fronts.{lawful_on, lawful_more, nothing_front}
 use Rattle.composer.specs.OverBase.{Plan, plan_of, Composing, Halt, Refuses, Exceeds, after_item, then_kept, advance, composed_up_to, written_with, current_after, AreWritable, HasNone}
 use Rattle.composer.proofs.OneMore.{composed_from-append, uncarried-append}
 use Rattle.composer.proofs.OverBaseProgress.{base_start, Progress, err_is, one_sum, front-append}
-use Rattle.composer.proofs.OverBaseEnds.{byte_of, taken_bytes, written_is}
+use Rattle.send_model.proofs.Tracing.{byte_of}
+use Rattle.composer.proofs.OverBaseEnds.{taken_bytes, written_is}
 use Rattle.composer.proofs.PartsSoFar.{InBoth, known_start, composed_alike}
 
 -- ---- the items before the first unlawful one
-
-lawful_on : (item : Item) (state : State ℕ) (o : Option Refusal) (breaks : Bool) (rest : List Item) → o ≡ None → breaks ≡ false → then_lawful item (record { state = state; refusal = o }) breaks rest ≡ item ∷ rest
-lawful_on item state None false rest e b = refl
-lawful_on item state None true rest e b = cc
-lawful_on item state (Some r) breaks rest e b = cc
-
--- Items that were taken in order stand in front of those that are taken.
-lawful_more : (items more : List Item) (previous : Option Key) (state end : State ℕ) → Takes state (commands_of items) end → AreOrdered previous items → (rest : List Item) × (lawful_items 0 byte_cells state previous (items ++ more) ≡ items ++ rest)
-unfolding lawful_items
-lawful_more [] more previous state end t o = (lawful_items 0 byte_cells state previous more, refl)
-lawful_more (item ∷ items) more previous state end t o =
-    let s = step_of state item.command in
-    let on = lawful_more items more (part_after previous (head_of item.command)) s.state end t.1 o.1 in
-    (on.0, lawful_on item s.state s.refusal (breaks_order previous (head_of item.command)) _ t.0 o.0 ∙ ap (λ (r : List Item). item ∷ r) on.1)
 
 lawful_step : (item : Item) (items lawful rest : List Item) (state : State ℕ) (o : Option Refusal) (breaks : Bool) → items ≡ lawful ++ rest
     → (left : List Item) × (item ∷ items ≡ then_lawful item (record { state = state; refusal = o }) breaks lawful ++ left)

@@ -27,23 +27,13 @@ use Rattle.send_model.proofs.Stores.{bytes_eq_same, bytes_eq_true, finds_other, 
 use Rattle.send_model.proofs.Merging.{entered_taken, edited_taken}
 use Rattle.send_model.proofs.CellSteps.{find-cells}
 use Rattle.composer.specs.OverBase.{AreTaken, HasNone}
-use Rattle.composer.proofs.OverBaseEnds.{byte_of, untraced_store}
+use Rattle.send_model.proofs.Tracing.{byte_of, untraced_store}
+use Rattle.send_model.proofs.MergingClones.{no_source}
 
 -- ---- uuids
 
 turned : (a b : List ℕ) → bytes_eq a b ≡ true → bytes_eq b a ≡ true
 turned a b e = ap (bytes_eq b) (bytes_eq_true a b e) ∙ bytes_eq_same b
-
--- ---- a clone without a source
-
-no_source : (x : Traced) (s next : Subvolume Traced) (own : Bool) (path : List ℕ) (offset : ℕ) (clone_path : List ℕ) (from len : ℕ) → clone x s None own path offset clone_path from len ≡ Ok next → ⊥
-unfolding clone cloned
-no_source x s next own path offset clone_path from len e = one (is_some (path_names path)) (is_some (path_names clone_path)) e
-  where
-    one : (a b : Bool) → ((require a BadPath >> (require b BadPath >> ◌>>=◌ {A = Subvolume Traced} {B = Cloned Traced} (found None NoSource) (λ u. Err NoSource))) >>= λ range. Ok (change_inode range.ino (set_cells (overwritten x offset range.cells)) s)) ≡ Ok next → ⊥
-    one true true h = cc
-    one true false h = cc
-    one false b h = cc
 
 module _ (base : Store ℕ) (some others : List (List ℕ)) where
   abbrev pub InBoth : List ℕ → Type 0

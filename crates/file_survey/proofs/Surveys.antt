@@ -29,13 +29,16 @@ use Rattle.cmd_reader.specs.Places.{IfTold}
 use Rattle.cmd_reader.specs.Fronts.{IsRefused, IsLongAt}
 use Rattle.cmd_reader.specs.Left.{Reader, at_start, left}
 use Rattle.cmd_reader.specs.Next.{item_of, HasEnded, IsFaulty, OnlyEnds, IsNext, NextSays, ItemFits, IfItem}
-use Rattle.cmd_reader.proofs.Told.{Here, told_both, told_always, told_here, told_moved}
+use Rattle.cmd_reader.proofs.Aheads.{next_item, next_end}
+use Rattle.cmd_reader.proofs.Told.{Here, told_both, told_always, told_here, told_moved, told_next}
 use Rattle.file_survey.specs.Ahead.{IsAhead, then_reading}
 use Rattle.file_survey.specs.Stopping.{outcome_at}
 use Rattle.file_survey.specs.Findings.{Surveyed, nothing_seen, uuid_in, after_command, after_items, AreReadable, FileRead, FileStop, FileEnd, AllRead, SurveyStop, SurveyEnd}
 use Rattle.file_survey.proofs.AheadSteps.{ahead_start, ahead_whole, ahead_fault}
-use Rattle.file_survey.proofs.TooLong.{LongAhead, short_fits, fault_fits, long_is, long_start, long_end, long_next, long_fault, long_here}
-use Rattle.file_survey.proofs.FilesAhead.{then_then, ahead_file, file_there, count_of_files}
+use Rattle.send_model.proofs.TooLong.{short_fits, fault_fits, long_is}
+use Rattle.file_survey.proofs.TooLong.{LongAhead, long_start, long_end, long_next, long_fault, long_here}
+use Rattle.sx_base.proofs.NamedFiles.{file_there, count_of_files}
+use Rattle.file_survey.proofs.FilesAhead.{then_then, ahead_file}
 
 -- ---- commands and more commands
 
@@ -149,7 +152,7 @@ pub file_next : (told told_now : Option (List (List ℕ × List ℕ))) (file : �
     → IfItem (Ok o) (ItemFits old new) → now ≡ after_command last item.version (meaning_of item.command) → IfTold told name (FileSoFar file old before last) → NextSays told_now old new early late (Ok o) → IfTold told name (FileSoFar file new before now)
 file_next told told_now file name old new o item before last now early late t f n is fits head h next =
     told_both told name (FileSoFar file old before last) (IsNext old new item) (FileSoFar file new before now) (λ bytes so_far next. next_of_file file old new item before last now bytes f can head so_far next) h
-    (told_moved told told_now name old.name (IsNext old new item) t n (subst (λ (x : Option read.Item). NextSays told_now old new early late (Ok x)) is next))
+    (next_item told told_now name old new early late o item is t n next)
   where
     can : CanWrite item.version (meaning_of item.command) × (is_version item.version ≡ true)
     can = item_readable o item old new is fits
@@ -162,7 +165,7 @@ pub file_whole : (told told_now : Option (List (List ℕ × List ℕ))) (file : 
     → IfTold told name (FileSoFar file old before last) → NextSays told_now old new early late (Ok o) → IfTold told name (FileRead file true before last)
 file_whole told told_now file name old new o before last early late t n none h says =
     told_both told name (FileSoFar file old before last) (HasEnded old) (FileRead file true before last) by_file h
-    (told_moved told told_now name old.name (HasEnded old) t n (subst (λ (x : Option read.Item). NextSays told_now old new early late (Ok x)) none says))
+    (next_end told told_now name old new early late o none t n says)
   where
     by_file : (bytes : List ℕ) → FileSoFar file old before last bytes → HasEnded old bytes → FileRead file true before last bytes
     by_file bytes h (is, less) = record { items = h.items; ending = Whole; read = read_to file old before last bytes Whole h is; end_is = refl; writable = h.writable; seen = h.seen; fits = short_fits file bytes less }
@@ -273,8 +276,7 @@ pub record NextName {Z : Type 0} (told told_now : Option (List (List ℕ × List
 next_read : {Z : Type 0} (table : List (List ℕ × List ℕ)) (told_now : Option (List (List ℕ × List ℕ))) (names : List (String Z)) (number : ℕ) (name : String Z) (spelled : List ℕ) (last now : Surveyed) (result said : Result Bool Outcome)
     → NextName (Some table) told_now names number name spelled → result ≡ said → IfTold told_now spelled (FileEnd (number + 1) last now result) → FileEnd (number + 1) last now said (file_at table (string_bytes name))
 next_read table told_now names number name spelled last now result said n r h =
-    told_moved (Some table) told_now (string_bytes name) spelled (FileEnd (number + 1) last now said) n.same n.spelling (subst (λ (x : Result Bool Outcome). IfTold told_now spelled (FileEnd (number + 1) last now x)) r h)
-    (file_at table (string_bytes name)) refl
+    told_next table told_now name spelled (FileEnd (number + 1) last now said) n.same n.spelling (subst (λ (x : Result Bool Outcome). IfTold told_now spelled (FileEnd (number + 1) last now x)) r h)
 
 -- The next file was read to its end.
 pub files_next : {Z : Type 0} (told told_now : Option (List (List ℕ × List ℕ))) (names : List (String Z)) (number : ℕ) (name : String Z) (spelled : List ℕ) (last now : Surveyed) (result : Result Bool Outcome)

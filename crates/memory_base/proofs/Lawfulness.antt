@@ -16,23 +16,9 @@ use Rattle.send_model.specs.Outside.{IsSayable, is_among, store_without}
 use Rattle.send_model.specs.Lawful.{HasSayable, IsLawfulEntry, IsLawfulStore}
 use Rattle.send_model.proofs.Sorts.{same_inside}
 use Rattle.send_model.proofs.Stores.{or_parts, bytes_eq_same, bytes_eq_true, same_key_same}
+use Rattle.send_model.proofs.MergingClones.{turned_false}
 use Rattle.send_model.proofs.Keeping.{all_filtered}
 use Rattle.send_model.proofs.CellMaps.{inode_at-cells, is_directory-cells, walk_names-cells}
-
--- ---- what a lawful store finds
-
-pub find_sayable : (store : Store ℕ) (key : Key) (s : Subvolume ℕ) → AllByRecursion IsLawfulEntry store → find store key ≡ Some s → IsSayable s
-unfolding find
-find_sayable [] key s all f = cc
-find_sayable (e ∷ store) key s all f = one (same_key e.key key) (λ q. find_sayable store key s all.1 q) f
-  where
-    two : (o : Option (Subvolume ℕ)) → HasSayable o → (find store key ≡ Some s → IsSayable s) → (elim o as (λ x. Option (Subvolume ℕ)) [ None ↦ find store key | Some t ↦ Some t ]) ≡ Some s → IsSayable s
-    two None h more q = more q
-    two (Some t) h more q = subst (λ (u : Subvolume ℕ). IsSayable u) (same_inside q) h
-
-    one : (b : Bool) → (find store key ≡ Some s → IsSayable s) → (if b then elim e.contents as (λ x. Option (Subvolume ℕ)) [ None ↦ find store key | Some t ↦ Some t ] else find store key) ≡ Some s → IsSayable s
-    one true more q = two e.contents all.0.contents more q
-    one false more q = more q
 
 -- ---- some entries left out
 
@@ -71,13 +57,6 @@ without_twice uuids store = filter_twice (λ e. not (is_among uuids e.key.uuid))
 
 -- ---- the entry of a key
 
-turned : (a b : List ℕ) → bytes_eq a b ≡ false → bytes_eq b a ≡ false
-turned a b h = one (bytes_eq b a) refl
-  where
-    one : (t : Bool) → bytes_eq b a ≡ t → t ≡ false
-    one false e = refl
-    one true e = let same : b ≡ a = bytes_eq_true b a e in absurd (true≢false (sym (bytes_eq_same a) ∙ subst (λ (x : List ℕ). bytes_eq a x ≡ false) same h))
-
 module _ {S : Type 0} where
   abbrev pub IsFoundIn : List (Entry S) → Entry S → Type 0
   IsFoundIn store e = (s : S) → e.contents ≡ Some s → find store e.key ≡ Some s
@@ -94,7 +73,7 @@ module _ {S : Type 0} where
   found_behind e store (g ∷ rest) h all =
       let p = or_parts (bytes_eq g.key.uuid e.key.uuid) (has_uuid e.key.uuid rest) h in (
         (λ s is.
-            ap (λ (b : Bool). if b && (e.key.ctransid == g.key.ctransid) then elim e.contents as (λ x. Option S) [ None ↦ find store g.key | Some t ↦ Some t ] else find store g.key) (turned g.key.uuid e.key.uuid p.0)
+            ap (λ (b : Bool). if b && (e.key.ctransid == g.key.ctransid) then elim e.contents as (λ x. Option S) [ None ↦ find store g.key | Some t ↦ Some t ] else find store g.key) (turned_false g.key.uuid e.key.uuid p.0)
             ∙ all.0 s is),
         found_behind e store rest p.1 all.1,
       )

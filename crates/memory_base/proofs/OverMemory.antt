@@ -21,7 +21,8 @@ use Rattle.composer.specs.Files.{AllSayable, ComposeEnds}
 use Rattle.composer.proofs.FilesWriting.{survey_stopped}
 use Rattle.memory_base.specs.declared.kept.Kept.{Kept}
 use Rattle.memory_base.specs.Bases.{with_bytes, traced_to_itself}
-use Rattle.memory_base.proofs.Lawfulness.{find_sayable, lawful_without, without_twice}
+use Rattle.send_model.proofs.LawfulStores.{find_sayable}
+use Rattle.memory_base.proofs.Lawfulness.{lawful_without, without_twice}
 use Rattle.memory_base.proofs.Standings.{bytes_without}
 use Rattle.memory_base.proofs.TracedBases.{base_traced, base_had}
 

@@ -39,6 +39,7 @@ use Rattle.cmd_reader.specs.Places.{IfTold}
 use Rattle.cmd_reader.specs.Fronts.{IsRefused, IsLongAt}
 use Rattle.cmd_reader.specs.Left.{Reader, at_start, left}
 use Rattle.cmd_reader.specs.Next.{item_of, HasEnded, IsFaulty, OnlyEnds, IsNext, NextSays, ItemFits, IfItem}
+use Rattle.cmd_reader.proofs.Aheads.{next_item, next_end}
 use Rattle.cmd_reader.proofs.Told.{told_both, told_always, told_moved}
 use Rattle.file_survey.specs.Ahead.{then_reading}
 use Rattle.file_survey.specs.Stopping.{outcome_at}
@@ -260,7 +261,7 @@ module _ (told told_now : Option (List (List ℕ × List ℕ))) (base : Store �
       → step 0 (bytes_of (meaning_of item.command)) state (meaning_of item.command) ≡ record { state = next; refusal = None } → IfTold told name (ReceivedSoFar base new next)
   file_next o item next early late is says e =
       told_both told name (ReceivedSoFar base old state) (IsNext old new item) (ReceivedSoFar base new next) by_file so_far
-      (told_moved told told_now name old.name (IsNext old new item) same named (subst (λ (x : Option read.Item). NextSays told_now old new early late (Ok x)) is says))
+      (next_item told told_now name old new early late o item is same named says)
     where
       by_file : (bytes : List ℕ) → ReceivedSoFar base old state bytes → IsNext old new item bytes → ReceivedSoFar base new next bytes
       by_file bytes h n =
@@ -287,7 +288,7 @@ module _ (told told_now : Option (List (List ℕ × List ℕ))) (base : Store �
   pub file_whole : (o : Option read.Item) (store : Store ℕ) (early late : ℕ) → o ≡ None → NextSays told_now old new early late (Ok o) → store ≡ completed state → IfTold told name (IsReceived base store)
   file_whole o store early late is says e =
       told_both told name (ReceivedSoFar base old state) (HasEnded old) (IsReceived base store) by_file so_far
-      (told_moved told told_now name old.name (HasEnded old) same named (subst (λ (x : Option read.Item). NextSays told_now old new early late (Ok x)) is says))
+      (next_end told told_now name old new early late o is same named says)
     where
       by_file : (bytes : List ℕ) → ReceivedSoFar base old state bytes → HasEnded old bytes → IsReceived base store bytes
       by_file bytes h (is, less) =
@@ -322,7 +323,7 @@ module _ (told told_now : Option (List (List ℕ × List ℕ))) (base : Store �
   unfolding run_items run_by receive_items
   file_refused o item verdict refusal early late is says e at =
       told_both told name (ReceivedSoFar base old state) (IsNext old new item) (ReceiveEnd base (Err (ended_by.Refused verdict))) by_file so_far
-      (told_moved told told_now name old.name (IsNext old new item) same named (subst (λ (x : Option read.Item). NextSays told_now old new early late (Ok x)) is says))
+      (next_item told told_now name old new early late o item is same named says)
     where
       one : Item
       one = item_of 1 item

@@ -23,6 +23,7 @@ use Rattle.cmd_reader.specs.Places.{IfTold}
 use Rattle.cmd_reader.specs.Fronts.{IsRefused, IsLongAt}
 use Rattle.cmd_reader.specs.Left.{Reader, at_start, left}
 use Rattle.cmd_reader.specs.Next.{item_of, HasEnded, IsFaulty, OnlyEnds, IsNext, NextSays}
+use Rattle.cmd_reader.proofs.Aheads.{next_item, next_end}
 use Rattle.cmd_reader.proofs.Told.{Here, told_both, told_map, told_always, told_here, told_moved}
 use Rattle.stream_dump.specs.declared.gathering.Gathered.{Gathered}
 use Rattle.sx_base.specs.Calls.{verdict_meant, Caused, IfAllTold, Wrote}
@@ -112,7 +113,7 @@ pub stands_next : (piece : Bool → Item → List ℕ) (told told_now : Option (
 stands_next piece told told_now name old new o item gathered more taken_old taken_mid taken_now early late t f n is added next s =
     told_both told name (Stands piece old gathered taken_old taken_mid) (IsNext old new item) (Stands piece new more taken_old taken_now)
     (λ bytes a b. stands_after piece old new item gathered more taken_old taken_mid taken_now bytes f added a b) s
-    (told_moved told told_now name old.name (IsNext old new item) t n (subst (λ (x : Option read.Item). NextSays told_now old new early late (Ok x)) is next))
+    (next_item told told_now name old new early late o item is t n next)
 
 -- ---- the answers
 
@@ -156,7 +157,7 @@ pub ends_whole : (piece : Bool → Item → List ℕ) (told told_now : Option (L
 ends_whole piece told told_now name old new o gathered taken_old taken_mid taken_now early late before now result t n none says ends s =
     to_file told name (Answered piece taken_old taken_now result)
     (told_both told name (Stands piece old gathered taken_old taken_mid) (HasEnded old) (Answered piece taken_old taken_now result) by_file s
-    (told_moved told told_now name old.name (HasEnded old) t n (subst (λ (x : Option read.Item). NextSays told_now old new early late (Ok x)) none says)))
+    (next_end told told_now name old new early late o none t n says))
   where
     by_file : (bytes : List ℕ) → Stands piece old gathered taken_old taken_mid bytes → HasEnded old bytes → Answered piece taken_old taken_now result bytes
     by_file bytes s (is, less) =
@@ -218,7 +219,7 @@ pub item_stops : (piece : Bool → Item → List ℕ) (told told_now : Option (L
 item_stops piece told told_now name old new o item gathered more taken_old taken_mid taken_now early late before now outcome t f n is (why, (written, appends, front)) next s =
     to_file told name (Answered piece taken_old taken_now outcome)
     (told_both told name (Stands piece old gathered taken_old taken_mid) (IsNext old new item) (Answered piece taken_old taken_now outcome) by_file s
-    (told_moved told told_now name old.name (IsNext old new item) t n (subst (λ (x : Option read.Item). NextSays told_now old new early late (Ok x)) is next)))
+    (next_item told told_now name old new early late o item is t n next))
   where
     by_file : (bytes : List ℕ) → Stands piece old gathered taken_old taken_mid bytes → IsNext old new item bytes → Answered piece taken_old taken_now outcome bytes
     by_file bytes s after =
