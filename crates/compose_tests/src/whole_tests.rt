@@ -1,6 +1,8 @@
 // Files that are composed over objects in memory.
 use crate::streams::{
-    CLONE_FROM_A, CLONE_FROM_B, END, FALLOCATE, FIRST, HEADER, HEADER_V2, MKFILE, MKFILE_Y, SNAPSHOT_B, SUBVOL_A, SUBVOL_B, WRITE_HI, WRITE_HI_V2, WRITE_MORE, WRITE_MORE_V2, WRITE_Y_HI, joined,
+    CLONE_FROM_A, CLONE_FROM_B, END, FALLOCATE, FIRST, HEADER, HEADER_V2, MKFILE, MKFILE_Y,
+    SNAPSHOT_B, SUBVOL_A, SUBVOL_B, WRITE_HI, WRITE_HI_V2, WRITE_MORE, WRITE_MORE_V2, WRITE_Y_HI,
+    joined,
 };
 use composer::compose;
 use std::alloc::{AllocError, Global};

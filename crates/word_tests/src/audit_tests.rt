@@ -1,7 +1,9 @@
 // Files that are audited over objects in memory. The frames and the answers are from other programs.
 
 use crate::streams::{
-    CLONE_Y, END, END_CUT, END_WITHOUT_SUM, FIRST, FLAGS, HEADER, HEADER_OF_VERSION_2, MKDIR_D, MKFILE_X, MKFILE_Y, Pieces, PUNCH, SECOND, SNAPSHOT_B, SUBVOL_A, WRITE_MARK_OF_VERSION_2, joined,
+    CLONE_Y, END, END_CUT, END_WITHOUT_SUM, FIRST, FLAGS, HEADER, HEADER_OF_VERSION_2, MKDIR_D,
+    MKFILE_X, MKFILE_Y, PUNCH, Pieces, SECOND, SNAPSHOT_B, SUBVOL_A, WRITE_MARK_OF_VERSION_2,
+    joined,
 };
 use auditor::audit;
 use clone_resolve::EditCore;
@@ -86,15 +88,7 @@ fn expect(
     let mut out = MemSink::new(alloc);
     out.fail_call(failing[1])?;
     let core = EditCore::new(alloc);
-    let answer = audit(
-        alloc,
-        core,
-        Nowhere,
-        &mut inputs,
-        &names,
-        guards,
-        &mut out,
-    );
+    let answer = audit(alloc, core, Nowhere, &mut inputs, &names, guards, &mut out);
     assert_eq!(rt; answer, outcome);
     assert_eq!(rt; out.bytes(), written);
     Ok(())

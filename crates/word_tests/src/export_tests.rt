@@ -1,6 +1,10 @@
 //! Exported files. The files and their receivable spelling are from another program.
 
-use crate::streams::{CLONE_Y, END, FLAGS, HEADER, HEADER_OF_VERSION_2, MKDIR_D, MKFILE_X, MKFILE_X_WITH_INO, OF_BOTH_VERSIONS, Pieces, PUNCH, SNAPSHOT_B, SUBVOL_A, WRITE_HI, WRITE_MARK_OF_VERSION_2, joined};
+use crate::streams::{
+    CLONE_Y, END, FLAGS, HEADER, HEADER_OF_VERSION_2, MKDIR_D, MKFILE_X, MKFILE_X_WITH_INO,
+    OF_BOTH_VERSIONS, PUNCH, Pieces, SNAPSHOT_B, SUBVOL_A, WRITE_HI, WRITE_MARK_OF_VERSION_2,
+    joined,
+};
 use std::alloc::Global;
 use std::test::Fail;
 use stream_export::export;
@@ -36,17 +40,7 @@ const MKFILE_Y_WITH_INO: &[u8] =
     b"\x11\x00\x00\x00\x03\x00M\x0a\xea\"\x03\x00\x08\x00\x00\x00\x00\x00\x00\x00\x00\x00\x0f\x00\x01\x00y";
 
 const FILE: Pieces = &[
-    HEADER,
-    SUBVOL_A,
-    MKFILE_X,
-    SYMLINK,
-    MKNOD,
-    UTIMES,
-    WRITE_HI,
-    END,
-    HEADER,
-    SNAPSHOT_B,
-    MKDIR_D,
+    HEADER, SUBVOL_A, MKFILE_X, SYMLINK, MKNOD, UTIMES, WRITE_HI, END, HEADER, SNAPSHOT_B, MKDIR_D,
     END,
 ];
 

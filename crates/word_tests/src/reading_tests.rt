@@ -1,8 +1,8 @@
 // Every fault of reading through each word that reads one file to its end: what is written before it, and the note. The files, what is
 // written and the notes are not this program's own.
 use crate::streams::{
-    DUMPED, END, FIRST, HEADER, HEADER_OF_VERSION_2, MKFILE_X, MKFILE_X_WITH_INO, SUBVOL_A, WRITE_HI,
-    joined, words_of,
+    DUMPED, END, FIRST, HEADER, HEADER_OF_VERSION_2, MKFILE_X, MKFILE_X_WITH_INO, SUBVOL_A,
+    WRITE_HI, joined, words_of,
 };
 use send_top::run;
 use std::alloc::{AllocError, Global};

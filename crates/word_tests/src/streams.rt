@@ -174,8 +174,19 @@ pub const SECOND: Pieces = &[HEADER, SNAPSHOT_B, WRITE_MARK, END];
 
 // The first, and one of version 2 with a clone and the commands that version 2 alone has.
 pub const OF_BOTH_VERSIONS: Pieces = &[
-    HEADER, SUBVOL_A, MKFILE_X, WRITE_HI, END, HEADER_OF_VERSION_2, SNAPSHOT_B, MKFILE_Y, CLONE_Y,
-    WRITE_MARK_OF_VERSION_2, PUNCH, FLAGS, END,
+    HEADER,
+    SUBVOL_A,
+    MKFILE_X,
+    WRITE_HI,
+    END,
+    HEADER_OF_VERSION_2,
+    SNAPSHOT_B,
+    MKFILE_Y,
+    CLONE_Y,
+    WRITE_MARK_OF_VERSION_2,
+    PUNCH,
+    FLAGS,
+    END,
 ];
 
 // The lines of the first.
