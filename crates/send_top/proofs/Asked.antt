@@ -3,7 +3,7 @@ use Rattle.std.specs.Prelude.{◌≡◌, ℕ, List, [], map, Option, None, Some}
 use Rattle.std.proofs.Common.{refl, ap, subst, ◌∙◌, arith}
 use Rattle.send_model.specs.Guards.{GuardSpec, Guard}
 use Rattle.send_model.specs.Answer as meant
-use Rattle.send_model.specs.Words.{Request, Compose, Audit, Dump, Export, new_guards, due, whole_of}
+use Rattle.send_model.specs.Words.{Request, Compose, Audit, Dump, Export, Gen, Trial, new_guards, due, whole_of}
 use Rattle.sx_base.specs.Outside.{file_at}
 use Rattle.sx_base.specs.Causes.{Rose}
 use Rattle.sx_base.specs.Calls.{IfAllTold, Wrote, Ends, Caused, CausedAgain}
@@ -13,7 +13,7 @@ use Rattle.auditor.specs.Answers.{AuditEnds}
 use Rattle.composer.specs.Files as composing
 use Rattle.send_top.specs.Answered.{outcome_of}
 use Rattle.send_top.specs.Ending.{Answers}
-use Rattle.send_top.specs.Run.{IfComposes}
+use Rattle.send_top.specs.Run.{IfComposes, EndCaused, IfOfCompose}
 
 -- What follows of files follows wherever the files are told.
 pub then_told : (told : Option (List (List ℕ × List ℕ))) (names : List (List ℕ)) (P Q : List (List ℕ) → Type 0)
@@ -121,37 +121,84 @@ answers old new request files ended.NoMemory w = w
 
 -- ---- causes
 
--- A call that reads no byte twice has the causes of one that does.
-pub caused_again : (ends_before ends_now inputs_before inputs_now out_before out_now : ℕ) (outcome : Outcome) → Caused inputs_before inputs_now out_before out_now outcome → CausedAgain ends_before ends_now inputs_before inputs_now out_before out_now outcome
-caused_again ends_before ends_now inputs_before inputs_now out_before out_now ended.Done w = w
-caused_again ends_before ends_now inputs_before inputs_now out_before out_now (ended.Refused verdict) w = w
-caused_again ends_before ends_now inputs_before inputs_now out_before out_now (ended.InputTooLong file) w = w
-caused_again ends_before ends_now inputs_before inputs_now out_before out_now (ended.TooMuch sum) w = w
-caused_again ends_before ends_now inputs_before inputs_now out_before out_now (ended.InputChanged file place) w = absurd w
-caused_again ends_before ends_now inputs_before inputs_now out_before out_now ended.InputFault w = w
-caused_again ends_before ends_now inputs_before inputs_now out_before out_now ended.OutputFault w = w
-caused_again ends_before ends_now inputs_before inputs_now out_before out_now ended.NoMemory w = w
+-- A call that asks nothing of the inputs has the causes of one that does.
+pub caused_unread : (inputs_before inputs_now out_before out_now : ℕ) (outcome : Outcome) → Caused 0 0 out_before out_now outcome → Caused inputs_before inputs_now out_before out_now outcome
+caused_unread inputs_before inputs_now out_before out_now ended.InputFault w = absurd (omega (arith, w))
+caused_unread inputs_before inputs_now out_before out_now ended.Done w = w
+caused_unread inputs_before inputs_now out_before out_now (ended.Refused verdict) w = w
+caused_unread inputs_before inputs_now out_before out_now (ended.InputTooLong file) w = w
+caused_unread inputs_before inputs_now out_before out_now (ended.TooMuch sum) w = w
+caused_unread inputs_before inputs_now out_before out_now (ended.InputChanged file place) w = w
+caused_unread inputs_before inputs_now out_before out_now ended.OutputFault w = w
+caused_unread inputs_before inputs_now out_before out_now ended.NoMemory w = w
 
--- A call that asks nothing of the inputs.
-pub caused_unread : (ends_before ends_now inputs_before inputs_now out_before out_now : ℕ) (outcome : Outcome) → Caused 0 0 out_before out_now outcome → CausedAgain ends_before ends_now inputs_before inputs_now out_before out_now outcome
-caused_unread ends_before ends_now inputs_before inputs_now out_before out_now ended.Done w = w
-caused_unread ends_before ends_now inputs_before inputs_now out_before out_now (ended.Refused verdict) w = w
-caused_unread ends_before ends_now inputs_before inputs_now out_before out_now (ended.InputTooLong file) w = w
-caused_unread ends_before ends_now inputs_before inputs_now out_before out_now (ended.TooMuch sum) w = w
-caused_unread ends_before ends_now inputs_before inputs_now out_before out_now (ended.InputChanged file place) w = absurd w
-caused_unread ends_before ends_now inputs_before inputs_now out_before out_now ended.InputFault w = absurd (omega (arith, w))
-caused_unread ends_before ends_now inputs_before inputs_now out_before out_now ended.OutputFault w = w
-caused_unread ends_before ends_now inputs_before inputs_now out_before out_now ended.NoMemory w = w
+module _ (ends_before ends_now inputs_before inputs_now out_before out_now : ℕ) where
+  -- A call that reads no byte twice has the causes of one that does.
+  once : (outcome : Outcome) → Caused inputs_before inputs_now out_before out_now outcome → CausedAgain ends_before ends_now inputs_before inputs_now out_before out_now outcome
+  once ended.Done w = w
+  once (ended.Refused verdict) w = w
+  once (ended.InputTooLong file) w = w
+  once (ended.TooMuch sum) w = absurd w
+  once (ended.InputChanged file place) w = absurd w
+  once ended.InputFault w = w
+  once ended.OutputFault w = w
+  once ended.NoMemory w = w
 
--- What an answer says of its cause.
-pub fault_caused : (ends_before ends_now inputs_before inputs_now out_before out_now : ℕ) (outcome : Outcome) → CausedAgain ends_before ends_now inputs_before inputs_now out_before out_now outcome → outcome_of outcome ≡ meant.InputFault → Rose inputs_before inputs_now
-fault_caused ends_before ends_now inputs_before inputs_now out_before out_now ended.InputFault w e = w
-fault_caused ends_before ends_now inputs_before inputs_now out_before out_now outcome w e = cc
+  again : (request : Request) (outcome : Outcome) → EndCaused request ends_before ends_now inputs_before inputs_now out_before out_now outcome → CausedAgain ends_before ends_now inputs_before inputs_now out_before out_now outcome
+  again (Compose store files) outcome w = w
+  again (Audit guards store files) outcome w = once outcome w
+  again (Dump file) outcome w = once outcome w
+  again (Export file) outcome w = once outcome w
+  again (Gen count seed) outcome w = once outcome w
+  again (Trial count seed) outcome w = once outcome w
 
-pub output_caused : (ends_before ends_now inputs_before inputs_now out_before out_now : ℕ) (outcome : Outcome) → CausedAgain ends_before ends_now inputs_before inputs_now out_before out_now outcome → outcome_of outcome ≡ meant.OutputFault → Rose out_before out_now
-output_caused ends_before ends_now inputs_before inputs_now out_before out_now ended.OutputFault w e = w
-output_caused ends_before ends_now inputs_before inputs_now out_before out_now outcome w e = cc
+  fault_again : (outcome : Outcome) → CausedAgain ends_before ends_now inputs_before inputs_now out_before out_now outcome → outcome_of outcome ≡ meant.InputFault → Rose inputs_before inputs_now
+  fault_again ended.InputFault w e = w
+  fault_again outcome w e = cc
 
-pub change_caused : (ends_before ends_now inputs_before inputs_now out_before out_now : ℕ) (outcome : Outcome) (file place : ℕ) → CausedAgain ends_before ends_now inputs_before inputs_now out_before out_now outcome → outcome_of outcome ≡ meant.InputChanged file place → Rose ends_before ends_now
-change_caused ends_before ends_now inputs_before inputs_now out_before out_now (ended.InputChanged number at) file place w e = w
-change_caused ends_before ends_now inputs_before inputs_now out_before out_now outcome file place w e = cc
+  output_again : (outcome : Outcome) → CausedAgain ends_before ends_now inputs_before inputs_now out_before out_now outcome → outcome_of outcome ≡ meant.OutputFault → Rose out_before out_now
+  output_again ended.OutputFault w e = w
+  output_again outcome w e = cc
+
+  change_again : (outcome : Outcome) (file place : ℕ) → CausedAgain ends_before ends_now inputs_before inputs_now out_before out_now outcome → outcome_of outcome ≡ meant.InputChanged file place → Rose ends_before ends_now
+  change_again (ended.InputChanged number at) file place w e = w
+  change_again outcome file place w e = cc
+
+  -- What an answer says of its cause.
+  pub fault_caused : (request : Request) (outcome : Outcome) → EndCaused request ends_before ends_now inputs_before inputs_now out_before out_now outcome → outcome_of outcome ≡ meant.InputFault → Rose inputs_before inputs_now
+  fault_caused request outcome w e = fault_again outcome (again request outcome w) e
+
+  pub output_caused : (request : Request) (outcome : Outcome) → EndCaused request ends_before ends_now inputs_before inputs_now out_before out_now outcome → outcome_of outcome ≡ meant.OutputFault → Rose out_before out_now
+  output_caused request outcome w e = output_again outcome (again request outcome w) e
+
+  pub change_caused : (request : Request) (outcome : Outcome) (file place : ℕ) → EndCaused request ends_before ends_now inputs_before inputs_now out_before out_now outcome → outcome_of outcome ≡ meant.InputChanged file place → Rose ends_before ends_now
+  change_caused request outcome file place w e = change_again outcome file place (again request outcome w) e
+
+  not_once : (outcome : Outcome) (P : Type 0) → Caused inputs_before inputs_now out_before out_now outcome → IfOfCompose (outcome_of outcome) P
+  not_once ended.Done P w = tt
+  not_once (ended.Refused verdict) P w = tt
+  not_once (ended.InputTooLong file) P w = tt
+  not_once (ended.TooMuch sum) P w = absurd w
+  not_once (ended.InputChanged file place) P w = absurd w
+  not_once ended.InputFault P w = tt
+  not_once ended.OutputFault P w = tt
+  not_once ended.NoMemory P w = tt
+
+  -- Whatever holds where composing is asked for holds of the answers that composing alone gives.
+  pub composing_alone : (request : Request) (outcome : Outcome) (P : Type 0) → ((store files : ℕ) → request ≡ Compose store files → P) → EndCaused request ends_before ends_now inputs_before inputs_now out_before out_now outcome → IfOfCompose (outcome_of outcome) P
+  composing_alone (Compose store files) outcome P given w = of_compose outcome (given store files refl)
+    where
+      of_compose : (outcome : Outcome) → P → IfOfCompose (outcome_of outcome) P
+      of_compose ended.Done p = tt
+      of_compose (ended.Refused verdict) p = tt
+      of_compose (ended.InputTooLong file) p = tt
+      of_compose (ended.TooMuch sum) p = p
+      of_compose (ended.InputChanged file place) p = p
+      of_compose ended.InputFault p = tt
+      of_compose ended.OutputFault p = tt
+      of_compose ended.NoMemory p = tt
+  composing_alone (Audit guards store files) outcome P given w = not_once outcome P w
+  composing_alone (Dump file) outcome P given w = not_once outcome P w
+  composing_alone (Export file) outcome P given w = not_once outcome P w
+  composing_alone (Gen count seed) outcome P given w = not_once outcome P w
+  composing_alone (Trial count seed) outcome P given w = not_once outcome P w

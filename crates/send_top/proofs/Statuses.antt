@@ -1,7 +1,8 @@
 -- What a status says of its answer.
-use Rattle.std.proofs.Common.{◌≡◌, ℕ, refl, ap, [], IsTrue, arith}
+use Rattle.std.proofs.Common.{◌≡◌, ◌⊎◌, ℕ, refl, ap, [], IsTrue, arith}
 use Rattle.send_model.specs.Answer.{Answer, Done, Refused, Usage, InputFault, OutputFault, NoMemory, InputTooLong, TooMuch, InputChanged, status_of, note_of}
 use Rattle.send_top.specs.Answered.{is_status}
+use Rattle.send_top.specs.Run.{IfOfCompose}
 
 pub status_is_listed : (answer : Answer) → IsTrue (is_status (status_of answer))
 unfolding status_of
@@ -82,6 +83,18 @@ changed-of_thirteen NoMemory e = absurd (omega arith)
 changed-of_thirteen (InputTooLong file) e = absurd (omega arith)
 changed-of_thirteen (TooMuch sum) e = absurd (omega arith)
 changed-of_thirteen (InputChanged file place) e = (file, place, refl)
+
+pub of_compose : (answer : Answer) (P : Type 0) → (status_of answer ≡ 9) ⊎ (status_of answer ≡ 13) → IfOfCompose answer P → P
+unfolding status_of
+of_compose (TooMuch sum) P e p = p
+of_compose (InputChanged file place) P e p = p
+of_compose Done P e p = absurd (omega (arith, e))
+of_compose (Refused verdict) P e p = absurd (omega (arith, e))
+of_compose Usage P e p = absurd (omega (arith, e))
+of_compose InputFault P e p = absurd (omega (arith, e))
+of_compose OutputFault P e p = absurd (omega (arith, e))
+of_compose NoMemory P e p = absurd (omega (arith, e))
+of_compose (InputTooLong file) P e p = absurd (omega (arith, e))
 
 -- Nothing is written where all was done.
 pub no_note : (answer : Answer) → status_of answer ≡ 0 → note_of answer ≡ []

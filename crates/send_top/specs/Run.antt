@@ -1,10 +1,11 @@
 -- What a run does: its words and guards, its answer, and the headline.
-use Rattle.std.specs.Prelude.{◌≡◌, ℕ, List, [], Option}
+use Rattle.std.specs.Prelude.{◌≡◌, ℕ, List, [], Option, ⊤}
 use Rattle.send_model.specs.Guards.{Guard}
 use Rattle.send_model.specs.Headline.{IsComposed}
-use Rattle.send_model.specs.Answer.{Answer}
-use Rattle.send_model.specs.Words.{Request, Compose}
-use Rattle.sx_base.specs.Calls.{IfAllTold, Wrote}
+use Rattle.send_model.specs.Answer.{Answer, Done, Refused, Usage, InputFault, OutputFault, NoMemory, InputTooLong, TooMuch, InputChanged}
+use Rattle.send_model.specs.Words.{Request, Compose, Audit, Dump, Export, Gen, Trial}
+use Rattle.sx_base.specs.Calls.{IfAllTold, Wrote, Caused, CausedAgain}
+use Rattle.sx_base.specs.declared.outcome.Outcome.{Outcome}
 use Rattle.send_top.specs.Requests.{Asks, names_asked}
 use Rattle.send_top.specs.Ending.{Answers}
 
@@ -20,3 +21,29 @@ IsAnswered told words guards old new answer = OfRequest told words guards (λ re
 -- The headline, of what was written where files are composed over no store.
 abbrev pub IfComposes : Request → List (List ℕ) → List ℕ → Type 0
 IfComposes request files written = (store at : ℕ) → request ≡ Compose store at → IsComposed [] files written
+
+-- What an outcome says of its cause, by what is asked for. Composing alone reads bytes again and writes cloned bytes, so it alone
+-- may find a file changed, or too much to write.
+abbrev pub EndCaused : Request → (ends_before ends_now inputs_before inputs_now out_before out_now : ℕ) → Outcome → Type 0
+EndCaused (Compose store files) ends_before ends_now inputs_before inputs_now out_before out_now outcome = CausedAgain ends_before ends_now inputs_before inputs_now out_before out_now outcome
+EndCaused (Audit guards store files) ends_before ends_now inputs_before inputs_now out_before out_now outcome = Caused inputs_before inputs_now out_before out_now outcome
+EndCaused (Dump file) ends_before ends_now inputs_before inputs_now out_before out_now outcome = Caused inputs_before inputs_now out_before out_now outcome
+EndCaused (Export file) ends_before ends_now inputs_before inputs_now out_before out_now outcome = Caused inputs_before inputs_now out_before out_now outcome
+EndCaused (Gen count seed) ends_before ends_now inputs_before inputs_now out_before out_now outcome = Caused inputs_before inputs_now out_before out_now outcome
+EndCaused (Trial count seed) ends_before ends_now inputs_before inputs_now out_before out_now outcome = Caused inputs_before inputs_now out_before out_now outcome
+
+-- Words and guards ask for a composed stream.
+abbrev pub AskToCompose : List (List ℕ) → List Guard → Type 0
+AskToCompose words guards = (store : ℕ) × (files : ℕ) × Asks words guards (Compose store files)
+
+-- What holds of the answers that composing alone gives.
+abbrev pub IfOfCompose : Answer → Type 0 → Type 0
+IfOfCompose (TooMuch sum) P = P
+IfOfCompose (InputChanged file place) P = P
+IfOfCompose Done P = ⊤
+IfOfCompose (Refused verdict) P = ⊤
+IfOfCompose Usage P = ⊤
+IfOfCompose InputFault P = ⊤
+IfOfCompose OutputFault P = ⊤
+IfOfCompose NoMemory P = ⊤
+IfOfCompose (InputTooLong file) P = ⊤

@@ -1,15 +1,15 @@
 // What a run does with its words.
-ghost use Rattle.std.specs.Prelude.{◌≡◌, ◌≢◌, ◌↔◌, ◌<◌, ℕ, [], map, length, drop, slice_index_or};
+ghost use Rattle.std.specs.Prelude.{◌≡◌, ◌≢◌, ◌↔◌, ◌⊎◌, ◌<◌, ℕ, [], map, length, drop, slice_index_or};
 ghost use Rattle.std.specs.String.{string_bytes};
 ghost use Rattle.send_model.specs.Answer as meant;
 ghost use Rattle.send_model.specs.Answer.{InputFault, OutputFault, InputChanged, Usage};
 ghost use Rattle.send_model.specs.Words.{new_guards};
-ghost use Rattle.sx_base.specs.Calls.{CausedAgain, IfAllTold, Wrote, Ends};
+ghost use Rattle.sx_base.specs.Calls.{IfAllTold, Wrote, Ends};
 ghost use Rattle.sx_base.specs.Causes.{Rose};
 ghost use Rattle.sx_base.specs.declared.outcome.Outcome.TheVariants as ended;
 ghost use Rattle.send_top.specs.Answered.{IsGiven, answer_of};
 ghost use Rattle.send_top.specs.Requests.{AskNothing, IsWithin, request_meant, specs_of, names_asked};
-ghost use Rattle.send_top.specs.Run.{OfRequest, IsAnswered, IfComposes};
+ghost use Rattle.send_top.specs.Run.{OfRequest, IsAnswered, IfComposes, EndCaused, AskToCompose, IfOfCompose};
 
 use crate::fitting::guards_fit;
 use crate::noting::{Answer, status, write_note};
@@ -33,7 +33,7 @@ use sx_base::{Inputs, Outcome, Sink};
 /// With status 0 `out` took all that is asked for; of `compose` this is one stream that the headline holds of. Where there was
 /// memory, no count of faults or of ends rose, no file is too long and there is not too much to write anew, the status is 0 if all
 /// commands of the files are lawful, and 1 if not; then the note names the first that is unlawful. Status 13, of a file that was
-/// changed, comes only where the count of ends rose.
+/// changed, comes only where the count of ends rose. It and 9, of too much to write anew, come of `compose` alone.
 pub fn run<I: Inputs, O: Sink, N: Sink>(
     alloc: Global,
     words: &[String],
@@ -48,6 +48,7 @@ pub fn run<I: Inputs, O: Sink, N: Sink>(
     ensures input_fault { result ≡ 3 → Rose (I.faults inputs.old) (I.faults inputs.new) }
     ensures output_fault { result ≡ 4 → Rose (O.faults out.old) (O.faults out.new) }
     ensures changed { result ≡ 13 → Rose (I.ends inputs.old) (I.ends inputs.new) }
+    ensures of_compose { (result ≡ 9) ⊎ (result ≡ 13) → AskToCompose (map string_bytes words.now) (map (λ g. kept g) guards.items) }
     ensures composed { result ≡ 0 → OfRequest (I.told inputs.old) (map string_bytes words.now) (map (λ g. kept g) guards.items)
         (λ request files. Wrote (O.taken out.old) (O.taken out.new) (IfComposes request files)) }
     ensures answered { (answer : meant.Answer)
@@ -74,6 +75,7 @@ fn answer_to<I: Inputs, O: Sink>(
     ensures input_fault { answer_of result ≡ InputFault → Rose (I.faults inputs.old) (I.faults inputs.new) }
     ensures output_fault { answer_of result ≡ OutputFault → Rose (O.faults out.old) (O.faults out.new) }
     ensures changed { (file place : ℕ) → answer_of result ≡ InputChanged file place → Rose (I.ends inputs.old) (I.ends inputs.new) }
+    ensures of_compose { IfOfCompose (answer_of result) (AskToCompose (map string_bytes words.now) (map (λ g. kept g) guards.old)) }
     ensures composed { answer_of result ≡ meant.Done → OfRequest (I.told inputs.old) (map string_bytes words.now) (map (λ g. kept g) guards.old)
         (λ request files. Wrote (O.taken out.old) (O.taken out.new) (IfComposes request files)) }
     ensures answered { IsAnswered (I.told inputs.old) (map string_bytes words.now) (map (λ g. kept g) guards.old)
@@ -100,7 +102,8 @@ fn end_of<I: Inputs, O: Sink>(
     requires within { IsWithin (length words.now) request }
     requires fits { map (λ g. kept g) guards.old ≡ new_guards (specs_of (request_meant (map string_bytes words.now) request)) }
     ensures same { I.told inputs.new ≡ I.told inputs.old }
-    ensures cause { CausedAgain (I.ends inputs.old) (I.ends inputs.new) (I.faults inputs.old) (I.faults inputs.new) (O.faults out.old) (O.faults out.new) result }
+    ensures cause { EndCaused (request_meant (map string_bytes words.now) request)
+        (I.ends inputs.old) (I.ends inputs.new) (I.faults inputs.old) (I.faults inputs.new) (O.faults out.old) (O.faults out.new) result }
     ensures composed { result ≡ ended.Done
         → IfAllTold (I.told inputs.old) (names_asked (request_meant (map string_bytes words.now) request) (map string_bytes words.now))
         (λ files. Wrote (O.taken out.old) (O.taken out.new) (IfComposes (request_meant (map string_bytes words.now) request) files)) }

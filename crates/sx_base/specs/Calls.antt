@@ -34,7 +34,8 @@ Wrote old new P = (written : List ℕ) × Appends old new written × P written
 
 -- ---- causes
 
--- A fault is the outcome only where the count of its object rose. Of a call that reads no byte twice, no input is found changed.
+-- A fault is the outcome only where the count of its object rose. A call that reads no byte twice, and composes nothing, finds no
+-- input changed and never too much to write.
 abbrev pub Caused : (inputs_before inputs_now out_before out_now : ℕ) → Outcome → Type 0
 Caused inputs_before inputs_now out_before out_now ended.InputFault = Rose inputs_before inputs_now
 Caused inputs_before inputs_now out_before out_now ended.OutputFault = Rose out_before out_now
@@ -42,7 +43,7 @@ Caused inputs_before inputs_now out_before out_now ended.Done = ⊤
 Caused inputs_before inputs_now out_before out_now (ended.Refused verdict) = ⊤
 Caused inputs_before inputs_now out_before out_now ended.NoMemory = ⊤
 Caused inputs_before inputs_now out_before out_now (ended.InputTooLong file) = ⊤
-Caused inputs_before inputs_now out_before out_now (ended.TooMuch sum) = ⊤
+Caused inputs_before inputs_now out_before out_now (ended.TooMuch sum) = ⊥
 Caused inputs_before inputs_now out_before out_now (ended.InputChanged file place) = ⊥
 
 -- The same of a call that reads bytes again: an input is found changed only where the count of ends rose.

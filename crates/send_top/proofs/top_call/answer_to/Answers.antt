@@ -1,13 +1,14 @@
-use Rattle.std.specs.Prelude.{[], map, List, ℕ}
+use Rattle.std.specs.Prelude.{◌≡◌, [], map, List, ℕ, Some}
 use Rattle.std.specs.String.{string_bytes}
-use Rattle.std.proofs.Common.{subst}
+use Rattle.std.proofs.Common.{subst, sym, ap, ◌∙◌}
 use Rattle.sx_base.specs.Calls.{IfAllTold, Wrote, Ends}
-use Rattle.send_model.specs.Words.{Request}
+use Rattle.send_model.specs.Guards.{Guard}
+use Rattle.send_model.specs.Words.{Request, new_guards}
 use Rattle.send_top.specs.Answered.{outcome_of}
-use Rattle.send_top.specs.Requests.{answered_request, request_meant, names_asked}
+use Rattle.send_top.specs.Requests.{answered_request, request_meant, names_asked, specs_of}
 use Rattle.send_top.specs.Ending.{Answers}
-use Rattle.send_top.specs.Run.{IfComposes}
-use Rattle.send_top.proofs.Asked.{then_told, same_request, is_done, answers, fault_caused, output_caused, change_caused}
+use Rattle.send_top.specs.Run.{IfComposes, AskToCompose}
+use Rattle.send_top.proofs.Asked.{then_told, same_request, is_done, answers, fault_caused, output_caused, change_caused, composing_alone}
 use Rattle.send_top.proofs.top_call.answer_to.Goals as goal
 
 pub returns-clause-composed : goal.returns-clause-composed
@@ -32,10 +33,28 @@ returns-clause-answered g c request asks =
     (λ files. answers old new mine files c.end_of.result) c.end_of.ensures.ends)
 
 pub returns-clause-input_fault : goal.returns-clause-input_fault
-returns-clause-input_fault g c e = fault_caused (g.I.Inputs.ends c.args.inputs.now) (g.I.Inputs.ends c.end_of.new.inputs) (g.I.Inputs.faults c.args.inputs.now) (g.I.Inputs.faults c.end_of.new.inputs) (g.O.Sink.faults c.args.out.now) (g.O.Sink.faults c.end_of.new.out) c.end_of.result c.end_of.ensures.cause e
+returns-clause-input_fault g c e = fault_caused (g.I.Inputs.ends c.args.inputs.now) (g.I.Inputs.ends c.end_of.new.inputs) (g.I.Inputs.faults c.args.inputs.now) (g.I.Inputs.faults c.end_of.new.inputs) (g.O.Sink.faults c.args.out.now) (g.O.Sink.faults c.end_of.new.out) (request_meant (map string_bytes c.args.words.now) c.in-Some.request) c.end_of.result c.end_of.ensures.cause e
 
 pub returns-clause-output_fault : goal.returns-clause-output_fault
-returns-clause-output_fault g c e = output_caused (g.I.Inputs.ends c.args.inputs.now) (g.I.Inputs.ends c.end_of.new.inputs) (g.I.Inputs.faults c.args.inputs.now) (g.I.Inputs.faults c.end_of.new.inputs) (g.O.Sink.faults c.args.out.now) (g.O.Sink.faults c.end_of.new.out) c.end_of.result c.end_of.ensures.cause e
+returns-clause-output_fault g c e = output_caused (g.I.Inputs.ends c.args.inputs.now) (g.I.Inputs.ends c.end_of.new.inputs) (g.I.Inputs.faults c.args.inputs.now) (g.I.Inputs.faults c.end_of.new.inputs) (g.O.Sink.faults c.args.out.now) (g.O.Sink.faults c.end_of.new.out) (request_meant (map string_bytes c.args.words.now) c.in-Some.request) c.end_of.result c.end_of.ensures.cause e
 
 pub returns-clause-changed : goal.returns-clause-changed
-returns-clause-changed g c file place e = change_caused (g.I.Inputs.ends c.args.inputs.now) (g.I.Inputs.ends c.end_of.new.inputs) (g.I.Inputs.faults c.args.inputs.now) (g.I.Inputs.faults c.end_of.new.inputs) (g.O.Sink.faults c.args.out.now) (g.O.Sink.faults c.end_of.new.out) c.end_of.result file place c.end_of.ensures.cause e
+returns-clause-changed g c file place e = change_caused (g.I.Inputs.ends c.args.inputs.now) (g.I.Inputs.ends c.end_of.new.inputs) (g.I.Inputs.faults c.args.inputs.now) (g.I.Inputs.faults c.end_of.new.inputs) (g.O.Sink.faults c.args.out.now) (g.O.Sink.faults c.end_of.new.out) (request_meant (map string_bytes c.args.words.now) c.in-Some.request) c.end_of.result file place c.end_of.ensures.cause e
+
+pub returns-clause-of_compose : goal.returns-clause-of_compose
+returns-clause-of_compose g c =
+    let words : List (List ℕ) = map string_bytes c.args.words.now in
+    let guards : List Guard = map (λ b. (goal.Guard-dyn g (b.vtable, b.value)).kept b.value) c.args.guards.now in
+    let mine : Request = request_meant words c.in-Some.request in
+    let fits : guards ≡ new_guards (specs_of mine) = c.guards_fit.ensures.0 c.if-not-guards_fit.false in
+    composing_alone (g.I.Inputs.ends c.args.inputs.now) (g.I.Inputs.ends c.end_of.new.inputs) (g.I.Inputs.faults c.args.inputs.now) (g.I.Inputs.faults c.end_of.new.inputs) (g.O.Sink.faults c.args.out.now) (g.O.Sink.faults c.end_of.new.out)
+    mine c.end_of.result (AskToCompose words guards)
+    (λ store files is. (
+      store,
+      files,
+      record {
+        meant = sym c.in-Some.ensures.meaning ∙ ap (λ (r : Request). Some r) is;
+        fits = fits ∙ ap (λ (r : Request). new_guards (specs_of r)) is;
+      },
+    ))
+    c.end_of.ensures.cause

@@ -12,7 +12,7 @@ use Rattle.auditor.specs.Following.{blank}
 use Rattle.auditor.specs.Answers.{AuditEnds}
 use Rattle.send_top.specs.Requests.{guards_in, before_store, specs_of, request_meant}
 use Rattle.send_top.specs.Run.{IfComposes}
-use Rattle.send_top.proofs.Asked.{following, composed_ends, headline, audit_wrote, audits, dumps, exports, caused_again, caused_unread}
+use Rattle.send_top.proofs.Asked.{following, composed_ends, headline, audit_wrote, audits, dumps, exports, caused_unread}
 use Rattle.send_top.proofs.top_call.end_of.Goals as goal
 
 pub returns-in-Compose-clause-composed : goal.returns-in-Compose-clause-composed
@@ -81,17 +81,8 @@ returns-in-Export-clause-ends g c =
     (ap (λ (w : List ℕ). w ∷ []) c.name_at-in-Export.ensures.name)
     (λ files. exports old new files c.in-Export.file c.export.result) c.export.ensures.exported)
 
-pub returns-in-Audit-clause-cause : goal.returns-in-Audit-clause-cause
-returns-in-Audit-clause-cause g c = caused_again (g.I.Inputs.ends c.args.inputs.now) (g.I.Inputs.ends c.audit.new.inputs) (g.I.Inputs.faults c.args.inputs.now) (g.I.Inputs.faults c.audit.new.inputs) (g.O.Sink.faults c.args.out.now) (g.O.Sink.faults c.audit.new.out) c.audit.result c.audit.ensures.cause
-
-pub returns-in-Dump-clause-cause : goal.returns-in-Dump-clause-cause
-returns-in-Dump-clause-cause g c = caused_again (g.I.Inputs.ends c.args.inputs.now) (g.I.Inputs.ends c.dump.new.inputs) (g.I.Inputs.faults c.args.inputs.now) (g.I.Inputs.faults c.dump.new.inputs) (g.O.Sink.faults c.args.out.now) (g.O.Sink.faults c.dump.new.out) c.dump.result c.dump.ensures.cause
-
-pub returns-in-Export-clause-cause : goal.returns-in-Export-clause-cause
-returns-in-Export-clause-cause g c = caused_again (g.I.Inputs.ends c.args.inputs.now) (g.I.Inputs.ends c.export.new.inputs) (g.I.Inputs.faults c.args.inputs.now) (g.I.Inputs.faults c.export.new.inputs) (g.O.Sink.faults c.args.out.now) (g.O.Sink.faults c.export.new.out) c.export.result c.export.ensures.cause
-
 pub returns-in-Trial-clause-cause : goal.returns-in-Trial-clause-cause
-returns-in-Trial-clause-cause g c = caused_unread (g.I.Inputs.ends c.args.inputs.now) (g.I.Inputs.ends c.args.inputs.now) (g.I.Inputs.faults c.args.inputs.now) (g.I.Inputs.faults c.args.inputs.now) (g.O.Sink.faults c.args.out.now) (g.O.Sink.faults c.write_trial.new.out) c.write_trial.result c.write_trial.ensures.cause
+returns-in-Trial-clause-cause g c = rw c.in-Trial.is (caused_unread (g.I.Inputs.faults c.args.inputs.now) (g.I.Inputs.faults c.args.inputs.now) (g.O.Sink.faults c.args.out.now) (g.O.Sink.faults c.write_trial.new.out) c.write_trial.result c.write_trial.ensures.cause)
 
 pub returns-in-Gen-clause-cause : goal.returns-in-Gen-clause-cause
-returns-in-Gen-clause-cause g c = caused_unread (g.I.Inputs.ends c.args.inputs.now) (g.I.Inputs.ends c.args.inputs.now) (g.I.Inputs.faults c.args.inputs.now) (g.I.Inputs.faults c.args.inputs.now) (g.O.Sink.faults c.args.out.now) (g.O.Sink.faults c.write_chain.new.out) c.write_chain.result c.write_chain.ensures.cause
+returns-in-Gen-clause-cause g c = rw c.in-Gen.is (caused_unread (g.I.Inputs.faults c.args.inputs.now) (g.I.Inputs.faults c.args.inputs.now) (g.O.Sink.faults c.args.out.now) (g.O.Sink.faults c.write_chain.new.out) c.write_chain.result c.write_chain.ensures.cause)

@@ -1,12 +1,12 @@
-use Rattle.std.specs.Prelude.{◌≡◌, ◌↔◌, map}
+use Rattle.std.specs.Prelude.{◌≡◌, ◌↔◌, ◌⊎◌, ℕ, map}
 use Rattle.std.specs.String.{string_bytes}
 use Rattle.sx_base.specs.Calls.{Wrote}
 use Rattle.send_top.specs.Requests.{AskNothing}
-use Rattle.send_top.specs.Run.{OfRequest, IfComposes}
+use Rattle.send_top.specs.Run.{OfRequest, IfComposes, AskToCompose}
 use Rattle.std.proofs.Common.{sym, ◌∙◌, ap, subst}
 use Rattle.send_model.specs.Answer.{status_of}
 use Rattle.send_top.specs.Answered.{answer_of}
-use Rattle.send_top.proofs.Statuses.{usage-of_two, two-of_usage, input_fault-of_three, output_fault-of_four, changed-of_thirteen, done-of_zero}
+use Rattle.send_top.proofs.Statuses.{usage-of_two, two-of_usage, input_fault-of_three, output_fault-of_four, changed-of_thirteen, done-of_zero, of_compose}
 use Rattle.send_top.proofs.top_call.run.Goals as goal
 
 pub returns-clause-usage : goal.returns-clause-usage
@@ -36,3 +36,8 @@ pub returns-clause-changed : goal.returns-clause-changed
 returns-clause-changed g c thirteen =
     let is = changed-of_thirteen (answer_of c.answer_to-answer.result) (sym c.status.ensures ∙ thirteen) in
     c.answer_to-answer.ensures.changed is.0 is.1 is.2
+
+pub returns-clause-of_compose : goal.returns-clause-of_compose
+returns-clause-of_compose g c nine = subst (λ gs. AskToCompose (map string_bytes c.args.words.now) (map (λ b. (goal.Guard-dyn g (b.vtable, b.value)).kept b.value) gs)) c.deref_mut.ensures.value
+    (of_compose (answer_of c.answer_to-answer.result) (AskToCompose (map string_bytes c.args.words.now) (map (λ b. (goal.Guard-dyn g (b.vtable, b.value)).kept b.value) c.deref_mut.result.now))
+    (subst (λ (n : ℕ). (n ≡ 9) ⊎ (n ≡ 13)) c.status.ensures nine) c.answer_to-answer.ensures.of_compose)
