@@ -1,6 +1,6 @@
 mod Headers
 mod Slots
-mod Progress
+pub mod Progress
 pub mod Parts
 pub mod Uncut
 pub mod Fronts

@@ -190,9 +190,9 @@ begins version body slots count none = record {
   };
 }
 
--- An attribute has bytes before its own.
-head_some : (version kind : ℕ) → 2 ≤ attribute_head version kind
-head_some version kind = go (takes_rest version kind)
+-- An attribute has two bytes at the least before its own.
+pub head_at_least_two : (version kind : ℕ) → 2 ≤ attribute_head version kind
+head_at_least_two version kind = go (takes_rest version kind)
   where
     go : (b : Bool) → 2 ≤ (if b then 2 else 4)
     go true = omega arith
@@ -220,7 +220,7 @@ reads_on version body at read seen fuel a so_far more e new = go fuel (drop at b
           n,
           record {
             within = omega (arith, leb-true _ _ f.room, size, len, more);
-            enough = omega (arith, r.enough, head_some version a.kind);
+            enough = omega (arith, r.enough, head_at_least_two version a.kind);
             total = sym (regroup read a (attributes_from n version (a.kind ∷ seen) (drop (at + long version a) body)))
                 ∙ ap (λ (l : List ℕ). with_front read (with_front (a ∷ []) (attributes_from n version (a.kind ∷ seen) l))) (sym rest)
                 ∙ ap (with_front read) (sym (step_ok n version seen b bs a e new))
