@@ -1,4 +1,7 @@
 // The commands of a stream.
+ghost use Rattle.std.specs.Prelude.{◌≡◌, ◌++◌};
+ghost use Rattle.std.specs.Int.{w32, w64, to_le_bytes};
+
 use sx_base::Blob;
 use uuid::Uuid;
 
@@ -9,6 +12,21 @@ pub struct Time {
     pub secs: u64,
     /// Nanoseconds, fewer than 1,000,000,000.
     pub nanos: u32,
+}
+
+impl Time {
+    /// Its bytes: eight of seconds and four of nanoseconds, each with the least byte first. Source: the times of UTIMES in
+    /// send.h of btrfs-progs.
+    pub fn bytes(self) -> [u8; 12]
+        ensures { result ≡ to_le_bytes w64 self.secs ++ to_le_bytes w32 self.nanos }
+    {
+        let secs = self.secs.to_le_bytes();
+        let nanos = self.nanos.to_le_bytes();
+        [
+            secs[0], secs[1], secs[2], secs[3], secs[4], secs[5], secs[6], secs[7], nanos[0],
+            nanos[1], nanos[2], nanos[3],
+        ]
+    }
 }
 
 /// A command with its values. Paths, names and data are bytes; sizes, offsets and lengths count bytes. Source: enum

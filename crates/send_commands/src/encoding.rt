@@ -1,6 +1,5 @@
 // Commands that are written as frames.
 ghost use Rattle.std.specs.Prelude.{◌≡◌, ◌==◌, false, ◌+◌, ◌<◌, ◌≤◌, ◌++◌, map, length, OnOk, OnErr};
-ghost use Rattle.std.specs.Int.{w32, w64, to_le_bytes};
 ghost use Rattle.send_model.specs.Attribute.{field_bytes};
 ghost use Rattle.send_model.specs.Command.{row};
 ghost use Rattle.send_model.specs.Spelling.{attribute_bytes, body_of, with_fields, frame_of, canonical, greatest_body};
@@ -314,19 +313,7 @@ fn put_field(
         Field::Identifier(uuid) => writer.attr_bytes(to, kind, uuid.as_bytes()),
         Field::Number(n) => writer.attr_u64(to, kind, *n),
         Field::ShortNumber(n) => writer.attr_bytes(to, kind, &n.to_le_bytes()),
-        Field::Moment(time) => writer.attr_bytes(to, kind, &moment_bytes(*time)),
+        Field::Moment(time) => writer.attr_bytes(to, kind, &time.bytes()),
         Field::Bytes(bytes) => writer.attr_bytes(to, kind, bytes),
     }
-}
-
-// Eight bytes of seconds and four of nanoseconds.
-fn moment_bytes(time: Time) -> [u8; 12]
-    ensures { result ≡ to_le_bytes w64 time.secs ++ to_le_bytes w32 time.nanos }
-{
-    let secs = time.secs.to_le_bytes();
-    let nanos = time.nanos.to_le_bytes();
-    [
-        secs[0], secs[1], secs[2], secs[3], secs[4], secs[5], secs[6], secs[7], nanos[0], nanos[1],
-        nanos[2], nanos[3],
-    ]
 }

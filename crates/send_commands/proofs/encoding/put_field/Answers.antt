@@ -8,7 +8,7 @@ use Rattle.send_commands.proofs.encoding.put_field.Goals as goal
 
 pub returns-in-Moment-clause-appended : goal.returns-in-Moment-clause-appended
 returns-in-Moment-clause-appended c = rw c.in-Moment.is
-    (on_ok_weaker c.attr_bytes-in-Moment.result (λ e. e ∙ ap (λ (bytes : List ℕ). c.args.to.now ++ attribute_bytes c.args.writer.now.version (record { kind = c.args.kind; bytes = bytes })) c.moment_bytes.ensures) c.attr_bytes-in-Moment.ensures.appended)
+    (on_ok_weaker c.attr_bytes-in-Moment.result (λ e. e ∙ ap (λ (bytes : List ℕ). c.args.to.now ++ attribute_bytes c.args.writer.now.version (record { kind = c.args.kind; bytes = bytes })) c.bytes.ensures) c.attr_bytes-in-Moment.ensures.appended)
 
 pub returns-in-Identifier-clause-short : goal.returns-in-Identifier-clause-short
 returns-in-Identifier-clause-short c =
@@ -20,8 +20,8 @@ returns-in-Number-clause-short c = on_ok_weaker c.attr_u64.result (λ e first. a
 
 pub returns-in-Moment-clause-short : goal.returns-in-Moment-clause-short
 returns-in-Moment-clause-short c =
-    let small : length c.moment_bytes.result < 2 ^ 16 = rw c.moment_bytes.ensures (omega arith) in
-    on_ok_weaker c.attr_bytes-in-Moment.result (λ e first. attribute_grows c.args.writer.now.version c.args.to.now c.attr_bytes-in-Moment.new.to c.moment_bytes.result c.args.kind e small) c.attr_bytes-in-Moment.ensures.appended
+    let small : length c.bytes.result < 2 ^ 16 = rw c.bytes.ensures (omega arith) in
+    on_ok_weaker c.attr_bytes-in-Moment.result (λ e first. attribute_grows c.args.writer.now.version c.args.to.now c.attr_bytes-in-Moment.new.to c.bytes.result c.args.kind e small) c.attr_bytes-in-Moment.ensures.appended
 
 pub returns-in-ShortNumber-clause-short : goal.returns-in-ShortNumber-clause-short
 returns-in-ShortNumber-clause-short c =
