@@ -9,6 +9,7 @@ use Rattle.send_model.specs.Reading.{attribute_head, place_of}
 use Rattle.send_model.proofs.Attributes.{bytes_by}
 use Rattle.send_model.proofs.Sound.{and_both}
 use Rattle.tlv_frame.specs.Table.{Table, Slot, slot_at, value_in, place_in, StandsFor}
+use Rattle.tlv_frame.proofs.Progress.{head_at_least_two}
 use Rattle.cmd_reader.specs.Alone.{end_at, stand}
 
 -- How many bytes an attribute takes.
@@ -18,13 +19,6 @@ size version a = attribute_head version a.kind + length a.bytes
 abbrev pub total : ℕ → List Attribute → ℕ
 total version [] = 0
 total version (a ∷ rest) = size version a + total version rest
-
-head_two : (version kind : ℕ) → 2 ≤ attribute_head version kind
-head_two version kind = by (takes_rest version kind)
-  where
-    by : (b : Bool) → 2 ≤ (if b then 2 else 4)
-    by true = omega arith
-    by false = omega arith
 
 attribute_size : (version : ℕ) (a : Attribute) → length (attribute_bytes version a) ≡ size version a
 attribute_size version a = by (takes_rest version a.kind) refl
@@ -82,20 +76,20 @@ behind version a rest len (y ∷ ys) at f = (
     here : (b : Bool) → (if b then Some a.bytes else value_of y.kind rest) ≡ Some y.bytes
         → (if b then Some (attribute_head version y.kind) else elim (place_of version y.kind rest) [ None ↦ None | Some place ↦ Some (attribute_head version a.kind + length a.bytes + place) ]) ≡ Some ((size version a + at) + attribute_head version y.kind)
         → (value_of y.kind rest ≡ Some y.bytes) × (place_of version y.kind rest ≡ Some (at + attribute_head version y.kind))
-    here true v p = absurd (omega (arith, some_is (attribute_head version y.kind) ((size version a + at) + attribute_head version y.kind) p, head_two version a.kind))
+    here true v p = absurd (omega (arith, some_is (attribute_head version y.kind) ((size version a + at) + attribute_head version y.kind) p, head_at_least_two version a.kind))
     here false v p = (v, moved (place_of version y.kind rest) p)
 
 -- So they are all, where they begin at the front and end at the end.
 pub follow_same : (version : ℕ) (xs ys : List Attribute) → Follow version xs (total version xs) ys 0 → xs ≡ ys
 follow_same version [] [] f = refl
 follow_same version [] (y ∷ ys) f = let v = f.0.0 in cc
-follow_same version (a ∷ xs) [] f = absurd (omega (arith, f, head_two version a.kind))
+follow_same version (a ∷ xs) [] f = absurd (omega (arith, f, head_at_least_two version a.kind))
 follow_same version (a ∷ xs) (y ∷ ys) f = by (a.kind == y.kind) refl f.0.0 f.0.1 (λ rest. follow_same version xs ys rest)
   where
     far : (o : Option ℕ) → ((q : ℕ) → o ≡ Some q → attribute_head version y.kind ≤ q)
         → elim o as (λ x. Option ℕ) [ None ↦ None | Some q ↦ Some (attribute_head version a.kind + length a.bytes + q) ] ≡ Some (0 + attribute_head version y.kind) → ⊥
     far None least e = cc
-    far (Some q) least e = let more = least q refl in omega (arith, more, head_two version a.kind, some_is (attribute_head version a.kind + length a.bytes + q) (0 + attribute_head version y.kind) e)
+    far (Some q) least e = let more = least q refl in omega (arith, more, head_at_least_two version a.kind, some_is (attribute_head version a.kind + length a.bytes + q) (0 + attribute_head version y.kind) e)
 
     first : a.kind ≡ y.kind → a.bytes ≡ y.bytes → (Follow version xs (total version xs) ys 0 → xs ≡ ys) → (a ∷ xs) ≡ (y ∷ ys)
     first k b same_rest =

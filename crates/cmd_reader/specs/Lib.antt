@@ -6,3 +6,4 @@ pub mod Alone
 pub mod Commands
 pub mod Next
 pub mod Items
+pub mod Stopping

@@ -7,6 +7,8 @@ mod front;
 mod item;
 mod source;
 mod spelled;
+mod stopping;
 
 pub use command_reader::CmdReader;
 pub use item::{Item, ReadStop};
+pub use stopping::outcome_of;

@@ -1,0 +1,18 @@
+// How a run ends at a file that can not be read on.
+ghost use Rattle.std.specs.Prelude.{◌≡◌};
+ghost use Rattle.cmd_reader.specs.Stopping.{outcome_at};
+
+use crate::item::ReadStop;
+use sx_base::Outcome;
+
+/// The outcome of a file, counted from 1, that could not be read on.
+pub fn outcome_of(file: u64, stop: ReadStop) -> Outcome
+    ensures outcome { result ≡ outcome_at file stop }
+{
+    match stop {
+        ReadStop::Refused(verdict) => Outcome::Refused(verdict),
+        ReadStop::NoMemory => Outcome::NoMemory,
+        ReadStop::InputFault => Outcome::InputFault,
+        ReadStop::InputTooLong => Outcome::InputTooLong { file },
+    }
+}
