@@ -28,7 +28,8 @@ use Rattle.cmd_reader.proofs.Told.{Here, told_both, told_map, told_always, told_
 use Rattle.stream_dump.specs.declared.gathering.Gathered.{Gathered}
 use Rattle.sx_base.specs.Calls.{verdict_meant, Caused, IfAllTold, Wrote}
 use Rattle.stream_dump.specs.Written.{pieces_from, written_of, WritesFile}
-use Rattle.stream_dump.specs.Steps.{outcome_at, ItemAdded, ItemEnds, StopsWriting, last_bytes, EndsWith}
+use Rattle.cmd_reader.specs.Stopping.{outcome_at}
+use Rattle.stream_dump.specs.Steps.{ItemAdded, ItemEnds, StopsWriting, last_bytes, EndsWith}
 use Rattle.stream_dump.proofs.Lengths.{due_whole, due_fault, due_long}
 
 -- What was written and what is gathered are the first bytes, the bytes of what is left follow, and the reading ends as what is left.
@@ -166,7 +167,7 @@ ends_whole piece told told_now name old new o gathered taken_old taken_mid taken
 
 -- The file could not be read on.
 pub ends_early : (piece : Bool → Item → List ℕ) (told told_now : Option (List (List ℕ × List ℕ))) (name : List ℕ) (old new : Reader) (why : ReadStop) (outcome : Outcome) (gathered : Gathered) (taken_old taken_mid taken_now : Option (List ℕ)) (early late before now : ℕ) (result : Outcome)
-    → told_now ≡ told → old.name ≡ name → outcome ≡ outcome_at why → NextSays told_now old new early late (Err why) → EndsWith gathered.bytes outcome taken_mid taken_now before now result
+    → told_now ≡ told → old.name ≡ name → outcome ≡ outcome_at 1 why → NextSays told_now old new early late (Err why) → EndsWith gathered.bytes outcome taken_mid taken_now before now result
     → IfTold told name (Stands piece old gathered taken_old taken_mid) → IfAllTold told (name ∷ []) (λ files. Answered piece taken_old taken_now result (first_file files))
 ends_early piece told told_now name old new why outcome gathered taken_old taken_mid taken_now early late before now result t n is says ends s =
     to_file told name (Answered piece taken_old taken_now result) (by_why why says (subst (λ (x : Outcome). EndsWith gathered.bytes x taken_mid taken_now before now result) is ends))
@@ -191,7 +192,7 @@ ends_early piece told told_now name old new why outcome gathered taken_old taken
         finished piece old gathered taken_old taken_mid taken_now before now (ended_by.InputTooLong 1) result bytes s ends
         (due_long bytes l.0 (ap only_ends front.ending ∙ l.1.1), is_front (written_of piece bytes) (s.sent ++ gathered.bytes) (pieces_from piece gathered.begins (left old bytes).items) s.ahead)
 
-    by_why : (x : ReadStop) → NextSays told_now old new early late (Err x) → EndsWith gathered.bytes (outcome_at x) taken_mid taken_now before now result → IfTold told name (Answered piece taken_old taken_now result)
+    by_why : (x : ReadStop) → NextSays told_now old new early late (Err x) → EndsWith gathered.bytes (outcome_at 1 x) taken_mid taken_now before now result → IfTold told name (Answered piece taken_old taken_now result)
     by_why (stop.Refused verdict) says ends =
         told_both told name (Here (Stands piece old gathered taken_old taken_mid)) (Here (IsRefused (λ _. IsFaulty old verdict) (refusal_of verdict.refusal))) (Answered piece taken_old taken_now result) (broken verdict ends)
         (told_here told name (Stands piece old gathered taken_old taken_mid) s)
@@ -243,7 +244,7 @@ caused_end inputs_before inputs_now out_before out_mid out_now text outcome resu
     subst (λ (x : Outcome). Caused inputs_before inputs_now out_before out_now x) (sym is) (rose_since out_before out_mid out_now early rose)
 
 pub caused_stop : (told : Option (List (List ℕ × List ℕ))) (old new : Reader) (inputs_before inputs_mid inputs_now out_before out_now : ℕ) (why : ReadStop) → inputs_before ≤ inputs_mid
-    → NextSays told old new inputs_mid inputs_now (Err why) → Caused inputs_before inputs_now out_before out_now (outcome_at why)
+    → NextSays told old new inputs_mid inputs_now (Err why) → Caused inputs_before inputs_now out_before out_now (outcome_at 1 why)
 caused_stop told old new inputs_before inputs_mid inputs_now out_before out_now (stop.Refused verdict) early says = tt
 caused_stop told old new inputs_before inputs_mid inputs_now out_before out_now stop.NoMemory early says = tt
 caused_stop told old new inputs_before inputs_mid inputs_now out_before out_now stop.InputFault early says = rose_since inputs_before inputs_mid inputs_now early says

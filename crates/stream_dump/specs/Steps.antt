@@ -9,16 +9,7 @@ use Rattle.sx_base.specs.Causes.{Rose}
 use Rattle.sx_base.specs.Outside.{AppendsPart}
 use Rattle.sx_base.specs.declared.outcome.Outcome.{Outcome}
 use Rattle.sx_base.specs.declared.outcome.Outcome.TheVariants as ended
-use Rattle.cmd_reader.specs.declared.item.ReadStop.{ReadStop}
-use Rattle.cmd_reader.specs.declared.item.ReadStop.TheVariants as stop
 use Rattle.stream_dump.specs.declared.gathering.Gathered.{Gathered}
-
--- The outcome of a file that could not be read on.
-abbrev pub outcome_at : ReadStop → Outcome
-outcome_at (stop.Refused verdict) = ended.Refused verdict
-outcome_at stop.NoMemory = ended.NoMemory
-outcome_at stop.InputFault = ended.InputFault
-outcome_at stop.InputTooLong = ended.InputTooLong 1
 
 -- The bytes of an item are added.
 abbrev pub with_item : (Bool → Item → List ℕ) → Gathered → Item → Gathered

@@ -7,11 +7,11 @@ ghost use Rattle.send_commands.specs.Meaning.{meaning_of};
 ghost use Rattle.send_commands.specs.Writing.{IsWritable};
 ghost use Rattle.cmd_reader.specs.Next.{item_of};
 ghost use Rattle.stream_dump.specs.Written.{WritesFile};
-ghost use Rattle.stream_dump.specs.Steps.{outcome_at, Sends, ItemEnds, EndsWith};
+ghost use Rattle.stream_dump.specs.Steps.{Sends, ItemEnds, EndsWith};
 
 use crate::gathering::Gathered;
 use crate::item_form::ItemForm;
-use cmd_reader::{CmdReader, Item, ReadStop};
+use cmd_reader::{CmdReader, Item, outcome_of};
 use std::alloc::Global;
 use sx_base::{Inputs, Outcome, Sink, write_whole};
 
@@ -47,7 +47,7 @@ pub fn write_file<F: ItemForm, I: Inputs, O: Sink>(
                 }
             }
             Ok(None) => return finish(&mut gathered, out, Outcome::Done),
-            Err(stop) => return finish(&mut gathered, out, outcome_of(stop)),
+            Err(stop) => return finish(&mut gathered, out, outcome_of(1, stop)),
         }
     }
 }
@@ -96,17 +96,5 @@ fn finish<O: Sink>(gathered: &mut Gathered, out: &mut O, outcome: Outcome) -> Ou
     match send(gathered, out) {
         Ok(()) => outcome,
         Err(fault) => fault,
-    }
-}
-
-// The outcome of a file that could not be read on.
-fn outcome_of(stop: ReadStop) -> Outcome
-    ensures outcome { result ≡ outcome_at stop }
-{
-    match stop {
-        ReadStop::Refused(verdict) => Outcome::Refused(verdict),
-        ReadStop::NoMemory => Outcome::NoMemory,
-        ReadStop::InputFault => Outcome::InputFault,
-        ReadStop::InputTooLong => Outcome::InputTooLong { file: 1 },
     }
 }
