@@ -1,6 +1,5 @@
 // Commands in the receivable spelling.
 ghost use Rattle.std.specs.Prelude.{◌≡◌, ◌++◌, ◌≤◌, OnOk, [], length};
-ghost use Rattle.std.specs.Int.{w32, w64, to_le_bytes};
 ghost use Rattle.send_model.specs.Command.{row};
 ghost use Rattle.send_model.specs.Spelling.{attribute_bytes, frame_of, greatest_body, canonical};
 ghost use Rattle.send_model.specs.Receivable.{receivable};
@@ -11,7 +10,7 @@ ghost use Rattle.stream_export.specs.Asking.{attribute_of, kind_asked, export_by
 
 use crate::asked::{Asked, asked_of};
 use cmd_reader::Item;
-use send_commands::{Command, Time, encode};
+use send_commands::{Command, encode};
 use std::alloc::{AllocError, Global};
 use stream_dump::ItemForm;
 use sx_base::Blob;
@@ -88,18 +87,6 @@ fn push_asked(writer: &mut FrameWriter, asked: Asked, to: &mut Blob) -> Result<(
 {
     match asked {
         Asked::Number(_) => writer.attr_u64(to, INO, 0),
-        Asked::ChangeTime(time) => writer.attr_bytes(to, CTIME, &moment_bytes(time)),
+        Asked::ChangeTime(time) => writer.attr_bytes(to, CTIME, &time.bytes()),
     }
-}
-
-// Eight bytes of seconds and four of nanoseconds.
-fn moment_bytes(time: Time) -> [u8; 12]
-    ensures { result ≡ to_le_bytes w64 time.secs ++ to_le_bytes w32 time.nanos }
-{
-    let secs = time.secs.to_le_bytes();
-    let nanos = time.nanos.to_le_bytes();
-    [
-        secs[0], secs[1], secs[2], secs[3], secs[4], secs[5], secs[6], secs[7], nanos[0], nanos[1],
-        nanos[2], nanos[3],
-    ]
 }

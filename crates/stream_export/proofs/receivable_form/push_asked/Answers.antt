@@ -8,4 +8,4 @@ use Rattle.stream_export.proofs.receivable_form.push_asked.Goals as goal
 pub returns-in-ChangeTime-clause-appended : goal.returns-in-ChangeTime-clause-appended
 returns-in-ChangeTime-clause-appended c =
     subst (λ (a : Asked). OnOk c.attr_bytes.result (c.attr_bytes.new.to ≡ c.args.to.now ++ attribute_bytes c.args.writer.now.version (attribute_of a))) (sym c.in-ChangeTime.is)
-    (subst (λ (l : List ℕ). OnOk c.attr_bytes.result (c.attr_bytes.new.to ≡ c.args.to.now ++ attribute_bytes c.args.writer.now.version (record { kind = CTIME; bytes = l }))) c.moment_bytes.ensures c.attr_bytes.ensures.appended)
+    (subst (λ (l : List ℕ). OnOk c.attr_bytes.result (c.attr_bytes.new.to ≡ c.args.to.now ++ attribute_bytes c.args.writer.now.version (record { kind = CTIME; bytes = l }))) c.bytes.ensures c.attr_bytes.ensures.appended)
