@@ -32,7 +32,7 @@ use Rattle.cmd_reader.specs.Next.{item_of, HasEnded, IsFaulty, OnlyEnds, IsNext,
 use Rattle.cmd_reader.proofs.Aheads.{next_item, next_end}
 use Rattle.cmd_reader.proofs.Told.{Here, told_both, told_always, told_here, told_moved, told_next}
 use Rattle.file_survey.specs.Ahead.{IsAhead, then_reading}
-use Rattle.file_survey.specs.Stopping.{outcome_at}
+use Rattle.cmd_reader.specs.Stopping.{outcome_at}
 use Rattle.file_survey.specs.Findings.{Surveyed, nothing_seen, uuid_in, after_command, after_items, AreReadable, FileRead, FileStop, FileEnd, AllRead, SurveyStop, SurveyEnd}
 use Rattle.file_survey.proofs.AheadSteps.{ahead_start, ahead_whole, ahead_fault}
 use Rattle.send_model.proofs.TooLong.{short_fits, fault_fits, long_is}

@@ -9,6 +9,6 @@ mod summary;
 mod surveying;
 
 pub use part_head::PartHead;
-pub use places::{Place, outcome_of};
+pub use places::Place;
 pub use summary::Survey;
 pub use surveying::survey;

@@ -1,11 +1,9 @@
-// Where a command stands, and how a run ends at a file that can not be read on.
+// Where a command stands.
 ghost use Rattle.std.specs.Prelude.{◌≡◌};
 ghost use Rattle.sx_base.specs.Calls.{verdict_meant};
 ghost use Rattle.sx_base.specs.Refusals.{refusal_of};
-ghost use Rattle.file_survey.specs.Stopping.{outcome_at};
 
-use cmd_reader::ReadStop;
-use sx_base::{Outcome, Refusal, Verdict};
+use sx_base::{Refusal, Verdict};
 
 /// Where a command stands.
 #[derive(Clone, Copy)]
@@ -45,17 +43,5 @@ impl Place {
             offset: self.offset,
             refusal,
         }
-    }
-}
-
-/// The outcome of a file that could not be read on.
-pub fn outcome_of(file: u64, stop: ReadStop) -> Outcome
-    ensures outcome { result ≡ outcome_at file stop }
-{
-    match stop {
-        ReadStop::Refused(verdict) => Outcome::Refused(verdict),
-        ReadStop::NoMemory => Outcome::NoMemory,
-        ReadStop::InputFault => Outcome::InputFault,
-        ReadStop::InputTooLong => Outcome::InputTooLong { file },
     }
 }

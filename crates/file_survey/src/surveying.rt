@@ -5,9 +5,8 @@ ghost use Rattle.cmd_reader.specs.Places.{IfTold};
 ghost use Rattle.file_survey.specs.Findings.{FileEnd, SurveyEnd};
 ghost use Rattle.sx_base.specs.Calls.{IfAllTold, ErrCaused};
 
-use crate::places::outcome_of;
 use crate::summary::Survey;
-use cmd_reader::{CmdReader, ReadStop};
+use cmd_reader::{CmdReader, ReadStop, outcome_of};
 use std::alloc::Global;
 use sx_base::{Inputs, Outcome};
 
