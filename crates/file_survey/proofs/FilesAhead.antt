@@ -1,12 +1,8 @@
 -- What is ahead of a loop over named files, a whole file at a time.
-use Rattle.std.specs.Prelude.{◌≡◌, ℕ, ◌+◌, ◌<◌, List, ◌∷◌, ◌++◌, map, length, drop, slice_index_or, String}
-use Rattle.std.specs.String.{string_bytes}
-use Rattle.std.proofs.Common.{sym, ap, ◌∙◌, refl, append_assoc, add-one, drop-cons}
-use Rattle.std.proofs.lemmas.List.{length-map, drop-map}
+use Rattle.std.specs.Prelude.{◌≡◌, ℕ, ◌+◌, List, ◌∷◌, ◌++◌}
+use Rattle.std.proofs.Common.{sym, ap, ◌∙◌, refl, append_assoc}
 use Rattle.send_model.specs.Reading.{Item, Ending, Whole, Faulty, Reading, ended, joined, reads, input_from}
-use Rattle.sx_base.specs.Outside.{file_at}
 use Rattle.file_survey.specs.Ahead.{IsAhead, then_reading}
-use Rattle.sx_base.specs.Calls.{contents}
 use Rattle.file_survey.proofs.AheadSteps.{ahead_next}
 
 joined_then : (items rest : List Item) (ending : Ending) (others : Reading) → joined (then_reading items (record { items = rest; end = ending })) others ≡ then_reading items (joined (record { items = rest; end = ending }) others)

@@ -1,9 +1,8 @@
 -- Which of several files is the first that is too long, as a loop goes over them.
-use Rattle.std.specs.Prelude.{◌≡◌, ℕ, ◌+◌, ◌<◌, ◌≤◌, Bool, true, false, ◌&&◌, List, [], ◌∷◌, length, take, drop, None, Some, nat_le, if◌then◌else◌}
-use Rattle.std.proofs.Common.{refl, ap, ◌∙◌, le-leb}
-use Rattle.std.proofs.lemmas.Bool.{lt-leb}
+use Rattle.std.specs.Prelude.{◌≡◌, ℕ, ◌+◌, Bool, true, false, List, [], ◌∷◌, drop, None, Some, if◌then◌else◌}
+use Rattle.std.proofs.Common.{refl, ap, ◌∙◌}
 use Rattle.send_model.specs.Reading.{Verdict, Ending, Whole, Faulty, reads}
-use Rattle.send_model.specs.Lengths.{limit, is_truncated, only_ends, is_too_long, unless_faulty, too_long_from, too_long}
+use Rattle.send_model.specs.Lengths.{is_too_long, unless_faulty, too_long_from, too_long}
 
 -- The first file that is too long is the first of those after the given number.
 abbrev pub LongAhead : List (List ℕ) → ℕ → List (List ℕ) → Type 0
