@@ -1,8 +1,8 @@
 -- Following files one after the other: what the loop over them keeps, and each of its ends.
 use Rattle.std.specs.Prelude.{◌≡◌, ℕ, ◌+◌, ◌<◌, ◌≤◌, Bool, true, false, List, [], ◌∷◌, ◌++◌, map, length, drop, slice_index_or, String, Option, None, Some, Result, Ok, Err}
 use Rattle.std.specs.String.{string_bytes}
-use Rattle.std.proofs.Common.{refl, sym, ap, subst, ◌∙◌, append_assoc, append-nil, length-append, arith, add-one, drop-cons}
-use Rattle.std.proofs.lemmas.List.{length-map, drop-map, drop_all, map-append}
+use Rattle.std.proofs.Common.{refl, sym, ap, subst, ◌∙◌, append_assoc, append-nil, length-append, arith}
+use Rattle.std.proofs.lemmas.List.{drop_all, map-append}
 use Rattle.send_model.specs.Reading.{Item, Ending, Whole, Faulty, Reading, reads, joined, input, input_from}
 use Rattle.send_model.specs.Order.{heads, heads_of, commands_of}
 use Rattle.send_model.specs.Lengths.{is_too_long}

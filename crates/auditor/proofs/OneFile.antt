@@ -28,7 +28,8 @@ use Rattle.cmd_reader.proofs.Aheads.{next_item, next_end}
 use Rattle.cmd_reader.proofs.Told.{Here, told_both, told_always, told_here, told_moved}
 use Rattle.auditor.specs.declared.counts.Counts.{Counts}
 use Rattle.auditor.specs.Following.{Followed, follow, follow_all, AreAccepted, due_from_here, file_read, read_whole}
-use Rattle.auditor.specs.Answers.{outcome_at, ItemStops, ItemEnds, parts_begun, AreCounted, FileAccepted, FileEnds}
+use Rattle.cmd_reader.specs.Stopping.{outcome_at}
+use Rattle.auditor.specs.Answers.{ItemStops, ItemEnds, parts_begun, AreCounted, FileAccepted, FileEnds}
 use Rattle.auditor.proofs.Runs.{none, one, run_on, refused_still}
 use Rattle.send_model.proofs.TooLong.{short_fits, fault_fits, long_is}
 use Rattle.auditor.proofs.TooLong.{whole_read, fault_read, long_read, read_either}

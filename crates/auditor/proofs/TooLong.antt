@@ -1,9 +1,8 @@
 -- What is read of one file, by whether it is too long.
-use Rattle.std.specs.Prelude.{◌≡◌, ℕ, ◌+◌, ◌<◌, ◌≤◌, Bool, true, false, ◌&&◌, List, [], ◌∷◌, length, take, nat_le, if◌then◌else◌}
-use Rattle.std.proofs.Common.{refl, sym, ap, subst, ◌∙◌, append-nil, le-leb}
-use Rattle.std.proofs.lemmas.Bool.{lt-leb}
+use Rattle.std.specs.Prelude.{◌≡◌, ℕ, ◌+◌, Bool, true, false, List, [], ◌∷◌, take, if◌then◌else◌}
+use Rattle.std.proofs.Common.{refl, sym, ap, subst, ◌∙◌, append-nil}
 use Rattle.send_model.specs.Reading.{Item, Verdict, Ending, Whole, Faulty, Reading, reads}
-use Rattle.send_model.specs.Lengths.{limit, is_truncated, only_ends, is_too_long}
+use Rattle.send_model.specs.Lengths.{limit, is_too_long}
 use Rattle.send_model.specs.Due.{Limited, AtFault, AtLimit, limited_from, then_limited}
 use Rattle.auditor.specs.Following.{file_read, read_whole}
 

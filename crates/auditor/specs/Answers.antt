@@ -17,8 +17,6 @@ use Rattle.sx_base.specs.declared.outcome.Outcome.TheVariants as ended
 use Rattle.sx_base.specs.declared.stop.Stop.{Stop}
 use Rattle.sx_base.specs.declared.stop.Stop.TheVariants as why
 use Rattle.sx_base.specs.Refusals.{refusal_of}
-use Rattle.cmd_reader.specs.declared.item.ReadStop.{ReadStop}
-use Rattle.cmd_reader.specs.declared.item.ReadStop.TheVariants as stop
 use Rattle.clone_resolve.specs.Steps.{done_by}
 use Rattle.clone_resolve.specs.declared.done.Done.{Done}
 use Rattle.clone_resolve.specs.declared.done.Done.TheVariants as did
@@ -36,13 +34,6 @@ Stops the_due ended.InputFault = ⊤
 Stops the_due ended.NoMemory = ⊤
 Stops the_due ended.OutputFault = ⊥
 Stops the_due ended.Done = ⊥
-
--- How a run ends at a file that can not be read on.
-abbrev pub outcome_at : ℕ → ReadStop → Outcome
-outcome_at file (stop.Refused verdict) = ended.Refused verdict
-outcome_at file stop.NoMemory = ended.NoMemory
-outcome_at file stop.InputFault = ended.InputFault
-outcome_at file stop.InputTooLong = ended.InputTooLong file
 
 -- ---- one command
 
