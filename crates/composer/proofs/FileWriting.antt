@@ -28,7 +28,7 @@ use Rattle.cmd_reader.proofs.Aheads.{next_item, next_end}
 use Rattle.cmd_reader.proofs.Told.{Here, told_map, told_both, told_always, told_here, told_moved}
 use Rattle.file_survey.specs.declared.places.Place.{Place}
 use Rattle.file_survey.specs.Ahead.{then_reading}
-use Rattle.file_survey.specs.Stopping.{outcome_at}
+use Rattle.cmd_reader.specs.Stopping.{outcome_at}
 use Rattle.file_survey.proofs.AheadSteps.{then_item, last_item_after}
 use Rattle.send_model.proofs.TooLong.{short_fits, long_is}
 use Rattle.clone_pieces.specs.Origins.{IsInInput}

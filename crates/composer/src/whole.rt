@@ -19,8 +19,8 @@ ghost use Rattle.composer.specs.Files.{AllSayable, plan_with, FileEnd, ComposeEn
 use crate::composing::Composer;
 use clone_pieces::{Known, NoBase, OutsideBytes};
 use clone_resolve::EditCore;
-use cmd_reader::CmdReader;
-use file_survey::{Place, Survey, outcome_of, survey};
+use cmd_reader::{CmdReader, outcome_of};
+use file_survey::{Place, Survey, survey};
 use provenance::Trace;
 use std::alloc::Global;
 use sx_base::{Inputs, Outcome, Refusal, Sink};
