@@ -42,7 +42,7 @@ use Rattle.cmd_reader.specs.Next.{item_of, HasEnded, IsFaulty, OnlyEnds, IsNext,
 use Rattle.cmd_reader.proofs.Aheads.{next_item, next_end}
 use Rattle.cmd_reader.proofs.Told.{told_both, told_always, told_moved}
 use Rattle.file_survey.specs.Ahead.{then_reading}
-use Rattle.file_survey.specs.Stopping.{outcome_at}
+use Rattle.cmd_reader.specs.Stopping.{outcome_at}
 use Rattle.file_survey.proofs.AheadSteps.{then_item, ahead_first}
 use Rattle.clone_resolve.specs.Steps.{cells_put, Fits, Answers}
 use Rattle.clone_resolve.specs.declared.done.Done.{Done}
