@@ -10,7 +10,7 @@ use Rattle.std.specs.Ordering.{nat_cmp}
 use Rattle.extent_map.proofs.Cover.{cell-uncovered}
 use Rattle.extent_map.specs.declared.run.Run.{Run}
 use Rattle.extent_map.specs.Cells.{resize_cells, put_cells, cells_between}
-use Rattle.extent_map.specs.Layout.{cell_at, cells_of, AreRuns, AreRunsOfFile, Writes, runs_at}
+use Rattle.extent_map.specs.Layout.{cell_at, cells_of, AreRuns, AreRunsOfFile, Clears, Writes, runs_at}
 use Rattle.extent_map.specs.Pieces.{run_cells, zero_cells, piece_cells}
 use Rattle.extent_map.proofs.CellLists.{put_none, length-resize, get_or-resize_below, length-put, get_or-put_outside, get_or-put_inside, length-between}
 
@@ -135,10 +135,14 @@ module _ {O : Type 0} (advanced : O → ℕ → O) where
           (cases_lt i (at + len)))
           (cases_lt i at))
 
-    -- the file was cut or became longer
-    module _ (old new : ℕ → Option (Run O)) (size size' : ℕ) (f : AreRunsOfFile advanced reach old size) (r : AreRuns reach new) (below : (i : ℕ) → i < size' → cell_at advanced new i ≡ cell_at advanced old i) (past : (i : ℕ) → size' ≤ i → cell_at advanced new i ≡ None) (fits : size' < 2 ^ 63) where
+    -- the file was cut or became longer: its cells from the new size on were cleared, up to the larger size
+    module _ (old new : ℕ → Option (Run O)) (size size' stop : ℕ) (f : AreRunsOfFile advanced reach old size) (r : AreRuns reach new) (c : Clears advanced old new size' stop) (to_end : stop ≡ max size size') (fits : size' < 2 ^ 63) where
       pub resized_file : AreRunsOfFile advanced reach new size'
-      resized_file = record { are_runs = r; fits = fits; none_past = past }
+      resized_file = record {
+        are_runs = r;
+        fits = fits;
+        none_past = λ i le. ⊎_elim (λ lt. c.inside i le lt) (λ le'. c.outside i (inr le') ∙ f.none_past i (omega (arith, le', to_end))) (cases_lt i stop);
+      }
 
       pub resized_cells : cells_of advanced new 0 size' ≡ resize_cells None size' (cells_of advanced old 0 size)
       resized_cells =
@@ -146,7 +150,7 @@ module _ {O : Type 0} (advanced : O → ℕ → O) where
           let m = length-resize None size' (cells_of advanced old 0 size) in
           ext_get_or None _ _ (l ∙ sym m) (λ i lt.
           get_or-file new size' resized_file i
-          ∙ below i (omega arith)
+          ∙ c.outside i (inl (omega arith))
           ∙ sym (get_or-file old size f i)
           ∙ sym (get_or-resize_below None size' (cells_of advanced old 0 size) i (omega arith)))
 

@@ -1,6 +1,4 @@
-use Rattle.std.proofs.Common.{None, inl, inr, ◌∙◌, ap, arith}
-use Rattle.std.proofs.Math.Logic.{⊎_elim}
-use Rattle.std.proofs.lemmas.Bool.{cases_lt}
+use Rattle.std.proofs.Common.{None, ◌∙◌, ap}
 use Rattle.extent_map.specs.Cells.{resize_cells}
 use Rattle.extent_map.proofs.Layouts.{resized_file, resized_cells}
 use Rattle.extent_map.proofs.extents.Extents.cut_to.Goals as goal
@@ -14,20 +12,9 @@ invariant_of-self g c = record {
 }
 
 pub invariant_of-self-2 : goal.invariant_of-self-2
-invariant_of-self-2 g c =
-    let m = c.max.ensures in
-    let h = c.in_ok-clear.ensures.cells in
-    resized_file g.O.Origin.advanced _ _ _ c.self.inside.size _ c.self.invariant c.in_ok-clear.ensures.runs
-    (λ i lt. h.outside i (inl lt))
-    (λ i le. ⊎_elim (λ lt. h.inside i le lt) (λ le'. h.outside i (inr le') ∙ c.self.invariant.none_past i (omega (arith, m))) (cases_lt i c.max.result))
-    c.requires
+invariant_of-self-2 g c = resized_file g.O.Origin.advanced _ _ _ c.self.inside.size _ _ c.self.invariant c.in_ok-clear.ensures.runs c.in_ok-clear.ensures.cells c.max.ensures c.requires
 
 pub returns : goal.returns
 returns g c =
-    let m = c.max.ensures in
-    let h = c.in_ok-clear.ensures.cells in
-    resized_cells g.O.Origin.advanced _ _ _ c.self.inside.size _ c.self.invariant c.in_ok-clear.ensures.runs
-    (λ i lt. h.outside i (inl lt))
-    (λ i le. ⊎_elim (λ lt. h.inside i le lt) (λ le'. h.outside i (inr le') ∙ c.self.invariant.none_past i (omega (arith, m))) (cases_lt i c.max.result))
-    c.requires
+    resized_cells g.O.Origin.advanced _ _ _ c.self.inside.size _ _ c.self.invariant c.in_ok-clear.ensures.runs c.in_ok-clear.ensures.cells c.max.ensures c.requires
     ∙ ap (resize_cells None c.args.size) c.self.view_is
