@@ -4,4 +4,5 @@ pub mod Cover
 pub mod Edits
 pub mod Keys
 pub mod Layouts
+pub mod PieceByPiece
 pub mod Writing
