@@ -4,7 +4,7 @@ use Rattle.std.specs.List.{flat_map}
 use Rattle.std.specs.Io.KnownBytes.{Appends}
 use Rattle.std.proofs.Common.{refl, sym, ap, subst, ◌∙◌, arith, append_assoc, append-nil, length-append, add-one}
 use Rattle.std.proofs.KnownBytes.{Appends-nil, Appends-trans}
-use Rattle.std.proofs.lemmas.List.{take-append-drop}
+use Rattle.std.proofs.lemmas.List.{take-append-drop, take_at}
 use Rattle.send_model.specs.Command.{Command}
 use Rattle.send_model.specs.Spelling.{stream_header, canonical_all}
 use Rattle.send_model.specs.Generated.{first_part, later_part, parts_of, chain_of}
@@ -13,7 +13,7 @@ use Rattle.send_model.specs.Words.{Gen, due, whole_of}
 use Rattle.sx_base.specs.Calls.{Wrote, Ends}
 use Rattle.sx_base.specs.Outside.{AppendsPart}
 use Rattle.sx_base.specs.declared.outcome.Outcome.TheVariants as ended
-use Rattle.stream_gen.specs.Parts.{part_of, part_bytes}
+use Rattle.stream_gen.specs.Parts.{part_bytes}
 use Rattle.stream_gen.proofs.DrawnNumbers.{not_first}
 
 abbrev stream_of : List Command → List ℕ
@@ -41,15 +41,11 @@ chain_grows seed parts (suc more) =
       ap (chain_of seed) same ∙ chain_next seed (more + parts) ∙ ap (λ (l : List ℕ). l ++ part_bytes seed (suc (more + parts))) before.1 ∙ append_assoc (chain_of seed parts) before.0 (part_bytes seed (suc (more + parts))),
     )
 
-take_front : (xs ys : List ℕ) → take (length xs) (xs ++ ys) ≡ xs
-take_front [] ys = refl
-take_front (x ∷ xs) ys = ap (λ (l : List ℕ). x ∷ l) (take_front xs ys)
-
 is_front : (all written rest : List ℕ) → all ≡ written ++ rest → IsFrontOf all written
 is_front all written rest e = record {
   count = length written;
   within = let count : length all ≡ length written + length rest = ap length e ∙ length-append written rest in omega (arith, count);
-  written_is = sym (ap (take (length written)) e ∙ take_front written rest);
+  written_is = sym (ap (take (length written)) e ∙ take_at written rest (length written) refl);
 }
 
 parts_front : (seed parts count : ℕ) → parts ≤ count → IsFrontOf (chain_of seed count) (chain_of seed parts)
