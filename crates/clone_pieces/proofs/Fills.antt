@@ -2,11 +2,9 @@
 use Rattle.std.specs.Prelude.{◌≡◌, ℕ, zero, suc, ◌+◌, ◌-◌, ◌<◌, ◌≤◌, List, [], ◌∷◌, ◌++◌, map, length, take, drop, get_or, slice_index_or, Option, Some, None, Result, Ok, Err, String}
 use Rattle.std.specs.List.{AllByRecursion, range_with_len}
 use Rattle.std.specs.String.{string_bytes}
-use Rattle.std.proofs.Common.{refl, sym, ap, ap₂, subst, ◌∙◌, arith}
-use Rattle.std.proofs.Math.Seq.{take-add}
-use Rattle.std.proofs.lemmas.List.{length-map, length-take, length-drop, get_or-take, get_or-drop, map-append, take_at, take_all}
+use Rattle.std.proofs.Common.{refl, sym, ap, subst, ◌∙◌, arith}
+use Rattle.std.proofs.lemmas.List.{length-take, length-drop, get_or-take, get_or-drop}
 use Rattle.std.proofs.lemmas.List.FromFn.{fill_by_all}
-use Rattle.std.proofs.lemmas.Slice.{take-put_mid}
 use borrow.Rule.Slice.PartMut.{put_mid}
 use lib.ListN.{replicate}
 use Rattle.send_model.specs.Store as meant
@@ -18,12 +16,13 @@ use Rattle.sx_base.specs.declared.outcome.Outcome.{Outcome}
 use Rattle.sx_base.specs.declared.outcome.Outcome.TheVariants as ended
 use Rattle.subvol_catalog.specs.declared.key.Key.{Key}
 use Rattle.subvol_catalog.specs.Entries.{key_of}
-use Rattle.extent_map.specs.Pieces.{run_cells, zero_cells, piece_cells}
+use Rattle.extent_map.specs.Pieces.{piece_cells}
 use Rattle.extent_map.proofs.Layouts.{length-piece, get_or-run}
+use Rattle.extent_map.proofs.PieceByPiece as by_piece
+use Rattle.extent_map.proofs.PieceByPiece.{run_bytes, hole_bytes}
 use Rattle.provenance.specs.declared.trace.Trace.{Trace}
 use Rattle.provenance.specs.declared.trace.Trace.TheVariants.{Fresh, Outside}
 use Rattle.provenance.specs.Traces.{advanced_by}
-use Rattle.provenance.proofs.Fronts.{all_had}
 use Rattle.clone_pieces.specs.Origins.{IsInInput}
 use Rattle.clone_pieces.specs.Filling.{byte_in, IsHadIn, PieceHad, PieceThere, FillEnd, AgainEnd}
 use Rattle.clone_pieces.proofs.Told.{all_always, all_map, all_two, told_moved, told_file}
@@ -55,37 +54,23 @@ module _ (whole : List (Option Trace)) (have n : ℕ) (rest : List (Option Trace
 
 -- ---- the bytes of a piece
 
-map_twice : {A B C : Type 0} (f : B → C) (g : A → B) (xs : List A) → map f (map g xs) ≡ map (λ x. f (g x)) xs
-map_twice f g [] = refl
-map_twice f g (x ∷ xs) = ap (λ l. f (g x) ∷ l) (map_twice f g xs)
-
-run_bytes : (xs : List ℕ) (at len : ℕ) → at + len ≤ length xs → take len (drop at xs) ≡ map (λ k. get_or xs (at + k) 0) (range_with_len 0 len)
-run_bytes xs at len fits = fill_by_all (λ k. get_or xs (at + k) 0) (take len (drop at xs)) len 0
+file_bytes : (xs : List ℕ) (at len : ℕ) → at + len ≤ length xs → take len (drop at xs) ≡ map (λ k. get_or xs (at + k) 0) (range_with_len 0 len)
+file_bytes xs at len fits = fill_by_all (λ k. get_or xs (at + k) 0) (take len (drop at xs)) len 0
     (let l = length-take len (drop at xs) in let d = length-drop at xs in omega (arith, l, d, fits))
     (λ k lt. get_or-take len (drop at xs) k 0 lt ∙ get_or-drop at xs k 0)
 
 module _ (held : meant.Key → ℕ → List ℕ) (files : List (List ℕ)) where
-  zero_bytes : (len : ℕ) → map (byte_in held files) (replicate len None) ≡ replicate len 0
-  zero_bytes zero = refl
-  zero_bytes (suc n) = ap (λ (l : List ℕ). 0 ∷ l) (zero_bytes n)
-
-  none_bytes : (len : ℕ) → map (byte_in held files) (piece_cells advanced_by None len) ≡ replicate len 0
-  unfolding piece_cells zero_cells
-  none_bytes len = zero_bytes len
-
   fresh_bytes : (file at len : ℕ) → at + len ≤ length (get_or files file []) → map (byte_in held files) (piece_cells advanced_by (Some (Fresh file at)) len) ≡ take len (drop at (get_or files file []))
-  unfolding piece_cells run_cells
-  fresh_bytes file at len fits = map_twice (byte_in held files) (λ k. Some (advanced_by (Fresh file at) k)) (range_with_len 0 len) ∙ sym (run_bytes (get_or files file []) at len fits)
+  fresh_bytes file at len fits = run_bytes advanced_by (byte_in held files) (Fresh file at) len ∙ sym (file_bytes (get_or files file []) at len fits)
 
   outside_bytes : (key : Key) (ino at len : ℕ) → at + len ≤ length (held (key_of key) ino) → map (byte_in held files) (piece_cells advanced_by (Some (Outside key ino at)) len) ≡ take len (drop at (held (key_of key) ino))
-  unfolding piece_cells run_cells
-  outside_bytes key ino at len fits = map_twice (byte_in held files) (λ k. Some (advanced_by (Outside key ino at) k)) (range_with_len 0 len) ∙ sym (run_bytes (held (key_of key) ino) at len fits)
+  outside_bytes key ino at len fits = run_bytes advanced_by (byte_in held files) (Outside key ino at) len ∙ sym (file_bytes (held (key_of key) ino) at len fits)
 
 -- Zero bytes.
 pub zeroed : (told : Option (List (List ℕ × List ℕ))) (names : List (List ℕ)) (held : meant.Key → ℕ → List ℕ) (origin : Option Trace) (len : ℕ) (new : List ℕ) → origin ≡ None → new ≡ replicate len 0
     → IfAllTold told names (FillEnd held (piece_cells advanced_by origin len) new (Ok tt))
 zeroed told names held origin len new is zeros = all_always told names (FillEnd held (piece_cells advanced_by origin len) new (Ok tt))
-    (λ files. zeros ∙ sym (none_bytes held files len) ∙ ap (λ (o : Option Trace). map (byte_in held files) (piece_cells advanced_by o len)) (sym is))
+    (λ files. zeros ∙ sym (hole_bytes advanced_by (byte_in held files) refl len) ∙ ap (λ (o : Option Trace). map (byte_in held files) (piece_cells advanced_by o len)) (sym is))
 
 -- Bytes of a file that is held.
 pub held_filled : (told : Option (List (List ℕ × List ℕ))) (names : List (List ℕ)) (count : ℕ) (held : meant.Key → ℕ → List ℕ) (origin : Option Trace) (key : Key) (ino at len : ℕ) (new : List ℕ) → origin ≡ Some (Outside key ino at)
@@ -132,25 +117,7 @@ module _ {Z : Type 0} (names : List (String Z)) (held : meant.Key → ℕ → Li
 
 -- The front of a buffer has the bytes of the front of the cells.
 abbrev pub FilledTo : (meant.Key → ℕ → List ℕ) → List (Option Trace) → ℕ → List ℕ → List (List ℕ) → Type 0
-FilledTo held whole have buf files = take have buf ≡ map (byte_in held files) (take have whole)
-
-module _ (whole : List (Option Trace)) (have n : ℕ) (origin : Option Trace) (rest : List (Option Trace)) (is : drop have whole ≡ piece_cells advanced_by origin n ++ rest) (old new : List ℕ) (within : have ≤ length old) where
-  pub filled_more : (held : meant.Key → ℕ → List ℕ) (files : List (List ℕ)) → FilledTo held whole have old files → FillEnd held (piece_cells advanced_by origin n) new (Ok tt) files → FilledTo held whole (have + n) (put_mid have n old new) files
-  filled_more held files so_far filled =
-      let cells : List (Option Trace) = piece_cells advanced_by origin n in
-      let long : length new ≡ n = ap length filled ∙ length-map cells (byte_in held files) ∙ length-piece advanced_by origin n in
-      let next : take (have + n) whole ≡ take have whole ++ cells =
-      take-add have n whole ∙ ap (λ (l : List (Option Trace)). take have whole ++ l) (ap (take n) is ∙ take_at cells rest n (length-piece advanced_by origin n)) in
-      take-put_mid have n old new (have + n) (omega (arith, long)) within
-      ∙ ap₂ (λ (a b : List ℕ). a ++ b) so_far filled
-      ∙ sym (map-append (byte_in held files) (take have whole) cells)
-      ∙ ap (map (byte_in held files)) (sym next)
-
--- All cells are in front.
-pub filled_all : (held : meant.Key → ℕ → List ℕ) (whole : List (Option Trace)) (have : ℕ) (buf : List ℕ) (files : List (List ℕ)) → drop have whole ≡ [] → length buf ≡ length whole → FilledTo held whole have buf files → FillEnd held whole buf (Ok tt) files
-filled_all held whole have buf files none long filled =
-    let all : length whole ≤ have = all_had whole have none in
-    sym (take_all have buf (omega (arith, all, long))) ∙ filled ∙ ap (map (byte_in held files)) (take_all have whole all)
+FilledTo held whole have buf files = by_piece.FilledTo (byte_in held files) whole have buf
 
 -- A fill that failed, whatever cells were wanted.
 pub failed_any : (held : meant.Key → ℕ → List ℕ) (cells others : List (Option Trace)) (new other : List ℕ) (outcome : Outcome) (files : List (List ℕ)) → FillEnd held cells new (Err outcome) files → FillEnd held others other (Err outcome) files
@@ -165,9 +132,6 @@ failed_any held cells others new other (ended.TooMuch sum) files f = absurd f
 
 -- ---- a turn of the loop
 
-pub mid_length : (have n : ℕ) (buf : List ℕ) → have + n ≤ length buf → length (take (have + n - have) (drop have buf)) ≡ n
-mid_length have n buf fits = let l = length-take (have + n - have) (drop have buf) in let d = length-drop have buf in omega (arith, l, d, fits)
-
 module _ (told now : Option (List (List ℕ × List ℕ))) (names : List (List ℕ)) (held held' : meant.Key → ℕ → List ℕ) (same : now ≡ told) (kept : held' ≡ held)
     (whole : List (Option Trace)) (have n : ℕ) (origin : Option Trace) (rest : List (Option Trace)) (is : drop have whole ≡ piece_cells advanced_by origin n ++ rest) (some : 0 < n) (size : ℕ) (size_is : size ≡ n) where
   pub turn_had : (count : ℕ) → AllByRecursion (IsHadIn count held) whole → PieceHad count held' origin size
@@ -181,7 +145,6 @@ module _ (told now : Option (List (List ℕ × List ℕ))) (names : List (List �
       → IfAllTold told names (FilledTo held whole (have + n) (put_mid have k old new))
   turn_filled k k_is old new within so_far filled =
       all_two told names (FilledTo held whole have old) (FillEnd held' (piece_cells advanced_by origin size) new (Ok tt)) (FilledTo held whole (have + n) (put_mid have k old new))
-      (λ files before here. subst (λ (m : ℕ). FilledTo held whole (have + n) (put_mid have m old new) files) (sym k_is)
-      (filled_more whole have n origin rest is old new within held files before
-      (here ∙ ap₂ (λ (h : meant.Key → ℕ → List ℕ) (m : ℕ). map (byte_in h files) (piece_cells advanced_by origin m)) kept size_is)))
+      (λ files before here. by_piece.filled_more advanced_by whole have n origin rest is (byte_in held files) old new k size k_is size_is within before
+      (here ∙ ap (λ (h : meant.Key → ℕ → List ℕ). map (byte_in h files) (piece_cells advanced_by origin size)) kept))
       so_far (told_moved told now names (FillEnd held' (piece_cells advanced_by origin size) new (Ok tt)) same filled)

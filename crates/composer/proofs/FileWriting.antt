@@ -249,6 +249,23 @@ unread told plan file old new f0 f1 why says alike =
     told_both told old.name (Unread_by plan file old why) (Here (EndsAlike file old)) (Unread plan file old why) (λ bytes u h reached now. u reached h.1 now)
     (unread_by told plan file old new f0 f1 why says) (told_here told old.name (EndsAlike file old) alike)
 
+-- Composing ends before the next command, for some reason: what was kept back is sent, or the output failed.
+ends_here : (files : List (List ℕ)) (plan : Plan) (file : ℕ) (c0 : Kept) (out0 : Option (List ℕ)) (old : Reader) (now : Kept) (out_now out_next : Option (List ℕ)) (before place : Place) (g0 g1 : ℕ) (outcome result : Outcome) (bytes : List ℕ)
+    → StopEnd now.pending out_now out_next g0 g1 outcome result → (s : Stands files plan file c0 out0 old now out_now before place bytes)
+    → FileWhy plan file (unsent s.sent (composing_of files plan.base now)) (left old bytes) outcome bytes → FileStops files plan file c0 out0 out_next result bytes
+ends_here files plan file c0 out0 old now out_now out_next before place g0 g1 outcome result bytes stopped s why =
+    let next : Composing = unsent s.sent (composing_of files plan.base now) in
+    record {
+      items = s.items;
+      rest = left old bytes;
+      next = next;
+      read = s.read;
+      all = s.all;
+      front = front_after out0 out_now out_next s.sent now.pending s.appends stopped.front;
+      why = ⊎_elim (λ kept. subst (λ (x : Outcome). FileWhy plan file next (left old bytes) x bytes) (sym kept) why)
+          (λ failed. subst (λ (x : Outcome). FileWhy plan file next (left old bytes) x bytes) (sym failed.0) tt) stopped.outcome_is;
+    }
+
 -- The file can not be read on.
 pub file_stops : (told inputs : Option (List (List ℕ × List ℕ))) (names : List (List ℕ)) (plan : Plan) (number file : ℕ) (c0 : Kept) (out0 : Option (List ℕ)) (old new : Reader) (now : Kept) (out_now out_next : Option (List ℕ)) (before place : Place)
     (f0 f1 g0 g1 : ℕ) (why : ReadStop) (outcome result : Outcome) → inputs ≡ told → number < length names → old.name ≡ get_or names number [] → NextSays inputs old new f0 f1 (Err why)
@@ -263,17 +280,8 @@ file_stops told inputs names plan number file c0 out0 old new now out_now out_ne
   where
     step : (files : List (List ℕ)) (bytes : List ℕ) → Unread plan file old why bytes → Stands files plan file c0 out0 old now out_now before place bytes → FileStops files plan file c0 out0 out_next result bytes
     step files bytes u s =
-        let next : Composing = unsent s.sent (composing_of files plan.base now) in
-        record {
-          items = s.items;
-          rest = left old bytes;
-          next = next;
-          read = s.read;
-          all = s.all;
-          front = front_after out0 out_now out_next s.sent now.pending s.appends stopped.front;
-          why = ⊎_elim (λ kept. subst (λ (x : Outcome). FileWhy plan file next (left old bytes) x bytes) (sym (kept ∙ outcome_is)) (u s.reached next))
-              (λ failed. subst (λ (x : Outcome). FileWhy plan file next (left old bytes) x bytes) (sym failed.0) tt) stopped.outcome_is;
-        }
+        ends_here files plan file c0 out0 old now out_now out_next before place g0 g1 outcome result bytes stopped s
+        (subst (λ (x : Outcome). FileWhy plan file (unsent s.sent (composing_of files plan.base now)) (left old bytes) x bytes) (sym outcome_is) (u s.reached (unsent s.sent (composing_of files plan.base now))))
 
 -- The next item has a version above that of the stream that is written.
 pub file_above : (told : Option (List (List ℕ × List ℕ))) (names : List (List ℕ)) (plan : Plan) (number file : ℕ) (c0 : Kept) (out0 : Option (List ℕ)) (old new : Reader) (now : Kept) (out_now out_next : Option (List ℕ)) (before place : Place)
@@ -287,18 +295,8 @@ file_above told names plan number file c0 out0 old new now out_now out_next befo
   where
     step : (files : List (List ℕ)) (bytes : List ℕ) → IsNext old new item bytes → Stands files plan file c0 out0 old now out_now before place bytes → FileStops files plan file c0 out0 out_next result bytes
     step files bytes n s =
-        let next : Composing = unsent s.sent (composing_of files plan.base now) in
-        let why : FileWhy plan file next (left old bytes) (over.Refused verdict) bytes = inr (inr (record { item = item_of file item; more = left new bytes; front = left_next file old new item bytes old_file n; above = above })) in
-        record {
-          items = s.items;
-          rest = left old bytes;
-          next = next;
-          read = s.read;
-          all = s.all;
-          front = front_after out0 out_now out_next s.sent now.pending s.appends stopped.front;
-          why = ⊎_elim (λ kept. subst (λ (x : Outcome). FileWhy plan file next (left old bytes) x bytes) (sym kept) why)
-              (λ failed. subst (λ (x : Outcome). FileWhy plan file next (left old bytes) x bytes) (sym failed.0) tt) stopped.outcome_is;
-        }
+        ends_here files plan file c0 out0 old now out_now out_next before place g0 g1 (over.Refused verdict) result bytes stopped s
+        (inr (inr (record { item = item_of file item; more = left new bytes; front = left_next file old new item bytes old_file n; above = above })))
 
 -- ---- an item ends composing
 

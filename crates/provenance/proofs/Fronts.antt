@@ -1,6 +1,6 @@
 -- The cells in front of some contents, piece by piece.
-use Rattle.std.specs.Prelude.{◌≡◌, ℕ, ◌+◌, ◌-◌, ◌<◌, ◌≤◌, List, [], ◌∷◌, ◌++◌, map, length, take, drop, get_or, Option, None, Some}
-use Rattle.std.proofs.Common.{refl, sym, ap, ◌∙◌, arith, length-append}
+use Rattle.std.specs.Prelude.{◌≡◌, ℕ, ◌+◌, ◌-◌, ◌<◌, ◌≤◌, List, ◌++◌, map, length, take, drop, get_or, Option, None, Some}
+use Rattle.std.proofs.Common.{refl, sym, ap, ◌∙◌, arith}
 use Rattle.std.proofs.Math.Logic.{⊎_elim}
 use Rattle.std.proofs.lemmas.Bool.{cases_lt}
 use Rattle.std.proofs.lemmas.List.{length-map, length-take, length-drop, get_or-drop, get_or-map, get_or_append_left, drop-map, drop-take}
@@ -9,6 +9,7 @@ use Rattle.send_model.proofs.Overwriting.{drop_twice}
 use Rattle.extent_map.specs.Cells.{cells_between}
 use Rattle.extent_map.specs.Pieces.{piece_cells}
 use Rattle.extent_map.proofs.Layouts.{length-piece, get_or-hole, get_or-run}
+use Rattle.extent_map.proofs.PieceByPiece.{reaches}
 use Rattle.provenance.specs.declared.trace.Trace.{Trace}
 use Rattle.provenance.specs.declared.trace.Trace.TheVariants.{Fresh, Outside}
 use Rattle.provenance.specs.Traces.{advanced_by, place_of, place_in}
@@ -34,15 +35,9 @@ place_there : (cells : List (Option Trace)) (i : ℕ) → i < length cells → g
 place_there cells i lt = get_or-map place_in cells i None None lt
 
 module _ (whole : List (Option Trace)) (have : ℕ) (origin : Option Trace) (n : ℕ) (rest : List (Option Trace)) (is : drop have whole ≡ piece_cells advanced_by origin n ++ rest) where
-  pub reaches : 0 < n → have + n ≤ length whole
-  reaches some =
-      let d = length-drop have whole in
-      let l = ap length is in
-      omega (arith, some, d, l, length-append (piece_cells advanced_by origin n) rest, length-piece advanced_by origin n)
-
   next_place_is : 0 < n → (i : ℕ) → i < n → get_or (map place_in whole) (have + i) None ≡ later (place_in origin) i
   next_place_is some i lt =
-      let r = reaches some in
+      let r = reaches advanced_by whole have n origin rest is some in
       place_there whole (have + i) (omega (arith, r, lt)) ∙ ap place_in (sym (get_or-drop have whole i None)) ∙ piece_follows origin n rest (drop have whole) is i lt
 
   -- A piece that goes on from what stands before it.
@@ -73,19 +68,6 @@ module _ (whole : List (Option Trace)) (have : ℕ) (origin : Option Trace) (n :
       later_none : (o : Option Place) → later o 0 ≡ o
       later_none None = refl
       later_none (Some q) = ap Some (after_none q)
-
-drop_front : {C : Type 0} (xs ys : List C) → drop (length xs) (xs ++ ys) ≡ ys
-drop_front [] ys = refl
-drop_front (x ∷ xs) ys = drop_front xs ys
-
--- What is left after a piece.
-pub left_after : (whole : List (Option Trace)) (have : ℕ) (origin : Option Trace) (n : ℕ) (rest : List (Option Trace)) → drop have whole ≡ piece_cells advanced_by origin n ++ rest → drop (have + n) whole ≡ rest
-left_after whole have origin n rest is =
-    sym (drop_twice have n whole) ∙ ap (drop n) is ∙ ap (λ (k : ℕ). drop k (piece_cells advanced_by origin n ++ rest)) (sym (length-piece advanced_by origin n)) ∙ drop_front (piece_cells advanced_by origin n) rest
-
--- Nothing is left after all cells.
-pub all_had : (whole : List (Option Trace)) (have : ℕ) → drop have whole ≡ [] → length whole ≤ have
-all_had whole have none = omega (arith, length-drop have whole, ap length none)
 
 -- All cells are in front.
 pub stops_at_end : (first : Option Place) (have : ℕ) (cells : List (Option Place)) → length cells ≤ have → Stops first have cells

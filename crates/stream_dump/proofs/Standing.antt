@@ -3,7 +3,7 @@ use Rattle.std.specs.Prelude.{◌≡◌, ℕ, ◌+◌, ◌≤◌, Bool, true, Li
 use Rattle.std.specs.Io.KnownBytes.{Appends}
 use Rattle.std.proofs.Common.{refl, sym, ap, subst, ◌∙◌, append_assoc, append-nil, arith, inl, inr, length-append}
 use Rattle.std.proofs.KnownBytes.{Appends-nil, Appends-trans}
-use Rattle.std.proofs.lemmas.List.{take-append-drop}
+use Rattle.std.proofs.lemmas.List.{take-append-drop, take_at}
 use Rattle.send_model.specs.Reading as reading
 use Rattle.send_model.specs.Reading.{Item, Reading, Whole, Faulty, reads}
 use Rattle.send_model.specs.Counts.{is_end}
@@ -42,15 +42,11 @@ pub record Stands (piece : Bool → Item → List ℕ) (reader : Reader) (gather
 
 -- ---- parts of lists
 
-take_front : (xs ys : List ℕ) → take (length xs) (xs ++ ys) ≡ xs
-take_front [] ys = refl
-take_front (x ∷ xs) ys = ap (λ (l : List ℕ). x ∷ l) (take_front xs ys)
-
 is_front : (all written rest : List ℕ) → all ≡ written ++ rest → IsFrontOf all written
 is_front all written rest e = record {
   count = length written;
   within = let count : length all ≡ length written + length rest = ap length e ∙ length-append written rest in omega (arith, count);
-  written_is = sym (ap (take (length written)) e ∙ take_front written rest);
+  written_is = sym (ap (take (length written)) e ∙ take_at written rest (length written) refl);
 }
 
 part_front : (all sent text rest : List ℕ) (count : ℕ) → all ≡ (sent ++ text) ++ rest → IsFrontOf all (sent ++ take count text)

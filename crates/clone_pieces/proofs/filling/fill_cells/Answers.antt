@@ -2,10 +2,11 @@ use Rattle.std.proofs.Common.{◌+◌, ◌-◌, ◌<◌, ◌^◌, map, length, s
 use Rattle.std.specs.String.{string_bytes}
 use Rattle.extent_map.specs.Cells.{cells_between}
 use Rattle.extent_map.proofs.CellLists.{length-between}
-use Rattle.provenance.proofs.Fronts.{reaches, left_after}
+use Rattle.extent_map.proofs.PieceByPiece.{next_within, left_after, filled_all, mid_length}
+use Rattle.provenance.specs.Traces.{advanced_by}
 use Rattle.clone_pieces.proofs.Told.{all_map}
-use Rattle.clone_pieces.proofs.Fills.{FilledTo, filled_all, mid_length, turn_had, turn_there, turn_filled}
-use Rattle.clone_pieces.specs.Filling.{FillEnd}
+use Rattle.clone_pieces.proofs.Fills.{FilledTo, turn_had, turn_there, turn_filled}
+use Rattle.clone_pieces.specs.Filling.{byte_in, FillEnd}
 use Rattle.std.specs.Prelude.{Ok}
 use Rattle.clone_pieces.proofs.filling.fill_cells.Goals as goal
 
@@ -13,38 +14,34 @@ pub overflow_add-end : goal.overflow_add-end
 overflow_add-end g c =
     let s = c.in-Some.ensures.steps in
     let whole = cells_between c.args.from (length c.args.buf.now) c.args.contents.now in
-    let r = reaches whole c.loop-origin.have c.in-Some.origin c.in-Some.len c.next.new.self (c.loop-origin.invariant.left ∙ s.2) s.0 in
-    let l = length-between c.args.from (length c.args.buf.now) c.args.contents.now c.requires.within in
+    let r = next_within advanced_by c.args.contents.now c.args.from (length c.args.buf.now) c.loop-origin.have c.in-Some.len c.in-Some.origin c.next.new.self c.requires.within (c.loop-origin.invariant.left ∙ s.2) s.0 in
     let small : length c.args.buf.now < 2 ^ 63 = search rules in
-    omega (arith, r, l, small)
+    omega (arith, r, small)
 
 pub slice_bounds-fill_piece-end : goal.slice_bounds-fill_piece-end
 slice_bounds-fill_piece-end g c =
     let s = c.in-Some.ensures.steps in
     let whole = cells_between c.args.from (length c.args.buf.now) c.args.contents.now in
-    let r = reaches whole c.loop-origin.have c.in-Some.origin c.in-Some.len c.next.new.self (c.loop-origin.invariant.left ∙ s.2) s.0 in
-    let l = length-between c.args.from (length c.args.buf.now) c.args.contents.now c.requires.within in
-    omega (arith, r, l, c.loop-origin.invariant.size)
+    let r = next_within advanced_by c.args.contents.now c.args.from (length c.args.buf.now) c.loop-origin.have c.in-Some.len c.in-Some.origin c.next.new.self c.requires.within (c.loop-origin.invariant.left ∙ s.2) s.0 in
+    omega (arith, r, c.loop-origin.invariant.size)
 
 pub fill_piece-requires-clause-had : goal.fill_piece-requires-clause-had
 fill_piece-requires-clause-had g c =
     let s = c.in-Some.ensures.steps in
     let i = c.loop-origin.invariant in
     let whole = cells_between c.args.from (length c.args.buf.now) c.args.contents.now in
-    let r = reaches whole c.loop-origin.have c.in-Some.origin c.in-Some.len c.next.new.self (i.left ∙ s.2) s.0 in
-    let l = length-between c.args.from (length c.args.buf.now) c.args.contents.now c.requires.within in
+    let r = next_within advanced_by c.args.contents.now c.args.from (length c.args.buf.now) c.loop-origin.have c.in-Some.len c.in-Some.origin c.next.new.self c.requires.within (i.left ∙ s.2) s.0 in
     turn_had (g.I.Inputs.told c.args.inputs.now) (g.I.Inputs.told c.loop-origin.inputs) (map string_bytes c.args.files.now) (g.B.OutsideBytes.held c.args.bytes.now) (g.B.OutsideBytes.held c.loop-origin.bytes) i.same i.held
-    whole c.loop-origin.have c.in-Some.len c.in-Some.origin c.next.new.self (i.left ∙ s.2) s.0 _ (mid_length c.loop-origin.have c.in-Some.len c.loop-origin.buf (omega (arith, r, l, i.size))) (length c.args.files.now) c.requires.had
+    whole c.loop-origin.have c.in-Some.len c.in-Some.origin c.next.new.self (i.left ∙ s.2) s.0 _ (mid_length c.loop-origin.have c.in-Some.len c.loop-origin.buf (omega (arith, r, i.size))) (length c.args.files.now) c.requires.had
 
 pub fill_piece-requires-clause-there : goal.fill_piece-requires-clause-there
 fill_piece-requires-clause-there g c =
     let s = c.in-Some.ensures.steps in
     let i = c.loop-origin.invariant in
     let whole = cells_between c.args.from (length c.args.buf.now) c.args.contents.now in
-    let r = reaches whole c.loop-origin.have c.in-Some.origin c.in-Some.len c.next.new.self (i.left ∙ s.2) s.0 in
-    let l = length-between c.args.from (length c.args.buf.now) c.args.contents.now c.requires.within in
+    let r = next_within advanced_by c.args.contents.now c.args.from (length c.args.buf.now) c.loop-origin.have c.in-Some.len c.in-Some.origin c.next.new.self c.requires.within (i.left ∙ s.2) s.0 in
     turn_there (g.I.Inputs.told c.args.inputs.now) (g.I.Inputs.told c.loop-origin.inputs) (map string_bytes c.args.files.now) (g.B.OutsideBytes.held c.args.bytes.now) (g.B.OutsideBytes.held c.loop-origin.bytes) i.same i.held
-    whole c.loop-origin.have c.in-Some.len c.in-Some.origin c.next.new.self (i.left ∙ s.2) s.0 _ (mid_length c.loop-origin.have c.in-Some.len c.loop-origin.buf (omega (arith, r, l, i.size))) c.requires.there
+    whole c.loop-origin.have c.in-Some.len c.in-Some.origin c.next.new.self (i.left ∙ s.2) s.0 _ (mid_length c.loop-origin.have c.in-Some.len c.loop-origin.buf (omega (arith, r, i.size))) c.requires.there
 
 pub loop-origin-preserved : goal.loop-origin-preserved
 loop-origin-preserved g c =
@@ -52,15 +49,14 @@ loop-origin-preserved g c =
     let i = c.loop-origin.invariant in
     let e = c.in-Ok.ensures in
     let whole = cells_between c.args.from (length c.args.buf.now) c.args.contents.now in
-    let r = reaches whole c.loop-origin.have c.in-Some.origin c.in-Some.len c.next.new.self (i.left ∙ s.2) s.0 in
-    let l = length-between c.args.from (length c.args.buf.now) c.args.contents.now c.requires.within in
-    let mid = mid_length c.loop-origin.have c.in-Some.len c.loop-origin.buf (omega (arith, r, l, i.size)) in
+    let r = next_within advanced_by c.args.contents.now c.args.from (length c.args.buf.now) c.loop-origin.have c.in-Some.len c.in-Some.origin c.next.new.self c.requires.within (i.left ∙ s.2) s.0 in
+    let mid = mid_length c.loop-origin.have c.in-Some.len c.loop-origin.buf (omega (arith, r, i.size)) in
     record {
       can = tt;
       finite = tt;
       size = search rules;
-      within = omega (arith, r, l);
-      left = left_after whole c.loop-origin.have c.in-Some.origin c.in-Some.len c.next.new.self (i.left ∙ s.2);
+      within = r;
+      left = left_after advanced_by whole c.loop-origin.have c.in-Some.len c.in-Some.origin c.next.new.self (i.left ∙ s.2);
       same = e.same ∙ i.same;
       held = e.held ∙ i.held;
       later = omega (arith, e.later, i.later);
@@ -78,4 +74,4 @@ returns-clause-filled g c =
     let l = length-between c.args.from (length c.args.buf.now) c.args.contents.now c.requires.within in
     let held = g.B.OutsideBytes.held c.args.bytes.now in
     all_map (g.I.Inputs.told c.args.inputs.now) (map string_bytes c.args.files.now) (FilledTo held whole c.loop-origin.have c.loop-origin.buf) (FillEnd held whole c.loop-origin.buf (Ok tt))
-    (λ files filled. filled_all held whole c.loop-origin.have c.loop-origin.buf files (i.left ∙ c.in-None.ensures.steps.0) (i.size ∙ sym l) filled) i.filled
+    (λ files filled. filled_all (byte_in held files) whole c.loop-origin.have c.loop-origin.buf (i.left ∙ c.in-None.ensures.steps.0) (i.size ∙ sym l) filled) i.filled

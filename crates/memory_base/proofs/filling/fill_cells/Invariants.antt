@@ -1,6 +1,7 @@
 use Rattle.std.proofs.Common.{◌≡◌, ◌≤◌, length, drop}
 use Rattle.extent_map.specs.Cells.{cells_between}
-use Rattle.memory_base.proofs.Filled.{FilledTo}
+use Rattle.extent_map.proofs.PieceByPiece.{FilledTo}
+use Rattle.memory_base.specs.Bases.{byte_of}
 use Rattle.memory_base.proofs.filling.fill_cells.Given as goal
 
 -- The front of the buffer has the bytes of the cells before those that are left.
@@ -11,5 +12,5 @@ invariant-loop-origin l = record {
   size : length l.buf ≡ length l.fn.buf;
   within : l.have ≤ length l.fn.buf;
   left : drop l.have (cells_between l.from (length l.fn.buf) l.contents) ≡ l.origin-iterator;
-  filled : FilledTo l.bytes (cells_between l.from (length l.fn.buf) l.contents) l.have l.buf;
+  filled : FilledTo (byte_of l.bytes) (cells_between l.from (length l.fn.buf) l.contents) l.have l.buf;
 }

@@ -13,9 +13,9 @@ unfinished : (c : In_ok-push_all) → (c.push_asked.new.writer.start ≡ length 
 unfinished c = (
   ap (λ (w : Begun). w.start) (c.push_asked.ensures.writer ∙ c.in_ok-writer.ensures.begun),
   c.in_ok-push_all.ensures.appended
-  ∙ ap (λ (l : List ℕ). l ++ c.args.body.now) (c.in_ok-push_asked.ensures.appended
-  ∙ ap (λ (w : Begun). c.begin.new.to ++ attribute_bytes w.version (attribute_of c.args.asked)) c.in_ok-writer.ensures.begun
-  ∙ ap (λ (l : List ℕ). l ++ attribute_bytes c.args.version (attribute_of c.args.asked)) c.in_ok-writer.ensures.room),
+      ∙ ap (λ (l : List ℕ). l ++ c.args.body.now) (c.in_ok-push_asked.ensures.appended
+      ∙ ap (λ (w : Begun). c.begin.new.to ++ attribute_bytes w.version (attribute_of c.args.asked)) c.in_ok-writer.ensures.begun
+      ∙ ap (λ (l : List ℕ). l ++ attribute_bytes c.args.version (attribute_of c.args.asked)) c.in_ok-writer.ensures.room),
 )
 
 pub finish-requires-clause-begun : goal.finish-requires-clause-begun

@@ -1,6 +1,10 @@
-use Rattle.std.proofs.Common.{◌≡◌, ℕ, Bool, List, None, Some, cond, sym, ap, ◌∙◌}
+use Rattle.std.proofs.Common.{◌≡◌, ℕ, Bool, true, false, List, None, Some, cond, sym, ap, ◌∙◌}
 use Rattle.std.specs.Str.{bytes_eq}
+use Rattle.subvol_catalog.specs.Entries.{listed}
+use Rattle.subvol_catalog.specs.Admission.{uuid_named}
 use Rattle.subvol_catalog.proofs.Pairs.{none_named, named_in, if_named}
+use Rattle.subvol_catalog.proofs.catalog.Catalog.uuid_of.Given.{Over}
+use Rattle.subvol_catalog.proofs.catalog.Catalog.uuid_of.Goals.{After-eq}
 use Rattle.subvol_catalog.proofs.catalog.Catalog.uuid_of.Goals as goal
 
 pub returns-in_err-uuid : goal.returns-in_err-uuid
@@ -12,16 +16,15 @@ returns-in_err-entry g c =
     rw (c.from_residual-in_err-entry.ensures, ← c.self.view_is)
     (sym (named_in c.self.inside.names.entries c.args.name.now u c.self.inside.entries.entries c.self.invariant (sym c.in_ok-uuid.ensures.value) ∙ ap (if_named c.args.name.now u) (sym c.in_err-entry.ensures.value)))
 
-pub returns-then-eq : goal.returns-then-eq
-returns-then-eq g c =
+-- What is found, by whether the entry that the name leads to has this name.
+by_name : (g : Over) (c : After-eq g) (same : Bool) → c.eq.result ≡ same → cond same (Some c.in_ok-uuid.field-0.now) None ≡ uuid_named c.args.name.now (listed c.self.inside.entries.entries)
+by_name g c same is =
     let u : List ℕ = c.in_ok-uuid.field-0.now in
-    let same : bytes_eq c.in_ok-entry.entry.now.name c.args.name.now ≡ c.eq.result = ap (λ (x : List ℕ). bytes_eq x c.args.name.now) (sym c.as_slice.ensures.bytes) ∙ sym c.eq.ensures in
-    rw (← c.self.view_is)
-    (sym (named_in c.self.inside.names.entries c.args.name.now u c.self.inside.entries.entries c.self.invariant (sym c.in_ok-uuid.ensures.value) ∙ ap (if_named c.args.name.now u) (sym c.in_ok-entry.ensures.value) ∙ ap (λ (b : Bool). cond b (Some u) None) (same ∙ c.if-eq.true)))
+    let eq : bytes_eq c.in_ok-entry.entry.now.name c.args.name.now ≡ c.eq.result = ap (λ (x : List ℕ). bytes_eq x c.args.name.now) (sym c.as_slice.ensures.bytes) ∙ sym c.eq.ensures in
+    sym (named_in c.self.inside.names.entries c.args.name.now u c.self.inside.entries.entries c.self.invariant (sym c.in_ok-uuid.ensures.value) ∙ ap (if_named c.args.name.now u) (sym c.in_ok-entry.ensures.value) ∙ ap (λ (b : Bool). cond b (Some u) None) (eq ∙ is))
+
+pub returns-then-eq : goal.returns-then-eq
+returns-then-eq g c = rw (← c.self.view_is) (by_name g (goal.at.returns-then-eq g c).After-eq true c.if-eq.true)
 
 pub returns-else-eq : goal.returns-else-eq
-returns-else-eq g c =
-    let u : List ℕ = c.in_ok-uuid.field-0.now in
-    let same : bytes_eq c.in_ok-entry.entry.now.name c.args.name.now ≡ c.eq.result = ap (λ (x : List ℕ). bytes_eq x c.args.name.now) (sym c.as_slice.ensures.bytes) ∙ sym c.eq.ensures in
-    rw (← c.self.view_is)
-    (sym (named_in c.self.inside.names.entries c.args.name.now u c.self.inside.entries.entries c.self.invariant (sym c.in_ok-uuid.ensures.value) ∙ ap (if_named c.args.name.now u) (sym c.in_ok-entry.ensures.value) ∙ ap (λ (b : Bool). cond b (Some u) None) (same ∙ c.if-eq.false)))
+returns-else-eq g c = rw (← c.self.view_is) (by_name g (goal.at.returns-else-eq g c).After-eq false c.if-eq.false)
