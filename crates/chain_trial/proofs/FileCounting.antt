@@ -13,7 +13,7 @@ use Rattle.cmd_reader.specs.Places.{IfTold}
 use Rattle.cmd_reader.specs.Left.{Reader, at_start, left}
 use Rattle.cmd_reader.specs.Next.{item_of, HasEnded, ItemFits, IfItem, IsNext, NextSays}
 use Rattle.cmd_reader.proofs.Aheads.{next_item, next_end}
-use Rattle.cmd_reader.proofs.Told.{told_both, told_always, told_moved}
+use Rattle.cmd_reader.proofs.Told.{told_both, told_always}
 use Rattle.chain_trial.specs.declared.counting.Counted.{Counted}
 use Rattle.chain_trial.specs.Counting.{AreCounted, FileCounted, IfCounted}
 

@@ -3,7 +3,8 @@ use Rattle.std.specs.String.{string_bytes}
 use Rattle.std.proofs.Common.{◌≡◌, ap, ◌∙◌}
 use Rattle.sx_base.specs.Memory.{Taken}
 use Rattle.send_model.specs.Generated.{chain_of}
-use Rattle.chain_trial.proofs.Trials.{IsDone, FileCounted, alone, chain_written, composed_written, file_counted, same_table, no_fewer, are_numbers}
+use Rattle.chain_trial.specs.Counting.{FileCounted}
+use Rattle.chain_trial.proofs.Trials.{IsDone, alone, chain_written, composed_written, file_counted, same_table, no_fewer, are_numbers}
 use Rattle.chain_trial.proofs.trying.numbers_of.Goals.{In_ok-written}
 use Rattle.chain_trial.proofs.trying.numbers_of.Goals as goal
 
