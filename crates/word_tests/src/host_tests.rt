@@ -41,6 +41,18 @@ fn files_are_read_in_any_order(rt: HostRuntime) -> Result<(), Fail> {
 }
 
 #[test]
+fn what_can_not_be_read_is_a_fault(rt: HostRuntime) -> Result<(), Fail> {
+    let mut inputs = PathInputs::new(&rt, rt.alloc());
+    let mut buf = [0; 4];
+    // A folder, and a file of the system whose first bytes can't be read.
+    for name in [".", "/proc/self/mem"] {
+        assert_eq!(rt; inputs.read_at(name, 0, &mut buf), Err(Failed));
+        assert_eq!(rt; inputs.read_again(name, 0, &mut buf), Err(Lost::Failed));
+    }
+    Ok(())
+}
+
+#[test]
 fn more_files_are_read_than_stay_open(rt: HostRuntime) -> Result<(), Fail> {
     let mut inputs = PathInputs::new(&rt, rt.alloc());
     let mut buf = [0; 2];
