@@ -1,6 +1,6 @@
 #!/bin/sh
 # Tries the whole program against real faults: outputs that are full, closed or cut off, files that can not be read, that are
-# pipes, or that change between the two readings, short reads and short writes, many words and strange ones. Most cases are of
+# pipes, or that change between two readings, short reads and short writes, many words and strange ones. Most cases are of
 # `compose`, and some of each other word. The program is the first word, or else the one that this repository has built;
 # nothing is proved or built here. It prints a line for each case, and ends with status 0 only where all are right. Needs
 # python3, which makes the streams, and gcc.
@@ -30,7 +30,8 @@ def checksum(data):
         sum = (sum >> 8) ^ TABLE[(sum ^ byte) & 255]
     return sum
 
-NUMBERS = dict(uuid=1, ctransid=2, ino=3, path=15, offset=18, data=19, clone_uuid=20, clone_ctransid=21)
+NUMBERS = dict(uuid=1, ctransid=2, ino=3, path=15, offset=18, data=19, clone_uuid=20, clone_ctransid=21, clone_path=22,
+               clone_offset=23, clone_len=24)
 
 def command(number, **values):
     body = b''
@@ -88,6 +89,13 @@ put('first-third', full(b'c', 3, long + two + three))
 put('first-same-head', full(b'b', 2, long + other))
 put('first-other-head', full(b'd', 2, long + other))
 
+# The last command of `taker` is a clone of the first's file, whose data begin at place 110 of `donor`.
+given = bytes(range(250)) * 80
+clone = dict(offset=0, clone_uuid=uuid(1), clone_ctransid=1, clone_path=b'1', clone_offset=0, clone_len=len(given))
+put('donor', full(b'a', 1, file(b'1', given)))
+put('taker', later(b'b', 2, long + file(b'2') + command(16, path=b'2', **clone)))
+put('donor-taker', full(b'b', 2, file(b'1', given) + long + file(b'2', given)))
+
 files = [file(b'%d' % number, b'%d' % number) for number in range(3000)]
 put('m0', full(b's0', 1, files[0]))
 for number in range(1, 3000):
@@ -130,7 +138,7 @@ ssize_t write(int file, const void *bytes, size_t len) {
 
 ssize_t __write(int file, const void *bytes, size_t len) { return write(file, bytes, len); }
 C
-mkdir kept && cp small first second third damaged kept || exit 2
+mkdir kept && cp small first second third damaged donor taker kept || exit 2
 
 wrong=0
 case_is() {
@@ -354,6 +362,21 @@ new second; changing 'rm file; mkdir file' first file
 never_wrong 'a file that becomes a folder' first-second
 rm -rf file
 
+# ---- files that change before a clone takes bytes of them, which are read a third time then
+
+run compose none donor taker; composed 'a chain with a clone from the part before' donor-taker
+new donor; changing 'sleep 1; truncate -s 10000 file' file taker
+refused 'a file that shrinks, and a clone takes bytes of it' 13 'input changed 1 10000'
+new donor; changing 'sleep 1; truncate -s 110 file' file taker
+refused 'a file that shrinks to where the bytes of a clone begin' 13 'input changed 1 110'
+new donor; changing 'sleep 1; : >file' file taker
+refused 'a file that shrinks to nothing, and a clone takes bytes of it' 13 'input changed 1 110'
+new donor; changing 'sleep 1; truncate -s -1 file' file taker
+composed 'a file that shrinks behind the bytes of a clone' donor-taker
+new donor; changing 'sleep 1; rm file' file taker
+composed 'a file that is removed while it is open, and a clone takes bytes of it' donor-taker
+rm -rf file
+
 # ---- reads and writes that move few bytes, and that fail in their middle
 
 short() {
@@ -381,7 +404,7 @@ each_fails FAIL_WRITE 4 'output fault'
 
 # ---- the files are as they were
 
-for name in small first second third damaged; do
+for name in small first second third damaged donor taker; do
     cmp -s "$name" "kept/$name" || case_is "the file $name afterwards" "it was changed"
 done
 if [ "$wrong" = 0 ]; then echo "all right"; exit 0; fi
