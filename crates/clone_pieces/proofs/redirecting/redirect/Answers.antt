@@ -1,6 +1,6 @@
 use Rattle.std.specs.List.{AllByRecursion}
 use Rattle.std.specs.String.{string_bytes}
-use Rattle.std.proofs.Common.{◌≡◌, ℕ, List, ◌+◌, map, refl, sym, subst, ◌∙◌, arith, rules}
+use Rattle.std.proofs.Common.{◌≡◌, ℕ, List, ◌∷◌, ◌+◌, ◌<◌, ◌^◌, map, refl, sym, subst, ◌∙◌, arith, rules}
 use Rattle.sx_base.specs.Calls.{IfAllTold}
 use Rattle.extent_map.specs.Cells.{cells_between}
 use Rattle.extent_map.proofs.CellLists.{length-between}
@@ -10,6 +10,8 @@ use Rattle.provenance.specs.Cuts.{Cut}
 use Rattle.clone_pieces.specs.Cutting.{cut_len, IsNamed}
 use Rattle.clone_pieces.proofs.Rows.{CutRow, cuts_row, cuts_named, row_next, row_fits, row_stands}
 use Rattle.clone_pieces.proofs.Redirects.{plan_had, plan_there, Stands, stands_start, stands_more, stands_stop, stands_end}
+use Rattle.clone_pieces.proofs.redirecting.redirect.Given.{Over}
+use Rattle.clone_pieces.proofs.redirecting.redirect.Goals.{In-Some}
 use Rattle.clone_pieces.proofs.redirecting.redirect.Goals as goal
 
 pub loop-plan-init : goal.loop-plan-init
@@ -41,25 +43,24 @@ loop-plan-init g c =
           (stands_start told names base held c.args.contents.now c.args.from c.args.len c.args.version c.args.path.now c.args.offset E right c.requires.held cuts c.requires.within said.pieces out c.args.pending.now);
     }
 
-pub overflow_add-offset : goal.overflow_add-offset
-overflow_add-offset g c =
-    let i = c.loop-plan.invariant in
-    let row = subst (λ (cs : List Cut). CutRow c.args.from c.loop-plan.done cs c.args.len) c.in-Some.ensures.steps i.row in
-    let fits = row_fits c.args.from c.loop-plan.done c.args.len (planned c.in-Some.plan) c.next.new.self row in
+-- The piece stands behind those that have gone out, and ends within the file.
+standing : (g : Over) (c : In-Some g) → CutRow c.args.from c.loop-plan.done (planned c.in-Some.plan ∷ c.next.new.self) c.args.len
+standing g c = subst (λ (cs : List Cut). CutRow c.args.from c.loop-plan.done cs c.args.len) c.in-Some.ensures.steps c.loop-plan.invariant.row
+
+ends : (g : Over) (c : In-Some g) → c.args.offset + c.loop-plan.done + cut_len (planned c.in-Some.plan) < 2 ^ 63
+ends g c =
+    let fits = row_fits c.args.from c.loop-plan.done c.args.len (planned c.in-Some.plan) c.next.new.self (standing g c) in
     omega (arith, fits, c.requires.end)
 
+pub overflow_add-offset : goal.overflow_add-offset
+overflow_add-offset g c = let e = ends g (goal.at.overflow_add-offset g c).In-Some in omega (arith, e)
+
 pub write_plan-requires-clause-end : goal.write_plan-requires-clause-end
-write_plan-requires-clause-end g c =
-    let i = c.loop-plan.invariant in
-    let row = subst (λ (cs : List Cut). CutRow c.args.from c.loop-plan.done cs c.args.len) c.in-Some.ensures.steps i.row in
-    let fits = row_fits c.args.from c.loop-plan.done c.args.len (planned c.in-Some.plan) c.next.new.self row in
-    omega (arith, fits, c.requires.end)
+write_plan-requires-clause-end g c = ends g (goal.at.write_plan-requires-clause-end g c).In-Some
 
 pub write_plan-requires-clause-within : goal.write_plan-requires-clause-within
 write_plan-requires-clause-within g c =
-    let i = c.loop-plan.invariant in
-    let row = subst (λ (cs : List Cut). CutRow c.args.from c.loop-plan.done cs c.args.len) c.in-Some.ensures.steps i.row in
-    row_stands c.args.from c.loop-plan.done c.args.len _ (planned c.in-Some.plan) c.next.new.self row c.requires.within
+    row_stands c.args.from c.loop-plan.done c.args.len _ (planned c.in-Some.plan) c.next.new.self (standing g (goal.at.write_plan-requires-clause-within g c).In-Some) c.requires.within
 
 pub write_plan-requires-clause-had : goal.write_plan-requires-clause-had
 write_plan-requires-clause-had g c =
@@ -74,11 +75,7 @@ write_plan-requires-clause-there g c =
     c.args.contents.now c.args.from c.args.len c.loop-plan.done (planned c.in-Some.plan) c.loop-plan.plan-iterator c.next.new.self c.in-Some.ensures.steps i.row c.requires.there
 
 pub overflow_add-done : goal.overflow_add-done
-overflow_add-done g c =
-    let i = c.loop-plan.invariant in
-    let row = subst (λ (cs : List Cut). CutRow c.args.from c.loop-plan.done cs c.args.len) c.in-Some.ensures.steps i.row in
-    let fits = row_fits c.args.from c.loop-plan.done c.args.len (planned c.in-Some.plan) c.next.new.self row in
-    omega (arith, fits, c.requires.end, c.len_of-count.ensures)
+overflow_add-done g c = let e = ends g (goal.at.overflow_add-done g c).In-Some in omega (arith, e, c.len_of-count.ensures)
 
 pub loop-plan-preserved : goal.loop-plan-preserved
 loop-plan-preserved g c =
@@ -92,7 +89,7 @@ loop-plan-preserved g c =
     let held = g.B.OutsideBytes.held c.args.bytes.now in
     let out = g.O.Sink.taken c.args.out.now in
     let next_out = g.O.Sink.taken c.write_plan.new.out in
-    let row = subst (λ (cs : List Cut). CutRow c.args.from c.loop-plan.done cs c.args.len) step i.row in
+    let row = standing g (goal.at.loop-plan-preserved g c).In-Some in
     let long : cut_len (planned c.in-Some.plan) ≡ c.len_of-count.result = sym c.len_of-count.ensures in
     record {
       can = tt;
