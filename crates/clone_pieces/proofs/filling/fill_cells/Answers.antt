@@ -1,4 +1,4 @@
-use Rattle.std.proofs.Common.{◌+◌, ◌-◌, ◌<◌, ◌^◌, map, length, sym, ◌∙◌, arith, rules}
+use Rattle.std.proofs.Common.{◌+◌, ◌-◌, ◌<◌, ◌≤◌, ◌^◌, map, length, sym, ◌∙◌, arith, rules}
 use Rattle.std.specs.String.{string_bytes}
 use Rattle.extent_map.specs.Cells.{cells_between}
 use Rattle.extent_map.proofs.CellLists.{length-between}
@@ -8,21 +8,25 @@ use Rattle.clone_pieces.proofs.Told.{all_map}
 use Rattle.clone_pieces.proofs.Fills.{FilledTo, turn_had, turn_there, turn_filled}
 use Rattle.clone_pieces.specs.Filling.{byte_in, FillEnd}
 use Rattle.std.specs.Prelude.{Ok}
+use Rattle.clone_pieces.proofs.filling.fill_cells.Given.{Over}
+use Rattle.clone_pieces.proofs.filling.fill_cells.Goals.{In-Some}
 use Rattle.clone_pieces.proofs.filling.fill_cells.Goals as goal
+
+-- The piece ends within the buffer.
+fits : (g : Over) (c : In-Some g) → c.loop-origin.have + c.in-Some.len ≤ length c.args.buf.now
+fits g c =
+    let s = c.in-Some.ensures.steps in
+    next_within advanced_by c.args.contents.now c.args.from (length c.args.buf.now) c.loop-origin.have c.in-Some.len c.in-Some.origin c.next.new.self c.requires.within (c.loop-origin.invariant.left ∙ s.2) s.0
 
 pub overflow_add-end : goal.overflow_add-end
 overflow_add-end g c =
-    let s = c.in-Some.ensures.steps in
-    let whole = cells_between c.args.from (length c.args.buf.now) c.args.contents.now in
-    let r = next_within advanced_by c.args.contents.now c.args.from (length c.args.buf.now) c.loop-origin.have c.in-Some.len c.in-Some.origin c.next.new.self c.requires.within (c.loop-origin.invariant.left ∙ s.2) s.0 in
+    let r = fits g (goal.at.overflow_add-end g c).In-Some in
     let small : length c.args.buf.now < 2 ^ 63 = search rules in
     omega (arith, r, small)
 
 pub slice_bounds-fill_piece-end : goal.slice_bounds-fill_piece-end
 slice_bounds-fill_piece-end g c =
-    let s = c.in-Some.ensures.steps in
-    let whole = cells_between c.args.from (length c.args.buf.now) c.args.contents.now in
-    let r = next_within advanced_by c.args.contents.now c.args.from (length c.args.buf.now) c.loop-origin.have c.in-Some.len c.in-Some.origin c.next.new.self c.requires.within (c.loop-origin.invariant.left ∙ s.2) s.0 in
+    let r = fits g (goal.at.slice_bounds-fill_piece-end g c).In-Some in
     omega (arith, r, c.loop-origin.invariant.size)
 
 pub fill_piece-requires-clause-had : goal.fill_piece-requires-clause-had
@@ -30,7 +34,7 @@ fill_piece-requires-clause-had g c =
     let s = c.in-Some.ensures.steps in
     let i = c.loop-origin.invariant in
     let whole = cells_between c.args.from (length c.args.buf.now) c.args.contents.now in
-    let r = next_within advanced_by c.args.contents.now c.args.from (length c.args.buf.now) c.loop-origin.have c.in-Some.len c.in-Some.origin c.next.new.self c.requires.within (i.left ∙ s.2) s.0 in
+    let r = fits g (goal.at.fill_piece-requires-clause-had g c).In-Some in
     turn_had (g.I.Inputs.told c.args.inputs.now) (g.I.Inputs.told c.loop-origin.inputs) (map string_bytes c.args.files.now) (g.B.OutsideBytes.held c.args.bytes.now) (g.B.OutsideBytes.held c.loop-origin.bytes) i.same i.held
     whole c.loop-origin.have c.in-Some.len c.in-Some.origin c.next.new.self (i.left ∙ s.2) s.0 _ (mid_length c.loop-origin.have c.in-Some.len c.loop-origin.buf (omega (arith, r, i.size))) (length c.args.files.now) c.requires.had
 
@@ -39,7 +43,7 @@ fill_piece-requires-clause-there g c =
     let s = c.in-Some.ensures.steps in
     let i = c.loop-origin.invariant in
     let whole = cells_between c.args.from (length c.args.buf.now) c.args.contents.now in
-    let r = next_within advanced_by c.args.contents.now c.args.from (length c.args.buf.now) c.loop-origin.have c.in-Some.len c.in-Some.origin c.next.new.self c.requires.within (i.left ∙ s.2) s.0 in
+    let r = fits g (goal.at.fill_piece-requires-clause-there g c).In-Some in
     turn_there (g.I.Inputs.told c.args.inputs.now) (g.I.Inputs.told c.loop-origin.inputs) (map string_bytes c.args.files.now) (g.B.OutsideBytes.held c.args.bytes.now) (g.B.OutsideBytes.held c.loop-origin.bytes) i.same i.held
     whole c.loop-origin.have c.in-Some.len c.in-Some.origin c.next.new.self (i.left ∙ s.2) s.0 _ (mid_length c.loop-origin.have c.in-Some.len c.loop-origin.buf (omega (arith, r, i.size))) c.requires.there
 
@@ -49,7 +53,7 @@ loop-origin-preserved g c =
     let i = c.loop-origin.invariant in
     let e = c.in-Ok.ensures in
     let whole = cells_between c.args.from (length c.args.buf.now) c.args.contents.now in
-    let r = next_within advanced_by c.args.contents.now c.args.from (length c.args.buf.now) c.loop-origin.have c.in-Some.len c.in-Some.origin c.next.new.self c.requires.within (i.left ∙ s.2) s.0 in
+    let r = fits g (goal.at.loop-origin-preserved g c).In-Some in
     let mid = mid_length c.loop-origin.have c.in-Some.len c.loop-origin.buf (omega (arith, r, i.size)) in
     record {
       can = tt;
