@@ -1,5 +1,5 @@
 -- What each word's call answers, as what the request is answered with.
-use Rattle.std.specs.Prelude.{◌≡◌, ℕ, List, [], map, Option, None, Some}
+use Rattle.std.specs.Prelude.{◌≡◌, ℕ, List, [], ◌∷◌, map, slice_index_or, Option, None, Some}
 use Rattle.std.proofs.Common.{refl, ap, subst, ◌∙◌, arith}
 use Rattle.send_model.specs.Guards.{GuardSpec, Guard}
 use Rattle.send_model.specs.Answer as meant
@@ -92,6 +92,16 @@ module _ (old new : Option (List ℕ)) (files : List (List ℕ)) where
 pub following : (told : Option (List (List ℕ × List ℕ))) (names others : List (List ℕ)) (P Q : List (List ℕ) → Type 0) → names ≡ others
     → ((files : List (List ℕ)) → P files → Q files) → IfAllTold told names P → IfAllTold told others Q
 following told names others P Q same follows holds = of_names told names others Q same (then_told told names P Q follows holds)
+
+-- A word with one file: neither the place of its name nor how the name is given plays a part.
+pub of_one_file : (asked : ℕ → Request)
+    → ((old new : Option (List ℕ)) (files : List (List ℕ)) (at : ℕ) (outcome : Outcome) → Wrote old new (λ written. Ends (asked 1) [] files outcome written) → Wrote old new (λ written. Ends (asked at) [] files outcome written))
+    → (told : Option (List (List ℕ × List ℕ))) (name : List ℕ) (words : List (List ℕ)) (at : ℕ) (old new : Option (List ℕ)) (outcome : Outcome) → name ≡ slice_index_or words at []
+    → IfAllTold told (name ∷ []) (λ files. Wrote old new (λ written. Ends (asked 1) [] files outcome written))
+    → IfAllTold told (slice_index_or words at [] ∷ []) (λ files. Wrote old new (λ written. Ends (asked at) [] files outcome written))
+of_one_file asked moves told name words at old new outcome is =
+    following told (name ∷ []) (slice_index_or words at [] ∷ []) (λ files. Wrote old new (λ written. Ends (asked 1) [] files outcome written)) (λ files. Wrote old new (λ written. Ends (asked at) [] files outcome written))
+    (ap (λ (w : List ℕ). w ∷ []) is) (λ files. moves old new files at outcome)
 
 -- ---- the answer
 

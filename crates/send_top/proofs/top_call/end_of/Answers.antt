@@ -1,4 +1,4 @@
-use Rattle.std.specs.Prelude.{[], ◌∷◌, map, drop, List, ℕ, Option, slice_index_or}
+use Rattle.std.specs.Prelude.{[], map, drop, List, Option}
 use Rattle.std.specs.String.{string_bytes}
 use Rattle.std.proofs.Common.{◌≡◌, sym, ap, subst, ◌∙◌}
 use Rattle.std.proofs.lemmas.List.{drop-map}
@@ -12,7 +12,7 @@ use Rattle.auditor.specs.Following.{blank}
 use Rattle.auditor.specs.Answers.{AuditEnds}
 use Rattle.send_top.specs.Requests.{guards_in, before_store, specs_of, request_meant}
 use Rattle.send_top.specs.Run.{IfComposes}
-use Rattle.send_top.proofs.Asked.{following, composed_ends, headline, audit_wrote, audits, dumps, exports, caused_unread}
+use Rattle.send_top.proofs.Asked.{following, of_one_file, composed_ends, headline, audit_wrote, audits, dumps, exports, caused_unread}
 use Rattle.send_top.proofs.top_call.end_of.Goals as goal
 
 pub returns-in-Compose-clause-composed : goal.returns-in-Compose-clause-composed
@@ -63,23 +63,11 @@ returns-in-Audit-clause-ends g c =
 
 pub returns-in-Dump-clause-ends : goal.returns-in-Dump-clause-ends
 returns-in-Dump-clause-ends g c =
-    let old = g.O.Sink.taken c.args.out.now in
-    let new = g.O.Sink.taken c.dump.new.out in
-    rw c.in-Dump.is (following (g.I.Inputs.told c.args.inputs.now) (c.name_at.result.now ∷ []) (slice_index_or (map string_bytes c.args.words.now) c.in-Dump.file [] ∷ [])
-    (λ files. Wrote old new (λ written. Ends (Dump 1) [] files c.dump.result written))
-    (λ files. Wrote old new (λ written. Ends (Dump c.in-Dump.file) [] files c.dump.result written))
-    (ap (λ (w : List ℕ). w ∷ []) c.name_at.ensures.name)
-    (λ files. dumps old new files c.in-Dump.file c.dump.result) c.dump.ensures.dumped)
+    rw c.in-Dump.is (of_one_file Dump dumps (g.I.Inputs.told c.args.inputs.now) c.name_at.result.now (map string_bytes c.args.words.now) c.in-Dump.file (g.O.Sink.taken c.args.out.now) (g.O.Sink.taken c.dump.new.out) c.dump.result c.name_at.ensures.name c.dump.ensures.dumped)
 
 pub returns-in-Export-clause-ends : goal.returns-in-Export-clause-ends
 returns-in-Export-clause-ends g c =
-    let old = g.O.Sink.taken c.args.out.now in
-    let new = g.O.Sink.taken c.export.new.out in
-    rw c.in-Export.is (following (g.I.Inputs.told c.args.inputs.now) (c.name_at-in-Export.result.now ∷ []) (slice_index_or (map string_bytes c.args.words.now) c.in-Export.file [] ∷ [])
-    (λ files. Wrote old new (λ written. Ends (Export 1) [] files c.export.result written))
-    (λ files. Wrote old new (λ written. Ends (Export c.in-Export.file) [] files c.export.result written))
-    (ap (λ (w : List ℕ). w ∷ []) c.name_at-in-Export.ensures.name)
-    (λ files. exports old new files c.in-Export.file c.export.result) c.export.ensures.exported)
+    rw c.in-Export.is (of_one_file Export exports (g.I.Inputs.told c.args.inputs.now) c.name_at-in-Export.result.now (map string_bytes c.args.words.now) c.in-Export.file (g.O.Sink.taken c.args.out.now) (g.O.Sink.taken c.export.new.out) c.export.result c.name_at-in-Export.ensures.name c.export.ensures.exported)
 
 pub returns-in-Trial-clause-cause : goal.returns-in-Trial-clause-cause
 returns-in-Trial-clause-cause g c = rw c.in-Trial.is (caused_unread (g.I.Inputs.faults c.args.inputs.now) (g.I.Inputs.faults c.args.inputs.now) (g.O.Sink.faults c.args.out.now) (g.O.Sink.faults c.write_trial.new.out) c.write_trial.result c.write_trial.ensures.cause)
