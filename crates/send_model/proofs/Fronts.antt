@@ -1,8 +1,8 @@
 -- What was written for some first commands is a front part of all that compose may write.
-use Rattle.std.specs.Prelude.{◌≡◌, ℕ, ◌≤◌, Bool, true, false, List, [], ◌∷◌, ◌++◌, length, take, Option, None, Some}
+use Rattle.std.specs.Prelude.{◌≡◌, ℕ, Bool, true, false, List, [], ◌∷◌, ◌++◌, length, take, drop, Option, None, Some}
 use Rattle.std.proofs.Common.{refl, sym, ap, subst, ap₂, ◌∙◌, arith, append_assoc, length-append}
 use Rattle.std.proofs.Math.Seq.{take-nil}
-use Rattle.std.proofs.lemmas.List.{take-append-le}
+use Rattle.std.proofs.lemmas.List.{take-append-drop, take_at}
 use Rattle.send_model.specs.Refusal.{Refusal}
 use Rattle.send_model.specs.Command.{Command, End}
 use Rattle.send_model.specs.Spelling.{stream_header, canonical_all}
@@ -67,37 +67,45 @@ bytes_front version last first cs extra =
     let h : Command = head_command last.name last.key first.parent in
     ap (λ (r : List ℕ). stream_header version ++ r) (canonical_all-append version (h ∷ edits_of cs) extra) ∙ sym (append_assoc (stream_header version) (canonical_all version (h ∷ edits_of cs)) (canonical_all version extra))
 
--- A front part of a front part.
-front_of_front : (all written extra : List ℕ) (count : ℕ) → all ≡ written ++ extra → count ≤ length written → IsFrontOf all (take count written)
-front_of_front all written extra count is within = record {
-  count = count;
-  within = omega (arith, within, ap length is, length-append written extra);
-  written_is = sym (take-append-le count written extra within) ∙ ap (take count) (sym is);
+-- What stands in front of all.
+pub is_front : (all written rest : List ℕ) → all ≡ written ++ rest → IsFrontOf all written
+is_front all written rest e = record {
+  count = length written;
+  within = omega (arith, ap length e, length-append written rest);
+  written_is = sym (ap (take (length written)) e ∙ take_at written rest (length written) refl);
 }
 
+-- What stands in front, and the first bytes of what follows it.
+pub part_front : (all sent text rest : List ℕ) (count : ℕ) → all ≡ (sent ++ text) ++ rest → IsFrontOf all (sent ++ take count text)
+part_front all sent text rest count e =
+    is_front all (sent ++ take count text) (drop count text ++ rest)
+    (e ∙ ap (λ (l : List ℕ). (sent ++ l) ++ rest) (sym (take-append-drop count text))
+    ∙ ap (λ (l : List ℕ). l ++ rest) (sym (append_assoc sent (take count text) (drop count text)))
+    ∙ append_assoc (sent ++ take count text) (drop count text) rest)
+
 whole_front : (files : List (List ℕ)) (items more : List Item) (last first : Head) (count : ℕ) → (input files).items ≡ items ++ more → NoClones (commands_of items) → first_head (heads items) ≡ Some first → last_head (heads (input files).items) ≡ Some last
-    → count ≤ length (written_so_far (output_version files) last (Some first) (commands_of items)) → IsFrontOf (stream_header (output_version files) ++ canonical_all (output_version files) (composed empty_store files)) (take count (written_so_far (output_version files) last (Some first) (commands_of items)))
+    → IsFrontOf (stream_header (output_version files) ++ canonical_all (output_version files) (composed empty_store files)) (take count (written_so_far (output_version files) last (Some first) (commands_of items)))
 unfolding composed_with
-whole_front files items more last first count is n f l within =
+whole_front files items more last first count is n f l =
     let extra = edits_append last.key items more n in
     let firsts : first_head (heads (input files).items) ≡ Some first = ap (λ (xs : List Item). first_head (heads xs)) is ∙ first_more items more first f in
     let h : Command = head_command last.name last.key first.parent in
     let list : composed empty_store files ≡ h ∷ (edits_of (commands_of items) ++ (extra.0 ++ End ∷ [])) =
     ap₂ (λ (a b : Option Head). composed_for empty_store a b (input files).items) firsts l ∙ ap (composed_with empty_store first last) is
     ∙ ap (λ (es : List Command). h ∷ (es ++ End ∷ [])) extra.1 ∙ ap (λ (es : List Command). h ∷ es) (append_assoc (edits_of (commands_of items)) extra.0 (End ∷ [])) in
-    front_of_front _ (written_so_far (output_version files) last (Some first) (commands_of items)) (canonical_all (output_version files) (extra.0 ++ End ∷ [])) count
-    (ap (λ (cs : List Command). stream_header (output_version files) ++ canonical_all (output_version files) cs) list ∙ bytes_front (output_version files) last first (commands_of items) (extra.0 ++ End ∷ [])) within
+    part_front _ [] (written_so_far (output_version files) last (Some first) (commands_of items)) (canonical_all (output_version files) (extra.0 ++ End ∷ [])) count
+    (ap (λ (cs : List Command). stream_header (output_version files) ++ canonical_all (output_version files) cs) list ∙ bytes_front (output_version files) last first (commands_of items) (extra.0 ++ End ∷ []))
 
 before_front : (files : List (List ℕ)) (items rest : List Item) (last first : Head) (count : ℕ) → lawful empty_store files ≡ items ++ rest → NoClones (commands_of items) → first_head (heads items) ≡ Some first → last_head (heads (input files).items) ≡ Some last
-    → count ≤ length (written_so_far (output_version files) last (Some first) (commands_of items)) → IsFrontOf (stream_front (output_version files) (composed_before empty_store files)) (take count (written_so_far (output_version files) last (Some first) (commands_of items)))
-before_front files items rest last first count is n f l within =
+    → IsFrontOf (stream_front (output_version files) (composed_before empty_store files)) (take count (written_so_far (output_version files) last (Some first) (commands_of items)))
+before_front files items rest last first count is n f l =
     let extra = edits_append last.key items rest n in
     let firsts : first_head (heads (lawful empty_store files)) ≡ Some first = ap (λ (xs : List Item). first_head (heads xs)) is ∙ first_more items rest first f in
     let h : Command = head_command last.name last.key first.parent in
     let list : composed_before empty_store files ≡ h ∷ (edits_of (commands_of items) ++ extra.0) =
     ap₂ (λ (a b : Option Head). composed_part empty_store a b (lawful empty_store files)) firsts l ∙ ap (λ (xs : List Item). h ∷ composed_edits empty_store last.key xs) is ∙ ap (λ (es : List Command). h ∷ es) extra.1 in
-    front_of_front _ (written_so_far (output_version files) last (Some first) (commands_of items)) (canonical_all (output_version files) extra.0) count
-    (ap (stream_front (output_version files)) list ∙ bytes_front (output_version files) last first (commands_of items) extra.0) within
+    part_front _ [] (written_so_far (output_version files) last (Some first) (commands_of items)) (canonical_all (output_version files) extra.0) count
+    (ap (stream_front (output_version files)) list ∙ bytes_front (output_version files) last first (commands_of items) extra.0)
 
 by_judge : (files : List (List ℕ)) (written : List ℕ) (o : Option Verdict) → IsFrontOf (stream_header (output_version files) ++ canonical_all (output_version files) (composed empty_store files)) written → IsFrontOf (stream_front (output_version files) (composed_before empty_store files)) written
     → IsFrontOf (output_for o empty_store files) written
@@ -116,18 +124,18 @@ lawful_as : (files : List (List ℕ)) (items : List Item) → (input files).item
 lawful_as files items is = ap (lawful_items 0 byte_cells (start_of empty_store) None) is
 
 so_far : (files : List (List ℕ)) (items more : List Item) (end : State ℕ) (last : Head) (first : Option Head) (count : ℕ) → (input files).items ≡ items ++ more → Takes (start_of empty_store) (commands_of items) end → AreOrdered None items
-    → NoClones (commands_of items) → first_head (heads items) ≡ first → last_head (heads (input files).items) ≡ Some last → count ≤ length (written_so_far (output_version files) last first (commands_of items)) → IsFrontOf (whole_output empty_store files) (take count (written_so_far (output_version files) last first (commands_of items)))
+    → NoClones (commands_of items) → first_head (heads items) ≡ first → last_head (heads (input files).items) ≡ Some last → IsFrontOf (whole_output empty_store files) (take count (written_so_far (output_version files) last first (commands_of items)))
 unfolding written_so_far
-so_far files items more end last None count is t o n f l within = nothing_front (whole_output empty_store files) count
-so_far files items more end last (Some first) count is t o n f l within =
+so_far files items more end last None count is t o n f l = nothing_front (whole_output empty_store files) count
+so_far files items more end last (Some first) count is t o n f l =
     let on = lawful_more items more None (start_of empty_store) end t o in
     let lawful_is : lawful empty_store files ≡ items ++ on.0 = lawful_as files (items ++ more) is ∙ on.1 in
-    by_judge files _ (judge empty_store files) (whole_front files items more last first count is n f l within) (before_front files items on.0 last first count lawful_is n f l within)
+    by_judge files _ (judge empty_store files) (whole_front files items more last first count is n f l) (before_front files items on.0 last first count lawful_is n f l)
 
 -- What was written for commands that were taken in order is a front part of all that compose may write.
 pub so_far_front : (version : ℕ) (files : List (List ℕ)) (items more : List Item) (end : State ℕ) (last : Head) (first : Option Head) (count : ℕ) → output_version files ≡ version → (input files).items ≡ items ++ more
     → Takes (start_of empty_store) (commands_of items) end → AreOrdered None items → NoClones (commands_of items) → first_head (heads items) ≡ first → last_head (heads (input files).items) ≡ Some last
-    → count ≤ length (written_so_far version last first (commands_of items)) → IsFrontOf (whole_output empty_store files) (take count (written_so_far version last first (commands_of items)))
+    → IsFrontOf (whole_output empty_store files) (take count (written_so_far version last first (commands_of items)))
 so_far_front version files items more end last first count v is t o n f l =
-    subst (λ (k : ℕ). count ≤ length (written_so_far k last first (commands_of items)) → IsFrontOf (whole_output empty_store files) (take count (written_so_far k last first (commands_of items)))) v
+    subst (λ (k : ℕ). IsFrontOf (whole_output empty_store files) (take count (written_so_far k last first (commands_of items)))) v
     (so_far files items more end last first count is t o n f l)

@@ -1,15 +1,15 @@
 -- How far a file was written: what was written, what is gathered, and the bytes of what is left to read.
-use Rattle.std.specs.Prelude.{◌≡◌, ℕ, ◌+◌, ◌≤◌, Bool, true, List, [], ◌∷◌, ◌++◌, length, take, drop, Option, None, Some, Ok, Err}
+use Rattle.std.specs.Prelude.{◌≡◌, ℕ, ◌≤◌, Bool, true, List, [], ◌∷◌, ◌++◌, length, take, Option, None, Some, Ok, Err}
 use Rattle.std.specs.Io.KnownBytes.{Appends}
-use Rattle.std.proofs.Common.{refl, sym, ap, subst, ◌∙◌, append_assoc, append-nil, arith, inl, inr, length-append}
+use Rattle.std.proofs.Common.{refl, sym, ap, subst, ◌∙◌, append_assoc, append-nil, arith, inl, inr}
 use Rattle.std.proofs.KnownBytes.{Appends-nil, Appends-trans}
-use Rattle.std.proofs.lemmas.List.{take-append-drop, take_at}
 use Rattle.send_model.specs.Reading as reading
 use Rattle.send_model.specs.Reading.{Item, Reading, Whole, Faulty, reads}
 use Rattle.send_model.specs.Counts.{is_end}
 use Rattle.send_model.specs.Headline.{IsFrontOf}
 use Rattle.send_model.specs.Words.{first_file}
 use Rattle.send_model.specs.Lengths.{limit, only_ends}
+use Rattle.send_model.proofs.Fronts.{is_front, part_front}
 use Rattle.sx_base.specs.Causes.{Rose}
 use Rattle.sx_base.specs.Outside.{file_at}
 use Rattle.sx_base.specs.Refusals.{refusal_of}
@@ -39,22 +39,6 @@ pub record Stands (piece : Bool → Item → List ℕ) (reader : Reader) (gather
   pub ahead : written_of piece bytes ≡ (sent ++ gathered.bytes) ++ pieces_from piece gathered.begins (left reader bytes).items
   pub ending : (reads 1 bytes).end ≡ (left reader bytes).end
   pub within : reader.offset ≤ length bytes
-
--- ---- parts of lists
-
-is_front : (all written rest : List ℕ) → all ≡ written ++ rest → IsFrontOf all written
-is_front all written rest e = record {
-  count = length written;
-  within = let count : length all ≡ length written + length rest = ap length e ∙ length-append written rest in omega (arith, count);
-  written_is = sym (ap (take (length written)) e ∙ take_at written rest (length written) refl);
-}
-
-part_front : (all sent text rest : List ℕ) (count : ℕ) → all ≡ (sent ++ text) ++ rest → IsFrontOf all (sent ++ take count text)
-part_front all sent text rest count e =
-    is_front all (sent ++ take count text) (drop count text ++ rest)
-    (e ∙ ap (λ (l : List ℕ). (sent ++ l) ++ rest) (sym (take-append-drop count text))
-    ∙ ap (λ (l : List ℕ). l ++ rest) (sym (append_assoc sent (take count text) (drop count text)))
-    ∙ append_assoc (sent ++ take count text) (drop count text) rest)
 
 -- ---- before the first command
 

@@ -1,15 +1,15 @@
 -- A chain, part by part, and what stands of it before its end.
-use Rattle.std.specs.Prelude.{◌≡◌, ℕ, zero, suc, ◌+◌, ◌-◌, ◌<◌, ◌≤◌, Bool, List, [], ◌∷◌, ◌++◌, length, take, drop, Option, if◌then◌else◌}
+use Rattle.std.specs.Prelude.{◌≡◌, ℕ, zero, suc, ◌+◌, ◌-◌, ◌<◌, ◌≤◌, Bool, List, [], ◌∷◌, ◌++◌, take, Option, if◌then◌else◌}
 use Rattle.std.specs.List.{flat_map}
 use Rattle.std.specs.Io.KnownBytes.{Appends}
-use Rattle.std.proofs.Common.{refl, sym, ap, subst, ◌∙◌, arith, append_assoc, append-nil, length-append, add-one}
+use Rattle.std.proofs.Common.{refl, sym, ap, subst, ◌∙◌, arith, append_assoc, append-nil, add-one}
 use Rattle.std.proofs.KnownBytes.{Appends-nil, Appends-trans}
-use Rattle.std.proofs.lemmas.List.{take-append-drop, take_at}
 use Rattle.send_model.specs.Command.{Command}
 use Rattle.send_model.specs.Spelling.{stream_header, canonical_all}
 use Rattle.send_model.specs.Generated.{first_part, later_part, parts_of, chain_of}
 use Rattle.send_model.specs.Headline.{IsFrontOf}
 use Rattle.send_model.specs.Words.{Gen, due, whole_of}
+use Rattle.send_model.proofs.Fronts.{is_front, part_front}
 use Rattle.sx_base.specs.Calls.{Wrote, Ends}
 use Rattle.sx_base.specs.Outside.{AppendsPart}
 use Rattle.sx_base.specs.declared.outcome.Outcome.TheVariants as ended
@@ -41,28 +41,19 @@ chain_grows seed parts (suc more) =
       ap (chain_of seed) same ∙ chain_next seed (more + parts) ∙ ap (λ (l : List ℕ). l ++ part_bytes seed (suc (more + parts))) before.1 ∙ append_assoc (chain_of seed parts) before.0 (part_bytes seed (suc (more + parts))),
     )
 
-is_front : (all written rest : List ℕ) → all ≡ written ++ rest → IsFrontOf all written
-is_front all written rest e = record {
-  count = length written;
-  within = let count : length all ≡ length written + length rest = ap length e ∙ length-append written rest in omega (arith, count);
-  written_is = sym (ap (take (length written)) e ∙ take_at written rest (length written) refl);
-}
-
 parts_front : (seed parts count : ℕ) → parts ≤ count → IsFrontOf (chain_of seed count) (chain_of seed parts)
 parts_front seed parts count few =
     let grown = chain_grows seed parts (count - parts) in
     let same : count ≡ count - parts + parts = omega (arith, few) in
     is_front (chain_of seed count) (chain_of seed parts) grown.0 (ap (chain_of seed) same ∙ grown.1)
 
-part_front : (seed parts count some : ℕ) → parts < count → IsFrontOf (chain_of seed count) (chain_of seed parts ++ take some (part_bytes seed (parts + 1)))
-part_front seed parts count some few =
+chain_front : (seed parts count some : ℕ) → parts < count → IsFrontOf (chain_of seed count) (chain_of seed parts ++ take some (part_bytes seed (parts + 1)))
+chain_front seed parts count some few =
     let part : List ℕ = part_bytes seed (suc parts) in
     let grown = chain_grows seed (suc parts) (count - suc parts) in
     let same : count ≡ count - suc parts + suc parts = omega (arith, few) in
     subst (λ (n : ℕ). IsFrontOf (chain_of seed count) (chain_of seed parts ++ take some (part_bytes seed n))) (sym (add-one parts))
-    (is_front (chain_of seed count) (chain_of seed parts ++ take some part) (drop some part ++ grown.0)
-    (ap (chain_of seed) same ∙ grown.1 ∙ ap (λ (l : List ℕ). l ++ grown.0) (chain_next seed parts ∙ ap (λ (l : List ℕ). chain_of seed parts ++ l) (sym (take-append-drop some part)) ∙ sym (append_assoc (chain_of seed parts) (take some part) (drop some part)))
-    ∙ append_assoc (chain_of seed parts ++ take some part) (drop some part) grown.0))
+    (part_front (chain_of seed count) (chain_of seed parts) part grown.0 some (ap (chain_of seed) same ∙ grown.1 ∙ ap (λ (l : List ℕ). l ++ grown.0) (chain_next seed parts)))
 
 -- ---- what a call has written
 
@@ -91,5 +82,5 @@ pub unwritten : (seed parts count : ℕ) (old now new : Option (List ℕ)) (part
 unwritten seed parts count old now new part few before is (some, less, more) = (
   chain_of seed parts ++ take some part,
   Appends-trans old now new (chain_of seed parts) (take some part) before more,
-  subst (λ (l : List ℕ). IsFrontOf (chain_of seed count) (chain_of seed parts ++ take some l)) (sym is) (part_front seed parts count some few),
+  subst (λ (l : List ℕ). IsFrontOf (chain_of seed count) (chain_of seed parts ++ take some l)) (sym is) (chain_front seed parts count some few),
 )
