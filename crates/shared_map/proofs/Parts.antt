@@ -9,7 +9,7 @@ use Rattle.std.specs.List.{insert, remove, AllByRecursion}
 use Rattle.send_model.specs.Map.{value_at, with_value, without}
 use Rattle.send_model.proofs.ElementLaws.{all_both, all_take, all_drop}
 use Rattle.shared_map.specs.Sought.{entry_after}
-use Rattle.shared_map.specs.Pages.{Rises, AreFilled, joined, AreKept, IsAt, IsGap, IsHome, IsPast, replaced}
+use Rattle.shared_map.specs.Pages.{Rises, AreFilled, joined, AreKept, IsAt, IsGap, IsHome, IsPast, replaced, in_two, in_one}
 use Rattle.shared_map.proofs.Orders.{rises_left, rises_right, each_at}
 use Rattle.shared_map.proofs.Lists.{split_at, set_at}
 use Rattle.shared_map.proofs.Homes.{joined_append, joined_split}
@@ -195,37 +195,49 @@ module _ {K V : Type 0} {order : K → K → Ordering} (total : IsTotalOrder ord
     above_none le all = above_next le ∙ ap (λ l. entry_after order key (joined l)) (drop_all (i + 1) ps all)
 
 -- a page in two
-module _ {X : Type 0} (ps : List (List X)) (i cut : ℕ) (p f b : List X) (lt : i < length ps) (read : p ≡ get_or ps i p) (front : f ≡ take cut p) (back : b ≡ drop cut p) where
-  split_is : insert (set ps i f) (i + 1) b ≡ take i ps ++ f ∷ b ∷ drop (i + 1) ps
-  split_is =
+module _ {X : Type 0} (ps : List (List X)) (i cut : ℕ) (lt : i < length ps) where
+  pub split_is : (p f b : List X) → p ≡ get_or ps i p → f ≡ take cut p → b ≡ drop cut p → insert (set ps i f) (i + 1) b ≡ in_two ps i cut
+  split_is p f b read front back =
+      let page : p ≡ get_or ps i [] = read ∙ get_or_default ps i p [] lt in
       ap (λ l. l ++ b ∷ drop (i + 1) (set ps i f)) (take_more_set ps i f lt) ∙ append_assoc (take i ps) (f ∷ []) (b ∷ drop (i + 1) (set ps i f)) ∙ ap (λ l. take i ps ++ f ∷ b ∷ l) (drop-set-lt (i + 1) ps i f (omega arith))
+      ∙ ap (λ l. take i ps ++ l ∷ b ∷ drop (i + 1) ps) (front ∙ ap (take cut) page) ∙ ap (λ l. take i ps ++ take cut (get_or ps i []) ∷ l ∷ drop (i + 1) ps) (back ∙ ap (drop cut) page)
 
-  pub split_joined : joined (insert (set ps i f) (i + 1) b) ≡ joined ps
+  pub split_joined : joined (in_two ps i cut) ≡ joined ps
   split_joined =
-      let both : f ++ b ≡ p = ap (λ l. l ++ b) front ∙ ap (λ l. take cut p ++ l) back ∙ take-append-drop cut p in
+      let p : List X = get_or ps i [] in
       let rest = joined (drop (i + 1) ps) in
-      ap joined split_is ∙ joined_append (take i ps) (f ∷ b ∷ drop (i + 1) ps) ∙ ap (λ l. joined (take i ps) ++ l) (sym (append_assoc f b rest) ∙ ap (λ l. l ++ rest) both) ∙ sym (joined_split ps i p lt read)
+      joined_append (take i ps) (take cut p ∷ drop cut p ∷ drop (i + 1) ps) ∙ ap (λ l. joined (take i ps) ++ l) (sym (append_assoc (take cut p) (drop cut p) rest) ∙ ap (λ l. l ++ rest) (take-append-drop cut p)) ∙ sym (joined_split ps i p lt (get_or_default ps i [] p lt))
 
-  pub split_filled : 0 < cut → cut < length p → AreFilled ps → AreFilled (insert (set ps i f) (i + 1) b)
+  pub split_filled : 0 < cut → cut < length (get_or ps i []) → AreFilled ps → AreFilled (in_two ps i cut)
   split_filled low high filled =
-      let some_f : 0 < length f = omega (arith, ap length front, length-take-le cut p (omega arith)) in
-      let some_b : 0 < length b = omega (arith, ap length back, length-drop cut p) in
-      subst (AreFilled) (sym split_is) (all_both _ (take i ps) (f ∷ b ∷ drop (i + 1) ps) (all_take _ i ps filled) (some_f, (some_b, all_drop _ (i + 1) ps filled)))
+      let p : List X = get_or ps i [] in
+      let some_f : 0 < length (take cut p) = omega (arith, length-take-le cut p (omega arith)) in
+      let some_b : 0 < length (drop cut p) = omega (arith, length-drop cut p) in
+      all_both _ (take i ps) (take cut p ∷ drop cut p ∷ drop (i + 1) ps) (all_take _ i ps filled) (some_f, (some_b, all_drop _ (i + 1) ps filled))
 
 -- two pages in one
-module _ {X : Type 0} (ps : List (List X)) (i : ℕ) (p q b : List X) (lt : i + 1 < length ps) (read : p ≡ get_or ps i p) (next : q ≡ get_or ps (i + 1) q) (both : b ≡ p ++ q) where
-  join_is : remove (set ps i b) (i + 1) ≡ take i ps ++ b ∷ drop (i + 1 + 1) ps
-  join_is =
-      ap (λ l. l ++ drop (suc (i + 1)) (set ps i b)) (take_more_set ps i b (omega arith)) ∙ append_assoc (take i ps) (b ∷ []) (drop (suc (i + 1)) (set ps i b)) ∙ ap (λ l. take i ps ++ b ∷ l) (drop-set-lt (suc (i + 1)) ps i b (omega arith) ∙ ap (λ n. drop n ps) (sym (add-one (i + 1))))
+module _ {X : Type 0} (ps : List (List X)) (i : ℕ) (lt : i + 1 < length ps) where
+  pub join_is : (p q b : List X) → p ≡ get_or ps i p → q ≡ get_or ps (i + 1) q → b ≡ p ++ q → remove (set ps i b) (i + 1) ≡ in_one ps i
+  join_is p q b read next both =
+      let page : p ≡ get_or ps i [] = read ∙ get_or_default ps i p [] (omega arith) in
+      let behind : q ≡ get_or ps (i + 1) [] = next ∙ get_or_default ps (i + 1) q [] lt in
+      let two : suc (i + 1) ≡ i + 2 = omega arith in
+      ap (λ l. l ++ drop (suc (i + 1)) (set ps i b)) (take_more_set ps i b (omega arith)) ∙ append_assoc (take i ps) (b ∷ []) (drop (suc (i + 1)) (set ps i b)) ∙ ap (λ l. take i ps ++ b ∷ l) (drop-set-lt (suc (i + 1)) ps i b (omega arith) ∙ ap (λ n. drop n ps) two)
+      ∙ ap (λ l. take i ps ++ l ∷ drop (i + 2) ps) (both ∙ ap (λ l. l ++ q) page ∙ ap (λ l. get_or ps i [] ++ l) behind)
 
-  pub join_joined : joined (remove (set ps i b) (i + 1)) ≡ joined ps
+  pub join_joined : joined (in_one ps i) ≡ joined ps
   join_joined =
-      let rest = joined (drop (i + 1 + 1) ps) in
-      let second : joined (drop (i + 1) ps) ≡ q ++ rest = ap joined (drop_more ps (i + 1) q lt ∙ ap (λ x. x ∷ drop (i + 1 + 1) ps) (sym next)) in
-      ap joined join_is ∙ joined_append (take i ps) (b ∷ drop (i + 1 + 1) ps) ∙ ap (λ l. joined (take i ps) ++ l) (ap (λ l. l ++ rest) both ∙ append_assoc p q rest ∙ ap (λ l. p ++ l) (sym second)) ∙ sym (joined_split ps i p (omega arith) read)
+      let p : List X = get_or ps i [] in
+      let q : List X = get_or ps (i + 1) [] in
+      let two : i + 1 + 1 ≡ i + 2 = omega arith in
+      let rest = joined (drop (i + 2) ps) in
+      let second : joined (drop (i + 1) ps) ≡ q ++ rest = ap joined (drop_more ps (i + 1) [] lt ∙ ap (λ n. q ∷ drop n ps) two) in
+      joined_append (take i ps) ((p ++ q) ∷ drop (i + 2) ps) ∙ ap (λ l. joined (take i ps) ++ l) (append_assoc p q rest ∙ ap (λ l. p ++ l) (sym second)) ∙ sym (joined_split ps i p (omega arith) (get_or_default ps i [] p (omega arith)))
 
-  pub join_filled : AreFilled ps → AreFilled (remove (set ps i b) (i + 1))
+  pub join_filled : AreFilled ps → AreFilled (in_one ps i)
   join_filled filled =
-      let some_p : 0 < length p = subst (λ l. 0 < length l) (sym read) (each_at _ ps i p (omega arith) filled) in
-      let some : 0 < length b = omega (arith, ap length both, length-append p q) in
-      subst (AreFilled) (sym join_is) (all_both _ (take i ps) (b ∷ drop (i + 1 + 1) ps) (all_take _ i ps filled) (some, all_drop _ (i + 1 + 1) ps filled))
+      let p : List X = get_or ps i [] in
+      let q : List X = get_or ps (i + 1) [] in
+      let some_p : 0 < length p = each_at _ ps i [] (omega arith) filled in
+      let some : 0 < length (p ++ q) = omega (arith, some_p, length-append p q) in
+      all_both _ (take i ps) ((p ++ q) ∷ drop (i + 2) ps) (all_take _ i ps filled) (some, all_drop _ (i + 2) ps filled)

@@ -77,6 +77,14 @@ pub record IsPast {K V : Type 0} (order : K → K → Ordering) (key : K) (es : 
 abbrev pub replaced : {X : Type 0} → List X → ℕ → X → List X
 replaced ps i p = take i ps ++ p ∷ drop (i + 1) ps
 
+-- Page i has become two, the second of which begins at its place `cut`.
+abbrev pub in_two : {X : Type 0} → List (List X) → ℕ → ℕ → List (List X)
+in_two ps i cut = take i ps ++ take cut (slice_index_or ps i []) ∷ drop cut (slice_index_or ps i []) ∷ drop (i + 1) ps
+
+-- Page i and the one behind it have become one.
+abbrev pub in_one : {X : Type 0} → List (List X) → ℕ → List (List X)
+in_one ps i = take i ps ++ (slice_index_or ps i [] ++ slice_index_or ps (i + 1) []) ∷ drop (i + 2) ps
+
 -- The value of the entry at place i is written over, and its key stays.
 pub record IsSetAt {K V : Type 0} (old new : Map K V) (i : ℕ) (value : V) : Type 0 where
   pub key : K

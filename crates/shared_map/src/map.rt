@@ -4,7 +4,7 @@ ghost use Rattle.std.specs.Option.{option_copied};
 ghost use Rattle.send_model.specs.Map.{IsMap, value_at, with_value, without};
 ghost use Rattle.shared_map.specs.Sought.{entry_after};
 ghost use Rattle.shared_map.specs.Edited.{IsEdited, PutsNew};
-ghost use Rattle.shared_map.specs.Pages.{joined, AreFilled, AreKept, IsFree};
+ghost use Rattle.shared_map.specs.Pages.{joined, AreFilled, AreKept, IsFree, in_two, in_one};
 
 use crate::block::BLOCK_ENTRIES;
 use crate::entries::Entries;
@@ -241,6 +241,8 @@ fn split<K: Key, V: Copied>(
     requires within { at < vec_len pages.old }
     requires low { 0 < cut }
     requires high { cut < length (slice_index_or pages.old.items at []) }
+    ensures ok { OnOk result (pages.new.items ≡ in_two pages.old.items at cut) }
+    ensures err { OnErr result (pages.new.items ≡ pages.old.items) }
     ensures same { joined pages.new.items ≡ joined pages.old.items }
     ensures filled { AreFilled pages.old.items → AreFilled pages.new.items }
 {
@@ -273,6 +275,8 @@ fn join<K: Key, V: Copied>(
     at: usize,
 ) -> Result<(), AllocError>
     requires { at + 1 < vec_len pages.old }
+    ensures ok { OnOk result (pages.new.items ≡ in_one pages.old.items at) }
+    ensures err { OnErr result (pages.new.items ≡ pages.old.items) }
     ensures same { joined pages.new.items ≡ joined pages.old.items }
     ensures filled { AreFilled pages.old.items → AreFilled pages.new.items }
 {
