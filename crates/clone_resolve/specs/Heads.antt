@@ -2,7 +2,6 @@
 -- Source: this program's own.
 use Rattle.std.specs.Prelude.{◌≡◌, ℕ, Bool, ◌&&◌, List, [], ◌∷◌, ◌++◌, Option, None, Some, Result, Ok, Err, is_none, if◌then◌else◌}
 use Rattle.std.specs.Str.{bytes_eq}
-use Rattle.send_model.specs.Refusal.{Refusal}
 use Rattle.send_model.specs.Subvolume.{Subvolume}
 use Rattle.send_model.specs.Store as meant
 use Rattle.send_model.specs.Store.{Store, begun, start_from, unfinished}
@@ -21,12 +20,6 @@ abbrev pub Begins : {C : Type 0} → Result (meant.Part C) Stop → meant.Head �
 Begins (Ok part) head old new = (begun old head ≡ Ok part.subvolume) × (part.key ≡ head.key) × (new ≡ old ++ unfinished head ∷ [])
 Begins (Err (stop.Refused refusal)) head old new = (begun old head ≡ Err (refusal_of refusal)) × (new ≡ old)
 Begins (Err stop.NoMemory) head old new = new ≡ old
-
--- A subvolume that a part starts from, or the refusal.
-abbrev pub Starts : {C : Type 0} → Result (Subvolume C) Stop → Result (Subvolume C) Refusal → Type 0
-Starts (Ok s) said = said ≡ Ok s
-Starts (Err (stop.Refused refusal)) said = said ≡ Err (refusal_of refusal)
-Starts (Err stop.NoMemory) said = Unit {0}
 
 -- An unfinished entry of a UUID.
 abbrev pub is_unfinished : {S : Type 0} → List ℕ → meant.Entry S → Bool
