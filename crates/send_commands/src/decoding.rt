@@ -36,8 +36,9 @@ pub fn decode(alloc: Global, cmd: u16, table: &AttrTable<'_>) -> Result<Command,
     }
 }
 
-// Which command it is, where it has a number of the version and lawful attributes.
-fn lawful_kind(cmd: u16, table: &AttrTable<'_>) -> Result<Kind, Refusal>
+/// Which command it is, where it has a number of the version and lawful attributes: it refuses what `decode` refuses, in the same
+/// order. The values of the attributes are those of the command. Takes no memory.
+pub fn lawful_kind(cmd: u16, table: &AttrTable<'_>) -> Result<Kind, Refusal>
     ensures exact { (attributes : List Attribute) → StandsFor table.now attributes → Reads (λ kind. command_with (kind_meant kind) (bytes_in table.now)) result (command_of table.now.version cmd attributes) }
     ensures forms { IfOk result (λ kind. HaveForms table.now (row (kind_meant kind)).wanted) }
     ensures timely { IfOk result (λ kind. are_timely table.now (row (kind_meant kind)).wanted ≡ true) }

@@ -10,6 +10,6 @@ mod values;
 mod wanted;
 
 pub use command::{Command, Time};
-pub use decoding::decode;
+pub use decoding::{decode, lawful_kind};
 pub use encoding::{data_place, encode};
 pub use kind::Kind;
