@@ -167,16 +167,6 @@ read_can_write version number body attributes c small short are read e =
     let spelled = rules_were_spelled version (frame_of number body ++ []) frame attributes c (bytes_append (frame_of number body) [] (frame_bytes number body are) tt) back read e in
     record { spellable = spelled_spellable version spelled.0 c spelled.1 }
 
-abbrev place_after : ℕ → Option ℕ → ℕ
-place_after at there = elim there as (λ x. ℕ) [ None ↦ 0 | Some place ↦ at + frame_header_len + place ]
-
--- The place of a command's data, by the place of the attribute.
-pub data_at_some : (version at : ℕ) (attributes : List Attribute) (place : ℕ) → place_of version DATA attributes ≡ Some place → data_place version at attributes ≡ at + frame_header_len + place
-data_at_some version at attributes place e = ap (place_after at) e
-
-pub data_at_none : (version at : ℕ) (attributes : List Attribute) → place_of version DATA attributes ≡ None → data_place version at attributes ≡ 0
-data_at_none version at attributes e = ap (place_after at) e
-
 -- Attributes that stand alone are those of the command.
 pub stands_alone : (version number : ℕ) (body : List ℕ) (attributes : List Attribute) (c : Command) (table : Table) → number < 2 ^ 16 → length body ≤ greatest_body → IsBytes body → attributes_at version body ≡ Ok attributes
     → command_of version number attributes ≡ Ok c → table.version ≡ version → StandsFor table attributes → stand_of table (length body) (kind_of_number version number) ≡ true → attributes ≡ attributes_of c

@@ -4,6 +4,7 @@ mod Lefts
 mod Alone
 mod LastFrames
 pub mod CommandFacts
+mod HeadFacts
 mod Sourcing
 mod Goings
 mod Steps

@@ -1,7 +1,6 @@
 -- What one step answers, for a reader whose fields are open.
-use Rattle.std.specs.Prelude.{◌≡◌, ℕ, ◌+◌, ◌≤◌, true, false, List, drop, Option, None, Some, Result, Ok, Err}
+use Rattle.std.specs.Prelude.{◌≡◌, ℕ, ◌+◌, ◌≤◌, true, false, List, Option, None, Some, Ok, Err}
 use Rattle.std.proofs.Common.{sym, subst, ◌∙◌}
-use Rattle.send_model.specs.Attribute.{IsBytes}
 use Rattle.send_model.specs.Reading.{HeaderDue}
 use Rattle.send_model.specs.Lengths.{limit}
 use Rattle.sx_base.specs.declared.refusal.Refusal.TheVariants as code
@@ -10,15 +9,15 @@ use Rattle.tlv_frame.specs.declared.feed.Passed.{Passed}
 use Rattle.tlv_frame.specs.declared.feed.Passed.TheVariants as passed
 use Rattle.tlv_frame.specs.declared.stream_head.StreamHead.{StreamHead}
 use Rattle.tlv_frame.specs.declared.frame_head.FrameHead.{FrameHead}
-use Rattle.cmd_reader.specs.declared.item.Item.{Item}
+use Rattle.cmd_reader.specs.declared.front.FrameAt.{FrameAt}
 use Rattle.cmd_reader.specs.declared.item.ReadStop.{ReadStop}
 use Rattle.cmd_reader.specs.declared.fault.Fault.{Fault}
 use Rattle.cmd_reader.specs.declared.fault.Fault.TheVariants as fault
 use Rattle.cmd_reader.specs.Sources.{PassSays}
 use Rattle.cmd_reader.specs.Left.{Reader}
-use Rattle.cmd_reader.specs.Next.{StepSays}
-use Rattle.cmd_reader.specs.Items.{StopAt, ItemSays}
-use Rattle.cmd_reader.proofs.Goings.{header_step, command_step, body_step, fault_step, whole_step, cut_step}
+use Rattle.cmd_reader.specs.Frames.{frame_here, HasGonePast, StepSays}
+use Rattle.cmd_reader.specs.Items.{StopAt}
+use Rattle.cmd_reader.proofs.Goings.{header_step, fault_step, whole_step, cut_step}
 
 pub fault_said : (told : Option (List (List ℕ × List ℕ))) (old shown new : Reader) (before now next : ℕ) (feed : Fed) (fault : Fault) (why : ReadStop) → shown ≡ old → PassSays told shown.name shown.offset shown.fed next feed before now (Err fault) → StopAt shown.file shown.number shown.offset fault why
     → StepSays told old new before now (Some (Err why))
@@ -31,17 +30,13 @@ head_said told old shown new before now head unit answer is a u file name number
     let says = subst (λ (x : Passed). P (Some x)) u (subst P a p) in
     subst (λ (r : Reader). StepSays told r new before now None) is (header_step told shown new before now head says.0 file name number within says.1.0 says.1.1)
 
-pub frame_said : (told : Option (List (List ℕ × List ℕ))) (old shown new : Reader) (before now : ℕ) (head : FrameHead) (version : ℕ) (unit : Passed) (answer : Option Passed) (body : List ℕ) (result : Result (Option Item) ReadStop) → shown ≡ old → answer ≡ Some unit → unit ≡ passed.Frame head version → new.file ≡ shown.file → new.name ≡ shown.name → new.number ≡ shown.number + 1 → new.offset ≤ limit
-    → body ≡ drop 10 new.fed.last → IsBytes new.fed.last → PassSays told shown.name shown.offset shown.fed new.offset new.fed before now (Ok answer) → ItemSays shown.file shown.number shown.offset version head.cmd body result → StepSays told old new before now (Some result)
-frame_said told old shown new before now head version unit answer body result is a u file name number within body_is bytes_are p item =
+pub frame_said : (told : Option (List (List ℕ × List ℕ))) (old shown new : Reader) (before now : ℕ) (head : FrameHead) (version : ℕ) (unit : Passed) (answer : Option Passed) (frame : FrameAt) → shown ≡ old → answer ≡ Some unit → unit ≡ passed.Frame head version → frame ≡ frame_here shown version head → new.file ≡ shown.file → new.name ≡ shown.name
+    → new.number ≡ shown.number + 1 → new.offset ≤ limit → PassSays told shown.name shown.offset shown.fed new.offset new.fed before now (Ok answer) → StepSays told old new before now (Some (Ok (Some frame)))
+frame_said told old shown new before now head version unit answer frame is a u here file name number within p =
     let P : Option Passed → Type 0 = λ o. PassSays told shown.name shown.offset shown.fed new.offset new.fed before now (Ok o) in
     let says = subst (λ (x : Passed). P (Some x)) u (subst P a p) in
-    subst (λ (r : Reader). StepSays told r new before now (Some result)) is (by_result says result item)
-  where
-    by_result : PassSays told shown.name shown.offset shown.fed new.offset new.fed before now (Ok (Some (passed.Frame head version))) → (r : Result (Option Item) ReadStop) → ItemSays shown.file shown.number shown.offset version head.cmd body r → StepSays told shown new before now (Some r)
-    by_result says (Ok (Some i)) s = command_step told shown new before now head version says.0 body i file name number within body_is bytes_are says.1.0 says.1.1 s
-    by_result says (Ok None) s = elim s [ ]
-    by_result says (Err why) s = body_step told shown new before now head version says.0 body why body_is says.1.0 says.1.1 s
+    let past : HasGonePast told shown new frame = record { version = version; head = head; h = says.0; is = here; file = file; name = name; number = number; within = within; passes = says.1.0; stands = says.1.1 } in
+    subst (λ (r : Reader). StepSays told r new before now (Some (Ok (Some frame)))) is (tt, past)
 
 none_passed : (told : Option (List (List ℕ × List ℕ))) (r : Reader) (next before now : ℕ) (feed : Fed) (answer : Option Passed) → answer ≡ None → PassSays told r.name r.offset r.fed next feed before now (Ok answer) → PassSays told r.name r.offset r.fed next feed before now (Ok None)
 none_passed told r next before now feed answer a p = subst (λ (o : Option Passed). PassSays told r.name r.offset r.fed next feed before now (Ok o)) a p

@@ -1,14 +1,12 @@
 -- The command of a frame whose body is known.
-use Rattle.std.specs.Prelude.{◌≡◌, ℕ, ◌+◌, ◌≤◌, true, false, List, length, Result, Ok, Err}
+use Rattle.std.specs.Prelude.{◌≡◌, ℕ, true, false, List, Result, Ok, Err}
 use Rattle.send_model.specs.Refusal.{Refusal}
 use Rattle.send_model.specs.Chain.{◌>>=◌}
 use Rattle.send_model.specs.Command as meant
 use Rattle.send_model.specs.Spelling.{Attribute, attributes_of}
-use Rattle.send_model.specs.Receive.{bytes_of}
-use Rattle.send_model.specs.Reading.{attributes_at, command_of, data_place, frame_header_len}
+use Rattle.send_model.specs.Reading.{attributes_at, command_of, data_place}
 use Rattle.send_model.specs.Laws.{CanWrite}
 use Rattle.sx_base.specs.Refusals.{refusal_of}
-use Rattle.send_commands.specs.declared.command.Command.{Command}
 use Rattle.send_commands.specs.Meaning.{meaning_of}
 use Rattle.send_commands.specs.Writing.{IsWritable}
 use Rattle.cmd_reader.specs.declared.front.Front.{Front}
@@ -20,14 +18,14 @@ abbrev pub body_read : ℕ → ℕ → List ℕ → Result meant.Command Refusal
 body_read version number body = attributes_at version body >>= λ attributes. command_of version number attributes
 
 -- The command and the place of its data, by the attributes that are read.
-pub record CommandIs (at version number : ℕ) (body : List ℕ) (command : Command) (data_at : ℕ) : Type 0 where
+pub record CommandIs (at version number : ℕ) (body : List ℕ) (command : meant.Command) (data_at : ℕ) : Type 0 where
   pub attributes : List Attribute
   pub read : attributes_at version body ≡ Ok attributes
-  pub command_is : command_of version number attributes ≡ Ok (meaning_of command)
+  pub command_is : command_of version number attributes ≡ Ok command
   pub place : data_at ≡ data_place version at attributes
 
 abbrev pub ReadsCommand : ℕ → ℕ → ℕ → List ℕ → Result Front Fault → Type 0
-ReadsCommand at version number body (Ok front) = CommandIs at version number body front.command front.data_at
+ReadsCommand at version number body (Ok front) = CommandIs at version number body (meaning_of front.command) front.data_at
 ReadsCommand at version number body (Err (Refused refusal)) = body_read version number body ≡ Err (refusal_of refusal)
 ReadsCommand at version number body (Err NoMemory) = Unit {0}
 ReadsCommand at version number body (Err InputFault) = ⊥
@@ -38,9 +36,8 @@ abbrev pub HasAlone : ℕ → List ℕ → meant.Command → Type 0
 HasAlone version body command = (attributes : List Attribute) → attributes_at version body ≡ Ok attributes → attributes ≡ attributes_of command
 
 -- What holds of the command by itself.
-pub record CommandFits (at version : ℕ) (body : List ℕ) (front : Front) : Type 0 where
+pub record CommandFits (version : ℕ) (body : List ℕ) (front : Front) : Type 0 where
   pub writable : IsWritable version (meaning_of front.command)
   pub can_write : CanWrite version (meaning_of front.command)
-  pub payload : front.data_at + length (bytes_of (meaning_of front.command)) ≤ at + frame_header_len + length body
   pub alone : front.canonical ≡ true → HasAlone version body (meaning_of front.command)
   pub others : front.canonical ≡ false → HasAlone version body (meaning_of front.command) → ⊥

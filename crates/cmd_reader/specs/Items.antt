@@ -1,5 +1,5 @@
--- The item of a frame, or the answer that there is none.
-use Rattle.std.specs.Prelude.{◌≡◌, ℕ, List, Option, None, Some, Result, Ok, Err, ⊤}
+-- The item of a frame and what is seen of it, or the answer that there is none.
+use Rattle.std.specs.Prelude.{◌≡◌, ℕ, List, Option, None, Some, Result, Ok, Err, ⊤, IfSome}
 use Rattle.send_model.specs.Refusal.{Refusal}
 use Rattle.send_model.specs.Reading as reading
 use Rattle.sx_base.specs.Calls.{verdict_meant}
@@ -7,10 +7,15 @@ use Rattle.sx_base.specs.Refusals.{refusal_of}
 use Rattle.sx_base.specs.declared.outcome.Verdict.{Verdict}
 use Rattle.cmd_reader.specs.declared.fault.Fault.{Fault}
 use Rattle.cmd_reader.specs.declared.fault.Fault.TheVariants.{Refused, NoMemory, InputFault, InputTooLong}
+use Rattle.send_commands.specs.Meaning.{meaning_of}
+use Rattle.send_commands.specs.Writing.{IsWritable}
+use Rattle.cmd_reader.specs.declared.front.FrameAt.{FrameAt}
 use Rattle.cmd_reader.specs.declared.item.Item.{Item}
+use Rattle.cmd_reader.specs.declared.item.Glance.{Glance}
 use Rattle.cmd_reader.specs.declared.item.ReadStop.{ReadStop}
 use Rattle.cmd_reader.specs.declared.item.ReadStop.TheVariants as stop
 use Rattle.cmd_reader.specs.Commands.{body_read, CommandIs, CommandFits}
+use Rattle.cmd_reader.specs.Heads.{HeadIs}
 
 -- A refusal at a place.
 abbrev pub verdict_at : ℕ → ℕ → ℕ → Refusal → reading.Verdict
@@ -26,23 +31,36 @@ StopAt file number offset NoMemory why = why ≡ stop.NoMemory
 StopAt file number offset InputFault why = why ≡ stop.InputFault
 StopAt file number offset InputTooLong why = why ≡ stop.InputTooLong
 
--- The item of a frame at a place, of a stream of a version, by its command's number and its body.
-pub record ItemIs (number offset version cmd : ℕ) (body : List ℕ) (item : Item) : Type 0 where
-  pub number_is : item.number ≡ number
-  pub offset_is : item.offset ≡ offset
-  pub version_is : item.version ≡ version
-  pub command_is : CommandIs offset version cmd body item.command item.data_at
-  pub fits : CommandFits offset version body (record { command = item.command; data_at = item.data_at; canonical = item.canonical })
+-- The item of a frame, by its body.
+pub record ItemIs (frame : FrameAt) (body : List ℕ) (item : Item) : Type 0 where
+  pub number_is : item.number ≡ frame.number
+  pub offset_is : item.offset ≡ frame.offset
+  pub version_is : item.version ≡ frame.version
+  pub command_is : CommandIs frame.offset frame.version frame.cmd body (meaning_of item.command) item.data_at
+  pub fits : CommandFits frame.version body (record { command = item.command; data_at = item.data_at; canonical = item.canonical })
+
+-- What is seen of the command of a frame, by its body.
+pub record GlanceIs (frame : FrameAt) (body : List ℕ) (glance : Glance) : Type 0 where
+  pub version_is : glance.version ≡ frame.version
+  pub head_is : HeadIs frame.version frame.cmd body glance.head
+  pub writable : IfSome glance.head (λ head. IsWritable glance.version (meaning_of head))
 
 -- What a body says is refused, at the frame's place.
-abbrev pub IsRefusedAt : ℕ → ℕ → ℕ → ℕ → ℕ → List ℕ → Verdict → Type 0
-IsRefusedAt file number offset version cmd body verdict =
-    (body_read version cmd body ≡ Err (refusal_of verdict.refusal)) × (verdict_meant verdict ≡ verdict_at file number offset (refusal_of verdict.refusal))
+abbrev pub IsRefusedAt : FrameAt → List ℕ → Verdict → Type 0
+IsRefusedAt frame body verdict =
+    (body_read frame.version frame.cmd body ≡ Err (refusal_of verdict.refusal)) × (verdict_meant verdict ≡ verdict_at frame.file frame.number frame.offset (refusal_of verdict.refusal))
 
-abbrev pub ItemSays : ℕ → ℕ → ℕ → ℕ → ℕ → List ℕ → Result (Option Item) ReadStop → Type 0
-ItemSays file number offset version cmd body (Ok (Some item)) = ItemIs number offset version cmd body item
-ItemSays file number offset version cmd body (Ok None) = ⊥
-ItemSays file number offset version cmd body (Err (stop.Refused verdict)) = IsRefusedAt file number offset version cmd body verdict
-ItemSays file number offset version cmd body (Err stop.NoMemory) = ⊤
-ItemSays file number offset version cmd body (Err stop.InputFault) = ⊥
-ItemSays file number offset version cmd body (Err stop.InputTooLong) = ⊥
+-- What is made of a frame by its body, or why nothing is.
+abbrev pub BodySays : {T : Type 0} → (T → Type 0) → FrameAt → List ℕ → Result (Option T) ReadStop → Type 0
+BodySays made frame body (Ok (Some x)) = made x
+BodySays made frame body (Ok None) = ⊥
+BodySays made frame body (Err (stop.Refused verdict)) = IsRefusedAt frame body verdict
+BodySays made frame body (Err stop.NoMemory) = ⊤
+BodySays made frame body (Err stop.InputFault) = ⊥
+BodySays made frame body (Err stop.InputTooLong) = ⊥
+
+abbrev pub ItemSays : FrameAt → List ℕ → Result (Option Item) ReadStop → Type 0
+ItemSays frame body result = BodySays (ItemIs frame body) frame body result
+
+abbrev pub HeadSays : FrameAt → List ℕ → Result (Option Glance) ReadStop → Type 0
+HeadSays frame body result = BodySays (GlanceIs frame body) frame body result

@@ -4,6 +4,9 @@ pub mod Sources
 pub mod Left
 pub mod Alone
 pub mod Commands
+pub mod Heads
 pub mod Next
+pub mod Frames
+pub mod Glances
 pub mod Items
 pub mod Stopping

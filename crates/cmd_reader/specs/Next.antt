@@ -63,25 +63,32 @@ OnlyEnds r file = ((left r file).items ≡ []) × (only_ends (left r file).end �
 
 -- ---- a call
 
--- A command was read: what was left is this command and what is left now.
-pub record IsNext (old new : Reader) (item : Item) (file : List ℕ) : Type 0 where
-  pub left_is : left old file ≡ with_item (item_of old.file item) (left new file)
+-- A command was read: what was left is this item and what is left now.
+pub record GoesOn (old new : Reader) (item : reading.Item) (file : List ℕ) : Type 0 where
+  pub left_is : left old file ≡ with_item item (left new file)
   pub reached : old.offset ≤ length file → new.offset ≤ length file
   pub ahead : HasAhead new file
+
+abbrev pub IsNext : Reader → Reader → Item → List ℕ → Type 0
+IsNext old new item file = GoesOn old new (item_of old.file item) file
 
 -- What is left breaks a rule at once, with this verdict.
 abbrev pub IsFaulty : Reader → Verdict → List ℕ → Type 0
 IsFaulty r verdict file = left r file ≡ record { items = []; end = reading.Faulty (verdict_meant verdict) }
 
--- The next command; or the end, or a verdict; or that the file is too long. An end, and a verdict that the file is cut short,
+-- What was asked for; or the end, or a verdict; or that the file is too long. An end, and a verdict that the file is cut short,
 -- are given only of a file that ends before the limit.
+abbrev pub Says : {T : Type 0} → (T → Type 0) → Option (List (List ℕ × List ℕ)) → Reader → ℕ → ℕ → Result (Option T) ReadStop → Type 0
+Says given told old before now (Ok (Some x)) = given x
+Says given told old before now (Ok None) = IfTold told old.name (HasEnded old)
+Says given told old before now (Err (stop.Refused verdict)) = IfTold told old.name (IsRefused (λ refusal. IsFaulty old verdict) (refusal_of verdict.refusal))
+Says given told old before now (Err stop.NoMemory) = ⊤
+Says given told old before now (Err stop.InputFault) = Rose before now
+Says given told old before now (Err stop.InputTooLong) = IfTold told old.name (IsLongAt old.offset (OnlyEnds old))
+
+-- The next command, or why there is none.
 abbrev pub NextSays : Option (List (List ℕ × List ℕ)) → Reader → Reader → ℕ → ℕ → Result (Option Item) ReadStop → Type 0
-NextSays told old new before now (Ok (Some item)) = IfTold told old.name (IsNext old new item)
-NextSays told old new before now (Ok None) = IfTold told old.name (HasEnded old)
-NextSays told old new before now (Err (stop.Refused verdict)) = IfTold told old.name (IsRefused (λ refusal. IsFaulty old verdict) (refusal_of verdict.refusal))
-NextSays told old new before now (Err stop.NoMemory) = ⊤
-NextSays told old new before now (Err stop.InputFault) = Rose before now
-NextSays told old new before now (Err stop.InputTooLong) = IfTold told old.name (IsLongAt old.offset (OnlyEnds old))
+NextSays told old new before now result = Says (λ (item : Item). IfTold told old.name (IsNext old new item)) told old before now result
 
 -- What holds of an item, whether or not the inputs tell.
 pub record ItemFits (old new : Reader) (item : Item) : Type 0 where
@@ -99,21 +106,32 @@ pub record ItemFits (old new : Reader) (item : Item) : Type 0 where
   pub spelled : item.canonical ≡ true → new.fed.last ≡ canonical item.version (meaning_of item.command)
   pub unlike : item.canonical ≡ false → new.fed.last ≢ canonical item.version (meaning_of item.command)
 
--- The same where an item was read.
-abbrev pub IfItem : Result (Option Item) ReadStop → (Item → Type 0) → Type 0
-IfItem (Ok (Some item)) P = P item
+-- The same where something was given.
+abbrev pub IfItem : {T : Type 0} → Result (Option T) ReadStop → (T → Type 0) → Type 0
+IfItem (Ok (Some x)) P = P x
 IfItem (Ok None) P = ⊤
 IfItem (Err why) P = ⊤
 
 -- A file ends only where its last command was END.
-abbrev pub EndsAfterEnd : Reader → Result (Option Item) ReadStop → Type 0
+abbrev pub EndsAfterEnd : {T : Type 0} → Reader → Result (Option T) ReadStop → Type 0
 EndsAfterEnd old (Ok None) = old.fed.ended ≡ true
-EndsAfterEnd old (Ok (Some item)) = ⊤
+EndsAfterEnd old (Ok (Some x)) = ⊤
 EndsAfterEnd old (Err why) = ⊤
 
--- ---- one step of a call
+-- ---- a command that was read and not made
 
--- A header was passed, or there is an answer.
-abbrev pub StepSays : Option (List (List ℕ × List ℕ)) → Reader → Reader → ℕ → ℕ → Option (Result (Option Item) ReadStop) → Type 0
-StepSays told old new before now None = (HasBegun old new × ((old.offset < new.offset) × (new.offset ≤ limit))) × IfTold told old.name (BeginsAt old new)
-StepSays told old new before now (Some answer) = (IfItem answer (ItemFits old new) × EndsAfterEnd old answer) × NextSays told old new before now answer
+-- What an item of the definitions is to a reader that has gone past it, whether or not the inputs tell; where they tell, it is the
+-- next one.
+pub record HasRead (told : Option (List (List ℕ × List ℕ))) (old new : Reader) (item : reading.Item) : Type 0 where
+  pub file : item.file ≡ old.file
+  pub number : item.number ≡ old.number
+  pub next_number : new.number ≡ old.number + 1
+  pub further : old.offset < new.offset
+  pub within : new.offset ≤ limit
+  pub version : is_version item.version ≡ true
+  pub can_write : CanWrite item.version item.command
+  pub payload : item.data_at + length (bytes_of item.command) ≤ limit
+  pub same_stream : (version : ℕ) → old.fed.due ≡ CommandDue version → item.version ≡ version
+  pub due : new.fed.due ≡ due_after item.version item.command
+  pub at_end : new.fed.ended ≡ is_last item.command
+  pub next : IfTold told old.name (GoesOn old new item)

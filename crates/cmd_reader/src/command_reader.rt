@@ -2,11 +2,13 @@
 ghost use Rattle.std.specs.Prelude.{◌≡◌, ◌≤◌, IfOk};
 ghost use Rattle.cmd_reader.specs.Places.{IfTold};
 ghost use Rattle.cmd_reader.specs.Left.{Reader, at_start, HasAhead};
-ghost use Rattle.cmd_reader.specs.Next.{NextSays, ItemFits, IfItem, EndsAfterEnd, StepSays};
+ghost use Rattle.cmd_reader.specs.Next.{NextSays, ItemFits, IfItem, EndsAfterEnd};
+ghost use Rattle.cmd_reader.specs.Frames.{FrameFits, StepSays, FrameSays};
+ghost use Rattle.cmd_reader.specs.Glances.{GlanceFits, GlanceSays};
 
 use crate::fault::Fault;
-use crate::front::{body_in, item_in, stop_at};
-use crate::item::{Item, ReadStop};
+use crate::front::{FrameAt, body_in, glance_in, item_in, stop_at};
+use crate::item::{Glance, Item, ReadStop};
 use crate::source::Source;
 use std::alloc::{AllocError, Global};
 use std::marker::Model;
@@ -66,12 +68,35 @@ impl CmdReader {
         ensures end { EndsAfterEnd self.old result }
         ensures read { NextSays (I.told inputs.old) self.old self.new (I.faults inputs.old) (I.faults inputs.new) result }
     {
-        loop {
-            match self.step(inputs) {
-                Some(answer) => return answer,
-                None => {}
-            }
-        }
+        let frame = match self.frame(inputs) {
+            Ok(Some(frame)) => frame,
+            Ok(None) => return Ok(None),
+            Err(stop) => return Err(stop),
+        };
+        let alloc = self.alloc();
+        item_in(alloc, frame, body_in(self.last_frame()))
+    }
+
+    /// What is seen of the next command: it goes past what `next` gives, stops where `next` stops, and makes no command but one
+    /// that begins a part. It takes memory for the values of that one alone.
+    pub fn glance<I: Inputs>(&mut self, inputs: &mut I) -> Result<Option<Glance>, ReadStop>
+        requires ahead { IfTold (I.told inputs.old) self.old.name (HasAhead self.old) }
+        ensures same { I.told inputs.new ≡ I.told inputs.old }
+        ensures later { I.faults inputs.old ≤ I.faults inputs.new }
+        ensures ends_later { I.ends inputs.old ≤ I.ends inputs.new }
+        ensures file { self.new.file ≡ self.old.file }
+        ensures name { self.new.name ≡ self.old.name }
+        ensures fits { IfItem result (GlanceFits self.old self.new) }
+        ensures end { EndsAfterEnd self.old result }
+        ensures read { GlanceSays (I.told inputs.old) self.old self.new (I.faults inputs.old) (I.faults inputs.new) result }
+    {
+        let frame = match self.frame(inputs) {
+            Ok(Some(frame)) => frame,
+            Ok(None) => return Ok(None),
+            Err(stop) => return Err(stop),
+        };
+        let alloc = self.alloc();
+        glance_in(alloc, frame, body_in(self.last_frame()))
     }
 
     /// The bytes of the frame of the command that was read last, as they stand in the file. Takes
@@ -82,8 +107,32 @@ impl CmdReader {
         self.source.feed.last()
     }
 
+    // Where memory is taken from.
+    fn alloc(&self) -> Global {
+        self.alloc
+    }
+
+    // Goes past the next frame, and the headers before it. None where the file ends after END.
+    fn frame<I: Inputs>(&mut self, inputs: &mut I) -> Result<Option<FrameAt>, ReadStop>
+        requires ahead { IfTold (I.told inputs.old) self.old.name (HasAhead self.old) }
+        ensures same { I.told inputs.new ≡ I.told inputs.old }
+        ensures later { I.faults inputs.old ≤ I.faults inputs.new }
+        ensures ends_later { I.ends inputs.old ≤ I.ends inputs.new }
+        ensures file { self.new.file ≡ self.old.file }
+        ensures name { self.new.name ≡ self.old.name }
+        ensures fits { IfItem result (FrameFits self.new) }
+        ensures says { FrameSays (I.told inputs.old) self.old self.new (I.faults inputs.old) (I.faults inputs.new) result }
+    {
+        loop {
+            match self.step(inputs) {
+                Some(answer) => return answer,
+                None => {}
+            }
+        }
+    }
+
     // Goes past the next header or frame. None where it was a header.
-    fn step<I: Inputs>(&mut self, inputs: &mut I) -> Option<Result<Option<Item>, ReadStop>>
+    fn step<I: Inputs>(&mut self, inputs: &mut I) -> Option<Result<Option<FrameAt>, ReadStop>>
         requires ahead { IfTold (I.told inputs.old) self.old.name (HasAhead self.old) }
         ensures same { I.told inputs.new ≡ I.told inputs.old }
         ensures later { I.faults inputs.old ≤ I.faults inputs.new }
@@ -109,11 +158,13 @@ impl CmdReader {
             Passed::Head(_) => None,
             Passed::Frame { head, version } => {
                 self.number += 1;
-                let body = body_in(self.source.feed.last());
-                let item = item_in(
-                    self.alloc, self.file, number, offset, version, head.cmd, body,
-                );
-                Some(item)
+                Some(Ok(Some(FrameAt {
+                    file: self.file,
+                    number,
+                    offset,
+                    version,
+                    cmd: head.cmd,
+                })))
             }
         }
     }

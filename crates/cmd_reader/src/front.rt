@@ -1,20 +1,37 @@
 // The command of a frame.
-ghost use Rattle.std.specs.Prelude.{◌≡◌, ◌≤◌, true, length, drop, IfOk};
+ghost use Rattle.std.specs.Prelude.{◌≡◌, ◌≤◌, true, length, drop, IfOk, IfSome};
 ghost use Rattle.send_model.specs.Attribute.{IsBytes};
 ghost use Rattle.send_model.specs.Spelling.{greatest_body};
 ghost use Rattle.send_model.specs.Reading.{is_version};
 ghost use Rattle.send_model.specs.Lengths.{limit};
+ghost use Rattle.send_commands.specs.Meaning.{meaning_of, kind_meant};
+ghost use Rattle.send_commands.specs.Writing.{IsWritable};
 ghost use Rattle.cmd_reader.specs.Commands.{ReadsCommand, CommandFits};
-ghost use Rattle.cmd_reader.specs.Items.{ItemSays, StopAt};
+ghost use Rattle.cmd_reader.specs.Heads.{ReadsHead, is_head};
+ghost use Rattle.cmd_reader.specs.Items.{ItemSays, HeadSays, StopAt};
 
 use crate::fault::Fault;
-use crate::item::{Item, ReadStop};
+use crate::item::{Glance, Item, ReadStop};
 use crate::spelled::is_canonical;
-use send_commands::{Command, decode};
+use send_commands::{Command, Kind, decode, lawful_kind};
 use std::alloc::Global;
 use sx_base::{Stop, Verdict};
 use tlv_frame::attribute_numbers::DATA;
 use tlv_frame::{FRAME_HEAD_LEN, attrs};
+
+// A frame that was gone past.
+#[derive(Clone, Copy)]
+pub(crate) struct FrameAt {
+    // The file, and the command's number in it, both counted from 1.
+    pub(crate) file: u64,
+    pub(crate) number: u64,
+    // The place in the file of the frame's first byte.
+    pub(crate) offset: u64,
+    // The version of its stream.
+    pub(crate) version: u32,
+    // The number that says which command it is.
+    pub(crate) cmd: u16,
+}
 
 // A command with what its frame says of it.
 #[derive(Drop)]
@@ -35,32 +52,41 @@ pub(crate) fn body_in(frame: &[u8]) -> &[u8]
     &frame[FRAME_HEAD_LEN..]
 }
 
-// The item that a frame at the place is, of a stream of the version, by its command's number and
-// its body.
-pub(crate) fn item_in(
-    alloc: Global,
-    file: u64,
-    number: u64,
-    offset: u64,
-    version: u32,
-    cmd: u16,
-    body: &[u8],
-) -> Result<Option<Item>, ReadStop>
-    requires place { offset ≤ limit }
+// The item that a frame is, by its body.
+pub(crate) fn item_in(alloc: Global, frame: FrameAt, body: &[u8]) -> Result<Option<Item>, ReadStop>
+    requires place { frame.offset ≤ limit }
     requires short { length body.now ≤ greatest_body }
-    requires version { is_version version ≡ true }
-    ensures says { ItemSays file number offset version cmd body.now result }
+    requires version { is_version frame.version ≡ true }
+    ensures says { ItemSays frame body.now result }
 {
-    match command_in(alloc, offset, version, cmd, body) {
+    match command_in(alloc, frame.offset, frame.version, frame.cmd, body) {
         Ok(front) => Ok(Some(Item {
             command: front.command,
-            number,
-            offset,
+            number: frame.number,
+            offset: frame.offset,
             data_at: front.data_at,
-            version,
+            version: frame.version,
             canonical: front.canonical,
         })),
-        Err(fault) => Err(stop_at(file, number, offset, fault)),
+        Err(fault) => Err(stop_at(frame.file, frame.number, frame.offset, fault)),
+    }
+}
+
+// What is seen of the command that a frame is, by its body.
+pub(crate) fn glance_in(
+    alloc: Global,
+    frame: FrameAt,
+    body: &[u8],
+) -> Result<Option<Glance>, ReadStop>
+    requires short { length body.now ≤ greatest_body }
+    ensures says { HeadSays frame body.now result }
+{
+    match head_in(alloc, frame.version, frame.cmd, body) {
+        Ok(head) => Ok(Some(Glance {
+            head,
+            version: frame.version,
+        })),
+        Err(fault) => Err(stop_at(frame.file, frame.number, frame.offset, fault)),
     }
 }
 
@@ -87,7 +113,7 @@ fn command_in(alloc: Global, at: u64, version: u32, cmd: u16, body: &[u8]) -> Re
     requires place { at ≤ limit }
     requires short { length body.now ≤ greatest_body }
     requires version { is_version version ≡ true }
-    ensures fits { IfOk result (CommandFits at version body.now) }
+    ensures fits { IfOk result (CommandFits version body.now) }
     ensures read { ReadsCommand at version cmd body.now result }
 {
     let table = match attrs(body, version) {
@@ -107,5 +133,40 @@ fn command_in(alloc: Global, at: u64, version: u32, cmd: u16, body: &[u8]) -> Re
         }),
         Err(Stop::Refused(refusal)) => Err(Fault::Refused(refusal)),
         Err(Stop::NoMemory) => Err(Fault::NoMemory),
+    }
+}
+
+// The command of a number whose attributes are these, where it begins a part.
+fn head_in(alloc: Global, version: u32, cmd: u16, body: &[u8]) -> Result<Option<Command>, Fault>
+    requires short { length body.now ≤ greatest_body }
+    ensures writable { IfOk result (λ head. IfSome head (λ command. IsWritable version (meaning_of command))) }
+    ensures read { ReadsHead version cmd body.now result }
+{
+    let table = match attrs(body, version) {
+        Ok(table) => table,
+        Err(refusal) => return Err(Fault::Refused(refusal)),
+    };
+    let kind = match lawful_kind(cmd, &table) {
+        Ok(kind) => kind,
+        Err(why) => return Err(Fault::Refused(why)),
+    };
+    if !begins_part(kind) {
+        return Ok(None);
+    }
+    match decode(alloc, cmd, &table) {
+        Ok(command) => Ok(Some(command)),
+        Err(Stop::Refused(refusal)) => Err(Fault::Refused(refusal)),
+        Err(Stop::NoMemory) => Err(Fault::NoMemory),
+    }
+}
+
+// Whether a command of this kind begins a part.
+fn begins_part(kind: Kind) -> bool
+    ensures { result ≡ is_head (kind_meant kind) }
+{
+    match kind {
+        Kind::Subvol => true,
+        Kind::Snapshot => true,
+        _ => false,
     }
 }

@@ -1,4 +1,4 @@
-// What a reader gives: commands with their places, or the reason why there is none.
+// What a reader gives: commands with their places, what is seen of them, or the reason why there is none.
 use send_commands::Command;
 use sx_base::Verdict;
 
@@ -18,6 +18,15 @@ pub struct Item {
     /// Whether the bytes of its frame are the canonical spelling of the command: the wanted
     /// attributes alone, in rising order of their numbers.
     pub canonical: bool,
+}
+
+/// What is seen of a command that is not made, unless it begins a part.
+#[derive(Drop)]
+pub struct Glance {
+    /// The command itself where it begins a part, None where it does not.
+    pub head: Option<Command>,
+    /// The version of its stream.
+    pub version: u32,
 }
 
 /// Why a reader stops.

@@ -10,5 +10,5 @@ mod spelled;
 mod stopping;
 
 pub use command_reader::CmdReader;
-pub use item::{Item, ReadStop};
+pub use item::{Glance, Item, ReadStop};
 pub use stopping::outcome_of;

@@ -1,14 +1,12 @@
-use Rattle.std.proofs.Common.{◌≡◌, ◌≤◌, Ok, sym, ap, subst, ◌∙◌, length, ℕ, ◌+◌, arith}
-use Rattle.send_model.specs.Reading.{place_of, data_place, command_of, frame_header_len}
-use Rattle.send_model.specs.Receive.{bytes_of}
+use Rattle.std.proofs.Common.{◌≡◌, Ok, sym, ap, subst, ◌∙◌, ℕ, arith}
+use Rattle.send_model.specs.Reading.{place_of, command_of}
 use Rattle.send_commands.specs.Meaning.{meaning_of}
 use Rattle.send_commands.specs.Writing.{IsWritable}
 use Rattle.send_model.specs.Attribute.{DATA}
 use Rattle.send_model.proofs.Fuel.{ok_same}
 use Rattle.std.proofs.lemmas.Bool.{true≢false}
-use Rattle.cmd_reader.proofs.CommandFacts.{stands_alone, alone_stands, place_in_body, slice_bytes, read_can_write, data_place_within, data_at_some, data_at_none}
+use Rattle.cmd_reader.proofs.CommandFacts.{stands_alone, alone_stands, place_in_body, slice_bytes, read_can_write}
 use Rattle.cmd_reader.proofs.front.command_in.Goals as goal
-use Rattle.cmd_reader.proofs.front.command_in.Goals.{in-Some, in-None}
 
 pub overflow_add-data_at-in-Some : goal.overflow_add-data_at-in-Some
 overflow_add-data_at-in-Some c =
@@ -22,15 +20,9 @@ returns-in-Ok-decode-clause-fits c =
     let there = c.in-Ok.ensures.exact in
     let attributes = there.0 in
     let command : command_of c.args.version c.args.cmd attributes ≡ Ok (meaning_of c.in-Ok-decode.command) = ap (λ (v : ℕ). command_of v c.args.cmd attributes) (sym c.in-Ok.ensures.kept) ∙ c.in-Ok-decode.ensures.exact attributes there.2 in
-    let place : c.match-place.data_at ≡ data_place c.args.version c.args.at attributes = (elim c.match-place.branch [
-      | in-Some w ↦ w.data_at-is ∙ sym (data_at_some c.args.version c.args.at attributes w.in-Some.place (ap (λ (v : ℕ). place_of v DATA attributes) (sym c.in-Ok.ensures.kept) ∙ sym (there.2.places DATA) ∙ sym c.place.ensures.place ∙ w.in-Some.is))
-      | in-None w ↦ w.data_at-is ∙ sym (data_at_none c.args.version c.args.at attributes (ap (λ (v : ℕ). place_of v DATA attributes) (sym c.in-Ok.ensures.kept) ∙ sym (there.2.places DATA) ∙ sym c.place.ensures.place ∙ w.in-None.is))
-    ]) in
-    let within = data_place_within c.args.at c.args.version c.args.cmd c.args.body.now attributes (meaning_of c.in-Ok-decode.command) there.1 command in
     record {
       writable = subst (λ (v : ℕ). IsWritable v (meaning_of c.in-Ok-decode.command)) c.in-Ok.ensures.kept c.in-Ok-decode.ensures.writable;
       can_write = read_can_write c.args.version c.args.cmd c.args.body.now attributes (meaning_of c.in-Ok-decode.command) c.ranges.cmd.fits c.requires.short (slice_bytes c.args.body.now c.type_inv.body) there.1 command;
-      payload = subst (λ (n : ℕ). n + length (bytes_of (meaning_of c.in-Ok-decode.command)) ≤ c.args.at + frame_header_len + length c.args.body.now) (sym place) within;
       alone = λ tried others read. ok_same (sym read ∙ there.1) ∙ stands_alone c.args.version c.args.cmd c.args.body.now attributes (meaning_of c.in-Ok-decode.command) _ c.ranges.cmd.fits c.requires.short (slice_bytes c.args.body.now c.type_inv.body) there.1 command c.in-Ok.ensures.kept there.2 (sym c.is_canonical-canonical.ensures.exact ∙ tried);
       others = λ other own. true≢false (sym (alone_stands c.args.version c.args.cmd c.args.body.now attributes (meaning_of c.in-Ok-decode.command) _ c.ranges.cmd.fits c.requires.short (slice_bytes c.args.body.now c.type_inv.body) there.1 command c.in-Ok.ensures.kept there.2 (own attributes there.1)) ∙ sym c.is_canonical-canonical.ensures.exact ∙ other);
     }

@@ -1,36 +1,23 @@
-use Rattle.std.proofs.Common.{refl, ◌∙◌, arith}
-use Rattle.cmd_reader.proofs.Goings.{begun_at_start, begun_further, begun_ahead, answered}
+use Rattle.std.proofs.Common.{List, ℕ, drop, ap, subst, ◌∙◌}
+use Rattle.send_model.specs.Attribute.{IsBytes}
+use Rattle.cmd_reader.specs.declared.item.Item.{Item}
+use Rattle.cmd_reader.specs.Places.{IfTold}
+use Rattle.cmd_reader.specs.Next.{IsNext}
+use Rattle.cmd_reader.proofs.Goings.{item_said, ended_said, stopped_said}
 use Rattle.cmd_reader.proofs.command_reader.CmdReader.next.Goals as goal
 
-pub loop-answer-init : goal.loop-answer-init
-loop-answer-init g c = record { same = refl; later = omega (arith); ends_later = omega (arith); begun = begun_at_start (g.I.Inputs.told c.args.inputs.now) c.args.self.now c.requires.ahead; ahead = c.requires.ahead }
+pub returns-in-Ok-None-clause-end : goal.returns-in-Ok-None-clause-end
+returns-in-Ok-None-clause-end g c = (ended_said (λ (item : Item). IfTold (g.I.Inputs.told c.args.inputs.now) c.args.self.now.name (IsNext c.args.self.now c.frame.new.self item)) _ c.args.self.now c.frame.new.self 0 0 c.in-Ok-None.field-0 c.in-Ok-None.field-0-is c.in-Ok-None.ensures.says).0
 
-pub loop-answer-preserved : goal.loop-answer-preserved
-loop-answer-preserved g c =
-    let i = c.loop-answer.invariant in
-    let begun = begun_further (g.I.Inputs.told c.args.inputs.now) (g.I.Inputs.told c.loop-answer.inputs) c.args.self.now c.loop-answer.self c.step.new.self 0 0 i.same i.begun.0 i.begun.1 c.in-None.ensures.says in
-    let same = c.step.ensures.same ∙ i.same in
-    let later = c.step.ensures.later in
-    record {
-      same = same;
-      later = omega (arith, i.later, later);
-      ends_later = omega (arith, i.ends_later, c.step.ensures.ends_later);
-      begun = begun;
-      ahead = begun_ahead (g.I.Inputs.told c.args.inputs.now) (g.I.Inputs.told c.step.new.inputs) c.args.self.now c.step.new.self same begun;
-    }
+pub returns-in-Ok-None-clause-read : goal.returns-in-Ok-None-clause-read
+returns-in-Ok-None-clause-read g c = (ended_said (λ (item : Item). IfTold (g.I.Inputs.told c.args.inputs.now) c.args.self.now.name (IsNext c.args.self.now c.frame.new.self item)) _ c.args.self.now c.frame.new.self 0 0 c.in-Ok-None.field-0 c.in-Ok-None.field-0-is c.in-Ok-None.ensures.says).1
 
-pub returns-in-Some : goal.returns-in-Some
-returns-in-Some g c =
-    let i = c.loop-answer.invariant in
-    let says = answered (g.I.Inputs.told c.args.inputs.now) (g.I.Inputs.told c.loop-answer.inputs) c.args.self.now c.loop-answer.self c.step.new.self _ _ _ c.in-Some.answer i.same i.later i.begun.0 i.begun.1 c.in-Some.ensures.says in
-    let e = c.in-Some.ensures in
-    record {
-      same = e.same ∙ i.same;
-      later = omega (arith, i.later, e.later);
-      ends_later = omega (arith, i.ends_later, e.ends_later);
-      file = e.file ∙ i.begun.0.file;
-      name = e.name ∙ i.begun.0.name;
-      fits = says.0.0;
-      end = says.0.1;
-      read = says.1;
-    }
+pub returns-in-Err-clause-read : goal.returns-in-Err-clause-read
+returns-in-Err-clause-read g c = stopped_said (λ (item : Item). IfTold (g.I.Inputs.told c.args.inputs.now) c.args.self.now.name (IsNext c.args.self.now c.frame.new.self item)) _ c.args.self.now c.frame.new.self _ _ c.in-Err.stop c.in-Err.ensures.says
+
+pub returns : goal.returns
+returns g c =
+    let e = c.frame.ensures in
+    let body = c.body_in.ensures.body ∙ ap (λ (l : List ℕ). drop 10 l) c.last_frame.ensures.bytes in
+    let says = item_said (g.I.Inputs.told c.args.inputs.now) c.args.self.now c.frame.new.self (g.I.Inputs.faults c.args.inputs.now) (g.I.Inputs.faults c.frame.new.inputs) c.in-Ok-Some.field-0 c.in-Ok-Some.frame _ c.item_in.result c.in-Ok-Some.field-0-is c.in-Ok-Some.ensures.says body (subst IsBytes c.last_frame.ensures.bytes c.body_in.ensures.bytes) c.item_in.ensures.says in
+    record { same = e.same; later = e.later; ends_later = e.ends_later; file = e.file; name = e.name; fits = says.0.0; end = says.0.1; read = says.1 }

@@ -1,5 +1,4 @@
-use Rattle.std.proofs.Common.{List, ℕ, drop, subst, refl, ap, sym, ◌∙◌, arith}
-use Rattle.send_model.specs.Attribute.{IsBytes}
+use Rattle.std.proofs.Common.{refl, ap, sym, ◌∙◌, arith}
 use Rattle.std.specs.String.{string_bytes}
 use Rattle.cmd_reader.proofs.Steps.{fault_said, head_said, frame_said, whole_said, cut_said}
 use Rattle.cmd_reader.proofs.command_reader.CmdReader.step.Goals as goal
@@ -21,7 +20,4 @@ returns-in-Head-clause-says g c =
 pub returns-in-Frame-clause-says : goal.returns-in-Frame-clause-says
 returns-in-Frame-clause-says g c =
     let e = c.in-Ok-Some.ensures in
-    let body = c.body_in-body.ensures.body ∙ ap (λ (l : List ℕ). drop 10 l) c.last.ensures.bytes in
-    let are = subst IsBytes c.last.ensures.bytes c.body_in-body.ensures.bytes in
-    frame_said _ _ _ _ _ _ c.in-Frame.head c.in-Frame.version c.in-Ok-Some.unit c.in-Ok-Some.field-0 _ c.item_in-item.result c.self.view_is c.in-Ok-Some.field-0-is c.in-Frame.is refl (ap string_bytes e.name) refl (omega (arith, e.source.up_to, e.source.within)) body are e.says
-    c.item_in-item.ensures.says
+    frame_said _ _ _ _ 0 0 c.in-Frame.head c.in-Frame.version c.in-Ok-Some.unit c.in-Ok-Some.field-0 _ c.self.view_is c.in-Ok-Some.field-0-is c.in-Frame.is refl refl (ap string_bytes e.name) refl (omega (arith, e.source.up_to, e.source.within)) e.says

@@ -3,9 +3,9 @@ use Rattle.send_model.specs.Lengths.{limit}
 use Rattle.cmd_reader.specs.Places.{IfTold}
 use Rattle.cmd_reader.specs.Left.{HasAhead}
 use Rattle.cmd_reader.specs.Next.{HasBegun, BeginsAt}
-use Rattle.cmd_reader.proofs.command_reader.CmdReader.next.Given as goal
+use Rattle.cmd_reader.proofs.command_reader.CmdReader.frame.Given as goal
 
--- Headers were passed, and no command was read.
+-- Headers were passed, and no frame.
 abbrev pub invariant-loop-answer : goal.invariant-loop-answer
 invariant-loop-answer g l = record {
   same : g.I.Inputs.told l.inputs ≡ g.I.Inputs.told l.fn.inputs;
