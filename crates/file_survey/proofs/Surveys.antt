@@ -1,9 +1,10 @@
 -- What is known of the commands of a file and of files: what the loops over them keep, and what holds at each of their ends.
-use Rattle.std.specs.Prelude.{◌≡◌, ℕ, ◌+◌, ◌<◌, ◌≤◌, ◌==◌, ◌||◌, Bool, true, false, List, [], ◌∷◌, ◌++◌, map, length, take, drop, Option, None, Some, Result, Ok, Err, slice_index_or, String, if◌then◌else◌}
+use Rattle.std.specs.Prelude.{◌≡◌, ℕ, ◌+◌, ◌<◌, ◌≤◌, ◌==◌, ◌||◌, Bool, true, false, List, [], ◌∷◌, ◌++◌, map, length, take, drop, Option, None, Some, Result, Ok, Err, slice_index_or, String, IfSome, option_map, if◌then◌else◌}
 use Rattle.std.specs.List.{list_any}
 use Rattle.std.specs.String.{string_bytes}
 use Rattle.std.proofs.Common.{refl, sym, ap, subst, ◌∙◌, append-nil, append_assoc, arith}
 use Rattle.std.proofs.lemmas.List.{drop_all}
+use Rattle.send_model.specs.Command.{Command}
 use Rattle.send_model.specs.Reading as reading
 use Rattle.send_model.specs.Reading.{Item, Reading, Whole, Faulty, is_version, ended, reads, input}
 use Rattle.send_model.specs.Store.{Head, head_of}
@@ -14,26 +15,30 @@ use Rattle.send_model.specs.Composed.{last_head, version_of}
 use Rattle.send_model.specs.Laws.{CanWrite}
 use Rattle.send_model.specs.Lengths.{limit, only_ends, too_long}
 use Rattle.send_model.proofs.Composed.{last_there}
+use Rattle.send_model.proofs.Sorts.{same_inside}
 use Rattle.sx_base.specs.Outside.{file_at}
 use Rattle.sx_base.specs.Refusals.{refusal_of}
 use Rattle.sx_base.specs.Calls.{verdict_meant, contents, IfAllTold}
 use Rattle.sx_base.specs.declared.outcome.Verdict.{Verdict}
 use Rattle.sx_base.specs.declared.outcome.Outcome.{Outcome}
 use Rattle.sx_base.specs.declared.outcome.Outcome.TheVariants as ended_by
+use Rattle.send_commands.specs.declared.command.Command as made
 use Rattle.send_commands.specs.Meaning.{meaning_of}
 use Rattle.send_commands.specs.Writing.{IsWritable}
-use Rattle.cmd_reader.specs.declared.item.Item as read
+use Rattle.cmd_reader.specs.declared.item.Glance.{Glance}
 use Rattle.cmd_reader.specs.declared.item.ReadStop.{ReadStop}
 use Rattle.cmd_reader.specs.declared.item.ReadStop.TheVariants as stop
 use Rattle.cmd_reader.specs.Places.{IfTold}
 use Rattle.cmd_reader.specs.Fronts.{IsRefused, IsLongAt}
 use Rattle.cmd_reader.specs.Left.{Reader, at_start, left}
-use Rattle.cmd_reader.specs.Next.{item_of, HasEnded, IsFaulty, OnlyEnds, IsNext, NextSays, ItemFits, IfItem}
-use Rattle.cmd_reader.proofs.Aheads.{next_item, next_end}
+use Rattle.cmd_reader.specs.Next.{HasEnded, IsFaulty, OnlyEnds, GoesOn, IfItem}
+use Rattle.cmd_reader.specs.Heads.{as_head}
+use Rattle.cmd_reader.specs.Glances.{IsGlance, GlanceSays, GlanceFits}
+use Rattle.cmd_reader.proofs.Aheads.{says_end, glance_is}
 use Rattle.cmd_reader.proofs.Told.{Here, told_both, told_always, told_here, told_moved, told_next}
 use Rattle.file_survey.specs.Ahead.{IsAhead, then_reading}
 use Rattle.cmd_reader.specs.Stopping.{outcome_at}
-use Rattle.file_survey.specs.Findings.{Surveyed, nothing_seen, uuid_in, after_command, after_items, AreReadable, FileRead, FileStop, FileEnd, AllRead, SurveyStop, SurveyEnd}
+use Rattle.file_survey.specs.Findings.{Surveyed, nothing_seen, uuid_in, with_head, with_version, after_command, seen_head, after_glance, after_items, AreReadable, FileRead, FileStop, FileEnd, AllRead, SurveyStop, SurveyEnd}
 use Rattle.file_survey.proofs.AheadSteps.{ahead_start, ahead_whole, ahead_fault}
 use Rattle.send_model.proofs.TooLong.{short_fits, fault_fits, long_is}
 use Rattle.file_survey.proofs.TooLong.{LongAhead, long_start, long_end, long_next, long_fault, long_here}
@@ -103,16 +108,24 @@ after_both (item ∷ items) more now =
 pub after_one : (now : Surveyed) (item : Item) → after_items now (item ∷ []) ≡ after_command now item.version item.command
 after_one now item = after_front now item [] ∙ after_none (after_command now item.version item.command)
 
--- ---- what a reader gives
+-- ---- what a reader sees
 
-item_fits : (o : Option read.Item) (item : read.Item) (old new : Reader) → o ≡ Some item → IfItem (Ok o) (ItemFits old new) → ItemFits old new item
-item_fits o item old new e fits = subst (λ (x : Option read.Item). IfItem (Ok x) (ItemFits old new)) e fits
+-- The head of a command of which nothing else was made.
+seen_is : (o : Option made.Command) (command : Command) → option_map meaning_of o ≡ as_head command → seen_head o ≡ head_of command
+seen_is o command e = by_head o (head_of command) refl e
+  where
+    by_head : (x : Option made.Command) (head : Option Head) → head_of command ≡ head → option_map meaning_of x ≡ (elim head as (λ h. Option Command) [ None ↦ None | Some h ↦ Some command ]) → seen_head x ≡ head
+    by_head None None is q = refl
+    by_head None (Some head) is q = cc
+    by_head (Some c) None is q = cc
+    by_head (Some c) (Some head) is q = ap head_of (same_inside q) ∙ is
 
-pub item_readable : (o : Option read.Item) (item : read.Item) (old new : Reader) → o ≡ Some item → IfItem (Ok o) (ItemFits old new) → CanWrite item.version (meaning_of item.command) × (is_version item.version ≡ true)
-item_readable o item old new e fits = let f = item_fits o item old new e fits in (f.can_write, f.version)
+-- What is known after a glance is what is known after the command.
+after_seen : (now : Surveyed) (version : ℕ) (o : Option made.Command) (command : Command) → option_map meaning_of o ≡ as_head command → after_glance now version o ≡ after_command now version command
+after_seen now version o command e = ap (λ (head : Option Head). with_version (with_head now head) version) (seen_is o command e)
 
-pub item_writable : (o : Option read.Item) (item : read.Item) (old new : Reader) → o ≡ Some item → IfItem (Ok o) (ItemFits old new) → IsWritable item.version (meaning_of item.command)
-item_writable o item old new e fits = let f = item_fits o item old new e fits in f.writable
+pub glance_writable : (o : Option Glance) (glance : Glance) (old new : Reader) → o ≡ Some glance → IfItem (Ok o) (GlanceFits old new) → IfSome glance.head (λ head. IsWritable glance.version (meaning_of head))
+glance_writable o glance old new e fits = let f = subst (λ (x : Option Glance). IfItem (Ok x) (GlanceFits old new)) e fits in f.writable
 
 -- ---- the commands of a file
 
@@ -135,47 +148,48 @@ file_start told file name reader last is =
     let fresh : Reader = at_start file name in
     subst S (sym is) (told_always told name (FileSoFar file fresh last last) (λ bytes. start_of_file file name last bytes))
 
-next_of_file : (file : ℕ) (old new : Reader) (item : read.Item) (before last now : Surveyed) (bytes : List ℕ) → old.file ≡ file → CanWrite item.version (meaning_of item.command) × (is_version item.version ≡ true) → now ≡ after_command last item.version (meaning_of item.command)
-    → FileSoFar file old before last bytes → IsNext old new item bytes → FileSoFar file new before now bytes
-next_of_file file old new item before last now bytes f can head h n =
-    let one : Item = item_of file item in
-    record {
-      items = h.items ++ one ∷ [];
-      read = h.read ∙ ap (then_reading h.items) (n.left_is ∙ ap (λ (k : ℕ). then_reading (item_of k item ∷ []) (left new bytes)) f) ∙ then_then h.items (one ∷ []) (left new bytes);
-      writable = readable_both h.items (one ∷ []) h.writable (can, tt);
-      seen = head ∙ ap (λ (s : Surveyed). after_command s one.version one.command) h.seen ∙ sym (after_one (after_items before h.items) one) ∙ sym (after_both h.items (one ∷ []) before);
-      within = n.reached h.within;
-    }
+next_of_file : (file : ℕ) (old new : Reader) (item : Item) (before last now : Surveyed) (bytes : List ℕ) → CanWrite item.version item.command × (is_version item.version ≡ true) → now ≡ after_command last item.version item.command
+    → FileSoFar file old before last bytes → GoesOn old new item bytes → FileSoFar file new before now bytes
+next_of_file file old new item before last now bytes can head h n = record {
+  items = h.items ++ item ∷ [];
+  read = h.read ∙ ap (then_reading h.items) n.left_is ∙ then_then h.items (item ∷ []) (left new bytes);
+  writable = readable_both h.items (item ∷ []) h.writable (can, tt);
+  seen = head ∙ ap (λ (s : Surveyed). after_command s item.version item.command) h.seen ∙ sym (after_one (after_items before h.items) item) ∙ sym (after_both h.items (item ∷ []) before);
+  within = n.reached h.within;
+}
 
--- A command was read.
-pub file_next : (told told_now : Option (List (List ℕ × List ℕ))) (file : ℕ) (name : List ℕ) (old new : Reader) (o : Option read.Item) (item : read.Item) (before last now : Surveyed) (early late : ℕ) → told_now ≡ told → old.file ≡ file → old.name ≡ name → o ≡ Some item
-    → IfItem (Ok o) (ItemFits old new) → now ≡ after_command last item.version (meaning_of item.command) → IfTold told name (FileSoFar file old before last) → NextSays told_now old new early late (Ok o) → IfTold told name (FileSoFar file new before now)
-file_next told told_now file name old new o item before last now early late t f n is fits head h next =
-    told_both told name (FileSoFar file old before last) (IsNext old new item) (FileSoFar file new before now) (λ bytes so_far next. next_of_file file old new item before last now bytes f can head so_far next) h
-    (next_item told told_now name old new early late o item is t n next)
+-- A command was gone past.
+pub file_next : (told told_now : Option (List (List ℕ × List ℕ))) (file : ℕ) (name : List ℕ) (old new : Reader) (o : Option Glance) (glance : Glance) (before last now : Surveyed) (early late : ℕ) → told_now ≡ told → old.name ≡ name → o ≡ Some glance
+    → now ≡ after_glance last glance.version glance.head → IfTold told name (FileSoFar file old before last) → GlanceSays told_now old new early late (Ok o) → IfTold told name (FileSoFar file new before now)
+file_next told told_now file name old new o glance before last now early late t n is kept h says =
+    told_both told name (FileSoFar file old before last) (GoesOn old new g.item) (FileSoFar file new before now) (λ bytes so_far goes. next_of_file file old new g.item before last now bytes (g.read.can_write, g.read.version) known so_far goes) h
+    (told_moved told told_now name old.name (GoesOn old new g.item) t n g.read.next)
   where
-    can : CanWrite item.version (meaning_of item.command) × (is_version item.version ≡ true)
-    can = item_readable o item old new is fits
+    g : IsGlance told_now old new glance
+    g = glance_is told_now old new early late o glance is says
+
+    known : now ≡ after_command last g.item.version g.item.command
+    known = kept ∙ after_seen last glance.version glance.head g.item.command g.head ∙ ap (λ (v : ℕ). after_command last v g.item.command) (sym g.version)
 
 read_to : (file : ℕ) (reader : Reader) (before last : Surveyed) (bytes : List ℕ) (ending : reading.Ending) (h : FileSoFar file reader before last bytes) → left reader bytes ≡ record { items = []; end = ending } → reads file bytes ≡ record { items = h.items; end = ending }
 read_to file reader before last bytes ending h is = h.read ∙ ap (then_reading h.items) is ∙ ap (λ (is : List Item). record { items = is; end = ending }) (append-nil h.items)
 
 -- The file ends.
-pub file_whole : (told told_now : Option (List (List ℕ × List ℕ))) (file : ℕ) (name : List ℕ) (old new : Reader) (o : Option read.Item) (before last : Surveyed) (early late : ℕ) → told_now ≡ told → old.name ≡ name → o ≡ None
-    → IfTold told name (FileSoFar file old before last) → NextSays told_now old new early late (Ok o) → IfTold told name (FileRead file true before last)
+pub file_whole : (told told_now : Option (List (List ℕ × List ℕ))) (file : ℕ) (name : List ℕ) (old new : Reader) (o : Option Glance) (before last : Surveyed) (early late : ℕ) → told_now ≡ told → old.name ≡ name → o ≡ None
+    → IfTold told name (FileSoFar file old before last) → GlanceSays told_now old new early late (Ok o) → IfTold told name (FileRead file true before last)
 file_whole told told_now file name old new o before last early late t n none h says =
     told_both told name (FileSoFar file old before last) (HasEnded old) (FileRead file true before last) by_file h
-    (next_end told told_now name old new early late o none t n says)
+    (says_end (IsGlance told_now old new) told told_now name old early late o none t n says)
   where
     by_file : (bytes : List ℕ) → FileSoFar file old before last bytes → HasEnded old bytes → FileRead file true before last bytes
     by_file bytes h (is, less) = record { items = h.items; ending = Whole; read = read_to file old before last bytes Whole h is; end_is = refl; writable = h.writable; seen = h.seen; fits = short_fits file bytes less }
 
 -- The file breaks a rule.
 pub file_fault : (told told_now : Option (List (List ℕ × List ℕ))) (file : ℕ) (name : List ℕ) (old new : Reader) (verdict : Verdict) (why : ReadStop) (before last : Surveyed) (early late : ℕ) → told_now ≡ told → old.name ≡ name → why ≡ stop.Refused verdict
-    → IfTold told name (FileSoFar file old before last) → NextSays told_now old new early late (Err why) → IfTold told name (FileRead file false before last)
+    → IfTold told name (FileSoFar file old before last) → GlanceSays told_now old new early late (Err why) → IfTold told name (FileRead file false before last)
 file_fault told told_now file name old new verdict why before last early late t n refused h says =
     told_both told name (Here (FileSoFar file old before last)) (Here Broken) (FileRead file false before last) by_file (told_here told name (FileSoFar file old before last) h)
-    (told_here told name Broken (told_moved told told_now name old.name Broken t n (subst (λ (x : ReadStop). NextSays told_now old new early late (Err x)) refused says)))
+    (told_here told name Broken (told_moved told told_now name old.name Broken t n (subst (λ (x : ReadStop). GlanceSays told_now old new early late (Err x)) refused says)))
   where
     Broken : List ℕ → Type 0
     Broken = IsRefused (λ _. IsFaulty old verdict) (refusal_of verdict.refusal)
@@ -188,7 +202,7 @@ file_fault told told_now file name old new verdict why before last early late t 
 
 -- The file could not be read on.
 pub file_stop : (told told_now : Option (List (List ℕ × List ℕ))) (file : ℕ) (name : List ℕ) (old new : Reader) (why : ReadStop) (outcome : Outcome) (before last : Surveyed) (early late : ℕ) → told_now ≡ told → old.name ≡ name → ((verdict : Verdict) → why ≡ stop.Refused verdict → ⊥) → outcome ≡ outcome_at file why
-    → IfTold told name (FileSoFar file old before last) → NextSays told_now old new early late (Err why) → IfTold told name (FileStop file outcome)
+    → IfTold told name (FileSoFar file old before last) → GlanceSays told_now old new early late (Err why) → IfTold told name (FileStop file outcome)
 file_stop told told_now file name old new why outcome before last early late t n other is h says = subst (λ (x : Outcome). IfTold told name (FileStop file x)) (sym is) (by_why why other says)
   where
     by_file : (bytes : List ℕ) → Here (FileSoFar file old before last) bytes → IsLongAt old.offset (OnlyEnds old) bytes → FileStop file (ended_by.InputTooLong file) bytes
@@ -196,7 +210,7 @@ file_stop told told_now file name old new why outcome before last early late t n
         let l = long h.within in
         (refl, long_is file bytes l.0 (ap (λ (r : Reading). only_ends r.end) front.read ∙ l.1.1))
 
-    by_why : (x : ReadStop) → ((verdict : Verdict) → x ≡ stop.Refused verdict → ⊥) → NextSays told_now old new early late (Err x) → IfTold told name (FileStop file (outcome_at file x))
+    by_why : (x : ReadStop) → ((verdict : Verdict) → x ≡ stop.Refused verdict → ⊥) → GlanceSays told_now old new early late (Err x) → IfTold told name (FileStop file (outcome_at file x))
     by_why (stop.Refused verdict) other says = absurd (other verdict refl)
     by_why stop.NoMemory other says = told_always told name (FileStop file ended_by.NoMemory) (λ bytes. tt)
     by_why stop.InputFault other says = told_always told name (FileStop file ended_by.InputFault) (λ bytes. tt)

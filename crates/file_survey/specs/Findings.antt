@@ -11,6 +11,8 @@ use Rattle.send_model.specs.Outside.{part_uuids}
 use Rattle.send_model.specs.Composed.{last_head, version_of}
 use Rattle.send_model.specs.Laws.{CanWrite}
 use Rattle.send_model.specs.Lengths.{is_too_long, too_long}
+use Rattle.send_commands.specs.declared.command.Command as made
+use Rattle.send_commands.specs.Meaning.{meaning_of}
 use Rattle.sx_base.specs.declared.outcome.Outcome.{Outcome}
 use Rattle.sx_base.specs.declared.outcome.Outcome.TheVariants as ended
 
@@ -51,6 +53,14 @@ with_version now version = record now { version = if version == 2 then 2 else no
 -- After a command of a stream of this version.
 abbrev pub after_command : Surveyed → ℕ → Command → Surveyed
 after_command now version command = with_version (with_head now (head_of command)) version
+
+-- The same where the command was made only if it is a head.
+abbrev pub seen_head : Option made.Command → Option Head
+seen_head None = None
+seen_head (Some command) = head_of (meaning_of command)
+
+abbrev pub after_glance : Surveyed → ℕ → Option made.Command → Surveyed
+after_glance now version head = with_version (with_head now (seen_head head)) version
 
 -- After items.
 abbrev pub after_items : Surveyed → List Item → Surveyed

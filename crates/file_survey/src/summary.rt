@@ -1,14 +1,14 @@
 // What is known of files once they were read for their heads.
-ghost use Rattle.std.specs.Prelude.{◌≡◌, ◌⊎◌, map, OnOk};
+ghost use Rattle.std.specs.Prelude.{◌≡◌, ◌⊎◌, map, OnOk, IfSome};
 ghost use Rattle.std.specs.Option.{option_copied};
 ghost use Rattle.send_model.specs.Outside.{is_among};
 ghost use Rattle.send_commands.specs.Meaning.{meaning_of};
 ghost use Rattle.send_commands.specs.Writing.{IsWritable};
-ghost use Rattle.file_survey.specs.Findings.{KnowsParts, nothing_seen, with_head, with_version, after_command};
+ghost use Rattle.file_survey.specs.Findings.{KnowsParts, nothing_seen, with_head, with_version, after_glance};
 
 use crate::part_head::PartHead;
 use crate::part_uuids::PartUuids;
-use cmd_reader::Item;
+use cmd_reader::Glance;
 use std::alloc::{AllocError, Global};
 use std::marker::Model;
 use uuid::Uuid;
@@ -74,15 +74,17 @@ impl Survey {
         self.parts.has(uuid)
     }
 
-    // Keeps what a command says: the head that it is, if it is one, and its version.
-    pub(crate) fn keep(&mut self, alloc: Global, item: Item) -> Result<(), AllocError>
-        requires writable { IsWritable item.version (meaning_of item.command) }
-        ensures kept { OnOk result (self.new ≡ after_command self.old item.version (meaning_of item.command)) }
+    // Keeps what was seen of a command: the head that it is, if it is one, and its version.
+    pub(crate) fn keep(&mut self, alloc: Global, glance: Glance) -> Result<(), AllocError>
+        requires writable { IfSome glance.head (λ head. IsWritable glance.version (meaning_of head)) }
+        ensures kept { OnOk result (self.new ≡ after_glance self.old glance.version glance.head) }
     {
-        let head = PartHead::of(alloc, &item.command, item.version)?;
-        self.keep_head(head)?;
-        self.keep_version(item.version);
-        Ok(())
+        self.keep_version(glance.version);
+        let Some(head) = &glance.head else {
+            return Ok(());
+        };
+        let head = PartHead::of(alloc, head, glance.version)?;
+        self.keep_head(head)
     }
 
     // Keeps a head, if it is given.

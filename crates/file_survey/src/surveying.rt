@@ -33,7 +33,7 @@ pub fn survey<I: Inputs>(alloc: Global, inputs: &mut I, files: &[String]) -> Res
     Ok(seen)
 }
 
-// Goes over the commands of a file, and says whether it can be read to its end.
+// Goes over the commands of a file, makes those that begin a part, and says whether it can be read to its end.
 fn survey_file<I: Inputs>(
     alloc: Global,
     inputs: &mut I,
@@ -51,15 +51,15 @@ fn survey_file<I: Inputs>(
         return Err(Outcome::NoMemory);
     };
     loop {
-        let item = match reader.next(inputs) {
-            Ok(Some(item)) => item,
+        let glance = match reader.glance(inputs) {
+            Ok(Some(glance)) => glance,
             Ok(None) => return Ok(true),
             Err(stop) => match stop {
                 ReadStop::Refused(_) => return Ok(false),
                 _ => return Err(outcome_of(file, stop)),
             },
         };
-        match seen.keep(alloc, item) {
+        match seen.keep(alloc, glance) {
             Ok(()) => {}
             Err(_) => return Err(Outcome::NoMemory),
         }

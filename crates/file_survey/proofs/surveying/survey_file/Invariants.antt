@@ -6,16 +6,15 @@ use Rattle.file_survey.proofs.Surveys.{FileSoFar}
 use Rattle.file_survey.proofs.surveying.survey_file.Given as goal
 
 -- Each command brings the reader nearer to the limit.
-abbrev pub decreases-loop-item : goal.decreases-loop-item
-decreases-loop-item g l = limit - l.reader.offset
+abbrev pub decreases-loop-glance : goal.decreases-loop-glance
+decreases-loop-glance g l = limit - l.reader.offset
 
 -- What is known is what the commands so far say, after what was known before the file; what is left to read is left to the reader.
-abbrev pub invariant-loop-item : goal.invariant-loop-item
-invariant-loop-item g l = record {
+abbrev pub invariant-loop-glance : goal.invariant-loop-glance
+invariant-loop-glance g l = record {
   same : g.I.Inputs.told l.inputs ≡ g.I.Inputs.told l.fn.inputs;
   later : g.I.Inputs.faults l.fn.inputs ≤ g.I.Inputs.faults l.inputs;
   ends_later : g.I.Inputs.ends l.fn.inputs ≤ g.I.Inputs.ends l.inputs;
-  file : l.reader.file ≡ l.file;
   name : l.reader.name ≡ l.name;
   seen : IfTold (g.I.Inputs.told l.fn.inputs) l.name (FileSoFar l.file l.reader l.fn.seen l.seen);
   ahead : IfTold (g.I.Inputs.told l.inputs) l.reader.name (HasAhead l.reader);
