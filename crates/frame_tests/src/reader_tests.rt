@@ -1,7 +1,8 @@
 // A file that is read to its end, and one that is cut. The bytes are from another program.
 ghost use Rattle.std.specs.Prelude.{None};
 
-use cmd_reader::{CmdReader, ReadStop};
+use cmd_reader::{CmdReader, Glance, ReadStop};
+use send_commands::Command;
 use std::test::Fail;
 use sx_base::{Failed, Inputs, Lost, PlainInputs, Refusal, Verdict};
 
@@ -11,6 +12,10 @@ const FILE: &[u8] =
 // The frames of an added attribute, and of attributes in falling order, are among these.
 const SPELLED: &[u8] =
     b"btrfs-stream\x00\x01\x00\x00\x00%\x00\x00\x00\x01\x0033C\xee\x01\x00\x10\x00\x11\x11\x11\x11\x11\x11\x11\x11\x11\x11\x11\x11\x11\x11\x11\x11\x02\x00\x08\x00\x01\x00\x00\x00\x00\x00\x00\x00\x0f\x00\x01\x00a\x11\x00\x00\x00\x03\x00\x0b\xb5\xb3\x86\x0f\x00\x01\x00x\x03\x00\x08\x00\x01\x01\x00\x00\x00\x00\x00\x00\x0a\x00\x00\x00\x09\x00\xb68\xcf\x99\x10\x00\x01\x00y\x0f\x00\x01\x00x\x11\x00\x00\x00\x12\x0098\xfc\xff\x05\x00\x08\x00\x80\x01\x00\x00\x00\x00\x00\x00\x0f\x00\x01\x00y\x00\x00\x00\x00\x15\x00Pl\xc9\x9d";
+
+// A snapshot in version 2, a file, and a frame that lacks the path of the file that it makes.
+const LACKING: &[u8] =
+    b"btrfs-stream\x00\x02\x00\x00\x00E\x00\x00\x00\x02\x00\xca\x93\xbf\xed\x01\x00\x10\x00\x22\x22\x22\x22\x22\x22\x22\x22\x22\x22\x22\x22\x22\x22\x22\x22\x02\x00\x08\x00\x02\x00\x00\x00\x00\x00\x00\x00\x0f\x00\x01\x00b\x14\x00\x10\x00\x11\x11\x11\x11\x11\x11\x11\x11\x11\x11\x11\x11\x11\x11\x11\x11\x15\x00\x08\x00\x01\x00\x00\x00\x00\x00\x00\x00\x05\x00\x00\x00\x03\x00,\x09]\x81\x0f\x00\x01\x00y\x00\x00\x00\x00\x03\x00\xda\xcb\xbc4";
 
 // Files in memory that tell nothing, give at most so many bytes at a time and count their calls.
 #[derive(Drop)]
@@ -165,5 +170,99 @@ fn frames_are_handed_out_as_they_stand(rt: HostRuntime) -> Result<(), Fail> {
         let read = spelling(&mut reader, &mut inputs, &SPELLED[from..to]);
         assert_eq!(rt; read, Ok(Some((canonical, true))));
     }
+    Ok(())
+}
+
+// The transaction number of a command that begins a part.
+fn begun(c: &Command) -> Option<u64> {
+    match c {
+        Command::Subvol { ctransid, .. } => Some(*ctransid),
+        Command::Snapshot { ctransid, .. } => Some(*ctransid),
+        _ => None,
+    }
+}
+
+// The same of the next command, and its version.
+fn given(
+    reader: &mut CmdReader,
+    inputs: &mut CountedInputs,
+) -> Result<Option<(Option<u64>, u32)>, ReadStop> {
+    match reader.next(inputs) {
+        Ok(Some(item)) => Ok(Some((begun(&item.command), item.version))),
+        Ok(None) => Ok(None),
+        Err(stop) => Err(stop),
+    }
+}
+
+fn seen_begun(glance: &Glance) -> Option<u64> {
+    match &glance.head {
+        Some(head) => begun(head),
+        None => None,
+    }
+}
+
+// The same of what is seen of it.
+fn seen(
+    reader: &mut CmdReader,
+    inputs: &mut CountedInputs,
+) -> Result<Option<(Option<u64>, u32)>, ReadStop> {
+    match reader.glance(inputs) {
+        Ok(Some(glance)) => Ok(Some((seen_begun(&glance), glance.version))),
+        Ok(None) => Ok(None),
+        Err(stop) => Err(stop),
+    }
+}
+
+#[test]
+fn a_glance_goes_past_what_next_gives(rt: HostRuntime) -> Result<(), Fail> {
+    let mut inputs = CountedInputs {
+        files: PlainInputs::new(rt.alloc()),
+        most: 7,
+        calls: 0,
+    };
+    inputs.files.add("parts", FILE)?;
+    let mut glances = CmdReader::new(rt.alloc(), 1, "parts")?;
+    let mut items = CmdReader::new(rt.alloc(), 1, "parts")?;
+    for head in [Some(1), None, None, None] {
+        assert_eq!(rt; seen(&mut glances, &mut inputs), Ok(Some((head, 1))));
+        assert_eq!(rt; given(&mut items, &mut inputs), Ok(Some((head, 1))));
+    }
+    assert_eq!(rt; seen(&mut glances, &mut inputs), Ok(None));
+    assert_eq!(rt; given(&mut items, &mut inputs), Ok(None));
+    Ok(())
+}
+
+#[test]
+fn a_glance_is_refused_where_next_is(rt: HostRuntime) -> Result<(), Fail> {
+    let mut bytes = Vec::new(rt.alloc());
+    bytes.extend_from_slice(FILE)?;
+    bytes.extend_from_slice(LACKING)?;
+    let mut inputs = CountedInputs {
+        files: PlainInputs::new(rt.alloc()),
+        most: 65_536,
+        calls: 0,
+    };
+    inputs.files.add("parts", &bytes)?;
+    let mut glances = CmdReader::new(rt.alloc(), 3, "parts")?;
+    let mut items = CmdReader::new(rt.alloc(), 3, "parts")?;
+    for (head, version) in [
+        (Some(1), 1),
+        (None, 1),
+        (None, 1),
+        (None, 1),
+        (Some(2), 2),
+        (None, 2),
+    ] {
+        assert_eq!(rt; seen(&mut glances, &mut inputs), Ok(Some((head, version))));
+        assert_eq!(rt; given(&mut items, &mut inputs), Ok(Some((head, version))));
+    }
+    let refused = ReadStop::Refused(Verdict {
+        file: 3,
+        command: 7,
+        offset: 233,
+        refusal: Refusal::MissingAttribute(15),
+    });
+    assert_eq!(rt; seen(&mut glances, &mut inputs), Err(refused));
+    assert_eq!(rt; given(&mut items, &mut inputs), Err(refused));
     Ok(())
 }
