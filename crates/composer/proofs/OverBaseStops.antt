@@ -24,7 +24,7 @@ use Rattle.send_model.proofs.Judging.{AreOrdered}
 use Rattle.send_model.proofs.Composed.{first_there, last_of_some, items_with_heads}
 use Rattle.send_model.proofs.Writing.{heads_of-append, nothing_unfinished, unfinished_part}
 use Rattle.send_model.proofs.Streams.{canonical_long}
-use Rattle.send_model.proofs.Fronts.{lawful_on, lawful_more, nothing_front}
+use Rattle.send_model.proofs.Fronts.{lawful_on, lawful_more, part_front, nothing_front}
 use Rattle.composer.specs.OverBase.{Plan, plan_of, Composing, Halt, Refuses, Exceeds, after_item, then_kept, advance, composed_up_to, written_with, current_after, AreWritable, HasNone}
 use Rattle.composer.proofs.OneMore.{composed_from-append, uncarried-append}
 use Rattle.composer.proofs.OverBaseProgress.{base_start, Progress, err_is, one_sum, front-append}
@@ -85,14 +85,6 @@ each_both base some others (h ∷ hs) all =
 
 -- ---- a front part of all that is due to be written
 
--- A front part of a front part.
-front_of_front : (all written extra : List ℕ) (count : ℕ) → all ≡ written ++ extra → count ≤ length written → IsFrontOf all (take count written)
-front_of_front all written extra count is within = record {
-  count = count;
-  within = omega (arith, within, ap length is, length-append written extra);
-  written_is = sym (take-append-le count written extra within) ∙ ap (take count) (sym is);
-}
-
 first_stays : (hs more : List Head) (first : Head) → first_head hs ≡ Some first → first_head (hs ++ more) ≡ Some first
 first_stays [] more first e = cc
 first_stays (h ∷ hs) more first e = e
@@ -106,9 +98,9 @@ spelled_front version head edits extra = front-append version head edits extra
 
 -- All of it, where all items are lawful.
 front_whole : (base : Store ℕ) (all items more : List Item) (now : Composing) (sent : List ℕ) (first last : Head) (count : ℕ) → all ≡ items ++ more → Progress (plan_of base all) items now sent → first_head (heads items) ≡ Some first → last_head (heads all) ≡ Some last
-    → count ≤ length (stream_front (version_of all) (composed_up_to (plan_of base all) (Some first) last items)) → IsFrontOf (output_of None base all) (take count (stream_front (version_of all) (composed_up_to (plan_of base all) (Some first) last items)))
+    → IsFrontOf (output_of None base all) (take count (stream_front (version_of all) (composed_up_to (plan_of base all) (Some first) last items)))
 unfolding composed_with composed_edits
-front_whole base all items more now sent first last count is p f l within =
+front_whole base all items more now sent first last count is p f l =
     let version : ℕ = version_of all in
     let hc : Command = head_command last.name last.key first.parent in
     let es : List Command = composed_from base (part_uuids all) last.key (start_of (traced_store base)) None items in
@@ -118,14 +110,14 @@ front_whole base all items more now sent first last count is p f l within =
     let list : composed_of base all ≡ hc ∷ (es ++ (extra ++ End ∷ [])) =
     items_with_heads base all first last (first_in_front items more all first is f) l
     ∙ ap (λ (ds : List Command). hc ∷ (ds ++ End ∷ [])) edits ∙ ap (λ (ds : List Command). hc ∷ ds) (append_assoc es extra (End ∷ [])) in
-    front_of_front (output_of None base all) (stream_front version (hc ∷ es)) (canonical_all version (extra ++ End ∷ [])) count
-    (ap (λ (ds : List Command). stream_header version ++ canonical_all version ds) list ∙ spelled_front version hc es (extra ++ End ∷ [])) within
+    part_front (output_of None base all) [] (stream_front version (hc ∷ es)) (canonical_all version (extra ++ End ∷ [])) count
+    (ap (λ (ds : List Command). stream_header version ++ canonical_all version ds) list ∙ spelled_front version hc es (extra ++ End ∷ []))
 
 -- The part of it before the first unlawful item.
 front_before : (base : Store ℕ) (all items more : List Item) (now : Composing) (sent : List ℕ) (first last : Head) (count : ℕ) → HasNone base (part_uuids all) → all ≡ items ++ more → Progress (plan_of base all) items now sent → first_head (heads items) ≡ Some first → last_head (heads all) ≡ Some last
-    → count ≤ length (stream_front (version_of all) (composed_up_to (plan_of base all) (Some first) last items)) → IsFrontOf (stream_front (version_of all) (composed_before_of base all)) (take count (stream_front (version_of all) (composed_up_to (plan_of base all) (Some first) last items)))
+    → IsFrontOf (stream_front (version_of all) (composed_before_of base all)) (take count (stream_front (version_of all) (composed_up_to (plan_of base all) (Some first) last items)))
 unfolding composed_edits
-front_before base all items more now sent first last count none is p f l within =
+front_before base all items more now sent first last count none is p f l =
     let version : ℕ = version_of all in
     let start = start_of (traced_store base) in
     let hc : Command = head_command last.name last.key first.parent in
@@ -144,8 +136,8 @@ front_before base all items more now sent first last count none is p f l within 
     ap (composed_from base so_far last.key start None) lawful_is ∙ composed_from-append base so_far last.key items on.0 start now.state None p.taken ∙ ap (λ (ds : List Command). ds ++ extra) alike in
     let list : composed_before_of base all ≡ hc ∷ (es ++ extra) =
     ap₂ (λ (a b : Option Head). composed_part base a b L) (first_in_front items on.0 L first lawful_is f) l ∙ ap (λ (ds : List Command). hc ∷ ds) edits in
-    front_of_front (stream_front version (composed_before_of base all)) (stream_front version (hc ∷ es)) (canonical_all version extra) count
-    (ap (stream_front version) list ∙ spelled_front version hc es extra) within
+    part_front (stream_front version (composed_before_of base all)) [] (stream_front version (hc ∷ es)) (canonical_all version extra) count
+    (ap (stream_front version) list ∙ spelled_front version hc es extra)
 
 by_verdict : (base : Store ℕ) (all : List Item) (written : List ℕ) (o : Option Verdict) → IsFrontOf (output_of None base all) written → IsFrontOf (stream_front (version_of all) (composed_before_of base all)) written → IsFrontOf (output_of o base all) written
 by_verdict base all written None whole before = whole
@@ -153,21 +145,19 @@ by_verdict base all written (Some verdict) whole before = before
 
 -- What was written for items that were taken is a front part of all that is due to be written, over a base without the parts.
 pub front : (base : Store ℕ) (reading : Reading) (items more : List Item) (now : Composing) (sent : List ℕ) (count : ℕ) → HasNone base (part_uuids reading.items) → reading.items ≡ items ++ more
-    → Progress (plan_of base reading.items) items now sent → count ≤ length (sent ++ now.pending) → IsFrontOf (whole_output_of base reading) (take count (sent ++ now.pending))
-front base reading items more now sent count none is p within =
-    subst (λ (b : List ℕ). count ≤ length b → IsFrontOf (whole_output_of base reading) (take count b)) (sym p.bytes)
-    (by_last (last_head (heads reading.items)) refl (first_head (heads items)) refl) within
+    → Progress (plan_of base reading.items) items now sent → IsFrontOf (whole_output_of base reading) (take count (sent ++ now.pending))
+front base reading items more now sent count none is p =
+    subst (λ (b : List ℕ). IsFrontOf (whole_output_of base reading) (take count b)) (sym p.bytes) (by_last (last_head (heads reading.items)) refl (first_head (heads items)) refl)
   where
-    by_last : (l : Option Head) → last_head (heads reading.items) ≡ l → (f : Option Head) → first_head (heads items) ≡ f → count ≤ length (written_with (plan_of base reading.items) l items) → IsFrontOf (whole_output_of base reading) (take count (written_with (plan_of base reading.items) l items))
-    by_last None l f e = λ h. nothing_front (whole_output_of base reading) count
+    by_last : (l : Option Head) → last_head (heads reading.items) ≡ l → (f : Option Head) → first_head (heads items) ≡ f → IsFrontOf (whole_output_of base reading) (take count (written_with (plan_of base reading.items) l items))
+    by_last None l f e = nothing_front (whole_output_of base reading) count
     by_last (Some last) l f e = by_first f e
       where
-        by_first : (f : Option Head) → first_head (heads items) ≡ f → count ≤ length (stream_front (version_of reading.items) (composed_up_to (plan_of base reading.items) (first_head (heads items)) last items))
-            → IsFrontOf (whole_output_of base reading) (take count (stream_front (version_of reading.items) (composed_up_to (plan_of base reading.items) (first_head (heads items)) last items)))
-        by_first None e = subst (λ (f : Option Head). count ≤ length (stream_front (version_of reading.items) (composed_up_to (plan_of base reading.items) f last items)) → IsFrontOf (whole_output_of base reading) (take count (stream_front (version_of reading.items) (composed_up_to (plan_of base reading.items) f last items)))) (sym e)
-            (λ h. nothing_front (whole_output_of base reading) count)
-        by_first (Some first) e = subst (λ (f : Option Head). count ≤ length (stream_front (version_of reading.items) (composed_up_to (plan_of base reading.items) f last items)) → IsFrontOf (whole_output_of base reading) (take count (stream_front (version_of reading.items) (composed_up_to (plan_of base reading.items) f last items)))) (sym e)
-            (λ h. by_verdict base reading.items _ (judge_of base reading) (front_whole base reading.items items more now sent first last count is p e l h) (front_before base reading.items items more now sent first last count none is p e l h))
+        by_first : (f : Option Head) → first_head (heads items) ≡ f → IsFrontOf (whole_output_of base reading) (take count (stream_front (version_of reading.items) (composed_up_to (plan_of base reading.items) (first_head (heads items)) last items)))
+        by_first None e = subst (λ (f : Option Head). IsFrontOf (whole_output_of base reading) (take count (stream_front (version_of reading.items) (composed_up_to (plan_of base reading.items) f last items)))) (sym e)
+            (nothing_front (whole_output_of base reading) count)
+        by_first (Some first) e = subst (λ (f : Option Head). IsFrontOf (whole_output_of base reading) (take count (stream_front (version_of reading.items) (composed_up_to (plan_of base reading.items) f last items)))) (sym e)
+            (by_verdict base reading.items _ (judge_of base reading) (front_whole base reading.items items more now sent first last count is p e l) (front_before base reading.items items more now sent first last count none is p e l))
 
 -- ---- no whole stream
 
@@ -205,7 +195,7 @@ pub stopped : (base : Store ℕ) (reading : Reading) (items more : List Item) (n
     → is_version (version_of reading.items) ≡ true → AreWritable (plan_of base reading.items) items → Progress (plan_of base reading.items) items now sent → count ≤ length (sent ++ now.pending)
     → IsStoppedOf base reading (take count (sent ++ now.pending))
 stopped base reading items more now sent count none is version writable p within =
-    record { unfinished = unfinished (plan_of base reading.items) items now sent count version writable p within; front = front base reading items more now sent count none is p within }
+    record { unfinished = unfinished (plan_of base reading.items) items now sent count version writable p within; front = front base reading items more now sent count none is p }
 
 -- The same where END was to be written, and not all of it was.
 pub stopped_end : (base : Store ℕ) (reading : Reading) (now : Composing) (sent : List ℕ) (count : ℕ) → reading.end ≡ Whole → heads reading.items ≢ []
