@@ -9,9 +9,9 @@ use borrow.Rule.Slice.PartMut.{put_mid}
 use lib.ListN.{replicate}
 use Rattle.send_model.specs.Store as meant
 use Rattle.send_model.proofs.ElementLaws.{all_first, all_drop}
-use Rattle.sx_base.specs.Again.{LiesIn}
+use Rattle.sx_base.specs.Again.{LiesIn, EarlyEnd}
 use Rattle.sx_base.specs.Outside.{file_at}
-use Rattle.sx_base.specs.Calls.{contents, IfAllTold}
+use Rattle.sx_base.specs.Calls.{contents, IfAllTold, ErrFoundChanged}
 use Rattle.sx_base.specs.declared.outcome.Outcome.{Outcome}
 use Rattle.sx_base.specs.declared.outcome.Outcome.TheVariants as ended
 use Rattle.subvol_catalog.specs.declared.key.Key.{Key}
@@ -25,7 +25,7 @@ use Rattle.provenance.specs.declared.trace.Trace.TheVariants.{Fresh, Outside}
 use Rattle.provenance.specs.Traces.{advanced_by}
 use Rattle.clone_pieces.specs.Origins.{IsInInput}
 use Rattle.clone_pieces.specs.Filling.{byte_in, IsHadIn, PieceHad, PieceThere, FillEnd, AgainEnd}
-use Rattle.clone_pieces.proofs.Told.{all_always, all_map, all_two, told_moved, told_file}
+use Rattle.clone_pieces.proofs.Told.{all_always, all_map, all_two, told_moved, name_at, count_names, told_file}
 
 -- ---- the cells of a piece
 
@@ -112,6 +112,11 @@ module _ {Z : Type 0} (names : List (String Z)) (held : meant.Key → ℕ → Li
   again_filled (Some table) new (Err (ended.Refused verdict)) there long filled = absurd filled
   again_filled (Some table) new (Err (ended.InputTooLong file')) there long filled = absurd filled
   again_filled (Some table) new (Err (ended.TooMuch sum)) there long filled = absurd filled
+
+  -- A file that was found changed is one of the names.
+  pub again_changed : (last : EarlyEnd) (result : Result (Unit {0}) Outcome) → ((spellings : List (List ℕ)) → file < length spellings → spelled ≡ get_or spellings file [] → ErrFoundChanged spellings last result)
+      → ErrFoundChanged (map string_bytes names) last result
+  again_changed last result found = found (map string_bytes names) (count_names names file file_less) (name_at names file name spelled file_less name_is spelling)
 
 -- ---- piece by piece
 

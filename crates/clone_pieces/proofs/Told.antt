@@ -1,7 +1,7 @@
 -- Facts of named files, where the inputs tell their files.
 use Rattle.std.specs.Prelude.{◌≡◌, ℕ, ◌<◌, List, [], map, length, get_or, slice_index_or, Option, Some, None, String}
 use Rattle.std.specs.String.{string_bytes}
-use Rattle.std.proofs.Common.{sym, ap, subst, ◌∙◌, arith}
+use Rattle.std.proofs.Common.{refl, sym, ap, subst, ◌∙◌}
 use Rattle.std.proofs.lemmas.List.{length-map, get_or-map}
 use Rattle.sx_base.specs.Outside.{file_at}
 use Rattle.sx_base.specs.Calls.{contents, IfAllTold}
@@ -22,9 +22,17 @@ all_two (Some table) names P Q R f p q = f _ p q
 pub told_moved : (told now : Option (List (List ℕ × List ℕ))) (names : List (List ℕ)) (P : List (List ℕ) → Type 0) → now ≡ told → IfAllTold now names P → IfAllTold told names P
 told_moved told now names P same p = subst (λ (t : Option (List (List ℕ × List ℕ))). IfAllTold t names P) same p
 
+-- The name of a place among names.
+pub name_at : {Z : Type 0} (names : List (String Z)) (n : ℕ) (name : String Z) (spelled : List ℕ) → n < length names → name ≡ slice_index_or names n name → spelled ≡ string_bytes name → spelled ≡ get_or (map string_bytes names) n []
+name_at names n name spelled less is spelling = spelling ∙ ap string_bytes is ∙ sym (get_or-map string_bytes names n name [] less)
+
+-- There are as many names.
+pub count_names : {Z : Type 0} (names : List (String Z)) (n : ℕ) → n < length names → n < length (map string_bytes names)
+count_names names n less = subst (λ (k : ℕ). n < k) (sym (length-map names string_bytes)) less
+
 -- The bytes of one of the files.
 pub told_file : {Z : Type 0} (table : List (List ℕ × List ℕ)) (names : List (String Z)) (file : ℕ) (name : String Z) → file < length names → name ≡ slice_index_or names file name
     → get_or (contents table (map string_bytes names)) file [] ≡ file_at table (string_bytes name)
 told_file table names file name lt is =
-    get_or-map (file_at table) (map string_bytes names) file [] [] (let l = length-map names string_bytes in omega (arith, lt, l))
-    ∙ ap (file_at table) (get_or-map string_bytes names file name [] lt ∙ ap string_bytes (sym is))
+    get_or-map (file_at table) (map string_bytes names) file [] [] (count_names names file lt)
+    ∙ ap (file_at table) (sym (name_at names file name (string_bytes name) lt is refl))

@@ -1,9 +1,9 @@
 // Reading the bytes of cells from where they come.
-ghost use Rattle.std.specs.Prelude.{◌≡◌, ◌+◌, ◌<◌, ◌≤◌, ◌^◌, map, length};
+ghost use Rattle.std.specs.Prelude.{◌≡◌, ℕ, ◌+◌, ◌<◌, ◌≤◌, ◌^◌, List, [], map, length, get_or};
 ghost use Rattle.std.specs.List.{AllByRecursion};
 ghost use Rattle.std.specs.String.{string_bytes};
 ghost use Rattle.sx_base.specs.Again.{LiesIn, FillsFrom};
-ghost use Rattle.sx_base.specs.Calls.{IfAllTold};
+ghost use Rattle.sx_base.specs.Calls.{IfAllTold, ErrFoundChanged};
 ghost use Rattle.extent_map.specs.Cells.{cells_between};
 ghost use Rattle.extent_map.specs.Pieces.{piece_cells};
 ghost use Rattle.provenance.specs.Traces.{advanced_by};
@@ -35,6 +35,7 @@ pub(crate) fn fill_cells<I: Inputs, B: OutsideBytes>(
     ensures ends_later { I.ends inputs.old ≤ I.ends inputs.new }
     ensures bytes_later { B.faults bytes.old ≤ B.faults bytes.new }
     ensures cause { RedirectCaused (I.ends inputs.old) (I.ends inputs.new) (I.faults inputs.old + B.faults bytes.old) (I.faults inputs.new + B.faults bytes.new) 0 0 result }
+    ensures changed { ErrFoundChanged (map string_bytes files.now) (I.last_end inputs.new) result }
     ensures filled { IfAllTold (I.told inputs.old) (map string_bytes files.now)
         (FillEnd (B.held bytes.old) (cells_between from (length buf.old) contents.now) buf.new result) }
 {
@@ -65,6 +66,7 @@ fn fill_piece<I: Inputs, B: OutsideBytes>(
     ensures ends_later { I.ends inputs.old ≤ I.ends inputs.new }
     ensures bytes_later { B.faults bytes.old ≤ B.faults bytes.new }
     ensures cause { RedirectCaused (I.ends inputs.old) (I.ends inputs.new) (I.faults inputs.old + B.faults bytes.old) (I.faults inputs.new + B.faults bytes.new) 0 0 result }
+    ensures changed { ErrFoundChanged (map string_bytes files.now) (I.last_end inputs.new) result }
     ensures filled { IfAllTold (I.told inputs.old) (map string_bytes files.now)
         (FillEnd (B.held bytes.old) (piece_cells advanced_by origin (length buf.old)) buf.new result) }
 {
@@ -99,6 +101,8 @@ fn read_part<I: Inputs>(
     ensures later { I.faults inputs.old ≤ I.faults inputs.new }
     ensures ends_later { I.ends inputs.old ≤ I.ends inputs.new }
     ensures cause { RedirectCaused (I.ends inputs.old) (I.ends inputs.new) (I.faults inputs.old) (I.faults inputs.new) 0 0 result }
+    ensures changed { (names : List (List ℕ)) → file < length names → name.now ≡ get_or names file []
+        → ErrFoundChanged names (I.last_end inputs.new) result }
     ensures filled { AgainEnd (I.told inputs.old) name.now at buf.new result }
 {
     match inputs.read_again(name, at, buf) {

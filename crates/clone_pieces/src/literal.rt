@@ -5,7 +5,7 @@ ghost use Rattle.std.specs.String.{string_bytes};
 ghost use Rattle.send_model.specs.Command.{Write};
 ghost use Rattle.send_model.specs.Spelling.{canonical, canonical_all};
 ghost use Rattle.send_model.specs.Composed.{writes_from};
-ghost use Rattle.sx_base.specs.Calls.{IfAllTold};
+ghost use Rattle.sx_base.specs.Calls.{IfAllTold, ErrFoundChanged};
 ghost use Rattle.extent_map.specs.Cells.{cells_between};
 ghost use Rattle.clone_pieces.specs.Origins.{IsInInput};
 ghost use Rattle.clone_pieces.specs.Filling.{byte_in, IsHadIn};
@@ -53,6 +53,7 @@ pub(crate) fn write_cells<I: Inputs, B: OutsideBytes, O: Sink>(
     ensures bytes_later { B.faults bytes.old ≤ B.faults bytes.new }
     ensures out_later { O.faults out.old ≤ O.faults out.new }
     ensures cause { RedirectCaused (I.ends inputs.old) (I.ends inputs.new) (I.faults inputs.old + B.faults bytes.old) (I.faults inputs.new + B.faults bytes.new) (O.faults out.old) (O.faults out.new) result }
+    ensures changed { ErrFoundChanged (map string_bytes files.now) (I.last_end inputs.new) result }
     ensures written { IfAllTold (I.told inputs.old) (map string_bytes files.now) (λ files. RedirectEnd (O.taken out.old) (O.taken out.new) pending.old pending.new
         (canonical_all version (writes_from len path.now offset (map (byte_in (B.held bytes.old) files) (cells_between from len contents.now)))) result) }
 {
@@ -111,6 +112,7 @@ fn write_some<I: Inputs, B: OutsideBytes, O: Sink>(
     ensures bytes_later { B.faults bytes.old ≤ B.faults bytes.new }
     ensures out_later { O.faults out.old ≤ O.faults out.new }
     ensures cause { RedirectCaused (I.ends inputs.old) (I.ends inputs.new) (I.faults inputs.old + B.faults bytes.old) (I.faults inputs.new + B.faults bytes.new) (O.faults out.old) (O.faults out.new) result }
+    ensures changed { ErrFoundChanged (map string_bytes files.now) (I.last_end inputs.new) result }
     ensures written { IfAllTold (I.told inputs.old) (map string_bytes files.now) (λ files. RedirectEnd (O.taken out.old) (O.taken out.new) pending.old pending.new
         (canonical version (Write path.now offset (map (byte_in (B.held bytes.old) files) (cells_between from len contents.now)))) result) }
 {

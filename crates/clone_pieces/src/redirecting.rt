@@ -6,7 +6,7 @@ ghost use Rattle.send_model.specs.Command.{Clone};
 ghost use Rattle.send_model.specs.Spelling.{canonical, canonical_all};
 ghost use Rattle.send_model.specs.Provenance.{Traced, literal_len, pieces_of};
 ghost use Rattle.send_model.specs.Composed.{path_of};
-ghost use Rattle.sx_base.specs.Calls.{IfAllTold};
+ghost use Rattle.sx_base.specs.Calls.{IfAllTold, ErrFoundChanged};
 ghost use Rattle.subvol_catalog.specs.Entries.{key_of};
 ghost use Rattle.extent_map.specs.Cells.{cells_between};
 ghost use Rattle.provenance.specs.Traces.{place_in};
@@ -96,6 +96,7 @@ pub fn redirect<'a, I: Inputs, E: Known, B: OutsideBytes, O: Sink>(
     ensures bytes_later { B.faults bytes.old ≤ B.faults bytes.new }
     ensures out_later { O.faults out.old ≤ O.faults out.new }
     ensures cause { RedirectCaused (I.ends inputs.old) (I.ends inputs.new) (I.faults inputs.old + B.faults bytes.old) (I.faults inputs.new + B.faults bytes.new) (O.faults out.old) (O.faults out.new) result }
+    ensures changed { ErrFoundChanged (map string_bytes files.now) (I.last_end inputs.new) result }
     ensures redirected { IfAllTold (I.told inputs.old) (map string_bytes files.now) (λ told. RedirectEnd (O.taken out.old) (O.taken out.new) pending.old pending.new
         (pieces_spelled version (E.base known.now) path.now offset (seen_cells told (E.base known.now) (cells_between from len contents.now))) result) }
 {
@@ -153,6 +154,7 @@ fn write_plan<I: Inputs, E: Known, B: OutsideBytes, O: Sink>(
     ensures bytes_later { B.faults bytes.old ≤ B.faults bytes.new }
     ensures out_later { O.faults out.old ≤ O.faults out.new }
     ensures cause { RedirectCaused (I.ends inputs.old) (I.ends inputs.new) (I.faults inputs.old + B.faults bytes.old) (I.faults inputs.new + B.faults bytes.new) (O.faults out.old) (O.faults out.new) result }
+    ensures changed { ErrFoundChanged (map string_bytes files.now) (I.last_end inputs.new) result }
     ensures written { IfAllTold (I.told inputs.old) (map string_bytes files.now) (λ told. RedirectEnd (O.taken out.old) (O.taken out.new) pending.old pending.new
         (canonical_all version (cut_commands (E.base known.now) (byte_in (B.held bytes.old) told) contents.now path.now offset (planned plan))) result) }
 {

@@ -1,5 +1,5 @@
 // How compose asks for its files: what no clause says of it.
-ghost use Rattle.std.specs.Prelude.{None};
+ghost use Rattle.std.specs.Prelude.{None, string_bytes};
 
 use crate::streams::{CLONE_FROM_A, END, FIRST, HEADER, MKFILE_Y, SNAPSHOT_B, joined};
 use crate::values::two_names;
@@ -32,6 +32,8 @@ struct ListedInputs {
     ended: bool,
     faults: u64,
     ends: u64,
+    last_name: String,
+    last_place: u64,
 }
 
 impl Inputs for ListedInputs {
@@ -40,6 +42,8 @@ impl Inputs for ListedInputs {
     ghost faults = { λ s. s.faults };
 
     ghost ends = { λ s. s.ends };
+
+    ghost last_end = { λ s. record { name = string_bytes s.last_name; place = s.last_place } };
 
     fn read_at(&mut self, name: &str, at: u64, buf: &mut [u8]) -> Result<usize, Failed> {
         self.faults = self.faults.saturating_add(1);
@@ -60,15 +64,17 @@ impl Inputs for ListedInputs {
 
     fn read_again(&mut self, name: &str, at: u64, buf: &mut [u8]) -> Result<(), Lost> {
         self.faults = self.faults.saturating_add(1);
-        if self.ended && !buf.is_empty() {
-            self.ends = self.ends.saturating_add(1);
-            return Err(Lost::Ended { place: at });
-        }
-        let Ok(name) = String::from_str(self.alloc, name) else {
+        let Ok(copy) = String::from_str(self.alloc, name) else {
             return Err(Lost::Failed);
         };
+        if self.ended && !buf.is_empty() {
+            self.ends = self.ends.saturating_add(1);
+            self.last_name = copy;
+            self.last_place = at;
+            return Err(Lost::Ended { place: at });
+        }
         let again = Call {
-            name,
+            name: copy,
             at,
             count: buf.len(),
         };
@@ -117,6 +123,8 @@ fn two_files(alloc: Global, ended: bool) -> Result<ListedInputs, AllocError> {
         ended,
         faults: 0,
         ends: 0,
+        last_name: String::new(alloc),
+        last_place: 0,
     })
 }
 

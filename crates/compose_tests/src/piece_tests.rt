@@ -3,6 +3,7 @@ ghost use Rattle.std.specs.Prelude.{◌≡◌, ℕ, ◌<◌, [], None, IfOk};
 ghost use Rattle.std.specs.List.{AllByRecursion};
 ghost use Rattle.extent_map.specs.Cells.{cells_between};
 ghost use Rattle.clone_pieces.specs.Origins.{IsHad};
+ghost use Rattle.sx_base.specs.Again.{no_end};
 
 use clone_pieces::{NoBase, put, redirect, send, uncarried};
 use extent_map::Extents;
@@ -22,6 +23,8 @@ impl Inputs for Remainders {
     ghost faults = { λ inputs. 0 };
 
     ghost ends = { λ inputs. 0 };
+
+    ghost last_end = { λ inputs. no_end };
 
     fn read_at(&mut self, name: &str, at: u64, buf: &mut [u8]) -> Result<usize, Failed> {
         let _ = name;

@@ -1,5 +1,5 @@
 -- What a command adds whose step was taken: itself, or what stands for a clone.
-use Rattle.std.specs.Prelude.{◌≡◌, ◌⊎◌, ◌<◌, ◌≤◌, ◌^◌, ℕ, ◌+◌, Bool, true, false, not, ◌&&◌, ◌||◌, List, [], ◌∷◌, ◌++◌, map, length, get_or, Option, None, Some, Result, Ok, Err, OnOk, IfSome, if◌then◌else◌}
+use Rattle.std.specs.Prelude.{◌≡◌, ◌<◌, ◌≤◌, ℕ, ◌+◌, Bool, true, false, not, ◌&&◌, List, [], ◌∷◌, map, Option, None, Some, Result, Ok, Err, OnOk, if◌then◌else◌}
 use Rattle.std.specs.Option.{option_map}
 use Rattle.std.specs.List.{AllByRecursion, sum_by, flat_map}
 use Rattle.std.proofs.Common.{refl, sym, ap, ap₂, subst, ◌∙◌, arith, append-nil, inl, inr, ⊎_elim}
@@ -8,14 +8,13 @@ use Rattle.send_model.specs.Command.{Command, Subvol, Snapshot, Clone, End}
 use Rattle.send_model.specs.Spelling.{canonical, canonical_all}
 use Rattle.send_model.specs.Subvolume.{Inode, Subvolume, inode_at, walk, is_file}
 use Rattle.send_model.specs.Clone.{cells_of}
-use Rattle.send_model.specs.Store.{Key, Head, head_of, Store, State, step, find}
+use Rattle.send_model.specs.Store.{Key, head_of, Store, State, step, find}
 use Rattle.send_model.specs.Provenance.{Place, Traced, literal_len, pieces_of, is_own, is_redirected, clone_range, uncarried_in}
 use Rattle.send_model.specs.Composed.{piece_commands, commands_for}
 use Rattle.send_model.specs.Outside.{is_among}
 use Rattle.send_model.specs.Due.{most_literal}
 use Rattle.send_model.proofs.Sorts.{is_plain}
 use Rattle.send_model.proofs.Fuel.{ok_same}
-use Rattle.sx_base.specs.Calls.{IfAllTold}
 use Rattle.sx_base.specs.declared.outcome.Outcome.{Outcome}
 use Rattle.sx_base.specs.declared.outcome.Outcome.TheVariants as ended
 use Rattle.send_commands.specs.declared.command.Command as code
@@ -27,7 +26,7 @@ use Rattle.provenance.specs.Traces.{place_of, place_in}
 use Rattle.clone_resolve.proofs.TakenStates.{AllCells, TakenFrom, part_after_step, cells_found, cells_of_found, taken_from, range_taken}
 use Rattle.clone_pieces.specs.Origins.{byte_of_trace}
 use Rattle.clone_pieces.specs.Seen.{seen}
-use Rattle.clone_pieces.specs.Sending.{GoesOut, AppendsFront, PutEnd}
+use Rattle.clone_pieces.specs.Sending.{PutEnd}
 use Rattle.clone_pieces.specs.Redirecting.{seen_cells, pieces_spelled, RedirectEnd}
 use Rattle.file_survey.specs.Findings.{Surveyed}
 use Rattle.composer.specs.OverBase.{Composing}

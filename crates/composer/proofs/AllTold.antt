@@ -1,8 +1,7 @@
 -- What follows of files that the inputs tell, all at once.
-use Rattle.std.specs.Prelude.{◌≡◌, ℕ, ◌<◌, List, [], map, length, take, get_or, slice_index_or, Option, None, Some, String}
-use Rattle.std.specs.String.{string_bytes}
+use Rattle.std.specs.Prelude.{◌≡◌, ℕ, ◌<◌, List, [], length, take, get_or, Option, None, Some}
 use Rattle.std.proofs.Common.{sym, ap, subst, ◌∙◌}
-use Rattle.std.proofs.lemmas.List.{get_or-map, length-map}
+use Rattle.std.proofs.lemmas.List.{get_or-map}
 use Rattle.send_model.specs.Lengths.{limit}
 use Rattle.sx_base.specs.Outside.{file_at}
 use Rattle.sx_base.specs.Calls.{contents, IfAllTold}
@@ -15,11 +14,3 @@ told_file told now names n name P same less is p = by_told told (subst (λ (t : 
     by_told : (t : Option (List (List ℕ × List ℕ))) → IfTold t name P → IfAllTold t names (λ files. P (get_or files n []))
     by_told None q = tt
     by_told (Some table) q = q (get_or (contents table names) n []) (ap (take limit) (get_or-map (file_at table) names n [] [] less ∙ ap (file_at table) (sym is)))
-
--- The name of a place among names.
-pub name_at : {Z : Type 0} (names : List (String Z)) (n : ℕ) (name : String Z) (spelled : List ℕ) → n < length names → name ≡ slice_index_or names n name → spelled ≡ string_bytes name → spelled ≡ get_or (map string_bytes names) n []
-name_at names n name spelled less is spelling = spelling ∙ ap string_bytes is ∙ sym (get_or-map string_bytes names n name [] less)
-
--- There are as many names.
-pub count_names : {Z : Type 0} (names : List (String Z)) (n : ℕ) → n < length names → n < length (map string_bytes names)
-count_names names n less = subst (λ (k : ℕ). n < k) (sym (length-map names string_bytes)) less

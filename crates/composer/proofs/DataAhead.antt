@@ -1,17 +1,16 @@
 -- The data of a command that is read stand at the place that its item says, in the file that it is read from.
 use Rattle.std.specs.Prelude.{◌≡◌, ◌⊎◌, ℕ, zero, suc, ◌+◌, ◌-◌, ◌≤◌, ◌==◌, Bool, true, false, ◌&&◌, List, [], ◌∷◌, ◌++◌, length, take, drop, get_or, Option, None, Some, Result, Ok, Err, nat_le, nat_lt, if◌then◌else◌}
 use Rattle.std.specs.Option.{unwrap_or}
-use Rattle.std.specs.List.{list_all}
 use Rattle.std.proofs.Common.{refl, sym, ap, subst, ◌∙◌, arith, inl, inr, ⊎_elim, eqb-true, leb-true, length-drop, length-append, drop-drop}
 use Rattle.std.proofs.lemmas.List.{take-append-drop, take-append-le, drop-append-le, length-take-le}
-use Rattle.send_model.specs.Refusal.{Refusal, BadAttribute, Truncated, LongCommand, BadChecksum, Encoded, UnknownCommand, BadTime}
-use Rattle.send_model.specs.Chain.{◌>>=◌, ◌>>◌, require, found}
+use Rattle.send_model.specs.Refusal.{Refusal, Truncated, LongCommand, BadChecksum}
+use Rattle.send_model.specs.Chain.{◌>>=◌, ◌>>◌, require}
 use Rattle.send_model.specs.Attribute.{DATA}
-use Rattle.send_model.specs.Command.{Kind, SUBVOL, WRITE, Command, row, is_encoded, kind_of_number, command_with}
+use Rattle.send_model.specs.Command.{Kind, SUBVOL, WRITE, Command, command_with}
 use Rattle.send_model.specs.Spelling.{Attribute, value_of, frame_checksum, greatest_body}
 use Rattle.send_model.specs.Receive.{bytes_of}
-use Rattle.send_model.specs.Reading.{Item, Reading, Frame, Front, Due, HeaderDue, CommandDue, ended, faulty, go_on, with_item, header_len, frame_header_len, number16, number32, attribute_number, attribute_head, attribute_len, attribute_end, attribute_lawful, attribute_in, attributes_from, attributes_at, bytes_at, moment_lawful, wanted_there, command_of, place_of, item_at, stream_version, frame_with, frame_at, front_of, reads_from}
-use Rattle.send_model.proofs.Fuel.{required, not_refused, tested, bound, ok_same, header_there}
+use Rattle.send_model.specs.Reading.{Item, Reading, Frame, Front, Due, HeaderDue, CommandDue, ended, faulty, go_on, with_item, header_len, frame_header_len, number16, number32, attribute_head, attribute_len, attribute_end, attribute_in, attributes_from, attributes_at, bytes_at, command_of, place_of, item_at, stream_version, frame_with, frame_at, front_of, reads_from}
+use Rattle.send_model.proofs.Fuel.{required, not_refused, bound, ok_same, header_there}
 use Rattle.cmd_reader.proofs.CommandFacts.{first_read, unplaced, made_with}
 use Rattle.send_model.proofs.Sorts.{same_inside}
 use Rattle.cmd_reader.specs.Left.{Reader, is_header_due, is_empty, left}

@@ -1,7 +1,7 @@
 -- What END and clones have to be that are written.
-use Rattle.std.specs.Prelude.{◌≡◌, ℕ, ◌<◌, ◌≤◌, ◌^◌, ◌==◌, Bool, true, false, List, length}
+use Rattle.std.specs.Prelude.{ℕ, ◌<◌, ◌≤◌, ◌^◌, ◌==◌, Bool, true, false, List, length}
 use Rattle.std.proofs.Common.{refl, arith}
-use Rattle.send_model.specs.Command.{Command, Clone, End, row}
+use Rattle.send_model.specs.Command.{Clone, End, row}
 use Rattle.send_model.specs.Spelling.{attributes_of, body_of, greatest_body}
 use Rattle.send_model.proofs.Versions.{not_rest}
 use Rattle.send_commands.specs.Writing.{IsWritable, IsShortEnough, IfSecond}

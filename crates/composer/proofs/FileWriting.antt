@@ -25,7 +25,7 @@ use Rattle.cmd_reader.specs.Fronts.{IsRefused, IsLongAt}
 use Rattle.cmd_reader.specs.Left.{Reader, at_start, left}
 use Rattle.cmd_reader.specs.Next.{item_of, HasEnded, IsFaulty, OnlyEnds, IsNext, NextSays}
 use Rattle.cmd_reader.proofs.Aheads.{next_item, next_end}
-use Rattle.cmd_reader.proofs.Told.{Here, told_map, told_both, told_always, told_here, told_moved}
+use Rattle.cmd_reader.proofs.Told.{Here, told_map, told_both, told_always, told_here}
 use Rattle.file_survey.specs.declared.places.Place.{Place}
 use Rattle.file_survey.specs.Ahead.{then_reading}
 use Rattle.cmd_reader.specs.Stopping.{outcome_at}

@@ -1,8 +1,6 @@
 -- The definitions of composing are folds over items: what they give for items and then others. And before the first head.
 use Rattle.std.specs.Prelude.{◌≡◌, ℕ, ◌+◌, ◌≤◌, Bool, true, false, List, [], ◌∷◌, ◌++◌, map, Option, None, Some, nat_lt, if◌then◌else◌}
-use Rattle.std.specs.List.{sum_by}
 use Rattle.std.proofs.Common.{refl, sym, ap, subst, ◌∙◌, arith, append_assoc}
-use Rattle.std.proofs.lemmas.List.Sums.{sum_by-cons}
 use Rattle.std.proofs.lemmas.Bool.{false≢true, ltb-true}
 use Rattle.send_model.specs.Refusal.{Refusal, NoSubvolume}
 use Rattle.send_model.specs.Command.{Command, Clone, End}
@@ -10,7 +8,7 @@ use Rattle.send_model.specs.Reading.{Item}
 use Rattle.send_model.specs.Store.{Key, Head, head_of, Store, State, step, step_edit, completed}
 use Rattle.send_model.specs.Receive.{bytes_of, start_of}
 use Rattle.send_model.specs.Order.{heads_of, onto_heads, commands_of, breaks_order, part_after}
-use Rattle.send_model.specs.Provenance.{Traced, Piece, fresh, traced_step, uuid_after, is_redirected, clone_range, ranges_from, pieces_of, literal_len, uncarried_in}
+use Rattle.send_model.specs.Provenance.{Traced, fresh, traced_step, uuid_after, ranges_from, uncarried_in}
 use Rattle.send_model.specs.Composed.{commands_for, composed_from}
 use Rattle.send_model.specs.Counts.{is_clone}
 use Rattle.send_model.specs.Due.{Due, TooMuch, most_literal, uncarried_of, then_due, due_from}

@@ -3,18 +3,16 @@
 use Rattle.std.specs.Prelude.{◌≡◌, ◌≢◌, ℕ, ◌+◌, ◌≤◌, List, [], ◌∷◌, ◌++◌, map, Option, None, Some, Err}
 use Rattle.std.proofs.Common.{refl, sym, ap, ap₂, subst, ◌∙◌, arith, append-nil}
 use Rattle.send_model.specs.Refusal.{NotConsecutive}
-use Rattle.send_model.specs.Map.{Map}
 use Rattle.send_model.specs.Command.{Command, End}
 use Rattle.send_model.specs.Spelling.{stream_header, canonical, canonical_all}
 use Rattle.send_model.specs.Reading.{Item, Verdict, Reading, Whole, Faulty}
-use Rattle.send_model.specs.Subvolume.{Inode, Subvolume}
-use Rattle.send_model.specs.Store.{Key, Head, head_of, Entry, Store, State, Stepped, step}
+use Rattle.send_model.specs.Store.{Key, Head, head_of, Store, State, Stepped, step}
 use Rattle.send_model.specs.Receive.{Run, bytes_of, first_of, fault_of, start_of, verdict_of, receive_of, IsAccepted}
 use Rattle.send_model.specs.Order.{heads, commands_of, last_item, without_parts, judge_of}
 use Rattle.send_model.specs.Outside.{part_uuids, base_of, keys_outside, FindsSayable}
-use Rattle.send_model.specs.Provenance.{Traced, fresh, traced_from, inode_with, traced_subvolume, traced_store, traced_step, ranges_from, uncarried_in}
+use Rattle.send_model.specs.Provenance.{Traced, fresh, traced_store, traced_step, ranges_from, uncarried_in}
 use Rattle.send_model.specs.Composed.{last_head, head_command, version_of, composed_edits, composed_with}
-use Rattle.send_model.specs.Cells.{recelled, recelled_entry, recelled_store, recelled_state, recelled_step}
+use Rattle.send_model.specs.Cells.{recelled_state, recelled_step}
 use Rattle.send_model.specs.Due.{Due, DoneWhole, RefusedAt, most_literal, due_from, refused_due, or_due, reading_due}
 use Rattle.send_model.specs.Headline.{IsComposedOf, stream_front, output_of, whole_output_of}
 use Rattle.send_model.specs.Laws.{IsWhole, ReadingsHold}

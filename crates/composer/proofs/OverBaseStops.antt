@@ -18,13 +18,12 @@ use Rattle.send_model.specs.Composed.{first_head, last_head, head_command, versi
 use Rattle.send_model.specs.Due.{most_literal, uncarried_of}
 use Rattle.send_model.specs.Headline.{IsUnfinished, IsFrontOf, IsStoppedOf, stream_front, output_of, whole_output_of}
 use Rattle.send_model.specs.Cells.{recelled_state}
-use Rattle.send_model.proofs.Runs.{step_of, Takes}
+use Rattle.send_model.proofs.Runs.{step_of}
 use Rattle.send_model.proofs.Stores.{bytes_eq_same}
-use Rattle.send_model.proofs.Judging.{AreOrdered}
 use Rattle.send_model.proofs.Composed.{first_there, last_of_some, items_with_heads}
 use Rattle.send_model.proofs.Writing.{heads_of-append, nothing_unfinished, unfinished_part}
 use Rattle.send_model.proofs.Streams.{canonical_long}
-use Rattle.send_model.proofs.Fronts.{lawful_on, lawful_more, part_front, nothing_front}
+use Rattle.send_model.proofs.Fronts.{lawful_more, part_front, nothing_front}
 use Rattle.composer.specs.OverBase.{Plan, plan_of, Composing, Halt, Refuses, Exceeds, after_item, then_kept, advance, composed_up_to, written_with, current_after, AreWritable, HasNone}
 use Rattle.composer.proofs.OneMore.{composed_from-append, uncarried-append}
 use Rattle.composer.proofs.OverBaseProgress.{base_start, Progress, err_is, one_sum, front-append}

@@ -1,18 +1,15 @@
 -- Which clones are redirected, and what stands for them, does not depend on the parts after the items: the uuids of the parts so far
 -- serve as well as those of all, since a clone that is taken names a part so far or a subvolume of the base, which has no part.
-use Rattle.std.specs.Prelude.{◌≡◌, ◌⊎◌, ℕ, Bool, true, false, not, ◌&&◌, List, [], ◌∷◌, ◌++◌, map, Option, None, Some, Result, Ok, Err, is_some, if◌then◌else◌}
+use Rattle.std.specs.Prelude.{◌≡◌, ◌⊎◌, ℕ, Bool, true, false, not, ◌&&◌, List, [], ◌∷◌, ◌++◌, map, Option, None, Some, Result, Ok, if◌then◌else◌}
 use Rattle.std.specs.List.{AllByRecursion, flat_map}
 use Rattle.std.specs.Option.{option_map}
 use Rattle.std.specs.Str.{bytes_eq}
 use Rattle.std.proofs.Common.{refl, sym, ap, ap₂, subst, ◌∙◌, inl, inr, ⊎_elim}
 use Rattle.std.proofs.lemmas.Bool.{false≢true}
-use Rattle.send_model.specs.Refusal.{Refusal, NoSubvolume, BadPath, NoSource}
-use Rattle.send_model.specs.Chain.{◌>>=◌, ◌>>◌, require, found}
+use Rattle.send_model.specs.Refusal.{Refusal, NoSubvolume}
 use Rattle.send_model.specs.Command.{Command, Subvol, Snapshot, Clone, End}
-use Rattle.send_model.specs.Path.{path_names}
 use Rattle.send_model.specs.Subvolume.{Subvolume}
-use Rattle.send_model.specs.Edit.{overwritten, change_inode, set_cells}
-use Rattle.send_model.specs.Clone.{Cloned, cloned, clone}
+use Rattle.send_model.specs.Clone.{clone}
 use Rattle.send_model.specs.Reading.{Item}
 use Rattle.send_model.specs.Store.{Key, Head, head_of, Store, Part, State, Stepped, step, step_head, step_edit, edit_part, find, with_contents, completed, begun, entered, edited, unfinished, clone_source}
 use Rattle.send_model.specs.Receive.{bytes_of, start_of}

@@ -1,8 +1,7 @@
 -- One item that the composer takes or does not take, from the step of its command, and from what it adds.
-use Rattle.std.specs.Prelude.{◌≡◌, ◌⊎◌, ◌<◌, ◌≤◌, ℕ, zero, suc, ◌+◌, ◌-◌, ◌||◌, ◌&&◌, not, Bool, true, false, map, List, [], ◌∷◌, ◌++◌, length, take, get_or, Option, None, Some, Result, Ok, Err, is_some, nat_lt, if◌then◌else◌}
+use Rattle.std.specs.Prelude.{◌≡◌, ◌⊎◌, ◌<◌, ◌≤◌, ℕ, zero, suc, ◌+◌, ◌-◌, ◌||◌, ◌&&◌, not, Bool, true, false, map, List, [], ◌++◌, get_or, Option, None, Some, Result, Ok, Err, is_some, nat_lt, if◌then◌else◌}
 use Rattle.std.specs.Option.{option_map}
 use Rattle.std.specs.List.{AllByRecursion, range_with_len}
-use Rattle.std.specs.Io.KnownBytes.{Appends}
 use Rattle.std.proofs.Common.{refl, sym, ap, ap₂, subst, ◌∙◌, arith, inl, inr, ⊎_elim, append-nil}
 use Rattle.std.proofs.KnownBytes.{Appends-nil}
 use Rattle.std.proofs.lemmas.Bool.{ltb-true, ltb-false}
@@ -15,7 +14,7 @@ use Rattle.send_model.specs.Spelling.{canonical_all}
 use Rattle.send_model.specs.Receive.{bytes_of, first_of, verdict_of}
 use Rattle.send_model.specs.Composed.{commands_for}
 use Rattle.send_model.specs.Order.{breaks_order, part_after}
-use Rattle.send_model.specs.Provenance.{Place, Traced, traced_step, uuid_after, is_own, is_redirected}
+use Rattle.send_model.specs.Provenance.{Traced, traced_step, uuid_after, is_own, is_redirected}
 use Rattle.send_model.specs.Cells.{recelled_part}
 use Rattle.send_model.specs.Due.{most_literal, uncarried_of}
 use Rattle.sx_base.specs.declared.stop.Stop.{Stop}

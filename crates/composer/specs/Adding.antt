@@ -1,6 +1,5 @@
 -- What an item adds whose step was taken: where a head stands out of order, and what is written for edits.
 use Rattle.std.specs.Prelude.{◌≡◌, ◌⊎◌, ℕ, ◌+◌, ◌<◌, ◌≤◌, Bool, true, ◌||◌, List, [], ◌∷◌, ◌++◌, Option, None, Some, Result, Ok, Err, if◌then◌else◌}
-use Rattle.std.specs.Option.{option_map}
 use Rattle.send_model.specs.Command.{Command}
 use Rattle.send_model.specs.Spelling.{canonical_all}
 use Rattle.send_model.specs.Subvolume.{Subvolume, walk, is_file}

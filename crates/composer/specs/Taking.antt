@@ -1,10 +1,10 @@
 -- What the composer answers to one item: what it keeps then and what it has written, or why it stops.
-use Rattle.std.specs.Prelude.{◌≡◌, ◌≢◌, ◌⊎◌, ⊤, ℕ, ◌+◌, ◌-◌, ◌≤◌, Bool, false, ◌&&◌, List, [], ◌++◌, length, take, drop, get_or, Option, None, Some, Result, Ok, Err}
+use Rattle.std.specs.Prelude.{◌≡◌, ◌≢◌, ◌⊎◌, ⊤, ℕ, ◌+◌, ◌-◌, ◌≤◌, Bool, false, ◌&&◌, List, [], length, take, drop, get_or, Option, None, Some, Result, Ok, Err}
 use Rattle.std.specs.Io.KnownBytes.{Appends}
 use Rattle.send_model.specs.Refusal as meant
 use Rattle.send_model.specs.Reading.{Item}
 use Rattle.std.specs.Str.{bytes_eq}
-use Rattle.send_model.specs.Store.{Head, head_of, Store, same_key}
+use Rattle.send_model.specs.Store.{Head, head_of, same_key}
 use Rattle.send_model.specs.Receive.{bytes_of, first_of, verdict_of}
 use Rattle.sx_base.specs.Causes.{Rose}
 use Rattle.sx_base.specs.Outside.{AppendsPart}
@@ -15,7 +15,7 @@ use Rattle.sx_base.specs.declared.outcome.Outcome.TheVariants as ended
 use Rattle.clone_resolve.proofs.TakenStates.{AllCells}
 use Rattle.clone_pieces.specs.Origins.{IsInInput}
 use Rattle.clone_pieces.specs.Sending.{AppendsFront}
-use Rattle.composer.specs.OverBase.{Plan, Composing, Halt, Refuses, Exceeds, advance, unsent}
+use Rattle.composer.specs.OverBase.{Plan, Composing, Refuses, Exceeds, advance, unsent}
 use Rattle.composer.specs.Kept.{Kept, composing_of}
 
 -- The data of an item stand at its place in its file.

@@ -11,7 +11,7 @@ ghost use Rattle.send_model.specs.Provenance.{is_own};
 ghost use Rattle.send_model.specs.Spelling.{canonical};
 ghost use Rattle.send_model.specs.Laws.{CanWrite};
 ghost use Rattle.send_model.specs.Lengths.{limit};
-ghost use Rattle.sx_base.specs.Calls.{IfAllTold, verdict_meant};
+ghost use Rattle.sx_base.specs.Calls.{IfAllTold, ErrFoundChanged, verdict_meant};
 ghost use Rattle.sx_base.specs.Refusals.{refusal_of};
 ghost use Rattle.sx_base.specs.declared.outcome.Outcome.TheVariants as ended;
 ghost use Rattle.send_commands.specs.Meaning.{meaning_of};
@@ -138,6 +138,7 @@ impl Composer {
         ensures out_later { O.faults out.old ≤ O.faults out.new }
         ensures cause { ErrCausedAgain (I.ends inputs.old) (I.ends inputs.new) (I.faults inputs.old + B.faults bytes.old)
             (I.faults inputs.new + B.faults bytes.new) (O.faults out.old) (O.faults out.new) result }
+        ensures changed { ErrFoundChanged (map string_bytes files.now) (I.last_end inputs.new) result }
         ensures taken { IfAllTold (I.told inputs.old) (map string_bytes files.now)
             (λ told. ItemEnd told (plan_with (E.base known.now) survey.now) self.old self.new (item_of file item.now)
             (O.taken out.old) (O.taken out.new) result) }
@@ -252,6 +253,7 @@ impl Composer {
         ensures out_later { O.faults out.old ≤ O.faults out.new }
         ensures cause { ErrCausedAgain (I.ends inputs.old) (I.ends inputs.new) (I.faults inputs.old + B.faults bytes.old)
             (I.faults inputs.new + B.faults bytes.new) (O.faults out.old) (O.faults out.new) result }
+        ensures changed { ErrFoundChanged (map string_bytes files.now) (I.last_end inputs.new) result }
         ensures added { IfAllTold (I.told inputs.old) (map string_bytes files.now)
             (λ told. AddEnd told (E.base known.now) survey.now (key_of last) self.old self.new (meaning_of item.now.command)
             (O.taken out.old) (O.taken out.new) result) }
@@ -372,6 +374,7 @@ impl Composer {
         ensures out_later { O.faults out.old ≤ O.faults out.new }
         ensures cause { ErrCausedAgain (I.ends inputs.old) (I.ends inputs.new) (I.faults inputs.old + B.faults bytes.old)
             (I.faults inputs.new + B.faults bytes.new) (O.faults out.old) (O.faults out.new) result }
+        ensures changed { ErrFoundChanged (map string_bytes files.now) (I.last_end inputs.new) result }
         ensures added { IfAllTold (I.told inputs.old) (map string_bytes files.now)
             (λ told. (cells : List (Option Trace)) → IsSourceOf cells self.old.state (key_of range.now.source) range.now.source_path.now
             → AddsRange (E.base known.now) survey.now.version range.now.path.now range.now.offset

@@ -9,7 +9,7 @@ ghost use Rattle.provenance.specs.Traces.{place_of};
 ghost use Rattle.clone_pieces.specs.Origins.{IsHad, IsInInput, AreHeld, byte_of_trace};
 ghost use Rattle.clone_pieces.specs.Seen.{seen};
 ghost use Rattle.file_survey.specs.Findings.{SurveyEnd};
-ghost use Rattle.sx_base.specs.Calls.{IfAllTold, CausedAgain, Wrote};
+ghost use Rattle.sx_base.specs.Calls.{IfAllTold, CausedAgain, FoundChanged, ErrFoundChanged, Wrote};
 ghost use Rattle.clone_resolve.proofs.TakenStates.{AllCells};
 ghost use Rattle.composer.specs.OverBase.{at_start};
 ghost use Rattle.composer.specs.Kept.{composing_of};
@@ -28,7 +28,8 @@ use sx_base::{Inputs, Outcome, Refusal, Sink};
 /// Composes the consecutive parts in the files into one stream and writes it to `out`, over no base. The files are read twice, in
 /// order and one command at a time: first for their heads, then to write. `Done` says that `out` took the composed stream, and
 /// `Refused` gives the verdict on the files; then and with every other outcome what `out` took is no whole stream. `InputTooLong`
-/// gives the first file that is too long, and with `Done` and `Refused` there is none.
+/// gives the first file that is too long, and with `Done` and `Refused` there is none. `InputChanged` gives the file and the place
+/// of the end that the inputs answered last.
 pub fn compose<I: Inputs, O: Sink>(
     alloc: Global,
     inputs: &mut I,
@@ -39,6 +40,7 @@ pub fn compose<I: Inputs, O: Sink>(
     ensures same { I.told inputs.new ≡ I.told inputs.old }
     ensures cause { CausedAgain (I.ends inputs.old) (I.ends inputs.new) (I.faults inputs.old) (I.faults inputs.new)
         (O.faults out.old) (O.faults out.new) result }
+    ensures changed { FoundChanged (map string_bytes files.now) (I.last_end inputs.new) result }
     ensures ends { IfAllTold (I.told inputs.old) (map string_bytes files.now)
         (λ told. Wrote (O.taken out.old) (O.taken out.new) (ComposeEnds [] told result)) }
 {
@@ -83,6 +85,7 @@ pub fn compose_over<I: Inputs, E: Known, B: OutsideBytes, O: Sink>(
     ensures same { I.told inputs.new ≡ I.told inputs.old }
     ensures cause { CausedAgain (I.ends inputs.old) (I.ends inputs.new) (I.faults inputs.old + B.faults bytes.old)
         (I.faults inputs.new + B.faults bytes.new) (O.faults out.old) (O.faults out.new) result }
+    ensures changed { FoundChanged (map string_bytes files.now) (I.last_end inputs.new) result }
     ensures ends { IfAllTold (I.told inputs.old) (map string_bytes files.now)
         (λ told. Wrote (O.taken out.old) (O.taken out.new) (ComposeEnds (E.base known.now) told result)) }
 {
@@ -125,6 +128,7 @@ fn write_files<I: Inputs, E: Known, B: OutsideBytes, O: Sink>(
     ensures same { I.told inputs.new ≡ I.told inputs.old }
     ensures cause { ErrCausedAgain (I.ends inputs.old) (I.ends inputs.new) (I.faults inputs.old + B.faults bytes.old)
         (I.faults inputs.new + B.faults bytes.new) (O.faults out.old) (O.faults out.new) result }
+    ensures changed { ErrFoundChanged (map string_bytes files.now) (I.last_end inputs.new) result }
     ensures ends { IfAllTold (I.told inputs.old) (map string_bytes files.now)
         (λ told. Wrote (O.taken out.old) (O.taken out.new) (ComposeEnds (E.base known.now) told (outcome_in result))) }
 {
@@ -171,6 +175,7 @@ fn write_file<I: Inputs, E: Known, B: OutsideBytes, O: Sink>(
     ensures out_later { O.faults out.old ≤ O.faults out.new }
     ensures cause { ErrCausedAgain (I.ends inputs.old) (I.ends inputs.new) (I.faults inputs.old + B.faults bytes.old)
         (I.faults inputs.new + B.faults bytes.new) (O.faults out.old) (O.faults out.new) result }
+    ensures changed { ErrFoundChanged (map string_bytes files.now) (I.last_end inputs.new) result }
     ensures wrote { IfAllTold (I.told inputs.old) (map string_bytes files.now)
         (λ told. FileEnd told (plan_with (E.base known.now) survey.now) (number + 1) composer.old composer.new
         (O.taken out.old) (O.taken out.new) before result (get_or told number [])) }

@@ -1,5 +1,5 @@
 // Files of the system, named by their paths.
-ghost use Rattle.std.specs.Prelude.{◌≡◌, ◌≤◌, length, IfOk, None};
+ghost use Rattle.std.specs.Prelude.{◌≡◌, ◌≤◌, length, string_bytes, IfOk, None};
 ghost use Rattle.sx_base.specs.Causes.{Rose};
 
 use std::alloc::Global;
@@ -12,7 +12,8 @@ use sx_base::{Failed, Inputs, Lost};
 const OPEN_FILES: usize = 16;
 
 /// Files of the system, named by their paths. They tell nothing of their bytes. Each `Failed` raises the count of faults, and
-/// each `Ended` that of ends; both end at the greatest u64.
+/// each `Ended` that of ends; both end at the greatest u64. Of the last end the name and the place are kept; where there is no
+/// memory for the name, `Failed` is answered in its place.
 ///
 /// The 16 files that were asked for last stay open, each with its place, and one is moved only where the place that is asked
 /// for is not the one at which it stands. So a pipe can be read in order, and only once: a file that is opened again is
@@ -27,6 +28,9 @@ pub struct PathInputs<'a, R: Files> {
     open: Vec<OpenInput<R::File>>,
     faults: u64,
     ends: u64,
+    // The name of the file that ended last, and where it did.
+    last_name: String,
+    last_place: u64,
 }
 
 #[derive(Drop)]
@@ -48,6 +52,8 @@ impl<'a, R: Files> PathInputs<'a, R> {
             open: Vec::new(alloc),
             faults: 0,
             ends: 0,
+            last_name: String::new(alloc),
+            last_place: 0,
         }
     }
 
@@ -136,6 +142,8 @@ impl<'a, R: Files> Inputs for PathInputs<'a, R> {
 
     ghost ends = { λ s. s.ends };
 
+    ghost last_end = { λ s. record { name = string_bytes s.last_name; place = s.last_place } };
+
     fn read_at(&mut self, name: &str, at: u64, buf: &mut [u8]) -> Result<usize, Failed> {
         let answer = self.read_file(name, at, buf);
         if let Ok(count) = answer {
@@ -153,8 +161,14 @@ impl<'a, R: Files> Inputs for PathInputs<'a, R> {
         if count == buf.len() {
             return Ok(());
         }
-        self.ends = self.ends.saturating_add(1);
+        let Ok(copy) = String::from_str(self.alloc, name) else {
+            self.count_fault();
+            return Err(Lost::Failed);
+        };
         let place = at.saturating_add(count as u64);
+        self.last_name = copy;
+        self.last_place = place;
+        self.ends = self.ends.saturating_add(1);
         Err(Lost::Ended { place })
     }
 }

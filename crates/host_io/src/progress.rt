@@ -1,6 +1,6 @@
 // Inputs that say on a terminal how far a run is.
 ghost use Rattle.std.specs.Prelude.{◌≡◌, ◌≤◌, ◌==◌, ◌&&◌, ◌||◌, not, false, true, length, bytes_eq, string_bytes, IfOk, OnOk, OnErr};
-ghost use Rattle.sx_base.specs.Again.{LiesIn, FillsFrom, EndsKept, LostFor};
+ghost use Rattle.sx_base.specs.Again.{LiesIn, FillsFrom, EndsKept, LostFor, MeetsEnd};
 ghost use Rattle.sx_base.specs.Causes.{HasCause};
 ghost use Rattle.sx_base.specs.Outside.{GivesAt};
 ghost use Rattle.host_io.specs.Showing.{next_pass, next_done, next_ended};
@@ -50,8 +50,8 @@ impl Tally {
 }
 
 /// Inputs that say on a terminal how far a run is, once it goes on for more than two seconds. What is read is what the inner
-/// inputs give, and the counts of faults and of ends are theirs; faults of the clock and of the terminal, and want of memory for
-/// a line, only leave lines out.
+/// inputs give, and the counts of faults and of ends and the last end are theirs; faults of the clock and of the terminal, and
+/// want of memory for a line, only leave lines out.
 ///
 /// A pass is counted by what `read_at` gives. What `read_again` gives was counted before.
 #[derive(Drop)]
@@ -119,6 +119,8 @@ impl<'a, I: Inputs, C: Clock, S: Sink> Inputs for Progress<'a, I, C, S> {
 
     ghost ends = { λ s. I.ends s.inputs };
 
+    ghost last_end = { λ s. I.last_end s.inputs };
+
     fn read_at(&mut self, name: &str, at: u64, buf: &mut [u8]) -> Result<usize, Failed>
         ensures same { I.told self.new.inputs ≡ I.told self.old.inputs }
         ensures bound { IfOk result (λ count. count ≤ length buf.new) }
@@ -148,6 +150,7 @@ impl<'a, I: Inputs, C: Clock, S: Sink> Inputs for Progress<'a, I, C, S> {
         ensures later { I.faults self.old.inputs ≤ I.faults self.new.inputs }
         ensures ends { EndsKept (I.told self.old.inputs) (I.ends self.old.inputs) (I.ends self.new.inputs) }
         ensures cause { LostFor (I.told self.old.inputs) at (length buf.new) (I.faults self.old.inputs) (I.faults self.new.inputs) (I.ends self.old.inputs) (I.ends self.new.inputs) result }
+        ensures met { MeetsEnd name.now (I.last_end self.new.inputs) result }
         ensures tally { self.new.tally ≡ self.old.tally }
     {
         let answer = self.inputs.read_again(name, at, buf);

@@ -2,7 +2,7 @@
 ghost use Rattle.std.specs.Prelude.{◌≡◌, ◌≢◌, [], map};
 ghost use Rattle.std.specs.String.{string_bytes};
 ghost use Rattle.send_model.specs.Outside.{base};
-ghost use Rattle.sx_base.specs.Calls.{IfAllTold, CausedAgain, Wrote};
+ghost use Rattle.sx_base.specs.Calls.{IfAllTold, CausedAgain, FoundChanged, Wrote};
 ghost use Rattle.composer.specs.Files.{ComposeEnds};
 
 use crate::base::MemoryBase;
@@ -25,6 +25,7 @@ pub fn compose_over_base<I: Inputs, O: Sink>(
     ensures same { I.told inputs.new ≡ I.told inputs.old }
     ensures cause { CausedAgain (I.ends inputs.old) (I.ends inputs.new) (I.faults inputs.old) (I.faults inputs.new)
         (O.faults out.old) (O.faults out.new) result }
+    ensures changed { FoundChanged (map string_bytes files.now) (I.last_end inputs.new) result }
     ensures ends { IfAllTold (I.told inputs.old) (map string_bytes files.now)
         (λ told. Wrote (O.taken out.old) (O.taken out.new) (ComposeEnds (base store.now told) told result)) }
 {

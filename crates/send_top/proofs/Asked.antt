@@ -5,15 +5,17 @@ use Rattle.send_model.specs.Guards.{GuardSpec, Guard}
 use Rattle.send_model.specs.Answer as meant
 use Rattle.send_model.specs.Words.{Request, Compose, Audit, Dump, Export, Gen, Trial, new_guards, due, whole_of}
 use Rattle.sx_base.specs.Outside.{file_at}
+use Rattle.sx_base.specs.Again.{EarlyEnd}
 use Rattle.sx_base.specs.Causes.{Rose}
-use Rattle.sx_base.specs.Calls.{IfAllTold, Wrote, Ends, Caused, CausedAgain}
+use Rattle.sx_base.specs.Calls.{IfAllTold, Wrote, Ends, Caused, CausedAgain, IsEndOf, FoundChanged}
 use Rattle.sx_base.specs.declared.outcome.Outcome.{Outcome}
 use Rattle.sx_base.specs.declared.outcome.Outcome.TheVariants as ended
 use Rattle.auditor.specs.Answers.{AuditEnds}
 use Rattle.composer.specs.Files as composing
 use Rattle.send_top.specs.Answered.{outcome_of}
+use Rattle.send_top.specs.Requests.{Asks, names_asked}
 use Rattle.send_top.specs.Ending.{Answers}
-use Rattle.send_top.specs.Run.{IfComposes, EndCaused, IfOfCompose}
+use Rattle.send_top.specs.Run.{IfComposes, EndCaused, IfOfCompose, IsChangedAt}
 
 -- What follows of files follows wherever the files are told.
 pub then_told : (told : Option (List (List ℕ × List ℕ))) (names : List (List ℕ)) (P Q : List (List ℕ) → Type 0)
@@ -212,3 +214,28 @@ module _ (ends_before ends_now inputs_before inputs_now out_before out_now : ℕ
   composing_alone (Export file) outcome P given w = not_once outcome P w
   composing_alone (Gen count seed) outcome P given w = not_once outcome P w
   composing_alone (Trial count seed) outcome P given w = not_once outcome P w
+
+-- ---- files that were changed
+
+-- A call that reads no byte twice finds no file changed.
+pub not_changed : (inputs_before inputs_now out_before out_now : ℕ) (names : List (List ℕ)) (last : EarlyEnd) (outcome : Outcome) → Caused inputs_before inputs_now out_before out_now outcome → FoundChanged names last outcome
+not_changed inputs_before inputs_now out_before out_now names last ended.Done w = tt
+not_changed inputs_before inputs_now out_before out_now names last (ended.Refused verdict) w = tt
+not_changed inputs_before inputs_now out_before out_now names last (ended.InputTooLong file) w = tt
+not_changed inputs_before inputs_now out_before out_now names last (ended.TooMuch sum) w = tt
+not_changed inputs_before inputs_now out_before out_now names last (ended.InputChanged file place) w = absurd w
+not_changed inputs_before inputs_now out_before out_now names last ended.InputFault w = tt
+not_changed inputs_before inputs_now out_before out_now names last ended.OutputFault w = tt
+not_changed inputs_before inputs_now out_before out_now names last ended.NoMemory w = tt
+
+-- A file that was found changed among those of a request is so among those of the request that words and guards ask for.
+pub changed_at : (words : List (List ℕ)) (guards : List Guard) (last : EarlyEnd) (mine : Request) (outcome : Outcome) → ((request : Request) → Asks words guards request → mine ≡ request)
+    → FoundChanged (names_asked mine words) last outcome → IsChangedAt words guards last (outcome_of outcome)
+changed_at words guards last mine (ended.InputChanged file place) same found = λ request asks. subst (λ (r : Request). IsEndOf (names_asked r words) last file place) (same request asks) found
+changed_at words guards last mine ended.Done same found = tt
+changed_at words guards last mine (ended.Refused verdict) same found = tt
+changed_at words guards last mine (ended.InputTooLong file) same found = tt
+changed_at words guards last mine (ended.TooMuch sum) same found = tt
+changed_at words guards last mine ended.InputFault same found = tt
+changed_at words guards last mine ended.OutputFault same found = tt
+changed_at words guards last mine ended.NoMemory same found = tt

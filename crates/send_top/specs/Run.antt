@@ -4,7 +4,8 @@ use Rattle.send_model.specs.Guards.{Guard}
 use Rattle.send_model.specs.Headline.{IsComposed}
 use Rattle.send_model.specs.Answer.{Answer, Done, Refused, Usage, InputFault, OutputFault, NoMemory, InputTooLong, TooMuch, InputChanged}
 use Rattle.send_model.specs.Words.{Request, Compose, Audit, Dump, Export, Gen, Trial}
-use Rattle.sx_base.specs.Calls.{IfAllTold, Wrote, Caused, CausedAgain}
+use Rattle.sx_base.specs.Again.{EarlyEnd}
+use Rattle.sx_base.specs.Calls.{IfAllTold, Wrote, Caused, CausedAgain, IsEndOf}
 use Rattle.sx_base.specs.declared.outcome.Outcome.{Outcome}
 use Rattle.send_top.specs.Requests.{Asks, names_asked}
 use Rattle.send_top.specs.Ending.{Answers}
@@ -47,3 +48,16 @@ IfOfCompose InputFault P = ⊤
 IfOfCompose OutputFault P = ⊤
 IfOfCompose NoMemory P = ⊤
 IfOfCompose (InputTooLong file) P = ⊤
+
+-- Where a file was found changed, it is the one among the files that words and guards ask for which the inputs answered last to have
+-- ended too early, and the place is that of this end.
+abbrev pub IsChangedAt : List (List ℕ) → List Guard → EarlyEnd → Answer → Type 0
+IsChangedAt words guards last (InputChanged file place) = (request : Request) → Asks words guards request → IsEndOf (names_asked request words) last file place
+IsChangedAt words guards last Done = ⊤
+IsChangedAt words guards last (Refused verdict) = ⊤
+IsChangedAt words guards last Usage = ⊤
+IsChangedAt words guards last InputFault = ⊤
+IsChangedAt words guards last OutputFault = ⊤
+IsChangedAt words guards last NoMemory = ⊤
+IsChangedAt words guards last (InputTooLong file) = ⊤
+IsChangedAt words guards last (TooMuch sum) = ⊤

@@ -4,12 +4,12 @@ ghost use Rattle.std.specs.String.{string_bytes};
 ghost use Rattle.send_model.specs.Answer as meant;
 ghost use Rattle.send_model.specs.Answer.{InputFault, OutputFault, InputChanged, Usage};
 ghost use Rattle.send_model.specs.Words.{new_guards};
-ghost use Rattle.sx_base.specs.Calls.{IfAllTold, Wrote, Ends};
+ghost use Rattle.sx_base.specs.Calls.{IfAllTold, FoundChanged, Wrote, Ends};
 ghost use Rattle.sx_base.specs.Causes.{Rose};
 ghost use Rattle.sx_base.specs.declared.outcome.Outcome.TheVariants as ended;
 ghost use Rattle.send_top.specs.Answered.{IsGiven, answer_of};
 ghost use Rattle.send_top.specs.Requests.{AskNothing, IsWithin, request_meant, specs_of, names_asked};
-ghost use Rattle.send_top.specs.Run.{OfRequest, IsAnswered, IfComposes, EndCaused, AskToCompose, IfOfCompose};
+ghost use Rattle.send_top.specs.Run.{OfRequest, IsAnswered, IfComposes, EndCaused, AskToCompose, IfOfCompose, IsChangedAt};
 
 use crate::fitting::guards_fit;
 use crate::noting::{Answer, status, write_note};
@@ -33,7 +33,8 @@ use sx_base::{Inputs, Outcome, Sink};
 /// With status 0 `out` took all that is asked for; of `compose` this is one stream that the headline holds of. Where there was
 /// memory, no count of faults or of ends rose, no file is too long and there is not too much to write anew, the status is 0 if all
 /// commands of the files are lawful, and 1 if not; then the note names the first that is unlawful. Status 13, of a file that was
-/// changed, comes only where the count of ends rose. It and 9, of too much to write anew, come of `compose` alone.
+/// changed, comes only where the count of ends rose, and its note names the file and the place of the end that the inputs
+/// answered last. It and 9, of too much to write anew, come of `compose` alone.
 pub fn run<I: Inputs, O: Sink, N: Sink>(
     alloc: Global,
     words: &[String],
@@ -53,7 +54,8 @@ pub fn run<I: Inputs, O: Sink, N: Sink>(
         (λ request files. Wrote (O.taken out.old) (O.taken out.new) (IfComposes request files)) }
     ensures answered { (answer : meant.Answer)
         × IsAnswered (I.told inputs.old) (map string_bytes words.now) (map (λ g. kept g) guards.items) (O.taken out.old) (O.taken out.new) answer
-        × IsGiven answer (N.taken notes.old) (N.taken notes.new) (N.faults notes.old) (N.faults notes.new) result }
+        × IsGiven answer (N.taken notes.old) (N.taken notes.new) (N.faults notes.old) (N.faults notes.new) result
+        × IsChangedAt (map string_bytes words.now) (map (λ g. kept g) guards.items) (I.last_end inputs.new) answer }
     ensures quiet { result ≡ 0 → notes.new ≡ notes.old }
 {
     let mut guards = guards;
@@ -80,6 +82,7 @@ fn answer_to<I: Inputs, O: Sink>(
         (λ request files. Wrote (O.taken out.old) (O.taken out.new) (IfComposes request files)) }
     ensures answered { IsAnswered (I.told inputs.old) (map string_bytes words.now) (map (λ g. kept g) guards.old)
         (O.taken out.old) (O.taken out.new) (answer_of result) }
+    ensures changed_at { IsChangedAt (map string_bytes words.now) (map (λ g. kept g) guards.old) (I.last_end inputs.new) (answer_of result) }
 {
     let Some(request) = read_words(words) else {
         return Answer::Usage;
@@ -104,6 +107,8 @@ fn end_of<I: Inputs, O: Sink>(
     ensures same { I.told inputs.new ≡ I.told inputs.old }
     ensures cause { EndCaused (request_meant (map string_bytes words.now) request)
         (I.ends inputs.old) (I.ends inputs.new) (I.faults inputs.old) (I.faults inputs.new) (O.faults out.old) (O.faults out.new) result }
+    ensures changed { FoundChanged (names_asked (request_meant (map string_bytes words.now) request) (map string_bytes words.now))
+        (I.last_end inputs.new) result }
     ensures composed { result ≡ ended.Done
         → IfAllTold (I.told inputs.old) (names_asked (request_meant (map string_bytes words.now) request) (map string_bytes words.now))
         (λ files. Wrote (O.taken out.old) (O.taken out.new) (IfComposes (request_meant (map string_bytes words.now) request) files)) }

@@ -1,6 +1,6 @@
 -- Bytes of a file that were read before and are read again. That an input may have changed between two reads, and the
 -- count of such ends, are this program's own.
-use Rattle.std.specs.Prelude.{◌≡◌, ℕ, ◌+◌, ◌<◌, ◌≤◌, List, length, take, drop, None, Some, Result, Ok, Err, ⊤}
+use Rattle.std.specs.Prelude.{◌≡◌, ℕ, ◌+◌, ◌<◌, ◌≤◌, List, [], length, take, drop, None, Some, Result, Ok, Err, ⊤}
 use Rattle.std.specs.declared.option.Option.{Option}
 use Rattle.sx_base.specs.Causes.{Rose}
 use Rattle.sx_base.specs.Outside.{file_at}
@@ -33,3 +33,18 @@ abbrev pub LostFor : Option (List (List ℕ × List ℕ)) → ℕ → ℕ → �
 LostFor told at count faults_before faults_now ends_before ends_now (Ok done) = ⊤
 LostFor told at count faults_before faults_now ends_before ends_now (Err lost.Failed) = Rose faults_before faults_now
 LostFor told at count faults_before faults_now ends_before ends_now (Err (lost.Ended place)) = EndedIn told at count ends_before ends_now place
+
+-- The name of a file, and the place where it ended before bytes that were read of it once.
+pub record EarlyEnd : Type 0 where
+  pub name : List ℕ
+  pub place : ℕ
+
+-- What stands for the last end where none comes.
+abbrev pub no_end : EarlyEnd
+no_end = record { name = []; place = 0 }
+
+-- The end that is answered is that of the file with this name, and the last one.
+abbrev pub MeetsEnd : List ℕ → EarlyEnd → Result (Unit {0}) Lost → Type 0
+MeetsEnd name last (Ok done) = ⊤
+MeetsEnd name last (Err lost.Failed) = ⊤
+MeetsEnd name last (Err (lost.Ended place)) = last ≡ record { name = name; place = place }

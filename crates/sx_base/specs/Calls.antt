@@ -1,11 +1,12 @@
 -- What a call over named files answers: which files these are, what it wrote, when it may say that an object of the outside
 -- failed, and what each answer says of the files. This program's own.
-use Rattle.std.specs.Prelude.{◌≡◌, ⊤, ℕ, List, map, Option, None, Some, Result, Ok, Err}
+use Rattle.std.specs.Prelude.{◌≡◌, ⊤, ℕ, ◌-◌, ◌≤◌, List, [], map, length, get_or, Option, None, Some, Result, Ok, Err}
 use Rattle.std.specs.Io.KnownBytes.{Appends}
 use Rattle.send_model.specs.Reading as reading
 use Rattle.send_model.specs.Store.{Store}
 use Rattle.send_model.specs.Due.{Due, DoneWhole, RefusedAt, TooLong, TooMuch}
 use Rattle.send_model.specs.Words.{Request, due, EndSays, StandsBefore, StandsCut}
+use Rattle.sx_base.specs.Again.{EarlyEnd}
 use Rattle.sx_base.specs.Causes.{Rose}
 use Rattle.sx_base.specs.Outside.{file_at}
 use Rattle.sx_base.specs.Refusals.{refusal_of}
@@ -60,6 +61,29 @@ CausedAgain ends_before ends_now inputs_before inputs_now out_before out_now (en
 abbrev pub ErrCaused : {T : Type 0} → (inputs_before inputs_now out_before out_now : ℕ) → Result T Outcome → Type 0
 ErrCaused inputs_before inputs_now out_before out_now (Ok x) = ⊤
 ErrCaused inputs_before inputs_now out_before out_now (Err outcome) = Caused inputs_before inputs_now out_before out_now outcome
+
+-- ---- files that were changed
+
+-- The end that the inputs answered last is that of the file with this number among these names, counted from 1, at this place.
+pub record IsEndOf (names : List (List ℕ)) (last : EarlyEnd) (file place : ℕ) : Type 0 where
+  pub first : 1 ≤ file
+  pub within : file ≤ length names
+  pub met : last ≡ record { name = get_or names (file - 1) []; place = place }
+
+-- An input that was found changed is the file of the last end, with the place where it ended.
+abbrev pub FoundChanged : (names : List (List ℕ)) (last : EarlyEnd) → Outcome → Type 0
+FoundChanged names last (ended.InputChanged file place) = IsEndOf names last file place
+FoundChanged names last ended.Done = ⊤
+FoundChanged names last (ended.Refused verdict) = ⊤
+FoundChanged names last ended.InputFault = ⊤
+FoundChanged names last ended.OutputFault = ⊤
+FoundChanged names last ended.NoMemory = ⊤
+FoundChanged names last (ended.InputTooLong file) = ⊤
+FoundChanged names last (ended.TooMuch sum) = ⊤
+
+abbrev pub ErrFoundChanged : {T : Type 0} → (names : List (List ℕ)) (last : EarlyEnd) → Result T Outcome → Type 0
+ErrFoundChanged names last (Ok x) = ⊤
+ErrFoundChanged names last (Err outcome) = FoundChanged names last outcome
 
 -- ---- the one answer
 

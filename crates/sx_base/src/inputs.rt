@@ -1,6 +1,6 @@
 // The files that a run reads.
 ghost use Rattle.std.specs.Prelude.{◌≡◌, ℕ, ◌≤◌, List, length, IfOk, OnOk, Option};
-ghost use Rattle.sx_base.specs.Again.{LiesIn, FillsFrom, EndsKept, LostFor};
+ghost use Rattle.sx_base.specs.Again.{LiesIn, FillsFrom, EndsKept, LostFor, EarlyEnd, MeetsEnd};
 ghost use Rattle.sx_base.specs.Causes.{HasCause};
 ghost use Rattle.sx_base.specs.Outside.{GivesAt};
 
@@ -9,13 +9,16 @@ use crate::lost::Lost;
 
 /// Named files that a run reads. Where they tell their bytes, these are a finite map from names to bytes that
 /// no call changes; a name that is not there is an empty file. They count their faults, and how often a file
-/// ended before bytes that it had been said to have.
+/// ended before bytes that it had been said to have; and they keep the last such end.
 pub trait Inputs {
     ghost told: { Self → Option (List (List ℕ × List ℕ)) };
 
     ghost faults: { Self → ℕ };
 
     ghost ends: { Self → ℕ };
+
+    /// The end that `read_again` answered last. Of other calls nothing is said of it.
+    ghost last_end: { Self → EarlyEnd };
 
     /// Gives at most as many bytes as the buffer has, of the named file from the place `at` on; none only
     /// where the buffer is empty or the file ends. `Failed` comes only where the count of faults rose.
@@ -28,12 +31,13 @@ pub trait Inputs {
 
     /// Fills the buffer with the bytes of the named file from the place `at` on, which were read before: where the
     /// files are told, the range lies in the file. `Failed` comes only where the count of faults rose, and `Ended`
-    /// only where that of ends rose, with a place in the range.
+    /// only where that of ends rose, with a place in the range; this name and place are then the last end.
     fn read_again(&mut self, name: &str, at: u64, buf: &mut [u8]) -> Result<(), Lost>
         requires range { LiesIn (told self.old) name.now at (length buf.old) }
         ensures same { told self.new ≡ told self.old }
         ensures bytes { OnOk result (FillsFrom (told self.old) name.now at buf.new) }
         ensures later { faults self.old ≤ faults self.new }
         ensures ends { EndsKept (told self.old) (ends self.old) (ends self.new) }
-        ensures cause { LostFor (told self.old) at (length buf.new) (faults self.old) (faults self.new) (ends self.old) (ends self.new) result };
+        ensures cause { LostFor (told self.old) at (length buf.new) (faults self.old) (faults self.new) (ends self.old) (ends self.new) result }
+        ensures met { MeetsEnd name.now (last_end self.new) result };
 }

@@ -1,6 +1,6 @@
 // Files in memory, of which chosen reads fail.
 ghost use Rattle.std.specs.Prelude.{◌≡◌, ℕ, ◌-◌, ◌≤◌, List, [], ◌∷◌, ◌++◌, length, min, true, is_err, if◌then◌else◌, Some, IfOk, OnOk, OnErr};
-ghost use Rattle.sx_base.specs.Again.{LiesIn, FillsFrom, EndsKept, LostFor};
+ghost use Rattle.sx_base.specs.Again.{LiesIn, FillsFrom, EndsKept, LostFor, MeetsEnd, no_end};
 ghost use Rattle.sx_base.specs.Causes.{Rose, HasCause};
 ghost use Rattle.sx_base.specs.Memory.{next_count, is_listed};
 ghost use Rattle.sx_base.specs.Outside.{GivesAt, file_at};
@@ -95,6 +95,8 @@ impl Inputs for MemInputs {
 
     ghost ends = { λ _. 0 };
 
+    ghost last_end = { λ _. no_end };
+
     fn read_at(&mut self, name: &str, at: u64, buf: &mut [u8]) -> Result<usize, Failed>
         ensures same { Some self.new.files ≡ Some self.old.files }
         ensures bound { IfOk result (λ count. count ≤ length buf.new) }
@@ -121,6 +123,7 @@ impl Inputs for MemInputs {
         ensures later { self.old.faults ≤ self.new.faults }
         ensures ends { EndsKept (Some self.old.files) 0 0 }
         ensures cause { LostFor (Some self.old.files) at (length buf.new) self.old.faults self.new.faults 0 0 result }
+        ensures met { MeetsEnd name.now no_end result }
         ensures fails { is_err result ≡ is_listed self.old.failing (next_count self.old.calls) }
         ensures counts { self.new ≡ record self.old {
           calls = next_count self.old.calls;

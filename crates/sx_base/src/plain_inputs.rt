@@ -1,6 +1,6 @@
 // Files in memory that never fail.
 ghost use Rattle.std.specs.Prelude.{◌≡◌, ℕ, ◌-◌, ◌≤◌, List, [], ◌∷◌, ◌++◌, length, min, Some, Ok, IsOkAnd, IfOk, OnOk, OnErr};
-ghost use Rattle.sx_base.specs.Again.{LiesIn, FillsFrom, EndsKept, LostFor};
+ghost use Rattle.sx_base.specs.Again.{LiesIn, FillsFrom, EndsKept, LostFor, MeetsEnd, no_end};
 ghost use Rattle.sx_base.specs.Causes.{HasCause};
 ghost use Rattle.sx_base.specs.Outside.{GivesAt, file_at};
 
@@ -56,6 +56,8 @@ impl Inputs for PlainInputs {
 
     ghost ends = { λ _. 0 };
 
+    ghost last_end = { λ _. no_end };
+
     fn read_at(&mut self, name: &str, at: u64, buf: &mut [u8]) -> Result<usize, Failed>
         ensures same { self.new ≡ self.old }
         ensures bound { IfOk result (λ count. count ≤ length buf.new) }
@@ -74,6 +76,7 @@ impl Inputs for PlainInputs {
         ensures later { 0 ≤ 0 }
         ensures ends { EndsKept (Some self.old) 0 0 }
         ensures cause { LostFor (Some self.old) at (length buf.new) 0 0 0 0 result }
+        ensures met { MeetsEnd name.now no_end result }
         ensures fills { result ≡ Ok tt }
     {
         read_piece(find_file(self.files.as_slice(), name), at, buf);

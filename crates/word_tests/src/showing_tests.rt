@@ -1,5 +1,6 @@
 // What no clause says: that a long run shows on a terminal how far it is, and what its lines look like.
 ghost use Rattle.std.specs.Prelude.{None};
+ghost use Rattle.sx_base.specs.Again.{no_end};
 
 use host_io::{AfterLine, Progress, Screen, end_line, line_of};
 use std::cell::{Cell, RefCell};
@@ -38,6 +39,8 @@ impl Inputs for Silent {
     ghost faults = { λ _. 0 };
 
     ghost ends = { λ _. 0 };
+
+    ghost last_end = { λ _. no_end };
 
     fn read_at(&mut self, _name: &str, at: u64, buf: &mut [u8]) -> Result<usize, Failed> {
         let left = FILE.saturating_sub(at) as usize;

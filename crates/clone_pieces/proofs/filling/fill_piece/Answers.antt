@@ -1,7 +1,7 @@
 use Rattle.std.specs.Prelude.{Some}
 use Rattle.std.proofs.Common.{map, length, ap, ◌∙◌}
 use Rattle.std.specs.String.{string_bytes}
-use Rattle.clone_pieces.proofs.Fills.{zeroed, held_filled, lies_again, again_filled}
+use Rattle.clone_pieces.proofs.Fills.{zeroed, held_filled, lies_again, again_filled, again_changed}
 use Rattle.clone_pieces.proofs.filling.fill_piece.Goals as goal
 
 pub read_part-requires-clause-range : goal.read_part-requires-clause-range
@@ -17,6 +17,11 @@ pub returns-in-Some-Fresh-clause-filled : goal.returns-in-Some-Fresh-clause-fill
 returns-in-Some-Fresh-clause-filled g c =
     again_filled c.args.files.now (g.B.OutsideBytes.held c.args.bytes.now) c.args.origin c.in-Some-Fresh.file c.in-Some-Fresh.at (length c.args.buf.now) c.index-files-file.result c.as_str.result.now
     (c.in-Some-Fresh.is ∙ ap Some c.in-Some-Fresh.field-0-is) c.requires.had c.index-files-file.is c.as_str.ensures.value _ c.read_part.new.buf c.read_part.result c.requires.there c.read_part.auto.buf c.read_part.ensures.filled
+
+pub returns-in-Some-Fresh-clause-changed : goal.returns-in-Some-Fresh-clause-changed
+returns-in-Some-Fresh-clause-changed g c =
+    again_changed c.args.files.now (g.B.OutsideBytes.held c.args.bytes.now) c.args.origin c.in-Some-Fresh.file c.in-Some-Fresh.at (length c.args.buf.now) c.index-files-file.result c.as_str.result.now
+    (c.in-Some-Fresh.is ∙ ap Some c.in-Some-Fresh.field-0-is) c.requires.had c.index-files-file.is c.as_str.ensures.value _ c.read_part.result c.read_part.ensures.changed
 
 pub returns-in-Ok-clause-filled : goal.returns-in-Ok-clause-filled
 returns-in-Ok-clause-filled g c =

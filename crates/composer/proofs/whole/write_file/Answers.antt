@@ -10,7 +10,7 @@ use Rattle.clone_resolve.proofs.TakenStates.{AllCells}
 use Rattle.composer.specs.Taking.{DataStand}
 use Rattle.composer.specs.Files.{plan_with}
 use Rattle.clone_pieces.proofs.Told as all
-use Rattle.composer.proofs.AllTold.{name_at, count_names}
+use Rattle.clone_pieces.proofs.Told.{name_at, count_names}
 use Rattle.composer.proofs.FileWriting.{EndsAlike, stands_at_start, alike_at_start, alike_after, next_of_all, data_there, stands_after, file_unopened, file_ends, file_stops, file_above, item_stops}
 use Rattle.composer.proofs.whole.write_file.Goals as goal
 

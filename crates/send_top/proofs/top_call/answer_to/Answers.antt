@@ -8,7 +8,7 @@ use Rattle.send_top.specs.Answered.{outcome_of}
 use Rattle.send_top.specs.Requests.{answered_request, request_meant, names_asked, specs_of}
 use Rattle.send_top.specs.Ending.{Answers}
 use Rattle.send_top.specs.Run.{IfComposes, AskToCompose}
-use Rattle.send_top.proofs.Asked.{then_told, same_request, is_done, answers, fault_caused, output_caused, change_caused, composing_alone}
+use Rattle.send_top.proofs.Asked.{then_told, same_request, is_done, answers, fault_caused, output_caused, change_caused, composing_alone, changed_at}
 use Rattle.send_top.proofs.top_call.answer_to.Goals as goal
 
 pub returns-clause-composed : goal.returns-clause-composed
@@ -58,3 +58,10 @@ returns-clause-of_compose g c =
       },
     ))
     c.end_of.ensures.cause
+
+pub returns-clause-changed_at : goal.returns-clause-changed_at
+returns-clause-changed_at g c =
+    let words : List (List ℕ) = map string_bytes c.args.words.now in
+    let mine : Request = request_meant words c.in-Some.request in
+    changed_at words (map (λ b. (goal.Guard-dyn g (b.vtable, b.value)).kept b.value) c.args.guards.now) (g.I.Inputs.last_end c.end_of.new.inputs) mine c.end_of.result
+    (λ request asks. same_request (answered_request words) mine request c.in-Some.ensures.meaning asks.meant) c.end_of.ensures.changed

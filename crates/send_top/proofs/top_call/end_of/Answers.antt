@@ -2,7 +2,7 @@ use Rattle.std.specs.Prelude.{[], map, drop, List, Option}
 use Rattle.std.specs.String.{string_bytes}
 use Rattle.std.proofs.Common.{◌≡◌, sym, ap, subst, ◌∙◌}
 use Rattle.std.proofs.lemmas.List.{drop-map}
-use Rattle.sx_base.specs.Calls.{Wrote, Ends}
+use Rattle.sx_base.specs.Calls.{FoundChanged, Wrote, Ends}
 use Rattle.send_model.specs.Store.{Store}
 use Rattle.send_model.specs.Guards.{GuardSpec}
 use Rattle.send_model.specs.Words.{Compose, Audit, Dump, Export, new_guards}
@@ -74,3 +74,8 @@ returns-in-Trial-clause-cause g c = rw c.in-Trial.is (caused_unread (g.I.Inputs.
 
 pub returns-in-Gen-clause-cause : goal.returns-in-Gen-clause-cause
 returns-in-Gen-clause-cause g c = rw c.in-Gen.is (caused_unread (g.I.Inputs.faults c.args.inputs.now) (g.I.Inputs.faults c.args.inputs.now) (g.O.Sink.faults c.args.out.now) (g.O.Sink.faults c.write_chain.new.out) c.write_chain.result c.write_chain.ensures.cause)
+
+pub returns-in-Compose-clause-changed : goal.returns-in-Compose-clause-changed
+returns-in-Compose-clause-changed g c =
+    rw c.in-Compose.is (subst (λ (names : List (List ℕ)). FoundChanged names (g.I.Inputs.last_end c.compose.new.inputs) c.compose.result)
+    (ap (map string_bytes) c.names_from.ensures.names ∙ sym (drop-map string_bytes c.in-Compose.files c.args.words.now)) c.compose.ensures.changed)

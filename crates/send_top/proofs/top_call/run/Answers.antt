@@ -2,8 +2,8 @@ use Rattle.std.specs.Prelude.{◌≡◌, ◌↔◌, ◌⊎◌, ℕ, map}
 use Rattle.std.specs.String.{string_bytes}
 use Rattle.sx_base.specs.Calls.{Wrote}
 use Rattle.send_top.specs.Requests.{AskNothing}
-use Rattle.send_top.specs.Run.{OfRequest, IfComposes, AskToCompose}
-use Rattle.std.proofs.Common.{sym, ◌∙◌, ap, subst}
+use Rattle.send_top.specs.Run.{OfRequest, IsAnswered, IfComposes, AskToCompose, IsChangedAt}
+use Rattle.std.proofs.Common.{sym, ◌∙◌, ap, subst, rules}
 use Rattle.send_model.specs.Answer.{status_of}
 use Rattle.send_top.specs.Answered.{answer_of}
 use Rattle.send_top.proofs.Statuses.{usage-of_two, two-of_usage, input_fault-of_three, output_fault-of_four, changed-of_thirteen, done-of_zero, of_compose}
@@ -41,3 +41,14 @@ pub returns-clause-of_compose : goal.returns-clause-of_compose
 returns-clause-of_compose g c nine = subst (λ gs. AskToCompose (map string_bytes c.args.words.now) (map (λ b. (goal.Guard-dyn g (b.vtable, b.value)).kept b.value) gs)) c.deref_mut.ensures.value
     (of_compose (answer_of c.answer_to-answer.result) (AskToCompose (map string_bytes c.args.words.now) (map (λ b. (goal.Guard-dyn g (b.vtable, b.value)).kept b.value) c.deref_mut.result.now))
     (subst (λ (n : ℕ). (n ≡ 9) ⊎ (n ≡ 13)) c.status.ensures nine) c.answer_to-answer.ensures.of_compose)
+
+pub returns-clause-answered : goal.returns-clause-answered
+returns-clause-answered g c =
+    let words = map string_bytes c.args.words.now in
+    let answer = answer_of c.answer_to-answer.result in
+    let a = c.answer_to-answer.ensures in (
+      answer,
+      subst (λ gs. IsAnswered (g.I.Inputs.told c.args.inputs.now) words (map (λ b. (goal.Guard-dyn g (b.vtable, b.value)).kept b.value) gs) (g.O.Sink.taken c.args.out.now) (g.O.Sink.taken c.answer_to-answer.new.out) answer) c.deref_mut.ensures.value a.answered,
+      record { status_is = c.status.ensures; note = search rules },
+      subst (λ gs. IsChangedAt words (map (λ b. (goal.Guard-dyn g (b.vtable, b.value)).kept b.value) gs) (g.I.Inputs.last_end c.answer_to-answer.new.inputs) answer) c.deref_mut.ensures.value a.changed_at,
+    )

@@ -1,10 +1,8 @@
-use Rattle.std.specs.Prelude.{◌≡◌, ◌≤◌, ℕ, ◌+◌, List, map, length, Option, Some, Ok, true, false, ◌++◌}
-use Rattle.std.specs.Option.{option_map}
+use Rattle.std.specs.Prelude.{◌≡◌, ◌≤◌, ℕ, List, map, Option, Ok}
 use Rattle.std.specs.String.{string_bytes}
-use Rattle.std.proofs.Common.{refl, sym, ap, ap₂, subst, ◌∙◌, arith}
-use Rattle.send_model.specs.Command.{Command, Clone, End}
+use Rattle.std.proofs.Common.{refl, sym, ap, ap₂, subst, ◌∙◌, arith, rules}
+use Rattle.send_model.specs.Command.{Command, Clone}
 use Rattle.send_model.specs.Spelling.{canonical}
-use Rattle.send_model.specs.Store.{head_of}
 use Rattle.send_model.specs.Due.{most_literal}
 use Rattle.send_model.specs.Laws.{CanWrite}
 use Rattle.send_commands.specs.Meaning.{meaning_of}
@@ -122,6 +120,7 @@ returns-in_default g c =
       bytes_later = omega arith;
       out_later = c.put_item-in_default.ensures.later;
       cause = put_caused _ _ _ _ _ _ _ _ _ _ _ c.put_item-in_default.result c.put_item-in_default.ensures.put;
+      changed = search rules;
       added = all_always (g.I.Inputs.told c.args.inputs.now) (map string_bytes c.args.files.now) _ (λ told.
           plain_adds told (g.E.Known.base c.args.known.now) c.args.survey.now (key_of c.args.last) c.args.self.now new (meaning_of c.args.item.now.command) (g.O.Sink.taken c.args.out.now) (g.O.Sink.taken c.put_item-in_default.new.out)
           (g.O.Sink.faults c.args.out.now) (g.O.Sink.faults c.put_item-in_default.new.out) c.put_item-in_default.result (plain_of c.args.item.now.command c.requires.edit c.in_default.not-End c.in_default.not-Clone)

@@ -1,4 +1,4 @@
-use Rattle.std.proofs.Common.{rules, ◌<◌, ◌^◌, length, sym, ap, subst, ◌∙◌, arith}
+use Rattle.std.proofs.Common.{rules, ◌<◌, ◌^◌, length, ap, arith}
 use Rattle.clone_pieces.proofs.Short.{clone_writable, clone_short}
 use Rattle.composer.proofs.composing.Composer.add_own.Given.{Over}
 use Rattle.composer.proofs.composing.Composer.add_own.Goals.{In-Ok-copied}

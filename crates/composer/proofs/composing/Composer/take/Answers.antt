@@ -1,14 +1,12 @@
-use Rattle.std.specs.Prelude.{◌≡◌, ◌≤◌, ◌<◌, ℕ, ◌+◌, ◌-◌, List, map, length, Option, None, Some, Result, Ok, Err, true, false, not, ◌++◌}
+use Rattle.std.specs.Prelude.{◌≡◌, ◌-◌, map, length, Option, None, Ok, Err}
 use Rattle.std.specs.Option.{option_map, option_copied}
 use Rattle.std.specs.String.{string_bytes}
-use Rattle.std.proofs.Common.{refl, sym, ap, ap₂, subst, ◌∙◌, arith}
-use Rattle.send_model.specs.Store.{Key, Head, State, head_of, step}
-use Rattle.send_model.specs.Due.{most_literal}
+use Rattle.std.proofs.Common.{refl, sym, ap, subst, ◌∙◌, arith}
+use Rattle.send_model.specs.Store.{Key, State, head_of, step}
 use Rattle.send_commands.specs.Meaning.{meaning_of}
 use Rattle.send_commands.proofs.Writable.{spellable_is_writable}
 use Rattle.sx_base.specs.declared.stop.Stop.{Stop}
 use Rattle.sx_base.specs.declared.stop.Stop.TheVariants as stop
-use Rattle.sx_base.specs.declared.outcome.Outcome.{Outcome}
 use Rattle.sx_base.specs.Refusals.{refusal_of}
 use Rattle.subvol_catalog.specs.Entries.{key_of}
 use Rattle.cmd_reader.specs.Next.{item_of}
@@ -24,7 +22,7 @@ use Rattle.file_survey.specs.Findings.{KnowsParts}
 use Rattle.composer.specs.Kept.{Kept}
 use Rattle.composer.specs.Files.{plan_with}
 use Rattle.composer.specs.Taking.{DataStand, ItemEnd}
-use Rattle.composer.specs.Adding.{AddEnd, stands_out}
+use Rattle.composer.specs.Adding.{AddEnd}
 use Rattle.composer.specs.contracts.composing.Composer.{the_view}
 use Rattle.clone_pieces.proofs.Told.{all_always, all_map, all_two}
 use Rattle.composer.proofs.AddingItems.{is_none_of, not_false, not_true, on_ok}

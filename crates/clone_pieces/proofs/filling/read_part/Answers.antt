@@ -1,0 +1,12 @@
+use Rattle.std.specs.Prelude.{Err}
+use Rattle.std.proofs.Common.{subst}
+use Rattle.sx_base.specs.Again.{MeetsEnd}
+use Rattle.sx_base.specs.declared.lost.Lost.{Lost}
+use Rattle.clone_pieces.proofs.Causes.{ended_among}
+use Rattle.clone_pieces.proofs.filling.read_part.Goals as goal
+
+pub returns-in-Err-Ended-clause-changed : goal.returns-in-Err-Ended-clause-changed
+returns-in-Err-Ended-clause-changed g c names less is =
+    let last = g.I.Inputs.last_end c.read_again.new.self in
+    ended_among names c.args.file c.in-Err-Ended.place c.args.name.now last less is
+    (subst (λ (w : Lost). MeetsEnd c.args.name.now last (Err w)) c.in-Err-Ended.field-0-is c.in-Err-Ended.ensures.met)
