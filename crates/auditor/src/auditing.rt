@@ -31,10 +31,12 @@ pub fn audit<R: Origin, I: Inputs, O: Sink>(
 ) -> Outcome
     requires reach { 2 ^ 18 ≤ R.reach blank }
     ensures same { I.told inputs.new ≡ I.told inputs.old }
-    ensures cause { Caused (I.faults inputs.old) (I.faults inputs.new) (O.faults out.old) (O.faults out.new) result }
-    ensures audited { (store : meant.Store ℕ) → HaveSameShape core store →
-        IfAllTold (I.told inputs.old) (map string_bytes files.now)
-        (λ files. Wrote (O.taken out.old) (O.taken out.new) (AuditEnds store (map (λ g. kept g) guards.old) files result)) }
+    ensures cause { Caused (I.faults inputs.old) (I.faults inputs.new)
+        (O.faults out.old) (O.faults out.new) result }
+    ensures audited { (store : meant.Store ℕ) → HaveSameShape core store
+        → IfAllTold (I.told inputs.old) (map string_bytes files.now)
+        (λ files. Wrote (O.taken out.old) (O.taken out.new)
+        (AuditEnds store (map (λ g. kept g) guards.old) files result)) }
 {
     let mut follower = Follower::new(core, blank);
     match follow_files(alloc, &mut follower, guards, inputs, files) {
@@ -45,8 +47,8 @@ pub fn audit<R: Origin, I: Inputs, O: Sink>(
 
 // Writes the line of an audit that accepts all.
 fn write_accepted<O: Sink>(alloc: Global, totals: Totals, out: &mut O) -> Outcome
-    ensures written { WritesLine (accepted_text totals.parts totals.commands) (O.taken out.old) (O.taken out.new)
-        (O.faults out.old) (O.faults out.new) result }
+    ensures written { WritesLine (accepted_text totals.parts totals.commands)
+        (O.taken out.old) (O.taken out.new) (O.faults out.old) (O.faults out.new) result }
 {
     let Ok(line) = line_of(alloc, totals) else {
         return Outcome::NoMemory;
@@ -59,7 +61,8 @@ fn write_accepted<O: Sink>(alloc: Global, totals: Totals, out: &mut O) -> Outcom
 
 // The line itself.
 fn line_of(alloc: Global, totals: Totals) -> Result<String, AllocError>
-    ensures line { IfOk result (λ line. string_bytes line ≡ accepted_text totals.parts totals.commands) }
+    ensures line { IfOk result
+        (λ line. string_bytes line ≡ accepted_text totals.parts totals.commands) }
 {
     let Totals { parts, commands } = totals;
     format!(in alloc; "accepted {parts} {commands}\n")

@@ -36,8 +36,10 @@ impl Counted {
     // Those of one more command. None where a number outgrows 64 bits, which no file is long enough for.
     fn with(self, command: &Command) -> Option<Counted>
         ensures commands { IfSome result (λ more. more.commands ≡ self.commands + 1) }
-        ensures clones { IfSome result (λ more. more.clones ≡ self.clones + cond (is_clone (meaning_of command.now)) 1 0) }
-        ensures literal { IfSome result (λ more. more.literal ≡ self.literal + length (bytes_of (meaning_of command.now))) }
+        ensures clones { IfSome result
+            (λ more. more.clones ≡ self.clones + cond (is_clone (meaning_of command.now)) 1 0) }
+        ensures literal { IfSome result
+            (λ more. more.literal ≡ self.literal + length (bytes_of (meaning_of command.now))) }
     {
         Some(Counted {
             commands: self.commands.checked_add(1)?,

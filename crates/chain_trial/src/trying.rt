@@ -34,7 +34,8 @@ pub fn write_trial<O: Sink>(alloc: Global, count: u64, seed: u64, out: &mut O) -
     requires few { count ≤ 4_096 }
     ensures later { O.faults out.old ≤ O.faults out.new }
     ensures cause { Caused 0 0 (O.faults out.old) (O.faults out.new) result }
-    ensures written { Wrote (O.taken out.old) (O.taken out.new) (λ written. Ends (Trial count seed) [] [] result written) }
+    ensures written { Wrote (O.taken out.old) (O.taken out.new)
+        (λ written. Ends (Trial count seed) [] [] result written) }
 {
     let Some(numbers) = numbers_of(alloc, count, seed) else {
         return Outcome::NoMemory;

@@ -26,18 +26,23 @@ pub(crate) fn fill_cells<I: Inputs, B: OutsideBytes>(
     buf: &mut [u8],
 ) -> Result<(), Outcome>
     requires within { from + length buf.old ≤ length contents.now }
-    requires had { AllByRecursion (IsHadIn (length files.now) (B.held bytes.old)) (cells_between from (length buf.old) contents.now) }
+    requires had { AllByRecursion (IsHadIn (length files.now) (B.held bytes.old))
+        (cells_between from (length buf.old) contents.now) }
     requires there { IfAllTold (I.told inputs.old) (map string_bytes files.now)
-        (λ files. AllByRecursion (IsInInput files) (cells_between from (length buf.old) contents.now)) }
+        (λ files. AllByRecursion (IsInInput files)
+        (cells_between from (length buf.old) contents.now)) }
     ensures same { I.told inputs.new ≡ I.told inputs.old }
     ensures held { B.held bytes.new ≡ B.held bytes.old }
     ensures later { I.faults inputs.old ≤ I.faults inputs.new }
     ensures ends_later { I.ends inputs.old ≤ I.ends inputs.new }
     ensures bytes_later { B.faults bytes.old ≤ B.faults bytes.new }
-    ensures cause { RedirectCaused (I.ends inputs.old) (I.ends inputs.new) (I.faults inputs.old + B.faults bytes.old) (I.faults inputs.new + B.faults bytes.new) 0 0 result }
+    ensures cause { RedirectCaused (I.ends inputs.old) (I.ends inputs.new)
+        (I.faults inputs.old + B.faults bytes.old) (I.faults inputs.new + B.faults bytes.new) 0 0
+        result }
     ensures changed { ErrFoundChanged (map string_bytes files.now) (I.last_end inputs.new) result }
     ensures filled { IfAllTold (I.told inputs.old) (map string_bytes files.now)
-        (FillEnd (B.held bytes.old) (cells_between from (length buf.old) contents.now) buf.new result) }
+        (FillEnd (B.held bytes.old) (cells_between from (length buf.old) contents.now) buf.new
+        result) }
 {
     let mut have = 0;
     for (origin, len) in contents.pieces(from, buf.len() as u64) {
@@ -59,16 +64,20 @@ fn fill_piece<I: Inputs, B: OutsideBytes>(
     buf: &mut [u8],
 ) -> Result<(), Outcome>
     requires had { PieceHad (length files.now) (B.held bytes.old) origin (length buf.old) }
-    requires there { IfAllTold (I.told inputs.old) (map string_bytes files.now) (PieceThere origin (length buf.old)) }
+    requires there { IfAllTold (I.told inputs.old) (map string_bytes files.now)
+        (PieceThere origin (length buf.old)) }
     ensures same { I.told inputs.new ≡ I.told inputs.old }
     ensures held { B.held bytes.new ≡ B.held bytes.old }
     ensures later { I.faults inputs.old ≤ I.faults inputs.new }
     ensures ends_later { I.ends inputs.old ≤ I.ends inputs.new }
     ensures bytes_later { B.faults bytes.old ≤ B.faults bytes.new }
-    ensures cause { RedirectCaused (I.ends inputs.old) (I.ends inputs.new) (I.faults inputs.old + B.faults bytes.old) (I.faults inputs.new + B.faults bytes.new) 0 0 result }
+    ensures cause { RedirectCaused (I.ends inputs.old) (I.ends inputs.new)
+        (I.faults inputs.old + B.faults bytes.old) (I.faults inputs.new + B.faults bytes.new) 0 0
+        result }
     ensures changed { ErrFoundChanged (map string_bytes files.now) (I.last_end inputs.new) result }
     ensures filled { IfAllTold (I.told inputs.old) (map string_bytes files.now)
-        (FillEnd (B.held bytes.old) (piece_cells advanced_by origin (length buf.old)) buf.new result) }
+        (FillEnd (B.held bytes.old) (piece_cells advanced_by origin (length buf.old)) buf.new
+        result) }
 {
     match origin {
         None => {
@@ -100,9 +109,10 @@ fn read_part<I: Inputs>(
     ensures same { I.told inputs.new ≡ I.told inputs.old }
     ensures later { I.faults inputs.old ≤ I.faults inputs.new }
     ensures ends_later { I.ends inputs.old ≤ I.ends inputs.new }
-    ensures cause { RedirectCaused (I.ends inputs.old) (I.ends inputs.new) (I.faults inputs.old) (I.faults inputs.new) 0 0 result }
-    ensures changed { (names : List (List ℕ)) → file < length names → name.now ≡ get_or names file []
-        → ErrFoundChanged names (I.last_end inputs.new) result }
+    ensures cause { RedirectCaused (I.ends inputs.old) (I.ends inputs.new)
+        (I.faults inputs.old) (I.faults inputs.new) 0 0 result }
+    ensures changed { (names : List (List ℕ)) → file < length names
+        → name.now ≡ get_or names file [] → ErrFoundChanged names (I.last_end inputs.new) result }
     ensures filled { AgainEnd (I.told inputs.old) name.now at buf.new result }
 {
     match inputs.read_again(name, at, buf) {

@@ -43,7 +43,8 @@ pub(crate) fn write_cells<I: Inputs, B: OutsideBytes, O: Sink>(
     requires path { length path.now < 2 ^ 16 }
     requires within { from + len ≤ length contents.now }
     requires end { offset + len < 2 ^ 63 }
-    requires had { AllByRecursion (IsHadIn (length files.now) (B.held bytes.old)) (cells_between from len contents.now) }
+    requires had { AllByRecursion (IsHadIn (length files.now) (B.held bytes.old))
+        (cells_between from len contents.now) }
     requires there { IfAllTold (I.told inputs.old) (map string_bytes files.now)
         (λ files. AllByRecursion (IsInInput files) (cells_between from len contents.now)) }
     ensures same { I.told inputs.new ≡ I.told inputs.old }
@@ -52,10 +53,15 @@ pub(crate) fn write_cells<I: Inputs, B: OutsideBytes, O: Sink>(
     ensures ends_later { I.ends inputs.old ≤ I.ends inputs.new }
     ensures bytes_later { B.faults bytes.old ≤ B.faults bytes.new }
     ensures out_later { O.faults out.old ≤ O.faults out.new }
-    ensures cause { RedirectCaused (I.ends inputs.old) (I.ends inputs.new) (I.faults inputs.old + B.faults bytes.old) (I.faults inputs.new + B.faults bytes.new) (O.faults out.old) (O.faults out.new) result }
+    ensures cause { RedirectCaused (I.ends inputs.old) (I.ends inputs.new)
+        (I.faults inputs.old + B.faults bytes.old) (I.faults inputs.new + B.faults bytes.new)
+        (O.faults out.old) (O.faults out.new) result }
     ensures changed { ErrFoundChanged (map string_bytes files.now) (I.last_end inputs.new) result }
-    ensures written { IfAllTold (I.told inputs.old) (map string_bytes files.now) (λ files. RedirectEnd (O.taken out.old) (O.taken out.new) pending.old pending.new
-        (canonical_all version (writes_from len path.now offset (map (byte_in (B.held bytes.old) files) (cells_between from len contents.now)))) result) }
+    ensures written { IfAllTold (I.told inputs.old) (map string_bytes files.now)
+        (λ files. RedirectEnd (O.taken out.old) (O.taken out.new) pending.old pending.new
+        (canonical_all version
+        (writes_from len path.now offset
+        (map (byte_in (B.held bytes.old) files) (cells_between from len contents.now)))) result) }
 {
     // Places in the contents are below this size, which is below 2^63.
     let _size = contents.size();
@@ -102,7 +108,8 @@ fn write_some<I: Inputs, B: OutsideBytes, O: Sink>(
     requires path { length path.now < 2 ^ 16 }
     requires most { len ≤ 49_152 }
     requires within { from + len ≤ length contents.now }
-    requires had { AllByRecursion (IsHadIn (length files.now) (B.held bytes.old)) (cells_between from len contents.now) }
+    requires had { AllByRecursion (IsHadIn (length files.now) (B.held bytes.old))
+        (cells_between from len contents.now) }
     requires there { IfAllTold (I.told inputs.old) (map string_bytes files.now)
         (λ files. AllByRecursion (IsInInput files) (cells_between from len contents.now)) }
     ensures same { I.told inputs.new ≡ I.told inputs.old }
@@ -111,10 +118,15 @@ fn write_some<I: Inputs, B: OutsideBytes, O: Sink>(
     ensures ends_later { I.ends inputs.old ≤ I.ends inputs.new }
     ensures bytes_later { B.faults bytes.old ≤ B.faults bytes.new }
     ensures out_later { O.faults out.old ≤ O.faults out.new }
-    ensures cause { RedirectCaused (I.ends inputs.old) (I.ends inputs.new) (I.faults inputs.old + B.faults bytes.old) (I.faults inputs.new + B.faults bytes.new) (O.faults out.old) (O.faults out.new) result }
+    ensures cause { RedirectCaused (I.ends inputs.old) (I.ends inputs.new)
+        (I.faults inputs.old + B.faults bytes.old) (I.faults inputs.new + B.faults bytes.new)
+        (O.faults out.old) (O.faults out.new) result }
     ensures changed { ErrFoundChanged (map string_bytes files.now) (I.last_end inputs.new) result }
-    ensures written { IfAllTold (I.told inputs.old) (map string_bytes files.now) (λ files. RedirectEnd (O.taken out.old) (O.taken out.new) pending.old pending.new
-        (canonical version (Write path.now offset (map (byte_in (B.held bytes.old) files) (cells_between from len contents.now)))) result) }
+    ensures written { IfAllTold (I.told inputs.old) (map string_bytes files.now)
+        (λ files. RedirectEnd (O.taken out.old) (O.taken out.new) pending.old pending.new
+        (canonical version
+        (Write path.now offset
+        (map (byte_in (B.held bytes.old) files) (cells_between from len contents.now)))) result) }
 {
     let Ok(mut row) = Vec::from_elem(alloc, 0, len as usize) else {
         return Err(Outcome::NoMemory);
@@ -139,7 +151,9 @@ fn put_write<O: Sink>(
     requires path { length path.now < 2 ^ 16 }
     requires most { length row.items ≤ 49_152 }
     ensures out_later { O.faults out.old ≤ O.faults out.new }
-    ensures put { PutEnd (O.taken out.old) (O.taken out.new) pending.old pending.new (canonical version (Write path.now offset row.items)) (O.faults out.old) (O.faults out.new) result }
+    ensures put { PutEnd (O.taken out.old) (O.taken out.new) pending.old pending.new
+        (canonical version (Write path.now offset row.items)) (O.faults out.old) (O.faults out.new)
+        result }
 {
     let Ok(path) = blob_of(alloc, path) else {
         return Err(Outcome::NoMemory);

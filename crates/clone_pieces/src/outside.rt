@@ -19,8 +19,12 @@ pub trait Known: Ends {
 
     /// The first path of a file, or None where no path names it. Fails for want of memory alone.
     fn first_path(&self, alloc: Global, key: Key, ino: u64) -> Result<Option<Blob>, AllocError>
-        ensures named { IfOk result (λ found. is_some found ≡ is_some (Self.Ends.ends self.now (key_of key) ino)) }
-        ensures path { IfOk result (λ found. IfSome found (λ path. path ≡ path_of (base self.now) (record { key = key_of key; ino = ino; offset = 0 }))) }
+        ensures named { IfOk result
+            (λ found. is_some found ≡ is_some (Self.Ends.ends self.now (key_of key) ino)) }
+        ensures path { IfOk result
+            (λ found. IfSome found
+            (λ path. path ≡ path_of (base self.now)
+            (record { key = key_of key; ino = ino; offset = 0 }))) }
         ensures short { IfOk result (λ found. IfSome found (λ path. length path < 2 ^ 16)) };
 
     /// The files' ends are those of the base.
@@ -38,6 +42,7 @@ pub trait OutsideBytes {
     fn fill(&mut self, key: Key, ino: u64, at: u64, buf: &mut [u8]) -> Result<(), Failed>
         requires within { at + length buf.old ≤ length (held self.old (key_of key) ino) }
         ensures same { held self.new ≡ held self.old }
-        ensures bytes { OnOk result (buf.new ≡ take (length buf.new) (drop at (held self.old (key_of key) ino))) }
+        ensures bytes { OnOk result
+            (buf.new ≡ take (length buf.new) (drop at (held self.old (key_of key) ino))) }
         ensures cause { HasCause (faults self.old) (faults self.new) result };
 }

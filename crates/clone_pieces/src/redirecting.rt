@@ -36,7 +36,8 @@ pub fn uncarried<'a, E: Known>(
 ) -> u64
     requires within { from + len ≤ length contents.now }
     ensures low { result ≤ len }
-    ensures count { (range : List Traced) → map (λ c. c.place) range ≡ map place_in (cells_between from len contents.now)
+    ensures count { (range : List Traced)
+        → map (λ c. c.place) range ≡ map place_in (cells_between from len contents.now)
         → result ≡ sum_by literal_len (pieces_of (E.base known.now) range) }
 {
     let mut sum = 0;
@@ -85,7 +86,8 @@ pub fn redirect<'a, I: Inputs, E: Known, B: OutsideBytes, O: Sink>(
     requires path { length path.now < 2 ^ 16 }
     requires within { from + len ≤ length contents.now }
     requires end { offset + len < 2 ^ 63 }
-    requires had { AllByRecursion (IsHad (length files.now) (E.base known.now)) (cells_between from len contents.now) }
+    requires had { AllByRecursion (IsHad (length files.now) (E.base known.now))
+        (cells_between from len contents.now) }
     requires held { AreHeld (B.held bytes.old) (E.base known.now) }
     requires there { IfAllTold (I.told inputs.old) (map string_bytes files.now)
         (λ files. AllByRecursion (IsInInput files) (cells_between from len contents.now)) }
@@ -95,10 +97,14 @@ pub fn redirect<'a, I: Inputs, E: Known, B: OutsideBytes, O: Sink>(
     ensures ends_later { I.ends inputs.old ≤ I.ends inputs.new }
     ensures bytes_later { B.faults bytes.old ≤ B.faults bytes.new }
     ensures out_later { O.faults out.old ≤ O.faults out.new }
-    ensures cause { RedirectCaused (I.ends inputs.old) (I.ends inputs.new) (I.faults inputs.old + B.faults bytes.old) (I.faults inputs.new + B.faults bytes.new) (O.faults out.old) (O.faults out.new) result }
+    ensures cause { RedirectCaused (I.ends inputs.old) (I.ends inputs.new)
+        (I.faults inputs.old + B.faults bytes.old) (I.faults inputs.new + B.faults bytes.new)
+        (O.faults out.old) (O.faults out.new) result }
     ensures changed { ErrFoundChanged (map string_bytes files.now) (I.last_end inputs.new) result }
-    ensures redirected { IfAllTold (I.told inputs.old) (map string_bytes files.now) (λ told. RedirectEnd (O.taken out.old) (O.taken out.new) pending.old pending.new
-        (pieces_spelled version (E.base known.now) path.now offset (seen_cells told (E.base known.now) (cells_between from len contents.now))) result) }
+    ensures redirected { IfAllTold (I.told inputs.old) (map string_bytes files.now)
+        (λ told. RedirectEnd (O.taken out.old) (O.taken out.new) pending.old pending.new
+        (pieces_spelled version (E.base known.now) path.now offset
+        (seen_cells told (E.base known.now) (cells_between from len contents.now))) result) }
 {
     let mut done = 0;
     for plan in cut_blocks(contents, from, len, known) {
@@ -144,7 +150,8 @@ fn write_plan<I: Inputs, E: Known, B: OutsideBytes, O: Sink>(
     requires end { offset + cut_len (planned plan) < 2 ^ 63 }
     requires named { IsNamed (E.Ends.ends known.now) (planned plan) }
     requires within { StandsIn (length contents.now) (planned plan) }
-    requires had { AllByRecursion (IsHadIn (length files.now) (B.held bytes.old)) (rest_cells contents.now (planned plan)) }
+    requires had { AllByRecursion (IsHadIn (length files.now) (B.held bytes.old))
+        (rest_cells contents.now (planned plan)) }
     requires there { IfAllTold (I.told inputs.old) (map string_bytes files.now)
         (λ files. AllByRecursion (IsInInput files) (rest_cells contents.now (planned plan))) }
     ensures same { I.told inputs.new ≡ I.told inputs.old }
@@ -153,10 +160,15 @@ fn write_plan<I: Inputs, E: Known, B: OutsideBytes, O: Sink>(
     ensures ends_later { I.ends inputs.old ≤ I.ends inputs.new }
     ensures bytes_later { B.faults bytes.old ≤ B.faults bytes.new }
     ensures out_later { O.faults out.old ≤ O.faults out.new }
-    ensures cause { RedirectCaused (I.ends inputs.old) (I.ends inputs.new) (I.faults inputs.old + B.faults bytes.old) (I.faults inputs.new + B.faults bytes.new) (O.faults out.old) (O.faults out.new) result }
+    ensures cause { RedirectCaused (I.ends inputs.old) (I.ends inputs.new)
+        (I.faults inputs.old + B.faults bytes.old) (I.faults inputs.new + B.faults bytes.new)
+        (O.faults out.old) (O.faults out.new) result }
     ensures changed { ErrFoundChanged (map string_bytes files.now) (I.last_end inputs.new) result }
-    ensures written { IfAllTold (I.told inputs.old) (map string_bytes files.now) (λ told. RedirectEnd (O.taken out.old) (O.taken out.new) pending.old pending.new
-        (canonical_all version (cut_commands (E.base known.now) (byte_in (B.held bytes.old) told) contents.now path.now offset (planned plan))) result) }
+    ensures written { IfAllTold (I.told inputs.old) (map string_bytes files.now)
+        (λ told. RedirectEnd (O.taken out.old) (O.taken out.new) pending.old pending.new
+        (canonical_all version
+        (cut_commands (E.base known.now) (byte_in (B.held bytes.old) told) contents.now path.now
+        offset (planned plan))) result) }
 {
     match plan {
         Plan::Carry {
@@ -192,8 +204,10 @@ fn clone_run<E: Known, O: Sink>(
     requires named { IsTrue (is_some (E.Ends.ends known.now (key_of key) ino)) }
     ensures out_later { O.faults out.old ≤ O.faults out.new }
     ensures put { PutEnd (O.taken out.old) (O.taken out.new) pending.old pending.new
-        (canonical version (Clone path.now offset key.uuid key.ctransid (path_of (E.base known.now) (record { key = key_of key; ino = ino; offset = from })) from len))
-        (O.faults out.old) (O.faults out.new) result }
+        (canonical version
+        (Clone path.now offset key.uuid key.ctransid
+        (path_of (E.base known.now) (record { key = key_of key; ino = ino; offset = from })) from
+        len)) (O.faults out.old) (O.faults out.new) result }
 {
     let clone_uuid = key.uuid;
     let _bytes: &[u8] = clone_uuid.as_bytes();

@@ -21,7 +21,8 @@ pub fn put<O: Sink>(
     requires writable { IsWritable version (meaning_of c.now) }
     requires short { IsShortEnough version (meaning_of c.now) }
     ensures later { O.faults out.old ≤ O.faults out.new }
-    ensures put { PutEnd (O.taken out.old) (O.taken out.new) pending.old pending.new (canonical version (meaning_of c.now)) (O.faults out.old) (O.faults out.new) result }
+    ensures put { PutEnd (O.taken out.old) (O.taken out.new) pending.old pending.new
+        (canonical version (meaning_of c.now)) (O.faults out.old) (O.faults out.new) result }
 {
     if encode(c, version, pending).is_err() {
         return Err(Outcome::NoMemory);
@@ -35,7 +36,8 @@ pub fn put<O: Sink>(
 /// Adds bytes to what is pending, and writes what is pending where it is 65,536 bytes or more.
 pub fn put_bytes<O: Sink>(bytes: &[u8], pending: &mut Blob, out: &mut O) -> Result<(), Outcome>
     ensures later { O.faults out.old ≤ O.faults out.new }
-    ensures put { PutEnd (O.taken out.old) (O.taken out.new) pending.old pending.new bytes.now (O.faults out.old) (O.faults out.new) result }
+    ensures put { PutEnd (O.taken out.old) (O.taken out.new) pending.old pending.new bytes.now
+        (O.faults out.old) (O.faults out.new) result }
 {
     if pending.push_all(bytes).is_err() {
         return Err(Outcome::NoMemory);
@@ -49,7 +51,8 @@ pub fn put_bytes<O: Sink>(bytes: &[u8], pending: &mut Blob, out: &mut O) -> Resu
 /// Writes what is pending.
 pub fn send<O: Sink>(pending: &mut Blob, out: &mut O) -> Result<(), Outcome>
     ensures later { O.faults out.old ≤ O.faults out.new }
-    ensures sent { SendEnd (O.taken out.old) (O.taken out.new) pending.old pending.new (O.faults out.old) (O.faults out.new) result }
+    ensures sent { SendEnd (O.taken out.old) (O.taken out.new) pending.old pending.new
+        (O.faults out.old) (O.faults out.new) result }
 {
     if write_whole(out, pending.as_slice()).is_err() {
         return Err(Outcome::OutputFault);

@@ -99,7 +99,12 @@ impl<O: Origin> EditCore<O> {
         sub: Option<Subvol<O>>,
     ) -> Result<(), Stop>
         ensures added { Adds result (is_new self.old name.now key.uuid)
-            (record { name = name.now; key = key_of key; parent = option_map key_of parent; contents = sub }) self.old self.new }
+            (record {
+              name = name.now;
+              key = key_of key;
+              parent = option_map key_of parent;
+              contents = sub;
+            }) self.old self.new }
     {
         let name = Blob::from(Vec::from_slice(self.alloc, name)?);
         self.catalog.add(Entry {
@@ -116,7 +121,8 @@ impl<O: Origin> EditCore<O> {
     /// `BadName`, `NameThere`, `UuidThere` and `NoParent`: the first of these that holds. After an error nothing is changed.
     pub fn begin(&mut self, head: &Command) -> Result<Part<O>, Stop>
         requires head { IsTrue (is_some (head_of (meaning_of head.now))) }
-        ensures begun { IfSome (head_of (meaning_of head.now)) (λ h. Begins result h self.old self.new) }
+        ensures begun { IfSome (head_of (meaning_of head.now))
+            (λ h. Begins result h self.old self.new) }
     {
         let Some(head) = head_of(head) else {
             return Err(Stop::NoMemory);
@@ -139,7 +145,8 @@ impl<O: Origin> EditCore<O> {
 
     // The subvolume that a part starts from, none where its parent is not found. Fails for want of memory alone.
     fn start(&self, parent: Option<Key>) -> Result<Option<Subvol<O>>, AllocError>
-        ensures { IfOk result (λ start. start_from self.now (option_map key_of parent) ≡ found start NoParent) }
+        ensures { IfOk result
+            (λ start. start_from self.now (option_map key_of parent) ≡ found start NoParent) }
     {
         let Some(key) = parent else {
             return Ok(Some(Subvol::new_root(self.alloc)?));
@@ -160,7 +167,8 @@ impl<O: Origin> EditCore<O> {
         requires reach { data_len (meaning_of c.now) ≤ O.reach origin }
         ensures key { part.new.key ≡ part.old.key }
         ensures edited { MayChange result part.old.subvolume part.new.subvolume
-            (edit_part None (cells_put O.advanced origin (meaning_of c.now)) self.now part.old (meaning_of c.now)) }
+            (edit_part None (cells_put O.advanced origin (meaning_of c.now)) self.now part.old
+            (meaning_of c.now)) }
     {
         match c {
             Command::Write {
@@ -209,8 +217,9 @@ impl<O: Origin> EditCore<O> {
     ) -> Result<(), Stop>
         ensures key { part.new.key ≡ part.old.key }
         ensures cloned { MayChange result part.old.subvolume part.new.subvolume
-            (clone None part.old.subvolume (clone_source self.now part.old (key_of source.now.key)) (bytes_eq source.now.key.uuid part.old.key.uuid)
-            path.now at source.now.path.now source.now.offset source.now.len) }
+            (clone None part.old.subvolume (clone_source self.now part.old (key_of source.now.key))
+            (bytes_eq source.now.key.uuid part.old.key.uuid) path.now at source.now.path.now
+            source.now.offset source.now.len) }
     {
         if source.key.uuid == part.key.uuid {
             return part
@@ -243,7 +252,8 @@ impl<O: Origin> EditCore<O> {
     /// `NoParent` where the entry has a parent that no complete entry has as its key now.
     pub fn resume(&self, uuid: Uuid) -> Result<Part<O>, Stop>
         requires there { IsTrue (is_some (unfinished_at uuid self.now)) }
-        ensures resumed { IfSome (unfinished_at uuid self.now) (λ entry. Resumes result entry self.now) }
+        ensures resumed { IfSome (unfinished_at uuid self.now)
+            (λ entry. Resumes result entry self.now) }
     {
         let Some(entry) = self.unfinished_at(uuid) else {
             return Err(Stop::NoMemory);
@@ -282,7 +292,8 @@ impl<O: Origin> EditCore<O> {
         ensures fits { Fits self.new part.new }
         ensures done { IfOk result (λ d. d ≡ done_by (meaning_of c.now)) }
         ensures stepped { Answers result (record { store = self.new; part = part.new })
-            (step None (cells_put O.advanced origin (meaning_of c.now)) (record { store = self.old; part = part.old }) (meaning_of c.now)) }
+            (step None (cells_put O.advanced origin (meaning_of c.now))
+            (record { store = self.old; part = part.old }) (meaning_of c.now)) }
     {
         if let Command::End = c {
             self.complete_open(part);
@@ -325,7 +336,8 @@ impl<O: Origin> EditCore<O> {
         ensures key { option_map (λ p. p.key) part.new ≡ option_map (λ p. p.key) part.old }
         ensures done { IfOk result (λ d. d ≡ did.Edited) }
         ensures edited { Answers result (record { store = self.now; part = part.new })
-            (step_edit None (cells_put O.advanced origin (meaning_of c.now)) (record { store = self.now; part = part.old }) (meaning_of c.now)) }
+            (step_edit None (cells_put O.advanced origin (meaning_of c.now))
+            (record { store = self.now; part = part.old }) (meaning_of c.now)) }
     {
         let Some(open) = part else {
             return Err(Stop::Refused(Refusal::NoSubvolume));

@@ -80,7 +80,8 @@ fn make<O: Origin>(
     rdev: u64,
     target: &[u8],
 ) -> Result<(), Stop>
-    ensures { MayChange result tree.old tree.new (edit.make (new_of_kind (kind_of kind) rdev target.now) path.now tree.old) }
+    ensures { MayChange result tree.old tree.new
+        (edit.make (new_of_kind (kind_of kind) rdev target.now) path.now tree.old) }
 {
     let _number = tree.make(path, kind, rdev, target)?;
     Ok(())

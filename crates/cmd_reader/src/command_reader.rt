@@ -66,7 +66,8 @@ impl CmdReader {
         ensures name { self.new.name ≡ self.old.name }
         ensures fits { IfItem result (ItemFits self.old self.new) }
         ensures end { EndsAfterEnd self.old result }
-        ensures read { NextSays (I.told inputs.old) self.old self.new (I.faults inputs.old) (I.faults inputs.new) result }
+        ensures read { NextSays (I.told inputs.old) self.old self.new
+            (I.faults inputs.old) (I.faults inputs.new) result }
     {
         let frame = match self.frame(inputs) {
             Ok(Some(frame)) => frame,
@@ -88,7 +89,8 @@ impl CmdReader {
         ensures name { self.new.name ≡ self.old.name }
         ensures fits { IfItem result (GlanceFits self.old self.new) }
         ensures end { EndsAfterEnd self.old result }
-        ensures read { GlanceSays (I.told inputs.old) self.old self.new (I.faults inputs.old) (I.faults inputs.new) result }
+        ensures read { GlanceSays (I.told inputs.old) self.old self.new
+            (I.faults inputs.old) (I.faults inputs.new) result }
     {
         let frame = match self.frame(inputs) {
             Ok(Some(frame)) => frame,
@@ -121,7 +123,8 @@ impl CmdReader {
         ensures file { self.new.file ≡ self.old.file }
         ensures name { self.new.name ≡ self.old.name }
         ensures fits { IfItem result (FrameFits self.new) }
-        ensures says { FrameSays (I.told inputs.old) self.old self.new (I.faults inputs.old) (I.faults inputs.new) result }
+        ensures says { FrameSays (I.told inputs.old) self.old self.new
+            (I.faults inputs.old) (I.faults inputs.new) result }
     {
         loop {
             match self.step(inputs) {
@@ -139,7 +142,8 @@ impl CmdReader {
         ensures ends_later { I.ends inputs.old ≤ I.ends inputs.new }
         ensures file { self.new.file ≡ self.old.file }
         ensures name { self.new.name ≡ self.old.name }
-        ensures says { StepSays (I.told inputs.old) self.old self.new (I.faults inputs.old) (I.faults inputs.new) result }
+        ensures says { StepSays (I.told inputs.old) self.old self.new
+            (I.faults inputs.old) (I.faults inputs.new) result }
     {
         let number = self.number;
         let offset = self.source.at;

@@ -139,7 +139,8 @@ fn command_in(alloc: Global, at: u64, version: u32, cmd: u16, body: &[u8]) -> Re
 // The command of a number whose attributes are these, where it begins a part.
 fn head_in(alloc: Global, version: u32, cmd: u16, body: &[u8]) -> Result<Option<Command>, Fault>
     requires short { length body.now ≤ greatest_body }
-    ensures writable { IfOk result (λ head. IfSome head (λ command. IsWritable version (meaning_of command))) }
+    ensures writable { IfOk result
+        (λ head. IfSome head (λ command. IsWritable version (meaning_of command))) }
     ensures read { ReadsHead version cmd body.now result }
 {
     let table = match attrs(body, version) {

@@ -59,7 +59,8 @@ impl Source {
         ensures ends_later { I.ends inputs.old ≤ I.ends inputs.new }
         ensures source { IsSource self.new }
         ensures name { self.new.name ≡ self.old.name }
-        ensures says { SourcePasses (I.told inputs.old) self.old self.new (I.faults inputs.old) (I.faults inputs.new) result }
+        ensures says { SourcePasses (I.told inputs.old) self.old self.new
+            (I.faults inputs.old) (I.faults inputs.new) result }
     {
         loop {
             match self.feed.pass() {
@@ -89,7 +90,8 @@ impl Source {
         ensures source { IsSource self.new }
         ensures name { self.new.name ≡ self.old.name }
         ensures place { self.new.at ≡ self.old.at }
-        ensures says { MoreSays (I.told inputs.old) self.old self.new (I.faults inputs.old) (I.faults inputs.new) result }
+        ensures says { MoreSays (I.told inputs.old) self.old self.new
+            (I.faults inputs.old) (I.faults inputs.new) result }
     {
         if self.fed >= LIMIT {
             return Err(Fault::InputTooLong);

@@ -45,7 +45,9 @@ impl Inputs for Remainders {
 
 // Four zero bytes, and 99,996 bytes of the first input file, from the place 7 on.
 fn contents(alloc: Global) -> Result<Extents<Trace>, AllocError>
-    ensures { IfOk result (λ contents. (from len count : ℕ) → 0 < count → AllByRecursion (IsHad count []) (cells_between from len contents)) }
+    ensures { IfOk result
+        (λ contents. (from len count : ℕ) → 0 < count
+        → AllByRecursion (IsHad count []) (cells_between from len contents)) }
 {
     let mut contents = Extents::new(alloc);
     contents.zero_run(0, 4)?;

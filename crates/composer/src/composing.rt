@@ -120,28 +120,34 @@ impl Composer {
         out: &mut O,
     ) -> Result<(), Outcome>
         requires numbered { (1 ≤ file) × (file ≤ length files.now) }
-        requires frame { item.now.canonical ≡ true → frame.now ≡ canonical item.now.version (meaning_of item.now.command) }
+        requires frame { item.now.canonical ≡ true
+            → frame.now ≡ canonical item.now.version (meaning_of item.now.command) }
         requires version { (item.now.version ≡ 1) ⊎ (item.now.version ≡ 2) }
         requires fits { item.now.version ≤ survey.now.version }
         requires can_write { CanWrite item.now.version (meaning_of item.now.command) }
-        requires payload { item.now.data_at + length (bytes_of (meaning_of item.now.command)) ≤ limit }
+        requires payload { item.now.data_at + length (bytes_of (meaning_of item.now.command))
+            ≤ limit }
         requires had { AllCells (IsHad (length files.now) (E.base known.now)) self.old.state }
         requires held { AreHeld (B.held bytes.old) (E.base known.now) }
         requires there { IfAllTold (I.told inputs.old) (map string_bytes files.now)
-            (λ told. AllCells (IsInInput told) self.old.state × DataStand told (item_of file item.now)) }
-        ensures had { OnOk result (AllCells (IsHad (length files.now) (E.base known.now)) self.new.state) }
+            (λ told. AllCells (IsInInput told) self.old.state
+            × DataStand told (item_of file item.now)) }
+        ensures had { OnOk result
+            (AllCells (IsHad (length files.now) (E.base known.now)) self.new.state) }
         ensures same { I.told inputs.new ≡ I.told inputs.old }
         ensures held { B.held bytes.new ≡ B.held bytes.old }
         ensures later { I.faults inputs.old ≤ I.faults inputs.new }
         ensures ends_later { I.ends inputs.old ≤ I.ends inputs.new }
         ensures bytes_later { B.faults bytes.old ≤ B.faults bytes.new }
         ensures out_later { O.faults out.old ≤ O.faults out.new }
-        ensures cause { ErrCausedAgain (I.ends inputs.old) (I.ends inputs.new) (I.faults inputs.old + B.faults bytes.old)
-            (I.faults inputs.new + B.faults bytes.new) (O.faults out.old) (O.faults out.new) result }
-        ensures changed { ErrFoundChanged (map string_bytes files.now) (I.last_end inputs.new) result }
+        ensures cause { ErrCausedAgain (I.ends inputs.old) (I.ends inputs.new)
+            (I.faults inputs.old + B.faults bytes.old) (I.faults inputs.new + B.faults bytes.new)
+            (O.faults out.old) (O.faults out.new) result }
+        ensures changed { ErrFoundChanged (map string_bytes files.now) (I.last_end inputs.new)
+            result }
         ensures taken { IfAllTold (I.told inputs.old) (map string_bytes files.now)
-            (λ told. ItemEnd told (plan_with (E.base known.now) survey.now) self.old self.new (item_of file item.now)
-            (O.taken out.old) (O.taken out.new) result) }
+            (λ told. ItemEnd told (plan_with (E.base known.now) survey.now) self.old self.new
+            (item_of file item.now) (O.taken out.old) (O.taken out.new) result) }
     {
         let place = Place {
             file,
@@ -185,7 +191,9 @@ impl Composer {
     // Whether a head with this parent follows the part before it, and was seen by the survey.
     fn in_order(&self, parent: &Option<Key>, survey: &Survey) -> bool
         ensures { (name : List ℕ) → (key : Key)
-            → result ≡ not (stands_out (option_map (λ h. h.key) self.now.latest) survey.now.last (head_with name key parent.now)) }
+            → result ≡ not
+            (stands_out (option_map (λ h. h.key) self.now.latest) survey.now.last
+            (head_with name key parent.now)) }
     {
         if survey.last().is_none() {
             return false;
@@ -206,10 +214,13 @@ impl Composer {
         survey: &Survey,
     ) -> Result<(), AllocError>
         requires writable { IsWritable version (meaning_of c.now) }
-        ensures begun { OnOk result ((head : Head) → head_of (meaning_of c.now) ≡ Some head → option_map key_of parent ≡ head.parent
+        ensures begun { OnOk result
+            ((head : Head) → head_of (meaning_of c.now) ≡ Some head
+            → option_map key_of parent ≡ head.parent
             → self.new ≡ record self.old {
               latest = Some head;
-              pending = self.old.pending ++ begun_with survey.now.version (is_some self.old.latest) head survey.now.last;
+              pending = self.old.pending
+                  ++ begun_with survey.now.version (is_some self.old.latest) head survey.now.last;
             }) }
     {
         if self.latest.is_none() {
@@ -234,15 +245,18 @@ impl Composer {
         bytes: &mut B,
         out: &mut O,
     ) -> Result<(), Outcome>
-        requires frame { item.now.canonical ≡ true → frame.now ≡ canonical item.now.version (meaning_of item.now.command) }
+        requires frame { item.now.canonical ≡ true
+            → frame.now ≡ canonical item.now.version (meaning_of item.now.command) }
         requires edit { head_of (meaning_of item.now.command) ≡ None }
-        requires led { (before : State (Option Trace)) × (put : List (Option Trace)) × Led before self.old.state put (meaning_of item.now.command) }
+        requires led { (before : State (Option Trace)) × (put : List (Option Trace))
+            × Led before self.old.state put (meaning_of item.now.command) }
         requires version { (item.now.version ≡ 1) ⊎ (item.now.version ≡ 2) }
         requires fits { item.now.version ≤ survey.now.version }
         requires can_write { CanWrite item.now.version (meaning_of item.now.command) }
         requires had { AllCells (IsHad (length files.now) (E.base known.now)) self.old.state }
         requires held { AreHeld (B.held bytes.old) (E.base known.now) }
-        requires there { IfAllTold (I.told inputs.old) (map string_bytes files.now) (λ told. AllCells (IsInInput told) self.old.state) }
+        requires there { IfAllTold (I.told inputs.old) (map string_bytes files.now)
+            (λ told. AllCells (IsInInput told) self.old.state) }
         ensures state { self.new.state ≡ self.old.state }
         ensures latest { self.new.latest ≡ self.old.latest }
         ensures same { I.told inputs.new ≡ I.told inputs.old }
@@ -251,12 +265,14 @@ impl Composer {
         ensures ends_later { I.ends inputs.old ≤ I.ends inputs.new }
         ensures bytes_later { B.faults bytes.old ≤ B.faults bytes.new }
         ensures out_later { O.faults out.old ≤ O.faults out.new }
-        ensures cause { ErrCausedAgain (I.ends inputs.old) (I.ends inputs.new) (I.faults inputs.old + B.faults bytes.old)
-            (I.faults inputs.new + B.faults bytes.new) (O.faults out.old) (O.faults out.new) result }
-        ensures changed { ErrFoundChanged (map string_bytes files.now) (I.last_end inputs.new) result }
+        ensures cause { ErrCausedAgain (I.ends inputs.old) (I.ends inputs.new)
+            (I.faults inputs.old + B.faults bytes.old) (I.faults inputs.new + B.faults bytes.new)
+            (O.faults out.old) (O.faults out.new) result }
+        ensures changed { ErrFoundChanged (map string_bytes files.now) (I.last_end inputs.new)
+            result }
         ensures added { IfAllTold (I.told inputs.old) (map string_bytes files.now)
-            (λ told. AddEnd told (E.base known.now) survey.now (key_of last) self.old self.new (meaning_of item.now.command)
-            (O.taken out.old) (O.taken out.new) result) }
+            (λ told. AddEnd told (E.base known.now) survey.now (key_of last) self.old self.new
+            (meaning_of item.now.command) (O.taken out.old) (O.taken out.new) result) }
     {
         match &item.command {
             Command::End => {
@@ -318,13 +334,16 @@ impl Composer {
         survey: &Survey,
         out: &mut O,
     ) -> Result<(), Outcome>
-        requires short { (length range.now.path.now < 2 ^ 16) × (length range.now.source_path.now < 2 ^ 16) }
+        requires short { (length range.now.path.now < 2 ^ 16)
+            × (length range.now.source_path.now < 2 ^ 16) }
         ensures state { self.new.state ≡ self.old.state }
         ensures latest { self.new.latest ≡ self.old.latest }
         ensures sum { self.new.sum ≡ self.old.sum }
         ensures later { O.faults out.old ≤ O.faults out.new }
         ensures put { PutEnd (O.taken out.old) (O.taken out.new) self.old.pending self.new.pending
-            (canonical survey.now.version (Clone range.now.path.now range.now.offset (key_of last).uuid (key_of last).ctransid range.now.source_path.now range.now.from range.now.len))
+            (canonical survey.now.version
+            (Clone range.now.path.now range.now.offset (key_of last).uuid (key_of last).ctransid
+            range.now.source_path.now range.now.from range.now.len))
             (O.faults out.old) (O.faults out.new) result }
     {
         let Ok(path) = copied(self.alloc, range.path) else {
@@ -358,12 +377,14 @@ impl Composer {
         bytes: &mut B,
         out: &mut O,
     ) -> Result<(), Outcome>
-        requires taken { (before : State (Option Trace)) × TakenFrom before self.old.state range.now.path.now range.now.offset (key_of range.now.source)
-            range.now.source_path.now range.now.from range.now.len }
+        requires taken { (before : State (Option Trace))
+            × TakenFrom before self.old.state range.now.path.now range.now.offset
+            (key_of range.now.source) range.now.source_path.now range.now.from range.now.len }
         requires short { length range.now.path.now < 2 ^ 16 }
         requires had { AllCells (IsHad (length files.now) (E.base known.now)) self.old.state }
         requires held { AreHeld (B.held bytes.old) (E.base known.now) }
-        requires there { IfAllTold (I.told inputs.old) (map string_bytes files.now) (λ told. AllCells (IsInInput told) self.old.state) }
+        requires there { IfAllTold (I.told inputs.old) (map string_bytes files.now)
+            (λ told. AllCells (IsInInput told) self.old.state) }
         ensures state { self.new.state ≡ self.old.state }
         ensures latest { self.new.latest ≡ self.old.latest }
         ensures same { I.told inputs.new ≡ I.told inputs.old }
@@ -372,11 +393,14 @@ impl Composer {
         ensures ends_later { I.ends inputs.old ≤ I.ends inputs.new }
         ensures bytes_later { B.faults bytes.old ≤ B.faults bytes.new }
         ensures out_later { O.faults out.old ≤ O.faults out.new }
-        ensures cause { ErrCausedAgain (I.ends inputs.old) (I.ends inputs.new) (I.faults inputs.old + B.faults bytes.old)
-            (I.faults inputs.new + B.faults bytes.new) (O.faults out.old) (O.faults out.new) result }
-        ensures changed { ErrFoundChanged (map string_bytes files.now) (I.last_end inputs.new) result }
+        ensures cause { ErrCausedAgain (I.ends inputs.old) (I.ends inputs.new)
+            (I.faults inputs.old + B.faults bytes.old) (I.faults inputs.new + B.faults bytes.new)
+            (O.faults out.old) (O.faults out.new) result }
+        ensures changed { ErrFoundChanged (map string_bytes files.now) (I.last_end inputs.new)
+            result }
         ensures added { IfAllTold (I.told inputs.old) (map string_bytes files.now)
-            (λ told. (cells : List (Option Trace)) → IsSourceOf cells self.old.state (key_of range.now.source) range.now.source_path.now
+            (λ told. (cells : List (Option Trace))
+            → IsSourceOf cells self.old.state (key_of range.now.source) range.now.source_path.now
             → AddsRange (E.base known.now) survey.now.version range.now.path.now range.now.offset
             (seen_cells told (E.base known.now) (cells_between range.now.from range.now.len cells))
             self.old self.new (O.taken out.old) (O.taken out.new) result) }
@@ -419,8 +443,15 @@ impl Composer {
     // The outcome where an item is refused at its place.
     fn refused<O: Sink>(&mut self, place: Place, refusal: Refusal, out: &mut O) -> Outcome
         ensures later { O.faults out.old ≤ O.faults out.new }
-        ensures refused { (verdict : Verdict) × (verdict_meant verdict ≡ record { file = place.file; command = place.command; offset = place.offset; refusal = refusal_of refusal })
-            × StopEnd self.old.pending (O.taken out.old) (O.taken out.new) (O.faults out.old) (O.faults out.new) (ended.Refused verdict) result }
+        ensures refused { (verdict : Verdict)
+            × (verdict_meant verdict ≡ record {
+              file = place.file;
+              command = place.command;
+              offset = place.offset;
+              refusal = refusal_of refusal;
+            })
+            × StopEnd self.old.pending (O.taken out.old) (O.taken out.new)
+            (O.faults out.old) (O.faults out.new) (ended.Refused verdict) result }
     {
         self.stopped(Outcome::Refused(place.refused(refusal)), out)
     }
@@ -443,8 +474,8 @@ impl Composer {
     pub fn end<O: Sink>(&mut self, version: u32, out: &mut O) -> Result<(), Outcome>
         requires version { (version ≡ 1) ⊎ (version ≡ 2) }
         ensures later { O.faults out.old ≤ O.faults out.new }
-        ensures ended { EndEnd (self.old.pending ++ canonical version End) (O.taken out.old) (O.taken out.new)
-            (O.faults out.old) (O.faults out.new) result }
+        ensures ended { EndEnd (self.old.pending ++ canonical version End)
+            (O.taken out.old) (O.taken out.new) (O.faults out.old) (O.faults out.new) result }
     {
         if encode(&Command::End, version, &mut self.pending).is_err() {
             return Err(Outcome::NoMemory);
@@ -461,12 +492,14 @@ fn put_item<O: Sink>(
     pending: &mut Blob,
     out: &mut O,
 ) -> Result<(), Outcome>
-    requires frame { item.now.canonical ≡ true → frame.now ≡ canonical item.now.version (meaning_of item.now.command) }
+    requires frame { item.now.canonical ≡ true
+        → frame.now ≡ canonical item.now.version (meaning_of item.now.command) }
     requires writable { IsWritable version (meaning_of item.now.command) }
     requires short { IsShortEnough version (meaning_of item.now.command) }
     ensures later { O.faults out.old ≤ O.faults out.new }
-    ensures put { PutEnd (O.taken out.old) (O.taken out.new) pending.old pending.new (canonical version (meaning_of item.now.command))
-        (O.faults out.old) (O.faults out.new) result }
+    ensures put { PutEnd (O.taken out.old) (O.taken out.new) pending.old pending.new
+        (canonical version (meaning_of item.now.command)) (O.faults out.old) (O.faults out.new)
+        result }
 {
     if item.canonical && item.version == version {
         return put_bytes(frame, pending, out);
@@ -476,7 +509,8 @@ fn put_item<O: Sink>(
 
 // The contents of the file that a path leads to in a complete subvolume.
 fn contents_of<'a>(core: &'a EditCore<Trace>, key: Key, path: &[u8]) -> Option<&'a Extents<Trace>>
-    ensures { (source : Subvolume (Option Trace)) → (ino : ℕ) → find core.now (key_of key) ≡ Some source → walk source path.now ≡ Ok ino
+    ensures { (source : Subvolume (Option Trace)) → (ino : ℕ)
+        → find core.now (key_of key) ≡ Some source → walk source path.now ≡ Ok ino
         → is_file source ino ≡ true → option_copied result ≡ Some (cells_of source ino) }
 {
     let sub = core.catalog().by_key(key)?;
@@ -492,7 +526,8 @@ fn contents_of<'a>(core: &'a EditCore<Trace>, key: Key, path: &[u8]) -> Option<&
 // The outcome of a run that ends here, after what is pending was written.
 fn ended<O: Sink>(outcome: Outcome, pending: &mut Blob, out: &mut O) -> Outcome
     ensures later { O.faults out.old ≤ O.faults out.new }
-    ensures stopped { StopEnd pending.old (O.taken out.old) (O.taken out.new) (O.faults out.old) (O.faults out.new) outcome result }
+    ensures stopped { StopEnd pending.old (O.taken out.old) (O.taken out.new)
+        (O.faults out.old) (O.faults out.new) outcome result }
 {
     if let Outcome::InputFault | Outcome::NoMemory = outcome {
         return outcome;

@@ -38,8 +38,8 @@ pub fn compose<I: Inputs, O: Sink>(
 ) -> Outcome
     requires some { files.now ≢ [] }
     ensures same { I.told inputs.new ≡ I.told inputs.old }
-    ensures cause { CausedAgain (I.ends inputs.old) (I.ends inputs.new) (I.faults inputs.old) (I.faults inputs.new)
-        (O.faults out.old) (O.faults out.new) result }
+    ensures cause { CausedAgain (I.ends inputs.old) (I.ends inputs.new)
+        (I.faults inputs.old) (I.faults inputs.new) (O.faults out.old) (O.faults out.new) result }
     ensures changed { FoundChanged (map string_bytes files.now) (I.last_end inputs.new) result }
     ensures ends { IfAllTold (I.told inputs.old) (map string_bytes files.now)
         (λ told. Wrote (O.taken out.old) (O.taken out.new) (ComposeEnds [] told result)) }
@@ -75,19 +75,23 @@ pub fn compose_over<I: Inputs, E: Known, B: OutsideBytes, O: Sink>(
     out: &mut O,
 ) -> Outcome
     requires some { files.now ≢ [] }
-    requires surveyed { IfAllTold (I.told inputs.old) (map string_bytes files.now) (SurveyEnd (Ok survey.now)) }
+    requires surveyed { IfAllTold (I.told inputs.old) (map string_bytes files.now)
+        (SurveyEnd (Ok survey.now)) }
     requires traced { (told : List (List ℕ))
-        → recelled_store (seen (byte_of_trace told (E.base known.now)) place_of) core ≡ traced_store (E.base known.now) }
+        → recelled_store (seen (byte_of_trace told (E.base known.now)) place_of) core
+        ≡ traced_store (E.base known.now) }
     requires had { AllCells (IsHad 0 (E.base known.now)) (start_of core) }
     requires held { AreHeld (B.held bytes.old) (E.base known.now) }
     requires apart { store_without survey.now.parts (E.base known.now) ≡ E.base known.now }
     requires sayable { AllSayable (E.base known.now) }
     ensures same { I.told inputs.new ≡ I.told inputs.old }
-    ensures cause { CausedAgain (I.ends inputs.old) (I.ends inputs.new) (I.faults inputs.old + B.faults bytes.old)
-        (I.faults inputs.new + B.faults bytes.new) (O.faults out.old) (O.faults out.new) result }
+    ensures cause { CausedAgain (I.ends inputs.old) (I.ends inputs.new)
+        (I.faults inputs.old + B.faults bytes.old) (I.faults inputs.new + B.faults bytes.new)
+        (O.faults out.old) (O.faults out.new) result }
     ensures changed { FoundChanged (map string_bytes files.now) (I.last_end inputs.new) result }
     ensures ends { IfAllTold (I.told inputs.old) (map string_bytes files.now)
-        (λ told. Wrote (O.taken out.old) (O.taken out.new) (ComposeEnds (E.base known.now) told result)) }
+        (λ told. Wrote (O.taken out.old) (O.taken out.new)
+        (ComposeEnds (E.base known.now) told result)) }
 {
     let mut composer = Composer::new(alloc, core);
     match write_files(
@@ -117,20 +121,25 @@ fn write_files<I: Inputs, E: Known, B: OutsideBytes, O: Sink>(
     composer: &mut Composer,
 ) -> Result<(), Outcome>
     requires some { files.now ≢ [] }
-    requires surveyed { IfAllTold (I.told inputs.old) (map string_bytes files.now) (SurveyEnd (Ok survey.now)) }
+    requires surveyed { IfAllTold (I.told inputs.old) (map string_bytes files.now)
+        (SurveyEnd (Ok survey.now)) }
     requires start { IfAllTold (I.told inputs.old) (map string_bytes files.now)
-        (λ told. composing_of told (E.base known.now) composer.old ≡ at_start (plan_with (E.base known.now) survey.now)) }
+        (λ told. composing_of told (E.base known.now) composer.old
+        ≡ at_start (plan_with (E.base known.now) survey.now)) }
     requires had { AllCells (IsHad (length files.now) (E.base known.now)) composer.old.state }
     requires held { AreHeld (B.held bytes.old) (E.base known.now) }
-    requires there { IfAllTold (I.told inputs.old) (map string_bytes files.now) (λ told. AllCells (IsInInput told) composer.old.state) }
+    requires there { IfAllTold (I.told inputs.old) (map string_bytes files.now)
+        (λ told. AllCells (IsInInput told) composer.old.state) }
     requires apart { store_without survey.now.parts (E.base known.now) ≡ E.base known.now }
     requires sayable { AllSayable (E.base known.now) }
     ensures same { I.told inputs.new ≡ I.told inputs.old }
-    ensures cause { ErrCausedAgain (I.ends inputs.old) (I.ends inputs.new) (I.faults inputs.old + B.faults bytes.old)
-        (I.faults inputs.new + B.faults bytes.new) (O.faults out.old) (O.faults out.new) result }
+    ensures cause { ErrCausedAgain (I.ends inputs.old) (I.ends inputs.new)
+        (I.faults inputs.old + B.faults bytes.old) (I.faults inputs.new + B.faults bytes.new)
+        (O.faults out.old) (O.faults out.new) result }
     ensures changed { ErrFoundChanged (map string_bytes files.now) (I.last_end inputs.new) result }
     ensures ends { IfAllTold (I.told inputs.old) (map string_bytes files.now)
-        (λ told. Wrote (O.taken out.old) (O.taken out.new) (ComposeEnds (E.base known.now) told (outcome_in result))) }
+        (λ told. Wrote (O.taken out.old) (O.taken out.new)
+        (ComposeEnds (E.base known.now) told (outcome_in result))) }
 {
     let mut place = Place::start();
     let mut file = 0;
@@ -165,20 +174,24 @@ fn write_file<I: Inputs, E: Known, B: OutsideBytes, O: Sink>(
     requires numbered { number < length files.now }
     requires had { AllCells (IsHad (length files.now) (E.base known.now)) composer.old.state }
     requires held { AreHeld (B.held bytes.old) (E.base known.now) }
-    requires there { IfAllTold (I.told inputs.old) (map string_bytes files.now) (λ told. AllCells (IsInInput told) composer.old.state) }
-    ensures had { OnOk result (AllCells (IsHad (length files.now) (E.base known.now)) composer.new.state) }
+    requires there { IfAllTold (I.told inputs.old) (map string_bytes files.now)
+        (λ told. AllCells (IsInInput told) composer.old.state) }
+    ensures had { OnOk result
+        (AllCells (IsHad (length files.now) (E.base known.now)) composer.new.state) }
     ensures same { I.told inputs.new ≡ I.told inputs.old }
     ensures held { B.held bytes.new ≡ B.held bytes.old }
     ensures later { I.faults inputs.old ≤ I.faults inputs.new }
     ensures ends_later { I.ends inputs.old ≤ I.ends inputs.new }
     ensures bytes_later { B.faults bytes.old ≤ B.faults bytes.new }
     ensures out_later { O.faults out.old ≤ O.faults out.new }
-    ensures cause { ErrCausedAgain (I.ends inputs.old) (I.ends inputs.new) (I.faults inputs.old + B.faults bytes.old)
-        (I.faults inputs.new + B.faults bytes.new) (O.faults out.old) (O.faults out.new) result }
+    ensures cause { ErrCausedAgain (I.ends inputs.old) (I.ends inputs.new)
+        (I.faults inputs.old + B.faults bytes.old) (I.faults inputs.new + B.faults bytes.new)
+        (O.faults out.old) (O.faults out.new) result }
     ensures changed { ErrFoundChanged (map string_bytes files.now) (I.last_end inputs.new) result }
     ensures wrote { IfAllTold (I.told inputs.old) (map string_bytes files.now)
-        (λ told. FileEnd told (plan_with (E.base known.now) survey.now) (number + 1) composer.old composer.new
-        (O.taken out.old) (O.taken out.new) before result (get_or told number [])) }
+        (λ told. FileEnd told (plan_with (E.base known.now) survey.now) (number + 1)
+        composer.old composer.new (O.taken out.old) (O.taken out.new) before result
+        (get_or told number [])) }
 {
     let file = number as u64 + 1;
     let Ok(mut reader) = CmdReader::new(alloc, file, files[number].as_str()) else {

@@ -66,7 +66,8 @@ impl<O: Origin> Extents<O> {
     pub fn put_run(&mut self, at: u64, origin: O, len: u64) -> Result<(), AllocError>
         requires end { at + len < 2 ^ 63 }
         requires reaches { len ≤ O.reach origin }
-        ensures { OnOk result (self.new ≡ put_cells None at (run_cells O.advanced origin len) self.old) }
+        ensures { OnOk result
+            (self.new ≡ put_cells None at (run_cells O.advanced origin len) self.old) }
     {
         self.put_piece(at, Some(origin), len)
     }
@@ -101,7 +102,8 @@ impl<O: Origin> Extents<O> {
     ) -> Result<(), AllocError>
         requires end { at + len < 2 ^ 63 }
         requires source { from + len ≤ length source.now }
-        ensures { OnOk result (self.new ≡ put_cells None at (cells_between from len source.now) self.old) }
+        ensures { OnOk result
+            (self.new ≡ put_cells None at (cells_between from len source.now) self.old) }
     {
         let mut place = at;
         for (origin, piece_len) in source.pieces(from, len) {
@@ -117,7 +119,8 @@ impl<O: Origin> Extents<O> {
         requires end { at + len < 2 ^ 63 }
         requires source { from + len ≤ length self.old }
         requires apart { (at + len ≤ from) ⊎ (from + len ≤ at) }
-        ensures { OnOk result (self.new ≡ put_cells None at (cells_between from len self.old) self.old) }
+        ensures { OnOk result
+            (self.new ≡ put_cells None at (cells_between from len self.old) self.old) }
     {
         let mut part = Extents::new(self.alloc);
         part.copy_range(0, self, from, len)?;
@@ -136,7 +139,8 @@ impl<O: Origin> Extents<O> {
     fn put_piece(&mut self, at: u64, origin: Option<O>, len: u64) -> Result<(), AllocError>
         requires end { at + len < 2 ^ 63 }
         requires reaches { IfSome origin (λ o. len ≤ O.reach o) }
-        ensures { OnOk result (self.new ≡ put_cells None at (piece_cells O.advanced origin len) self.old) }
+        ensures { OnOk result
+            (self.new ≡ put_cells None at (piece_cells O.advanced origin len) self.old) }
     {
         if len == 0 {
             return Ok(());

@@ -66,7 +66,9 @@ fn piece_at<O: Origin>(runs: &BTreeMap<u64, Run<O>>, at: u64, end: u64) -> (Opti
     ensures some { 0 < result.1 }
     ensures within { at + result.1 ≤ end }
     ensures reaches { IfSome result.0 (λ origin. result.1 ≤ O.reach origin) }
-    ensures cells { (k : ℕ) → k < result.1 → cell_at O.advanced (runs_at runs.now) (at + k) ≡ slice_index_or (piece_cells O.advanced result.0 result.1) k None }
+    ensures cells { (k : ℕ) → k < result.1
+        → cell_at O.advanced (runs_at runs.now) (at + k)
+        ≡ slice_index_or (piece_cells O.advanced result.0 result.1) k None }
 {
     if let Some((start, run)) = last_below(runs, at + 1) {
         let run_end = start + run.len;

@@ -87,7 +87,8 @@ fn clear_last<O: Origin>(
     requires below { first < limit }
     requires meets { first < start + run.len }
     ensures runs { AreRuns O.reach (runs_at runs.new) }
-    ensures cells { OnOk result (Clears O.advanced (runs_at runs.old) (runs_at runs.new) first limit) }
+    ensures cells { OnOk result
+        (Clears O.advanced (runs_at runs.old) (runs_at runs.new) first limit) }
     ensures err { OnErr result (LosesOnly O.advanced (runs_at runs.old) (runs_at runs.new)) }
 {
     keep_front(runs, start, run, first - start)?;
@@ -145,7 +146,8 @@ pub(crate) fn write_over<O: Origin>(
     requires fits { from + len < 2 ^ 63 }
     requires reaches { IfSome origin (λ o. len ≤ O.reach o) }
     ensures runs { AreRuns O.reach (runs_at runs.new) }
-    ensures cells { OnOk result (Writes O.advanced (runs_at runs.old) (runs_at runs.new) from origin len) }
+    ensures cells { OnOk result
+        (Writes O.advanced (runs_at runs.old) (runs_at runs.new) from origin len) }
     ensures err { OnErr result (LosesOnly O.advanced (runs_at runs.old) (runs_at runs.new)) }
 {
     clear(runs, from, from + len)?;

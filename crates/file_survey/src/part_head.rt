@@ -72,7 +72,8 @@ impl PartHead {
 
     /// Whether another part has the same name and key. Takes no memory.
     pub fn is_like(&self, other: &PartHead) -> bool
-        ensures { result ≡ same_key self.now.key other.now.key && bytes_eq self.now.name other.now.name }
+        ensures { result ≡ same_key self.now.key other.now.key
+            && bytes_eq self.now.name other.now.name }
     {
         self.has_key(other.key) && self.has_name(other.name.as_slice())
     }
@@ -88,7 +89,8 @@ impl PartHead {
     #[tactic(auto, unfolding(send_commands::specs::Writing::IsWritable, send_model::specs::Command::row))]
     fn command(&self, parent: Option<Key>) -> Result<Command, AllocError>
         ensures command { IfOk result
-            (λ c. meaning_of c ≡ head_command self.now.name self.now.key (option_map key_of parent)) }
+            (λ c. meaning_of c ≡ head_command self.now.name self.now.key
+            (option_map key_of parent)) }
         ensures writable { IfOk result (λ c. IsWritable 1 (meaning_of c)) }
     {
         let path = self.name.copy()?;
@@ -119,8 +121,11 @@ impl PartHead {
         to: &mut Blob,
     ) -> Result<(), AllocError>
         requires version { (version ≡ 1) ⊎ (version ≡ 2) }
-        ensures begun { OnOk result (to.new ≡ to.old ++ (stream_header version
-            ++ canonical version (head_command self.now.name self.now.key (option_map key_of parent)))) }
+        ensures begun { OnOk result
+            (to.new ≡ to.old
+            ++ (stream_header version
+            ++ canonical version
+            (head_command self.now.name self.now.key (option_map key_of parent)))) }
         ensures same { OnErr result (to.new ≡ to.old) }
     {
         let head = self.command(parent)?;

@@ -76,7 +76,8 @@ impl Survey {
 
     // Keeps what was seen of a command: the head that it is, if it is one, and its version.
     pub(crate) fn keep(&mut self, alloc: Global, glance: Glance) -> Result<(), AllocError>
-        requires writable { IfSome glance.head (λ head. IsWritable glance.version (meaning_of head)) }
+        requires writable { IfSome glance.head
+            (λ head. IsWritable glance.version (meaning_of head)) }
         ensures kept { OnOk result (self.new ≡ after_glance self.old glance.version glance.head) }
     {
         self.keep_version(glance.version);

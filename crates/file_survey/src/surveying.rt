@@ -17,7 +17,8 @@ pub fn survey<I: Inputs>(alloc: Global, inputs: &mut I, files: &[String]) -> Res
     ensures later { I.faults inputs.old ≤ I.faults inputs.new }
     ensures ends_later { I.ends inputs.old ≤ I.ends inputs.new }
     ensures cause { ErrCaused (I.faults inputs.old) (I.faults inputs.new) 0 0 result }
-    ensures surveyed { IfAllTold (I.told inputs.old) (map string_bytes files.now) (SurveyEnd result) }
+    ensures surveyed { IfAllTold (I.told inputs.old) (map string_bytes files.now)
+        (SurveyEnd result) }
 {
     let mut seen = Survey::new(alloc);
     let mut file = 0;

@@ -34,8 +34,10 @@ pub trait Guard: Drop {
 /// before.
 pub fn look_all(guards: &mut [Box<dyn Guard>], command: &Command) -> Option<usize>
     ensures within { IfSome result (λ place. place < length guards.new) }
-    ensures refused { IsRefusedAt (map (λ g. kept g) guards.old) (map (λ g. kept g) guards.new) (meaning_of command.now) result }
-    ensures counted { map (λ g. kept g) guards.new ≡ looked (map (λ g. kept g) guards.old) (meaning_of command.now) }
+    ensures refused { IsRefusedAt (map (λ g. kept g) guards.old) (map (λ g. kept g) guards.new)
+        (meaning_of command.now) result }
+    ensures counted { map (λ g. kept g) guards.new ≡ looked (map (λ g. kept g) guards.old)
+        (meaning_of command.now) }
 {
     for place in 0..guards.len() {
         if !look_one(&mut guards[place], command) {

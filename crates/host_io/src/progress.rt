@@ -124,15 +124,23 @@ impl<'a, I: Inputs, C: Clock, S: Sink> Inputs for Progress<'a, I, C, S> {
     fn read_at(&mut self, name: &str, at: u64, buf: &mut [u8]) -> Result<usize, Failed>
         ensures same { I.told self.new.inputs ≡ I.told self.old.inputs }
         ensures bound { IfOk result (λ count. count ≤ length buf.new) }
-        ensures bytes { IfOk result (λ count. GivesAt (I.told self.old.inputs) name.now at buf.new count) }
-        ensures ends { EndsKept (I.told self.old.inputs) (I.ends self.old.inputs) (I.ends self.new.inputs) }
+        ensures bytes { IfOk result
+            (λ count. GivesAt (I.told self.old.inputs) name.now at buf.new count) }
+        ensures ends { EndsKept (I.told self.old.inputs)
+            (I.ends self.old.inputs) (I.ends self.new.inputs) }
         ensures cause { HasCause (I.faults self.old.inputs) (I.faults self.new.inputs) result }
-        ensures pass { IfOk result (λ count. self.new.tally.pass ≡
-            next_pass (at == 0 && bytes_eq name.now (string_bytes self.old.first)) self.old.tally.ended self.old.tally.pass) }
-        ensures done { IfOk result (λ count. self.new.tally.done ≡
-            next_done (at == 0 && bytes_eq name.now (string_bytes self.old.first)) self.old.tally.ended count self.old.tally.done) }
-        ensures ended { IfOk result (λ count. self.new.tally.ended ≡
-            next_ended (at == 0 && bytes_eq name.now (string_bytes self.old.first)) (count == 0 && not (length buf.new == 0)) self.old.tally.ended) }
+        ensures pass { IfOk result
+            (λ count. self.new.tally.pass ≡ next_pass
+            (at == 0 && bytes_eq name.now (string_bytes self.old.first)) self.old.tally.ended
+            self.old.tally.pass) }
+        ensures done { IfOk result
+            (λ count. self.new.tally.done ≡ next_done
+            (at == 0 && bytes_eq name.now (string_bytes self.old.first)) self.old.tally.ended count
+            self.old.tally.done) }
+        ensures ended { IfOk result
+            (λ count. self.new.tally.ended ≡ next_ended
+            (at == 0 && bytes_eq name.now (string_bytes self.old.first))
+            (count == 0 && not (length buf.new == 0)) self.old.tally.ended) }
         ensures kept { OnErr result (self.new.tally ≡ self.old.tally) }
     {
         let count = self.inputs.read_at(name, at, buf)?;
@@ -148,8 +156,11 @@ impl<'a, I: Inputs, C: Clock, S: Sink> Inputs for Progress<'a, I, C, S> {
         ensures same { I.told self.new.inputs ≡ I.told self.old.inputs }
         ensures bytes { OnOk result (FillsFrom (I.told self.old.inputs) name.now at buf.new) }
         ensures later { I.faults self.old.inputs ≤ I.faults self.new.inputs }
-        ensures ends { EndsKept (I.told self.old.inputs) (I.ends self.old.inputs) (I.ends self.new.inputs) }
-        ensures cause { LostFor (I.told self.old.inputs) at (length buf.new) (I.faults self.old.inputs) (I.faults self.new.inputs) (I.ends self.old.inputs) (I.ends self.new.inputs) result }
+        ensures ends { EndsKept (I.told self.old.inputs)
+            (I.ends self.old.inputs) (I.ends self.new.inputs) }
+        ensures cause { LostFor (I.told self.old.inputs) at (length buf.new)
+            (I.faults self.old.inputs) (I.faults self.new.inputs)
+            (I.ends self.old.inputs) (I.ends self.new.inputs) result }
         ensures met { MeetsEnd name.now (I.last_end self.new.inputs) result }
         ensures tally { self.new.tally ≡ self.old.tally }
     {

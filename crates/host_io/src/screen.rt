@@ -51,8 +51,12 @@ impl<S: Sink> Screen<S> {
         all: Option<u64>,
     ) -> Result<(), AllocError>
         ensures early { now < self.old.next → self.new ≡ self.old }
-        ensures says { Shows (S.taken self.old.sink) (S.taken self.new.sink) (line_of name.now pass done all) }
-        ensures whole { self.old.next ≤ now → OnOk result (Appends (S.taken self.old.sink) (S.taken self.new.sink) (line_of name.now pass done all)
+        ensures says { Shows (S.taken self.old.sink) (S.taken self.new.sink)
+            (line_of name.now pass done all) }
+        ensures whole { self.old.next ≤ now
+            → OnOk result
+            (Appends (S.taken self.old.sink) (S.taken self.new.sink)
+            (line_of name.now pass done all)
             ⊎ Rose (S.faults self.old.sink) (S.faults self.new.sink)) }
         ensures shown { self.old.next ≤ now → OnOk result (self.new.shown ≡ true) }
     {
@@ -72,8 +76,10 @@ impl<S: Sink> Screen<S> {
         ensures early { now < self.old.next → self.new ≡ self.old }
         ensures next { self.old.next ≤ now → self.new.next ≡ min (now + 200) (2 ^ 64 - 1) }
         ensures shown { self.old.next ≤ now → self.new.shown ≡ true }
-        ensures whole { self.old.next ≤ now → OnOk result (Appends (S.taken self.old.sink) (S.taken self.new.sink) line.now) }
-        ensures part { OnErr result (AppendsPart (S.taken self.old.sink) (S.taken self.new.sink) line.now) }
+        ensures whole { self.old.next ≤ now
+            → OnOk result (Appends (S.taken self.old.sink) (S.taken self.new.sink) line.now) }
+        ensures part { OnErr result
+            (AppendsPart (S.taken self.old.sink) (S.taken self.new.sink) line.now) }
         ensures cause { HasCause (S.faults self.old.sink) (S.faults self.new.sink) result }
     {
         if now < self.next {
@@ -90,8 +96,10 @@ impl<S: Sink> Screen<S> {
         ensures gone { self.new.shown ≡ false }
         ensures over { self.new.next ≡ 2 ^ 64 - 1 }
         ensures nothing { self.old.shown ≡ false → self.new.sink ≡ self.old.sink }
-        ensures whole { self.old.shown ≡ true → OnOk result (Appends (S.taken self.old.sink) (S.taken self.new.sink) taken_back) }
-        ensures part { OnErr result (AppendsPart (S.taken self.old.sink) (S.taken self.new.sink) taken_back) }
+        ensures whole { self.old.shown ≡ true
+            → OnOk result (Appends (S.taken self.old.sink) (S.taken self.new.sink) taken_back) }
+        ensures part { OnErr result
+            (AppendsPart (S.taken self.old.sink) (S.taken self.new.sink) taken_back) }
         ensures cause { HasCause (S.faults self.old.sink) (S.faults self.new.sink) result }
     {
         self.next = u64::MAX;

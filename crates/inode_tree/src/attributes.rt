@@ -25,7 +25,8 @@ impl<O: Origin> Tree<O> {
     /// # Errors
     /// The refusals of the walk; then nothing changes.
     pub fn set_mode(&mut self, path: &[u8], mode: u16) -> Result<(), Stop>
-        ensures { MayChange result self.old self.new (edit.change_at path.now (λ inode. record inode { mode = mode % 0o10_000 }) self.old) }
+        ensures { MayChange result self.old self.new
+            (edit.change_at path.now (λ inode. record inode { mode = mode % 0o10_000 }) self.old) }
     {
         self.change_at(path, &Change::Mode(mode))
     }
@@ -35,7 +36,8 @@ impl<O: Origin> Tree<O> {
     /// # Errors
     /// The refusals of the walk; then nothing changes.
     pub fn set_owner(&mut self, path: &[u8], uid: u64, gid: u64) -> Result<(), Stop>
-        ensures { MayChange result self.old self.new (edit.change_at path.now (λ inode. record inode { uid = uid; gid = gid }) self.old) }
+        ensures { MayChange result self.old self.new
+            (edit.change_at path.now (λ inode. record inode { uid = uid; gid = gid }) self.old) }
     {
         self.change_at(path, &Change::Owner(uid, gid))
     }
@@ -45,7 +47,8 @@ impl<O: Origin> Tree<O> {
     /// # Errors
     /// The refusals of the walk; then nothing changes.
     pub fn set_times(&mut self, path: &[u8], atime: Timestamp, mtime: Timestamp) -> Result<(), Stop>
-        ensures { MayChange result self.old self.new (edit.change_at path.now (with_times (time_of atime) (time_of mtime)) self.old) }
+        ensures { MayChange result self.old self.new
+            (edit.change_at path.now (with_times (time_of atime) (time_of mtime)) self.old) }
     {
         self.change_at(path, &Change::Times(atime, mtime))
     }
@@ -55,7 +58,8 @@ impl<O: Origin> Tree<O> {
     /// # Errors
     /// The refusals of the walk; then nothing changes.
     pub fn set_flags(&mut self, path: &[u8], flags: u64) -> Result<(), Stop>
-        ensures { MayChange result self.old self.new (edit.change_at path.now (λ inode. record inode { flags = flags }) self.old) }
+        ensures { MayChange result self.old self.new
+            (edit.change_at path.now (λ inode. record inode { flags = flags }) self.old) }
     {
         self.change_at(path, &Change::Flags(flags))
     }
@@ -65,7 +69,8 @@ impl<O: Origin> Tree<O> {
     /// # Errors
     /// The refusals of the walk, then BadXattr where the name does not have 1 to 255 bytes; then nothing changes.
     pub fn set_xattr(&mut self, path: &[u8], name: &[u8], value: &[u8]) -> Result<(), Stop>
-        ensures { MayChange result self.old self.new (edit.set_xattr path.now name.now value.now self.old) }
+        ensures { MayChange result self.old self.new
+            (edit.set_xattr path.now name.now value.now self.old) }
     {
         let ino = self.reach(path)?;
         if !is_xattr_name(name) {
@@ -81,7 +86,8 @@ impl<O: Origin> Tree<O> {
     /// The refusals of the walk, then BadXattr where the name does not have 1 to 255 bytes, then NoXattr where the inode has no
     /// such attribute; then nothing changes.
     pub fn remove_xattr(&mut self, path: &[u8], name: &[u8]) -> Result<(), Stop>
-        ensures { MayChange result self.old self.new (edit.remove_xattr path.now name.now self.old) }
+        ensures { MayChange result self.old self.new
+            (edit.remove_xattr path.now name.now self.old) }
     {
         let ino = self.reach(path)?;
         if !is_xattr_name(name) {
@@ -98,8 +104,12 @@ impl<O: Origin> Tree<O> {
     /// nothing changes. Fails for want of memory alone, and then nothing is said of either.
     pub fn swap_contents(&mut self, ino: u64, contents: &mut Extents<O>) -> Result<bool, AllocError>
         ensures file { IfOk result (λ there. there ≡ is_file self.old ino) }
-        ensures tree { IfOk result (λ there. self.new ≡ (if there then edit.change_inode ino (edit.set_cells (λ _. contents.old)) self.old else self.old)) }
-        ensures contents { IfOk result (λ there. contents.new ≡ (if there then cells_of self.old ino else contents.old)) }
+        ensures tree { IfOk result
+            (λ there. self.new ≡ (if there
+            then edit.change_inode ino (edit.set_cells (λ _. contents.old)) self.old
+            else self.old)) }
+        ensures contents { IfOk result
+            (λ there. contents.new ≡ (if there then cells_of self.old ino else contents.old)) }
     {
         if !self.is_file(ino) {
             return Ok(false);
@@ -131,7 +141,8 @@ impl<O: Origin> Tree<O> {
 
     // A change of the inode that a path leads to.
     fn change_at(&mut self, path: &[u8], change: &Change<'_>) -> Result<(), Stop>
-        ensures { MayChange result self.old self.new (edit.change_at path.now (changed change.now) self.old) }
+        ensures { MayChange result self.old self.new
+            (edit.change_at path.now (changed change.now) self.old) }
     {
         let ino = self.reach(path)?;
         self.change(ino, change)?;

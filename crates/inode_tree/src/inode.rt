@@ -196,7 +196,8 @@ impl<O: Origin> Inode<O> {
         start: P,
     ) -> Result<Inode<P>, AllocError>
         requires { length self.now.cells < 2 ^ 63 → length self.now.cells ≤ P.reach start }
-        ensures { IfOk result (λ i. i ≡ inode_with self.now (run_cells P.advanced start (length self.now.cells))) }
+        ensures { IfOk result
+            (λ i. i ≡ inode_with self.now (run_cells P.advanced start (length self.now.cells))) }
     {
         let contents = one_run(alloc, start, self.contents.size())?;
         Ok(Inode {

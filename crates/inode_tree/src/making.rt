@@ -26,7 +26,8 @@ impl<O: Origin> Tree<O> {
         rdev: u64,
         target: &[u8],
     ) -> Result<u64, Stop>
-        ensures made { MayChange result self.old self.new (edit.make (new_of_kind (kind_of kind) rdev target.now) path.now self.old) }
+        ensures made { MayChange result self.old self.new
+            (edit.make (new_of_kind (kind_of kind) rdev target.now) path.now self.old) }
         ensures number { IfOk result (λ ino. ino ≡ self.old.next) }
     {
         let place = self.place(path)?;

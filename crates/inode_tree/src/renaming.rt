@@ -69,7 +69,8 @@ impl<O: Origin> Tree<O> {
     // Whether what moves, a directory or not, would go to a place in it or below it.
     fn goes_into_itself(&self, moved: u64, directory: bool, path_to: &[u8]) -> bool
         requires { directory ≡ is_directory self.now moved }
-        ensures { result ≡ (is_directory self.now moved && edit.lies_below self.now moved path_to.now) }
+        ensures { result ≡ (is_directory self.now moved
+            && edit.lies_below self.now moved path_to.now) }
     {
         directory && self.lies_below(moved, path_to)
     }
@@ -128,8 +129,12 @@ impl<O: Origin> Tree<O> {
         requires stands { named self.old to.now.0 to.now.1 ≡ Some there }
         requires differ { there ≢ moved }
         requires leaf { (name : List ℕ) (below : ℕ) → named self.old there name ≢ Some below }
-        requires sound { IsSound (edit.move_name (spot_of from.now) (spot_of to.now) moved (edit.take_name (spot_of to.now) there self.old)) }
-        ensures { OnOk result (self.new ≡ edit.move_name (spot_of from.now) (spot_of to.now) moved (edit.take_name (spot_of to.now) there self.old)) }
+        requires sound { IsSound
+            (edit.move_name (spot_of from.now) (spot_of to.now) moved
+            (edit.take_name (spot_of to.now) there self.old)) }
+        ensures { OnOk result
+            (self.new ≡ edit.move_name (spot_of from.now) (spot_of to.now) moved
+            (edit.take_name (spot_of to.now) there self.old)) }
     {
         let directory_there = self.is_directory(there);
         self.take_name(to, there, directory_there)?;
@@ -150,8 +155,11 @@ impl<O: Origin> Tree<O> {
         requires at { spot self.old path_to.now ≡ Ok (spot_of to.now) }
         requires there { named self.old from.now.0 from.now.1 ≡ Some moved }
         requires kind { directory ≡ is_directory self.old moved }
-        requires sound { named self.old to.now.0 to.now.1 ≡ None → IsSound (edit.move_name (spot_of from.now) (spot_of to.now) moved self.old) }
-        ensures { IfOk result (MovesIfFree (named self.old to.now.0 to.now.1) (edit.move_name (spot_of from.now) (spot_of to.now) moved self.old) self.old self.new) }
+        requires sound { named self.old to.now.0 to.now.1 ≡ None
+            → IsSound (edit.move_name (spot_of from.now) (spot_of to.now) moved self.old) }
+        ensures { IfOk result
+            (MovesIfFree (named self.old to.now.0 to.now.1)
+            (edit.move_name (spot_of from.now) (spot_of to.now) moved self.old) self.old self.new) }
     {
         let free = self.move_name(from, to, moved, directory)?;
         if !free {
@@ -174,8 +182,11 @@ impl<O: Origin> Tree<O> {
     ) -> Result<bool, AllocError>
         requires there { named self.old from.now.0 from.now.1 ≡ Some moved }
         requires kind { directory ≡ is_directory self.old moved }
-        requires sound { named self.old to.now.0 to.now.1 ≡ None → IsSound (edit.move_name (spot_of from.now) (spot_of to.now) moved self.old) }
-        ensures { IfOk result (MovesIfFree (named self.old to.now.0 to.now.1) (edit.move_name (spot_of from.now) (spot_of to.now) moved self.old) self.old self.new) }
+        requires sound { named self.old to.now.0 to.now.1 ≡ None
+            → IsSound (edit.move_name (spot_of from.now) (spot_of to.now) moved self.old) }
+        ensures { IfOk result
+            (MovesIfFree (named self.old to.now.0 to.now.1)
+            (edit.move_name (spot_of from.now) (spot_of to.now) moved self.old) self.old self.new) }
     {
         if !self.whole {
             return Err(AllocError);

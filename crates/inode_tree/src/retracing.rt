@@ -37,7 +37,9 @@ fn retraced_inodes<O: Origin, P: Origin, S: Starts<P>>(
     starts: &S,
 ) -> Result<SharedMap<u64, Shared<Inode<P>>>, AllocError>
     requires { AreReached P.reach (S.starts starts.now) inodes.now }
-    ensures { IfOk result (λ there. there ≡ map (λ e. (e.0, retraced_inode P.advanced (S.starts starts.now) e.0 e.1)) inodes.now) }
+    ensures { IfOk result
+        (λ there. there ≡ map (λ e. (e.0, retraced_inode P.advanced (S.starts starts.now) e.0 e.1))
+        inodes.now) }
 {
     let mut there = SharedMap::new(alloc);
     for (ino, inode) in inodes.iter() {

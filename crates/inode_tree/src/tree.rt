@@ -123,7 +123,8 @@ impl<O: Origin> Tree<O> {
     /// The least name above the given one, by the number of its directory and then by its bytes: the directory, the name, and
     /// the inode number that it names. Takes no memory.
     pub fn name_after(&self, directory: u64, name: &[u8]) -> Option<(u64, &[u8], u64)>
-        ensures { option_map (λ n. ((n.0, n.1.now), n.2)) result ≡ entry_after named_cmp (directory, name.now) self.now.names }
+        ensures { option_map (λ n. ((n.0, n.1.now), n.2)) result
+            ≡ entry_after named_cmp (directory, name.now) self.now.names }
     {
         let (name, ino) = self.names.next_after(&Place::new(directory, name))?;
         Some((name.directory(), name.bytes(), *ino))
@@ -308,7 +309,8 @@ impl<O: Origin> Tree<O> {
 
     // The remembered directory, and the names of a path that go on behind the remembered front.
     fn behind_front<'p>(&self, path: &'p [u8]) -> Option<(u64, Parts<'p>)>
-        ensures { IfSome result (λ begin. spot self.now path.now ≡ spot_below self.now begin.0 begin.1) }
+        ensures { IfSome result
+            (λ begin. spot self.now path.now ≡ spot_below self.now begin.0 begin.1) }
     {
         if !self.whole {
             return None;

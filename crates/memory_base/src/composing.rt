@@ -23,11 +23,12 @@ pub fn compose_over_base<I: Inputs, O: Sink>(
 ) -> Outcome
     requires some { files.now ≢ [] }
     ensures same { I.told inputs.new ≡ I.told inputs.old }
-    ensures cause { CausedAgain (I.ends inputs.old) (I.ends inputs.new) (I.faults inputs.old) (I.faults inputs.new)
-        (O.faults out.old) (O.faults out.new) result }
+    ensures cause { CausedAgain (I.ends inputs.old) (I.ends inputs.new)
+        (I.faults inputs.old) (I.faults inputs.new) (O.faults out.old) (O.faults out.new) result }
     ensures changed { FoundChanged (map string_bytes files.now) (I.last_end inputs.new) result }
     ensures ends { IfAllTold (I.told inputs.old) (map string_bytes files.now)
-        (λ told. Wrote (O.taken out.old) (O.taken out.new) (ComposeEnds (base store.now told) told result)) }
+        (λ told. Wrote (O.taken out.old) (O.taken out.new)
+        (ComposeEnds (base store.now told) told result)) }
 {
     let known = match survey(alloc, inputs, files) {
         Ok(known) => known,

@@ -50,7 +50,8 @@ impl Receiver {
 
     // Takes one command.
     pub(crate) fn take(self, item: Item) -> Result<Receiver, Stop>
-        ensures { TakenAs result (step 0 (bytes_of (meaning_of item.command)) self (meaning_of item.command)) }
+        ensures { TakenAs result
+            (step 0 (bytes_of (meaning_of item.command)) self (meaning_of item.command)) }
     {
         let mut core = self.core;
         let mut part = self.part;

@@ -49,7 +49,8 @@ impl<'a> Standing<'a> {
         survey: &Survey,
     ) -> Result<Standing<'a>, AllocError>
         requires lawful { IsLawfulStore (with_bytes bytes.now catalog.now) }
-        ensures apart { IfOk result (λ standing. standing.indexes ≡ store_without survey.now.parts catalog.now) }
+        ensures apart { IfOk result
+            (λ standing. standing.indexes ≡ store_without survey.now.parts catalog.now) }
         ensures bytes { IfOk result (λ standing. standing.bytes.now ≡ bytes.now) }
     {
         let mut indexes = Catalog::new(alloc);
@@ -96,7 +97,8 @@ fn keep_entry(
     survey: &Survey,
 ) -> Result<(), AllocError>
     requires lawful { IfSome (entry_of entry.now).contents IsLawful }
-    ensures { OnOk result (indexes.new ≡ indexes.old ++ store_without survey.now.parts (entry_of entry.now ∷ [])) }
+    ensures { OnOk result
+        (indexes.new ≡ indexes.old ++ store_without survey.now.parts (entry_of entry.now ∷ [])) }
 {
     if survey.has_part(entry.key.uuid) {
         return Ok(());
@@ -240,7 +242,9 @@ impl OutsideBytes for StandingBytes<'_> {
 
 // The contents of a file, if there is one.
 fn contents_of(indexes: &Catalog<PathIndex<Kept>>, key: Key, ino: u64) -> Option<&Extents<Kept>>
-    ensures { (bytes : List ℕ) → outside_cells (with_bytes bytes indexes.now) (key_of key) ino ≡ map (byte_of bytes) (unwrap_or (option_copied result) []) }
+    ensures { (bytes : List ℕ)
+        → outside_cells (with_bytes bytes indexes.now) (key_of key) ino
+        ≡ map (byte_of bytes) (unwrap_or (option_copied result) []) }
 {
     let Some(index) = indexes.by_key(key) else {
         return None;

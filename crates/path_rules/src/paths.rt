@@ -54,7 +54,8 @@ impl<'a> Iterator for Parts<'a> {
 /// # Errors
 /// `BadPath` exactly where the path is longer than 4,095 bytes, or is not empty and one of its names is not `name_ok`.
 pub fn split(path: &[u8]) -> Result<Parts<'_>, BadPath>
-    ensures { MatchResult result (λ names. path_names path.now ≡ Some names) (λ _. path_names path.now ≡ None) }
+    ensures { MatchResult result (λ names. path_names path.now ≡ Some names)
+        (λ _. path_names path.now ≡ None) }
 {
     if path.is_empty() {
         return Ok(Parts { left: None });

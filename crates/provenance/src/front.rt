@@ -30,8 +30,10 @@ pub(crate) fn front_at(contents: &Extents<Trace>, at: u64, end: u64) -> Front
     requires within { end ≤ length contents.now }
     ensures some { 0 < result.len }
     ensures within { at + result.len ≤ end }
-    ensures follows { Follows (spot_in result.spot) result.len (map place_in (cells_between at (end - at) contents.now)) }
-    ensures stops { Stops (spot_in result.spot) result.len (map place_in (cells_between at (end - at) contents.now)) }
+    ensures follows { Follows (spot_in result.spot) result.len
+        (map place_in (cells_between at (end - at) contents.now)) }
+    ensures stops { Stops (spot_in result.spot) result.len
+        (map place_in (cells_between at (end - at) contents.now)) }
 {
     let mut first = None;
     let mut have = 0;

@@ -45,9 +45,11 @@ pub fn cut_blocks<'a, E: Ends>(
     ends: &'a E,
 ) -> PlanIter<'a, E>
     requires { from + len ≤ length contents.now }
-    ensures cuts { result ≡ cuts_of (E.ends ends.now) from (map place_in (cells_between from len contents.now)) }
+    ensures cuts { result ≡ cuts_of (E.ends ends.now) from
+        (map place_in (cells_between from len contents.now)) }
     ensures within { AllByRecursion (LiesIn from (from + len)) result }
-    ensures pieces { IsCutAsMeant (E.ends ends.now) from (cells_between from len contents.now) result }
+    ensures pieces { IsCutAsMeant (E.ends ends.now) from (cells_between from len contents.now)
+        result }
 {
     let size = contents.size();
     PlanIter {

@@ -27,7 +27,8 @@ const ENCODED_WRITE: u16 = 25;
 /// wanted attribute, in rising order, MissingAttribute where it is not there and BadAttribute where it has a wrong length;
 /// then BadTime where a time has 1,000,000,000 nanoseconds or more. What is read can be written by `encode`.
 pub fn decode(alloc: Global, cmd: u16, table: &AttrTable<'_>) -> Result<Command, Stop>
-    ensures exact { (attributes : List Attribute) → StandsFor table.now attributes → Gives meaning_of result (command_of table.now.version cmd attributes) }
+    ensures exact { (attributes : List Attribute) → StandsFor table.now attributes
+        → Gives meaning_of result (command_of table.now.version cmd attributes) }
     ensures writable { IfOk result (λ command. IsWritable table.now.version (meaning_of command)) }
 {
     match lawful_kind(cmd, table) {
@@ -39,9 +40,12 @@ pub fn decode(alloc: Global, cmd: u16, table: &AttrTable<'_>) -> Result<Command,
 /// Which command it is, where it has a number of the version and lawful attributes: it refuses what `decode` refuses, in the same
 /// order. The values of the attributes are those of the command. Takes no memory.
 pub fn lawful_kind(cmd: u16, table: &AttrTable<'_>) -> Result<Kind, Refusal>
-    ensures exact { (attributes : List Attribute) → StandsFor table.now attributes → Reads (λ kind. command_with (kind_meant kind) (bytes_in table.now)) result (command_of table.now.version cmd attributes) }
+    ensures exact { (attributes : List Attribute) → StandsFor table.now attributes
+        → Reads (λ kind. command_with (kind_meant kind) (bytes_in table.now)) result
+        (command_of table.now.version cmd attributes) }
     ensures forms { IfOk result (λ kind. HaveForms table.now (row (kind_meant kind)).wanted) }
-    ensures timely { IfOk result (λ kind. are_timely table.now (row (kind_meant kind)).wanted ≡ true) }
+    ensures timely { IfOk result
+        (λ kind. are_timely table.now (row (kind_meant kind)).wanted ≡ true) }
 {
     if is_compressed_write(table.version(), cmd) {
         return Err(Refusal::Encoded);
@@ -71,7 +75,8 @@ fn is_compressed_write(version: u32, cmd: u16) -> bool
 fn command_in(alloc: Global, kind: Kind, table: &AttrTable<'_>) -> Result<Command, AllocError>
     requires forms { HaveForms table.now (row (kind_meant kind)).wanted }
     requires timely { are_timely table.now (row (kind_meant kind)).wanted ≡ true }
-    ensures exact { IfOk result (λ command. meaning_of command ≡ command_with (kind_meant kind) (bytes_in table.now)) }
+    ensures exact { IfOk result
+        (λ command. meaning_of command ≡ command_with (kind_meant kind) (bytes_in table.now)) }
     ensures writable { IfOk result (λ command. IsWritable table.now.version (meaning_of command)) }
 {
     match kind {

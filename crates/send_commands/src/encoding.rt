@@ -282,9 +282,15 @@ fn put_command(c: &Command, version: u32, to: &mut Blob) -> Result<(), AllocErro
 // bytes that it had.
 fn put(kind: Kind, version: u32, fields: &[Field<'_>], to: &mut Blob) -> Result<(), AllocError>
     requires values { FieldsShort version (row (kind_meant kind)).wanted (map field_of fields.now) }
-    requires short { IfSecond (version == 2) (length (body_of version (with_fields (row (kind_meant kind)).wanted (map field_of fields.now))) ≤ greatest_body) }
+    requires short { IfSecond (version == 2)
+        (length
+        (body_of version (with_fields (row (kind_meant kind)).wanted (map field_of fields.now)))
+        ≤ greatest_body) }
     requires count { length fields.now ≡ length (row (kind_meant kind)).wanted }
-    ensures appended { OnOk result (to.new ≡ to.old ++ frame_of (row (kind_meant kind)).number (body_of version (with_fields (row (kind_meant kind)).wanted (map field_of fields.now)))) }
+    ensures appended { OnOk result
+        (to.new ≡ to.old
+        ++ frame_of (row (kind_meant kind)).number
+        (body_of version (with_fields (row (kind_meant kind)).wanted (map field_of fields.now)))) }
     ensures front { IsFront to.old to.new }
 {
     let wanted = kind.wanted();
@@ -304,9 +310,13 @@ fn put_field(
     field: &Field<'_>,
 ) -> Result<(), AllocError>
     requires short { FieldShort writer.old.version kind (field_of field.now) }
-    ensures appended { OnOk result (to.new ≡ to.old ++ attribute_bytes writer.old.version (record { kind = kind; bytes = field_bytes (field_of field.now) })) }
+    ensures appended { OnOk result
+        (to.new ≡ to.old
+        ++ attribute_bytes writer.old.version
+        (record { kind = kind; bytes = field_bytes (field_of field.now) })) }
     ensures front { IsFront to.old to.new }
-    ensures short { OnOk result ((writer.old.version == 2) ≡ false → length to.new < length to.old + 65_540) }
+    ensures short { OnOk result
+        ((writer.old.version == 2) ≡ false → length to.new < length to.old + 65_540) }
     ensures writer { writer.new ≡ writer.old }
 {
     match field {

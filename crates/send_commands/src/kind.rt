@@ -79,7 +79,8 @@ impl Kind {
     // The command of this number in version 1.
     #[tactic(auto, unfolding(send_model::specs::Command::row))]
     fn of_first_version(number: u16) -> Option<Kind>
-        ensures kind { option_map kind_meant result ≡ find (λ kind. (row kind).number == number) first_kinds }
+        ensures kind { option_map kind_meant result ≡ find (λ kind. (row kind).number == number)
+            first_kinds }
     {
         match number {
             1 => Some(Kind::Subvol),

@@ -16,7 +16,8 @@ const SECOND: u32 = 1_000_000_000;
 
 // That the attributes of these numbers are there with the lengths of their forms, or the refusal of the first that is not.
 pub(crate) fn find_wanted(table: &AttrTable<'_>, wanted: &[u16]) -> Result<(), Refusal>
-    ensures exact { (attributes : List Attribute) → StandsFor table.now attributes → Reads (λ x. x) result (wanted_there wanted.now attributes) }
+    ensures exact { (attributes : List Attribute) → StandsFor table.now attributes
+        → Reads (λ x. x) result (wanted_there wanted.now attributes) }
     ensures forms { IfOk result (λ x. HaveForms table.now wanted.now) }
 {
     for i in 0..wanted.len() {

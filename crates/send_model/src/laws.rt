@@ -40,7 +40,8 @@ pub fn receivable_spelling_is_read_back()
 
 /// A stream of a version that is read is read whole, with its commands; and one that is cut short is never read as whole.
 pub fn stream_is_read_back()
-    ensures whole { (file version : ℕ) (cs : List Command) → is_version version ≡ true → AreInner version cs → StreamIsRead file version cs }
+    ensures whole { (file version : ℕ) (cs : List Command) → is_version version ≡ true
+        → AreInner version cs → StreamIsRead file version cs }
     ensures cut { CutIsUnfinished }
 {}
 
@@ -55,9 +56,12 @@ pub fn edits_look_at_their_part<C, D>()
 /// CLONE and END stand among the edits as those that change nothing.
 pub fn edits_keep_subvolumes_lawful<C>()
     ensures start { IsLawful {C = C} root_alone }
-    ensures edits { (zero_cell : C) (put : List C) (c : Command) → KeepsLawfulness (edit zero_cell put c) }
-    ensures clones { (zero_cell : C) (source : Option (Subvolume C)) (is_own : Bool) (path : List ℕ) (offset : ℕ)
-        (clone_path : List ℕ) (from len : ℕ) → KeepsLawfulness (λ part. clone zero_cell part source is_own path offset clone_path from len) }
+    ensures edits { (zero_cell : C) (put : List C) (c : Command)
+        → KeepsLawfulness (edit zero_cell put c) }
+    ensures clones { (zero_cell : C) (source : Option (Subvolume C)) (is_own : Bool) (path : List ℕ)
+        (offset : ℕ) (clone_path : List ℕ) (from len : ℕ)
+        → KeepsLawfulness
+        (λ part. clone zero_cell part source is_own path offset clone_path from len) }
 {}
 
 /// Whatever is received into a lawful store leaves a lawful one, wherever it ends; and over such a store the headline holds of all
@@ -87,8 +91,9 @@ pub fn guards_only_refuse()
 /// The composed commands, from every state, carry the bytes of the commands themselves and the cells of redirected clones
 /// that no outside subvolume carries; their clones are those that are not redirected, and one for each run of carried blocks.
 pub fn composed_commands_are_counted()
-    ensures counted { (store : Store ℕ) (parts : List (List ℕ)) (last : Key) (state : State Traced) (current : Option (List ℕ))
-        (items : List Item) → AreCounted store parts last state current items }
+    ensures counted { (store : Store ℕ) (parts : List (List ℕ)) (last : Key) (state : State Traced)
+        (current : Option (List ℕ)) (items : List Item)
+        → AreCounted store parts last state current items }
 {}
 
 /// The headline, for all commands: the composed ones name only outside subvolumes, and every store that holds these, and neither
@@ -110,7 +115,8 @@ pub fn composed_streams_are_accepted()
 /// The answer that is due to compose is the verdict on what was read over the base, unless one of them is too long or the redirected
 /// clones would have to carry too many bytes; where all was done, they do not.
 pub fn answers_are_judged()
-    ensures judged { (long : Option ℕ) (base : Store ℕ) (reading : Reading) → IsJudgedOf long base reading }
+    ensures judged { (long : Option ℕ) (base : Store ℕ) (reading : Reading)
+        → IsJudgedOf long base reading }
     ensures files { (base : Store ℕ) (files : List (List ℕ)) → IsJudged base files }
 {}
 

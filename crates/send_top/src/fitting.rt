@@ -15,7 +15,9 @@ use guard_rules::{Guard, GuardSpec, parse_guard};
 pub fn guards_fit(words: &[String], request: Request, guards: &[Box<dyn Guard>]) -> bool
     requires within { IsWithin (length words.now) request }
     requires given { AreGuardWords (guard_words (map string_bytes words.now) request) }
-    ensures { (result ≡ true) ↔ (map (λ g. kept g) guards.now ≡ new_guards (specs_of (request_meant (map string_bytes words.now) request))) }
+    ensures { (result ≡ true)
+        ↔ (map (λ g. kept g) guards.now ≡ new_guards
+        (specs_of (request_meant (map string_bytes words.now) request))) }
 {
     match request {
         Request::Audit { store, .. } => are_new(guards, words_before(words, store)),
@@ -35,7 +37,8 @@ fn words_before(words: &[String], store: usize) -> &[String]
 // Whether guards are those of some guard words, in order, and new.
 fn are_new(guards: &[Box<dyn Guard>], words: &[String]) -> bool
     requires given { AreGuardWords (map string_bytes words.now) }
-    ensures { (result ≡ true) ↔ (map (λ g. kept g) guards.now ≡ new_guards (guards_in (map string_bytes words.now))) }
+    ensures { (result ≡ true)
+        ↔ (map (λ g. kept g) guards.now ≡ new_guards (guards_in (map string_bytes words.now))) }
 {
     if guards.len() != words.len() {
         return false;

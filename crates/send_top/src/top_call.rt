@@ -43,19 +43,26 @@ pub fn run<I: Inputs, O: Sink, N: Sink>(
     out: &mut O,
     notes: &mut N,
 ) -> u8
-    ensures usage { (result ≡ 2) ↔ AskNothing (map string_bytes words.now) (map (λ g. kept g) guards.items) }
+    ensures usage { (result ≡ 2)
+        ↔ AskNothing (map string_bytes words.now) (map (λ g. kept g) guards.items) }
     ensures untouched { result ≡ 2 → (inputs.new ≡ inputs.old) × (out.new ≡ out.old) }
     ensures same { I.told inputs.new ≡ I.told inputs.old }
     ensures input_fault { result ≡ 3 → Rose (I.faults inputs.old) (I.faults inputs.new) }
     ensures output_fault { result ≡ 4 → Rose (O.faults out.old) (O.faults out.new) }
     ensures changed { result ≡ 13 → Rose (I.ends inputs.old) (I.ends inputs.new) }
-    ensures of_compose { (result ≡ 9) ⊎ (result ≡ 13) → AskToCompose (map string_bytes words.now) (map (λ g. kept g) guards.items) }
-    ensures composed { result ≡ 0 → OfRequest (I.told inputs.old) (map string_bytes words.now) (map (λ g. kept g) guards.items)
+    ensures of_compose { (result ≡ 9) ⊎ (result ≡ 13)
+        → AskToCompose (map string_bytes words.now) (map (λ g. kept g) guards.items) }
+    ensures composed { result ≡ 0
+        → OfRequest (I.told inputs.old) (map string_bytes words.now)
+        (map (λ g. kept g) guards.items)
         (λ request files. Wrote (O.taken out.old) (O.taken out.new) (IfComposes request files)) }
     ensures answered { (answer : meant.Answer)
-        × IsAnswered (I.told inputs.old) (map string_bytes words.now) (map (λ g. kept g) guards.items) (O.taken out.old) (O.taken out.new) answer
-        × IsGiven answer (N.taken notes.old) (N.taken notes.new) (N.faults notes.old) (N.faults notes.new) result
-        × IsChangedAt (map string_bytes words.now) (map (λ g. kept g) guards.items) (I.last_end inputs.new) answer }
+        × IsAnswered (I.told inputs.old) (map string_bytes words.now)
+        (map (λ g. kept g) guards.items) (O.taken out.old) (O.taken out.new) answer
+        × IsGiven answer (N.taken notes.old) (N.taken notes.new)
+        (N.faults notes.old) (N.faults notes.new) result
+        × IsChangedAt (map string_bytes words.now) (map (λ g. kept g) guards.items)
+        (I.last_end inputs.new) answer }
     ensures quiet { result ≡ 0 → notes.new ≡ notes.old }
 {
     let mut guards = guards;
@@ -71,18 +78,25 @@ fn answer_to<I: Inputs, O: Sink>(
     inputs: &mut I,
     out: &mut O,
 ) -> Answer
-    ensures usage { (answer_of result ≡ Usage) ↔ AskNothing (map string_bytes words.now) (map (λ g. kept g) guards.old) }
+    ensures usage { (answer_of result ≡ Usage)
+        ↔ AskNothing (map string_bytes words.now) (map (λ g. kept g) guards.old) }
     ensures untouched { answer_of result ≡ Usage → (inputs.new ≡ inputs.old) × (out.new ≡ out.old) }
     ensures same { I.told inputs.new ≡ I.told inputs.old }
-    ensures input_fault { answer_of result ≡ InputFault → Rose (I.faults inputs.old) (I.faults inputs.new) }
-    ensures output_fault { answer_of result ≡ OutputFault → Rose (O.faults out.old) (O.faults out.new) }
-    ensures changed { (file place : ℕ) → answer_of result ≡ InputChanged file place → Rose (I.ends inputs.old) (I.ends inputs.new) }
-    ensures of_compose { IfOfCompose (answer_of result) (AskToCompose (map string_bytes words.now) (map (λ g. kept g) guards.old)) }
-    ensures composed { answer_of result ≡ meant.Done → OfRequest (I.told inputs.old) (map string_bytes words.now) (map (λ g. kept g) guards.old)
+    ensures input_fault { answer_of result ≡ InputFault
+        → Rose (I.faults inputs.old) (I.faults inputs.new) }
+    ensures output_fault { answer_of result ≡ OutputFault
+        → Rose (O.faults out.old) (O.faults out.new) }
+    ensures changed { (file place : ℕ) → answer_of result ≡ InputChanged file place
+        → Rose (I.ends inputs.old) (I.ends inputs.new) }
+    ensures of_compose { IfOfCompose (answer_of result)
+        (AskToCompose (map string_bytes words.now) (map (λ g. kept g) guards.old)) }
+    ensures composed { answer_of result ≡ meant.Done
+        → OfRequest (I.told inputs.old) (map string_bytes words.now) (map (λ g. kept g) guards.old)
         (λ request files. Wrote (O.taken out.old) (O.taken out.new) (IfComposes request files)) }
-    ensures answered { IsAnswered (I.told inputs.old) (map string_bytes words.now) (map (λ g. kept g) guards.old)
-        (O.taken out.old) (O.taken out.new) (answer_of result) }
-    ensures changed_at { IsChangedAt (map string_bytes words.now) (map (λ g. kept g) guards.old) (I.last_end inputs.new) (answer_of result) }
+    ensures answered { IsAnswered (I.told inputs.old) (map string_bytes words.now)
+        (map (λ g. kept g) guards.old) (O.taken out.old) (O.taken out.new) (answer_of result) }
+    ensures changed_at { IsChangedAt (map string_bytes words.now) (map (λ g. kept g) guards.old)
+        (I.last_end inputs.new) (answer_of result) }
 {
     let Some(request) = read_words(words) else {
         return Answer::Usage;
@@ -103,17 +117,26 @@ fn end_of<I: Inputs, O: Sink>(
     out: &mut O,
 ) -> Outcome
     requires within { IsWithin (length words.now) request }
-    requires fits { map (λ g. kept g) guards.old ≡ new_guards (specs_of (request_meant (map string_bytes words.now) request)) }
+    requires fits { map (λ g. kept g) guards.old ≡ new_guards
+        (specs_of (request_meant (map string_bytes words.now) request)) }
     ensures same { I.told inputs.new ≡ I.told inputs.old }
     ensures cause { EndCaused (request_meant (map string_bytes words.now) request)
-        (I.ends inputs.old) (I.ends inputs.new) (I.faults inputs.old) (I.faults inputs.new) (O.faults out.old) (O.faults out.new) result }
-    ensures changed { FoundChanged (names_asked (request_meant (map string_bytes words.now) request) (map string_bytes words.now))
-        (I.last_end inputs.new) result }
+        (I.ends inputs.old) (I.ends inputs.new) (I.faults inputs.old) (I.faults inputs.new)
+        (O.faults out.old) (O.faults out.new) result }
+    ensures changed { FoundChanged
+        (names_asked (request_meant (map string_bytes words.now) request)
+        (map string_bytes words.now)) (I.last_end inputs.new) result }
     ensures composed { result ≡ ended.Done
-        → IfAllTold (I.told inputs.old) (names_asked (request_meant (map string_bytes words.now) request) (map string_bytes words.now))
-        (λ files. Wrote (O.taken out.old) (O.taken out.new) (IfComposes (request_meant (map string_bytes words.now) request) files)) }
-    ensures ends { IfAllTold (I.told inputs.old) (names_asked (request_meant (map string_bytes words.now) request) (map string_bytes words.now))
-        (λ files. Wrote (O.taken out.old) (O.taken out.new) (Ends (request_meant (map string_bytes words.now) request) [] files result)) }
+        → IfAllTold (I.told inputs.old)
+        (names_asked (request_meant (map string_bytes words.now) request)
+        (map string_bytes words.now))
+        (λ files. Wrote (O.taken out.old) (O.taken out.new)
+        (IfComposes (request_meant (map string_bytes words.now) request) files)) }
+    ensures ends { IfAllTold (I.told inputs.old)
+        (names_asked (request_meant (map string_bytes words.now) request)
+        (map string_bytes words.now))
+        (λ files. Wrote (O.taken out.old) (O.taken out.new)
+        (Ends (request_meant (map string_bytes words.now) request) [] files result)) }
 {
     match request {
         Request::Compose { files, .. } => compose(alloc, inputs, names_from(words, files), out),

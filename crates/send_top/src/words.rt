@@ -61,9 +61,11 @@ const MOST_PARTS: u64 = 4_096;
 /// What the words after the program's name ask for; `None` exactly where they mean nothing. Takes no memory.
 #[tactic(auto, unfolding(send_model::specs::Words::request_of, crate::specs::Requests::answered_request))]
 pub fn read_words(words: &[String]) -> Option<Request>
-    ensures meaning { option_map (request_meant (map string_bytes words.now)) result ≡ answered_request (map string_bytes words.now) }
+    ensures meaning { option_map (request_meant (map string_bytes words.now)) result
+        ≡ answered_request (map string_bytes words.now) }
     ensures within { IfSome result (IsWithin (length words.now)) }
-    ensures guards { IfSome result (λ request. AreGuardWords (guard_words (map string_bytes words.now) request)) }
+    ensures guards { IfSome result
+        (λ request. AreGuardWords (guard_words (map string_bytes words.now) request)) }
 {
     let command = words.first()?;
     match command.as_str() {
@@ -80,9 +82,11 @@ pub fn read_words(words: &[String]) -> Option<Request>
 // `compose STORE FILE..`
 fn read_compose(words: &[String]) -> Option<Request>
     ensures meaning { option_map (request_meant (map string_bytes words.now)) result
-        ≡ if_answered (map string_bytes words.now) (store_and_files Compose 1 (drop 1 (map string_bytes words.now))) }
+        ≡ if_answered (map string_bytes words.now)
+        (store_and_files Compose 1 (drop 1 (map string_bytes words.now))) }
     ensures within { IfSome result (IsWithin (length words.now)) }
-    ensures guards { IfSome result (λ request. AreGuardWords (guard_words (map string_bytes words.now) request)) }
+    ensures guards { IfSome result
+        (λ request. AreGuardWords (guard_words (map string_bytes words.now) request)) }
 {
     let [_, store, _, ..] = words else {
         return None;
@@ -97,9 +101,11 @@ fn read_compose(words: &[String]) -> Option<Request>
 fn read_audit(words: &[String]) -> Option<Request>
     requires some { 1 ≤ length words.now }
     ensures meaning { option_map (request_meant (map string_bytes words.now)) result
-        ≡ if_answered (map string_bytes words.now) (guards_and_files 1 (drop 1 (map string_bytes words.now))) }
+        ≡ if_answered (map string_bytes words.now)
+        (guards_and_files 1 (drop 1 (map string_bytes words.now))) }
     ensures within { IfSome result (IsWithin (length words.now)) }
-    ensures guards { IfSome result (λ request. AreGuardWords (guard_words (map string_bytes words.now) request)) }
+    ensures guards { IfSome result
+        (λ request. AreGuardWords (guard_words (map string_bytes words.now) request)) }
 {
     let store = store_place(words)?;
     let files = store + 1;
@@ -140,9 +146,11 @@ fn is_guard_word(word: &str) -> bool
 // `dump FILE`
 fn read_dump(words: &[String]) -> Option<Request>
     ensures meaning { option_map (request_meant (map string_bytes words.now)) result
-        ≡ if_answered (map string_bytes words.now) (one_file Dump (drop 1 (map string_bytes words.now))) }
+        ≡ if_answered (map string_bytes words.now)
+        (one_file Dump (drop 1 (map string_bytes words.now))) }
     ensures within { IfSome result (IsWithin (length words.now)) }
-    ensures guards { IfSome result (λ request. AreGuardWords (guard_words (map string_bytes words.now) request)) }
+    ensures guards { IfSome result
+        (λ request. AreGuardWords (guard_words (map string_bytes words.now) request)) }
 {
     let [_, _] = words else {
         return None;
@@ -153,9 +161,11 @@ fn read_dump(words: &[String]) -> Option<Request>
 // `export FILE`
 fn read_export(words: &[String]) -> Option<Request>
     ensures meaning { option_map (request_meant (map string_bytes words.now)) result
-        ≡ if_answered (map string_bytes words.now) (one_file Export (drop 1 (map string_bytes words.now))) }
+        ≡ if_answered (map string_bytes words.now)
+        (one_file Export (drop 1 (map string_bytes words.now))) }
     ensures within { IfSome result (IsWithin (length words.now)) }
-    ensures guards { IfSome result (λ request. AreGuardWords (guard_words (map string_bytes words.now) request)) }
+    ensures guards { IfSome result
+        (λ request. AreGuardWords (guard_words (map string_bytes words.now) request)) }
 {
     let [_, _] = words else {
         return None;
@@ -166,9 +176,11 @@ fn read_export(words: &[String]) -> Option<Request>
 // `gen COUNT SEED`
 fn read_gen(words: &[String]) -> Option<Request>
     ensures meaning { option_map (request_meant (map string_bytes words.now)) result
-        ≡ if_answered (map string_bytes words.now) (count_and_seed Gen (drop 1 (map string_bytes words.now))) }
+        ≡ if_answered (map string_bytes words.now)
+        (count_and_seed Gen (drop 1 (map string_bytes words.now))) }
     ensures within { IfSome result (IsWithin (length words.now)) }
-    ensures guards { IfSome result (λ request. AreGuardWords (guard_words (map string_bytes words.now) request)) }
+    ensures guards { IfSome result
+        (λ request. AreGuardWords (guard_words (map string_bytes words.now) request)) }
 {
     let [_, count, seed] = words else {
         return None;
@@ -184,9 +196,11 @@ fn read_gen(words: &[String]) -> Option<Request>
 // `trial COUNT SEED`
 fn read_trial(words: &[String]) -> Option<Request>
     ensures meaning { option_map (request_meant (map string_bytes words.now)) result
-        ≡ if_answered (map string_bytes words.now) (count_and_seed Trial (drop 1 (map string_bytes words.now))) }
+        ≡ if_answered (map string_bytes words.now)
+        (count_and_seed Trial (drop 1 (map string_bytes words.now))) }
     ensures within { IfSome result (IsWithin (length words.now)) }
-    ensures guards { IfSome result (λ request. AreGuardWords (guard_words (map string_bytes words.now) request)) }
+    ensures guards { IfSome result
+        (λ request. AreGuardWords (guard_words (map string_bytes words.now) request)) }
 {
     let [_, count, seed] = words else {
         return None;

@@ -108,7 +108,8 @@ impl<K: Key, V: Copied> SharedMap<K, V> {
 
     /// Sets the value at a key. Fails for want of memory alone, and then nothing changes.
     pub fn insert<Q: Sought<K>>(&mut self, query: &Q, value: V) -> Result<(), AllocError>
-        ensures ok { OnOk result (self.new ≡ with_value K.order (Q.sought query.now) value self.old) }
+        ensures ok { OnOk result
+            (self.new ≡ with_value K.order (Q.sought query.now) value self.old) }
         ensures err { OnErr result (self.new ≡ self.old) }
     {
         let alloc = self.alloc;
@@ -149,8 +150,11 @@ impl<K: Key, V: Copied> SharedMap<K, V> {
         query: &Q,
         edit: &mut E,
     ) -> Result<bool, AllocError>
-        ensures { IfOk result (IsEdited (E.edited edit.old) (E.left edit.old) (value_at K.order (Q.sought query.now) self.old)
-            (λ value. with_value K.order (Q.sought query.now) value self.old) self.old self.new edit.old edit.new) }
+        ensures { IfOk result
+            (IsEdited (E.edited edit.old) (E.left edit.old)
+            (value_at K.order (Q.sought query.now) self.old)
+            (λ value. with_value K.order (Q.sought query.now) value self.old) self.old self.new
+            edit.old edit.new) }
     {
         let alloc = self.alloc;
         let Ok(spot) = seek(&self.pages, query) else {
@@ -199,7 +203,9 @@ fn put_new<K: Key, V: Copied, Q: Sought<K>>(
     requires kept { AreKept K.order pages.old.items len }
     requires free { IsFree K.order (Q.sought query.now) pages.old.items spot.page spot.place }
     ensures kept { IfOk result (AreKept K.order pages.new.items) }
-    ensures ok { OnOk result (joined pages.new.items ≡ with_value K.order (Q.sought query.now) value (joined pages.old.items)) }
+    ensures ok { OnOk result
+        (joined pages.new.items ≡ with_value K.order (Q.sought query.now) value
+        (joined pages.old.items)) }
     ensures err { OnErr result (pages.new.items ≡ pages.old.items) }
 {
     let Some(more) = len.checked_add(1) else {

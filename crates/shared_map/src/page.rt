@@ -126,7 +126,8 @@ impl<K: Key, V: Copied> Page<K, V> {
         edit: &mut E,
     ) -> Result<(), AllocError>
         requires { at < length self.old }
-        ensures ok { OnOk result (IsEditedAt (E.edited edit.old) (E.left edit.old) self.old self.new edit.new at) }
+        ensures ok { OnOk result
+            (IsEditedAt (E.edited edit.old) (E.left edit.old) self.old self.new edit.new at) }
         ensures err { OnErr result (KeepsKeyAt self.old self.new at) }
     {
         self.block.edit_at(alloc, at, edit)?;

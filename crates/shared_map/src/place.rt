@@ -58,8 +58,10 @@ pub(crate) fn seek<K: Key, V: Copied, Q: Sought<K>>(
 ) -> Result<Spot, Spot>
     requires rises { Rises K.order (joined pages.now) }
     requires filled { AreFilled pages.now }
-    ensures found { IfOk result (λ spot. IsThere K.order (Q.sought query.now) pages.now spot.page spot.place) }
-    ensures absent { IfErr result (λ spot. IsFree K.order (Q.sought query.now) pages.now spot.page spot.place) }
+    ensures found { IfOk result
+        (λ spot. IsThere K.order (Q.sought query.now) pages.now spot.page spot.place) }
+    ensures absent { IfErr result
+        (λ spot. IsFree K.order (Q.sought query.now) pages.now spot.page spot.place) }
 {
     let page = home(pages, query);
     if page >= pages.len() {

@@ -197,7 +197,9 @@ pub fn push_command(command: &Command, to: &mut Blob) -> Result<(), AllocError>
 // Appends the name of the command and these values.
 fn put(kind: Kind, values: &[Value<'_>], to: &mut Blob) -> Result<(), AllocError>
     requires count { length values.now ≡ length (row (kind_meant kind)).wanted }
-    ensures pushed { OnOk result (to.new ≡ to.old ++ (row (kind_meant kind)).name ++ values_text (row (kind_meant kind)).wanted (map field_of values.now)) }
+    ensures pushed { OnOk result
+        (to.new ≡ to.old ++ (row (kind_meant kind)).name
+        ++ values_text (row (kind_meant kind)).wanted (map field_of values.now)) }
 {
     to.push_all(command_name(kind))?;
     push_values(kind, values, to)

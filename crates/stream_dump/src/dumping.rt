@@ -16,8 +16,11 @@ pub fn dump<I: Inputs, O: Sink>(alloc: Global, inputs: &mut I, file: &str, out: 
     ensures same { I.told inputs.new ≡ I.told inputs.old }
     ensures later { I.faults inputs.old ≤ I.faults inputs.new }
     ensures out_later { O.faults out.old ≤ O.faults out.new }
-    ensures cause { Caused (I.faults inputs.old) (I.faults inputs.new) (O.faults out.old) (O.faults out.new) result }
-    ensures dumped { IfAllTold (I.told inputs.old) (file.now ∷ []) (λ files. Wrote (O.taken out.old) (O.taken out.new) (λ written. Ends (Dump 1) [] files result written)) }
+    ensures cause { Caused (I.faults inputs.old) (I.faults inputs.new)
+        (O.faults out.old) (O.faults out.new) result }
+    ensures dumped { IfAllTold (I.told inputs.old) (file.now ∷ [])
+        (λ files. Wrote (O.taken out.old) (O.taken out.new)
+        (λ written. Ends (Dump 1) [] files result written)) }
 {
     write_file(alloc, &mut DumpLines, inputs, file, out)
 }

@@ -31,8 +31,11 @@ pub fn write_file<F: ItemForm, I: Inputs, O: Sink>(
     ensures same { I.told inputs.new ≡ I.told inputs.old }
     ensures later { I.faults inputs.old ≤ I.faults inputs.new }
     ensures out_later { O.faults out.old ≤ O.faults out.new }
-    ensures cause { Caused (I.faults inputs.old) (I.faults inputs.new) (O.faults out.old) (O.faults out.new) result }
-    ensures written { IfAllTold (I.told inputs.old) (file.now ∷ []) (λ files. Wrote (O.taken out.old) (O.taken out.new) (WritesFile F.piece (first_file files) result)) }
+    ensures cause { Caused (I.faults inputs.old) (I.faults inputs.new)
+        (O.faults out.old) (O.faults out.new) result }
+    ensures written { IfAllTold (I.told inputs.old) (file.now ∷ [])
+        (λ files. Wrote (O.taken out.old) (O.taken out.new)
+        (WritesFile F.piece (first_file files) result)) }
 {
     let Ok(mut reader) = CmdReader::new(alloc, 1, file) else {
         return Outcome::NoMemory;
@@ -62,7 +65,8 @@ fn write_item<F: ItemForm, O: Sink>(
     requires writable { IsWritable item.version (meaning_of item.command) }
     requires sayable { CanWrite item.version (meaning_of item.command) }
     ensures later { O.faults out.old ≤ O.faults out.new }
-    ensures ends { ItemEnds F.piece gathered.old gathered.new (item_of 1 item) (O.taken out.old) (O.taken out.new) (O.faults out.old) (O.faults out.new) result }
+    ensures ends { ItemEnds F.piece gathered.old gathered.new (item_of 1 item)
+        (O.taken out.old) (O.taken out.new) (O.faults out.old) (O.faults out.new) result }
 {
     let Ok(()) = gathered.add(form, &item) else {
         return Err(Outcome::NoMemory);
@@ -76,7 +80,8 @@ fn write_item<F: ItemForm, O: Sink>(
 // Writes what was gathered.
 fn send<O: Sink>(gathered: &mut Gathered, out: &mut O) -> Result<(), Outcome>
     ensures later { O.faults out.old ≤ O.faults out.new }
-    ensures sent { Sends gathered.old gathered.new (O.taken out.old) (O.taken out.new) (O.faults out.old) (O.faults out.new) result }
+    ensures sent { Sends gathered.old gathered.new (O.taken out.old) (O.taken out.new)
+        (O.faults out.old) (O.faults out.new) result }
 {
     let Ok(()) = write_whole(out, gathered.bytes.as_slice()) else {
         return Err(Outcome::OutputFault);
@@ -88,7 +93,8 @@ fn send<O: Sink>(gathered: &mut Gathered, out: &mut O) -> Result<(), Outcome>
 // The outcome of a file that ends here. What was gathered is written first, but not where the inputs failed or there is no memory.
 fn finish<O: Sink>(gathered: &mut Gathered, out: &mut O, outcome: Outcome) -> Outcome
     ensures later { O.faults out.old ≤ O.faults out.new }
-    ensures ends { EndsWith gathered.old.bytes outcome (O.taken out.old) (O.taken out.new) (O.faults out.old) (O.faults out.new) result }
+    ensures ends { EndsWith gathered.old.bytes outcome (O.taken out.old) (O.taken out.new)
+        (O.faults out.old) (O.faults out.new) result }
 {
     if let Outcome::InputFault | Outcome::NoMemory = outcome {
         return outcome;

@@ -30,7 +30,8 @@ pub enum Value<'a> {
 /// Appends the values of a command's wanted attributes in their order, each after a space, with its name.
 pub fn push_values(kind: Kind, values: &[Value<'_>], to: &mut Blob) -> Result<(), AllocError>
     requires count { length values.now ≡ length (row (kind_meant kind)).wanted }
-    ensures pushed { OnOk result (to.new ≡ to.old ++ values_text (row (kind_meant kind)).wanted (map field_of values.now)) }
+    ensures pushed { OnOk result
+        (to.new ≡ to.old ++ values_text (row (kind_meant kind)).wanted (map field_of values.now)) }
 {
     let wanted = kind.wanted();
     for place in 0..values.len() {

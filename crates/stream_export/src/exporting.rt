@@ -17,8 +17,11 @@ pub fn export<I: Inputs, O: Sink>(alloc: Global, inputs: &mut I, file: &str, out
     ensures same { I.told inputs.new ≡ I.told inputs.old }
     ensures later { I.faults inputs.old ≤ I.faults inputs.new }
     ensures out_later { O.faults out.old ≤ O.faults out.new }
-    ensures cause { Caused (I.faults inputs.old) (I.faults inputs.new) (O.faults out.old) (O.faults out.new) result }
-    ensures exported { IfAllTold (I.told inputs.old) (file.now ∷ []) (λ files. Wrote (O.taken out.old) (O.taken out.new) (λ written. Ends (Export 1) [] files result written)) }
+    ensures cause { Caused (I.faults inputs.old) (I.faults inputs.new)
+        (O.faults out.old) (O.faults out.new) result }
+    ensures exported { IfAllTold (I.told inputs.old) (file.now ∷ [])
+        (λ files. Wrote (O.taken out.old) (O.taken out.new)
+        (λ written. Ends (Export 1) [] files result written)) }
 {
     let mut form = ReceivableForm::new(alloc);
     write_file(alloc, &mut form, inputs, file, out)

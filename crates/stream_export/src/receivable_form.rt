@@ -56,7 +56,8 @@ impl ReceivableForm {
     ) -> Result<(), AllocError>
         requires writable { IsWritable version (meaning_of command.now) }
         requires sayable { CanWrite version (meaning_of command.now) }
-        ensures added { OnOk result (to.new ≡ to.old ++ receivable version (meaning_of command.now)) }
+        ensures added { OnOk result
+            (to.new ≡ to.old ++ receivable version (meaning_of command.now)) }
     {
         let Some(asked) = asked_of(command) else {
             return encode(command, version, to);
@@ -71,7 +72,10 @@ impl ReceivableForm {
 // Appends a frame with what is asked for and, behind it, these attributes.
 fn push_frame(asked: Asked, version: u32, body: &[u8], to: &mut Blob) -> Result<(), AllocError>
     requires short { length body.now ≤ greatest_body }
-    ensures added { OnOk result (to.new ≡ to.old ++ frame_of (row (kind_asked asked)).number (attribute_bytes version (attribute_of asked) ++ body.now)) }
+    ensures added { OnOk result
+        (to.new ≡ to.old
+        ++ frame_of (row (kind_asked asked)).number
+        (attribute_bytes version (attribute_of asked) ++ body.now)) }
 {
     let mut writer = FrameWriter::begin(to, asked.number(), version)?;
     push_asked(&mut writer, asked, to)?;
@@ -82,7 +86,8 @@ fn push_frame(asked: Asked, version: u32, body: &[u8], to: &mut Blob) -> Result<
 
 // Appends what is asked for as an attribute.
 fn push_asked(writer: &mut FrameWriter, asked: Asked, to: &mut Blob) -> Result<(), AllocError>
-    ensures appended { OnOk result (to.new ≡ to.old ++ attribute_bytes writer.old.version (attribute_of asked)) }
+    ensures appended { OnOk result
+        (to.new ≡ to.old ++ attribute_bytes writer.old.version (attribute_of asked)) }
     ensures writer { writer.new ≡ writer.old }
 {
     match asked {

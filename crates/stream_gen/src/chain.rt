@@ -45,8 +45,10 @@ impl Chain {
     /// Appends the next part, a whole stream. Without memory the chain is unchanged, and some of the part may be there.
     pub fn next_part(&mut self, to: &mut Blob) -> Result<(), AllocError>
         requires room { self.old.parts + 1 < 2 ^ 64 }
-        ensures appended { OnOk result (to.new ≡ to.old ++ part_bytes self.old.seed (self.old.parts + 1)) }
-        ensures next { OnOk result (self.new ≡ record { seed = self.old.seed; parts = self.old.parts + 1 }) }
+        ensures appended { OnOk result
+            (to.new ≡ to.old ++ part_bytes self.old.seed (self.old.parts + 1)) }
+        ensures next { OnOk result
+            (self.new ≡ record { seed = self.old.seed; parts = self.old.parts + 1 }) }
         ensures same { OnErr result (self.new ≡ self.old) }
     {
         let number = push_part(self.alloc, self.seed, self.parts, self.number, to)?;

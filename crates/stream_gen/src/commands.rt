@@ -100,7 +100,8 @@ pub fn push_snapshot(
     to: &mut Blob,
 ) -> Result<(), AllocError>
     requires later { 2 ≤ part }
-    ensures appended { OnOk result (to.new ≡ to.old ++ canonical 1 (Snapshot uuid part (part_name part) before (part - 1))) }
+    ensures appended { OnOk result
+        (to.new ≡ to.old ++ canonical 1 (Snapshot uuid part (part_name part) before (part - 1))) }
 {
     let command = Command::Snapshot {
         uuid,
@@ -134,7 +135,8 @@ pub fn push_write(
     to: &mut Blob,
 ) -> Result<(), AllocError>
     requires short { count < 65_536 }
-    ensures appended { OnOk result (to.new ≡ to.old ++ canonical 1 (Write (file_name file) offset (replicate count byte))) }
+    ensures appended { OnOk result
+        (to.new ≡ to.old ++ canonical 1 (Write (file_name file) offset (replicate count byte))) }
 {
     let bytes = Vec::from_elem(alloc, byte, count)?;
     let command = Command::Write {
@@ -157,7 +159,8 @@ pub fn push_clone(
     requires later { 2 ≤ part }
     requires goal { drawn.now.goal_block < 3 }
     requires source { drawn.now.source_block < 3 }
-    ensures appended { OnOk result (to.new ≡ to.old ++ canonical 1 (clone_by before part drawn.now)) }
+    ensures appended { OnOk result
+        (to.new ≡ to.old ++ canonical 1 (clone_by before part drawn.now)) }
 {
     let command = Command::Clone {
         path: name_of_file(alloc, drawn.goal)?,
@@ -174,7 +177,8 @@ pub fn push_clone(
 // A file renamed to `t`.
 #[tactic(auto, unfolding(send_commands::specs::Writing::IsWritable, send_model::specs::Command::row))]
 fn push_away(alloc: Global, file: u64, to: &mut Blob) -> Result<(), AllocError>
-    ensures appended { OnOk result (to.new ≡ to.old ++ canonical 1 (Rename (file_name file) (codes "t"))) }
+    ensures appended { OnOk result
+        (to.new ≡ to.old ++ canonical 1 (Rename (file_name file) (codes "t"))) }
 {
     let mut other = Blob::new(alloc);
     other.push_all(b"t")?;
@@ -188,7 +192,8 @@ fn push_away(alloc: Global, file: u64, to: &mut Blob) -> Result<(), AllocError>
 // And back.
 #[tactic(auto, unfolding(send_commands::specs::Writing::IsWritable, send_model::specs::Command::row))]
 fn push_back(alloc: Global, file: u64, to: &mut Blob) -> Result<(), AllocError>
-    ensures appended { OnOk result (to.new ≡ to.old ++ canonical 1 (Rename (codes "t") (file_name file))) }
+    ensures appended { OnOk result
+        (to.new ≡ to.old ++ canonical 1 (Rename (codes "t") (file_name file))) }
 {
     let mut other = Blob::new(alloc);
     other.push_all(b"t")?;
@@ -201,7 +206,9 @@ fn push_back(alloc: Global, file: u64, to: &mut Blob) -> Result<(), AllocError>
 
 /// Appends the RENAMEs of a file there and back.
 pub fn push_renames(alloc: Global, file: u64, to: &mut Blob) -> Result<(), AllocError>
-    ensures appended { OnOk result (to.new ≡ to.old ++ canonical 1 (Rename (file_name file) (codes "t")) ++ canonical 1 (Rename (codes "t") (file_name file))) }
+    ensures appended { OnOk result
+        (to.new ≡ to.old ++ canonical 1 (Rename (file_name file) (codes "t"))
+        ++ canonical 1 (Rename (codes "t") (file_name file))) }
 {
     push_away(alloc, file, to)?;
     push_back(alloc, file, to)

@@ -35,7 +35,8 @@ pub fn write_chain<O: Sink>(alloc: Global, count: u64, seed: u64, out: &mut O) -
     requires few { count ≤ 4_096 }
     ensures later { O.faults out.old ≤ O.faults out.new }
     ensures cause { Caused 0 0 (O.faults out.old) (O.faults out.new) result }
-    ensures written { Wrote (O.taken out.old) (O.taken out.new) (λ written. Ends (Gen count seed) [] [] result written) }
+    ensures written { Wrote (O.taken out.old) (O.taken out.new)
+        (λ written. Ends (Gen count seed) [] [] result written) }
 {
     let mut chain = Chain::new(alloc, seed);
     let mut part = Blob::new(alloc);

@@ -22,7 +22,8 @@ const FILE_LEN: usize = 12_288;
 
 /// Appends the first part: eight files, and three blocks written into each.
 pub fn push_first_part(alloc: Global, uuid: Uuid, to: &mut Blob) -> Result<(), AllocError>
-    ensures appended { OnOk result (to.new ≡ to.old ++ (stream_header 1 ++ canonical_all 1 (first_by uuid))) }
+    ensures appended { OnOk result
+        (to.new ≡ to.old ++ (stream_header 1 ++ canonical_all 1 (first_by uuid))) }
 {
     push_header(to)?;
     push_subvol(alloc, uuid, to)?;
@@ -32,7 +33,8 @@ pub fn push_first_part(alloc: Global, uuid: Uuid, to: &mut Blob) -> Result<(), A
 }
 
 fn push_files(alloc: Global, to: &mut Blob) -> Result<(), AllocError>
-    ensures appended { OnOk result (to.new ≡ to.old ++ canonical_all 1 (map (λ file. MkFile (file_name file)) files)) }
+    ensures appended { OnOk result
+        (to.new ≡ to.old ++ canonical_all 1 (map (λ file. MkFile (file_name file)) files)) }
 {
     for file in 0..FILES {
         push_mkfile(alloc, file, to)?;
@@ -41,7 +43,9 @@ fn push_files(alloc: Global, to: &mut Blob) -> Result<(), AllocError>
 }
 
 fn push_contents(alloc: Global, to: &mut Blob) -> Result<(), AllocError>
-    ensures appended { OnOk result (to.new ≡ to.old ++ canonical_all 1 (map (λ file. Write (file_name file) 0 (replicate 12_288 file)) files)) }
+    ensures appended { OnOk result
+        (to.new ≡ to.old
+        ++ canonical_all 1 (map (λ file. Write (file_name file) 0 (replicate 12_288 file)) files)) }
 {
     for file in 0..FILES {
         push_write(alloc, file, 0, file as u8, FILE_LEN, to)?;
@@ -63,7 +67,9 @@ pub fn push_later_part(
     requires block { drawn.now.block < 3 }
     requires goal { drawn.now.goal_block < 3 }
     requires source { drawn.now.source_block < 3 }
-    ensures appended { OnOk result (to.new ≡ to.old ++ (stream_header 1 ++ canonical_all 1 (part_by uuid before part drawn.now))) }
+    ensures appended { OnOk result
+        (to.new ≡ to.old
+        ++ (stream_header 1 ++ canonical_all 1 (part_by uuid before part drawn.now))) }
 {
     push_header(to)?;
     push_snapshot(alloc, uuid, before, part, to)?;

@@ -44,7 +44,8 @@ pub(crate) fn allocate<O: Origin>(
     len: u64,
 ) -> Result<(), AllocError>
     requires { at + len < 2 ^ 63 }
-    ensures { OnOk result (contents.new ≡ edit.fallocated None (meant_by allocation) at len contents.old) }
+    ensures { OnOk result
+        (contents.new ≡ edit.fallocated None (meant_by allocation) at len contents.old) }
 {
     if len == 0 {
         return Ok(());

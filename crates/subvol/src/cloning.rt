@@ -31,7 +31,8 @@ impl<O: Origin> Subvol<O> {
         from: u64,
         len: u64,
     ) -> Result<(), Stop>
-        ensures { MayChange result self.old self.new (meant.clone None self.old (Some self.old) true path.now at source_path.now from len) }
+        ensures { MayChange result self.old self.new
+            (meant.clone None self.old (Some self.old) true path.now at source_path.now from len) }
     {
         let (ino, source) = clone_files(&self.tree, path, &self.tree, source_path)?;
         let Some(cells) = contents_of(&self.tree, source) else {
@@ -63,7 +64,9 @@ impl<O: Origin> Subvol<O> {
         from: u64,
         len: u64,
     ) -> Result<(), Stop>
-        ensures { MayChange result self.old self.new (meant.clone None self.old (Some source.now) false path.now at source_path.now from len) }
+        ensures { MayChange result self.old self.new
+            (meant.clone None self.old (Some source.now) false path.now at source_path.now from
+            len) }
     {
         let (ino, source_ino) = clone_files(&self.tree, path, &source.tree, source_path)?;
         let Some(cells) = contents_of(&source.tree, source_ino) else {

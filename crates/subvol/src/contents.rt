@@ -28,7 +28,8 @@ impl<O: Origin> Subvol<O> {
     pub fn write(&mut self, path: &[u8], at: u64, origin: O, len: u64) -> Result<(), Stop>
         requires { len ≤ O.reach origin }
         ensures { MayChange result self.old self.new
-            (edit.change_contents path.now (at + len) (edit.written_at None at (run_cells O.advanced origin len)) self.old) }
+            (edit.change_contents path.now (at + len)
+            (edit.written_at None at (run_cells O.advanced origin len)) self.old) }
     {
         let ino = self.file(path)?;
         check_end(at, len)?;
@@ -44,7 +45,8 @@ impl<O: Origin> Subvol<O> {
     /// # Errors
     /// The refusals of the walk, NotFile, then FileTooBig where the size is above 2^63 - 1; then nothing changes.
     pub fn truncate(&mut self, path: &[u8], size: u64) -> Result<(), Stop>
-        ensures { MayChange result self.old self.new (edit.change_contents path.now size (edit.resized None size) self.old) }
+        ensures { MayChange result self.old self.new
+            (edit.change_contents path.now size (edit.resized None size) self.old) }
     {
         let ino = self.file(path)?;
         check_end(0, size)?;
@@ -61,7 +63,8 @@ impl<O: Origin> Subvol<O> {
     /// The refusals of the walk, NotFile, BadFallocate where the mode is none of 0, 1, 3, 16 and 17, then FileTooBig where the range
     /// ends above 2^63 - 1; then nothing changes.
     pub fn fallocate(&mut self, path: &[u8], mode: u32, at: u64, len: u64) -> Result<(), Stop>
-        ensures { MayChange result self.old self.new (edit.fallocate None path.now at len mode self.old) }
+        ensures { MayChange result self.old self.new
+            (edit.fallocate None path.now at len mode self.old) }
     {
         let ino = self.file(path)?;
         let Some(allocation) = allocation_of(mode) else {
@@ -90,7 +93,8 @@ impl<O: Origin> Subvol<O> {
     pub(crate) fn take_contents(&mut self, ino: u64) -> Result<Extents<O>, AllocError>
         requires { is_file self.old ino ≡ true }
         ensures contents { IfOk result (λ contents. contents ≡ cells_of self.old ino) }
-        ensures tree { OnOk result (self.new ≡ edit.change_inode ino (edit.set_cells (λ _. [])) self.old) }
+        ensures tree { OnOk result
+            (self.new ≡ edit.change_inode ino (edit.set_cells (λ _. [])) self.old) }
         ensures file { OnOk result (is_file self.new ino ≡ true) }
     {
         let mut contents = Extents::new(self.alloc);
@@ -101,7 +105,8 @@ impl<O: Origin> Subvol<O> {
     // Gives a file these contents.
     pub(crate) fn put_contents(&mut self, ino: u64, contents: Extents<O>) -> Result<(), AllocError>
         requires { is_file self.old ino ≡ true }
-        ensures { OnOk result (self.new ≡ edit.change_inode ino (edit.set_cells (λ _. contents)) self.old) }
+        ensures { OnOk result
+            (self.new ≡ edit.change_inode ino (edit.set_cells (λ _. contents)) self.old) }
     {
         let mut contents = contents;
         let _there = self.tree.swap_contents(ino, &mut contents)?;
@@ -133,7 +138,8 @@ fn is_file<O: Origin>(tree: &Tree<O>, ino: u64) -> bool
 
 // Tests that a range ends where a file may end.
 pub(crate) fn check_end(at: u64, len: u64) -> Result<(), Refusal>
-    ensures tested { Finds result (require (nat_le (at + len) edit.greatest_end) refusal.FileTooBig) }
+    ensures tested { Finds result
+        (require (nat_le (at + len) edit.greatest_end) refusal.FileTooBig) }
     ensures fits { OnOk result (at + len < 2 ^ 63) }
 {
     match at.checked_add(len) {

@@ -53,7 +53,8 @@ impl<O: Origin> Subvol<O> {
     /// its number. It shares the names, and no inode. Fails for want of memory alone.
     pub fn retraced<P: Origin, S: Starts<P>>(&self, starts: &S) -> Result<Subvol<P>, AllocError>
         requires { AreReached P.reach (S.starts starts.now) self.now.inodes }
-        ensures { IfOk result (λ subvol. subvol ≡ retraced P.advanced (S.starts starts.now) self.now) }
+        ensures { IfOk result
+            (λ subvol. subvol ≡ retraced P.advanced (S.starts starts.now) self.now) }
     {
         Ok(Subvol {
             tree: self.tree.retraced(starts)?,
@@ -76,7 +77,8 @@ impl<O: Origin> Subvol<O> {
 
     /// The inodes and names, to be changed: what becomes of them becomes of the subvolume.
     pub fn tree_mut(&mut self) -> &mut Tree<O>
-        ensures* writes_back { sem 𝓛 (Lends (the_row O.row O.Origin) (tree_row O.row O.Origin) self.entry result (λ w. w)) }
+        ensures* writes_back { sem 𝓛
+            (Lends (the_row O.row O.Origin) (tree_row O.row O.Origin) self.entry result (λ w. w)) }
         ensures value { result.now ≡ self.old }
     {
         &mut self.tree

@@ -107,7 +107,8 @@ impl<V: Drop> Catalog<V> {
     /// `BadName`, `NameThere`, `UuidThere`, and `NoParent` where a parent is named that no complete entry has as its key: the
     /// first of these that holds. After an error nothing is changed.
     pub fn begin(&mut self, name: Blob, key: Key, parent: Option<Key>) -> Result<(), Stop>
-        ensures added { Adds result (admitted self.old (head_with name key parent)) (unfinished (head_with name key parent)) self.old self.new }
+        ensures added { Adds result (admitted self.old (head_with name key parent))
+            (unfinished (head_with name key parent)) self.old self.new }
     {
         let sought = parent;
         let entry = Entry {
@@ -121,7 +122,8 @@ impl<V: Drop> Catalog<V> {
 
     // Adds an entry whose parent has to be found.
     fn admit(&mut self, entry: Entry<V>, parent: Option<Key>) -> Result<(), Stop>
-        ensures added { Adds result (admitted self.old (head_with entry.name entry.key parent)) (entry_of entry) self.old self.new }
+        ensures added { Adds result (admitted self.old (head_with entry.name entry.key parent))
+            (entry_of entry) self.old self.new }
     {
         self.check_new(entry.name.as_slice(), entry.uuid())?;
         self.check_parent(parent)?;
@@ -133,7 +135,8 @@ impl<V: Drop> Catalog<V> {
     /// # Errors
     /// `BadName`, `NameThere` and `UuidThere`: the first of these that holds. After an error nothing is changed.
     pub fn add(&mut self, entry: Entry<V>) -> Result<(), Stop>
-        ensures added { Adds result (is_new self.old entry.name entry.key.uuid) (entry_of entry) self.old self.new }
+        ensures added { Adds result (is_new self.old entry.name entry.key.uuid) (entry_of entry)
+            self.old self.new }
     {
         self.check_new(entry.name.as_slice(), entry.uuid())?;
         self.push(entry)

@@ -39,7 +39,8 @@ pub trait Disk {
     /// only for an empty buffer or where `at` is not below the size.
     fn read(&mut self, at: u64, buf: &mut [u8]) -> Result<usize, Failed>
         ensures bound { IfOk result (λ count. count ≤ length buf.new) }
-        ensures progress { IfOk result (λ count. count ≡ 0 → 0 < length buf.new → len self.old ≤ at) }
+        ensures progress { IfOk result
+            (λ count. count ≡ 0 → 0 < length buf.new → len self.old ≤ at) }
         ensures bytes { tells → IfOk result (IsReadAt (seen self.old) at buf.new) }
         ensures len { len self.new ≡ len self.old }
         ensures same { tells → IsAsBefore seen pending self.old self.new }
@@ -53,8 +54,10 @@ pub trait Disk {
         ensures len { OnOk result (len self.new ≡ max (len self.old) (at + length piece.now)) }
         ensures len_err { OnErr result ((len self.old ≤ len self.new)
             × (len self.new ≤ max (len self.old) (at + length piece.now))) }
-        ensures seen { tells → OnOk result (seen self.new ≡ overwritten at piece.now (seen self.old)) }
-        ensures pending { tells → pending self.new ≡ written at (length piece.now) (pending self.old) }
+        ensures seen { tells
+            → OnOk result (seen self.new ≡ overwritten at piece.now (seen self.old)) }
+        ensures pending { tells
+            → pending self.new ≡ written at (length piece.now) (pending self.old) }
         ensures passes { Passes tells moment left_since pending faults self.old self.new result };
 
     /// Makes the disk shorter. A cut that failed counts as a size that was reached.

@@ -38,6 +38,7 @@ pub trait Inputs {
         ensures bytes { OnOk result (FillsFrom (told self.old) name.now at buf.new) }
         ensures later { faults self.old ≤ faults self.new }
         ensures ends { EndsKept (told self.old) (ends self.old) (ends self.new) }
-        ensures cause { LostFor (told self.old) at (length buf.new) (faults self.old) (faults self.new) (ends self.old) (ends self.new) result }
+        ensures cause { LostFor (told self.old) at (length buf.new)
+            (faults self.old) (faults self.new) (ends self.old) (ends self.new) result }
         ensures met { MeetsEnd name.now (last_end self.new) result };
 }

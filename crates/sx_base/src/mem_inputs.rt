@@ -54,7 +54,8 @@ impl MemInputs {
     /// Adds a file, or changes nothing where there is no memory. A file of a name that is there already is
     /// never read.
     pub fn add(&mut self, name: &str, bytes: &[u8]) -> Result<(), AllocError>
-        ensures added { OnOk result (self.new ≡ record self.old { files = self.old.files ++ (name.now, bytes.now) ∷ [] }) }
+        ensures added { OnOk result
+            (self.new ≡ record self.old { files = self.old.files ++ (name.now, bytes.now) ∷ [] }) }
         ensures same { OnErr result (self.new ≡ self.old) }
     {
         add_file(self.alloc, &mut self.files, name, bytes)
@@ -62,7 +63,8 @@ impl MemInputs {
 
     /// Has the `n`th call fail, counted from 1, or changes nothing where there is no memory.
     pub fn fail_call(&mut self, n: u64) -> Result<(), AllocError>
-        ensures listed { OnOk result (self.new ≡ record self.old { failing = self.old.failing ++ n ∷ [] }) }
+        ensures listed { OnOk result
+            (self.new ≡ record self.old { failing = self.old.failing ++ n ∷ [] }) }
         ensures same { OnErr result (self.new ≡ self.old) }
     {
         self.failing.push(n)?;
@@ -100,11 +102,14 @@ impl Inputs for MemInputs {
     fn read_at(&mut self, name: &str, at: u64, buf: &mut [u8]) -> Result<usize, Failed>
         ensures same { Some self.new.files ≡ Some self.old.files }
         ensures bound { IfOk result (λ count. count ≤ length buf.new) }
-        ensures bytes { IfOk result (λ count. GivesAt (Some self.old.files) name.now at buf.new count) }
+        ensures bytes { IfOk result
+            (λ count. GivesAt (Some self.old.files) name.now at buf.new count) }
         ensures ends { EndsKept (Some self.old.files) 0 0 }
         ensures cause { HasCause self.old.faults self.new.faults result }
         ensures fails { is_err result ≡ is_listed self.old.failing (next_count self.old.calls) }
-        ensures fills { IfOk result (λ count. count ≡ min (length buf.new) (length (file_at self.old.files name.now) - at)) }
+        ensures fills { IfOk result
+            (λ count. count ≡ min (length buf.new)
+            (length (file_at self.old.files name.now) - at)) }
         ensures counts { self.new ≡ record self.old {
           calls = next_count self.old.calls;
           faults = if is_err result then next_count self.old.faults else self.old.faults;
@@ -122,7 +127,8 @@ impl Inputs for MemInputs {
         ensures bytes { OnOk result (FillsFrom (Some self.old.files) name.now at buf.new) }
         ensures later { self.old.faults ≤ self.new.faults }
         ensures ends { EndsKept (Some self.old.files) 0 0 }
-        ensures cause { LostFor (Some self.old.files) at (length buf.new) self.old.faults self.new.faults 0 0 result }
+        ensures cause { LostFor (Some self.old.files) at (length buf.new)
+            self.old.faults self.new.faults 0 0 result }
         ensures met { MeetsEnd name.now no_end result }
         ensures fails { is_err result ≡ is_listed self.old.failing (next_count self.old.calls) }
         ensures counts { self.new ≡ record self.old {

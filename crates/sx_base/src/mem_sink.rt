@@ -37,7 +37,13 @@ impl Model for MemSink {
 impl MemSink {
     /// A sink that took nothing and of which no call is to fail. Takes no memory.
     pub fn new(alloc: Global) -> MemSink
-        ensures empty { result ≡ record { bytes = []; failing = []; calls = 0; refused = 0; faults = 0 } }
+        ensures empty { result ≡ record {
+          bytes = [];
+          failing = [];
+          calls = 0;
+          refused = 0;
+          faults = 0;
+        } }
     {
         MemSink {
             bytes: Vec::new(alloc),
@@ -50,7 +56,8 @@ impl MemSink {
 
     /// Has the `n`th write fail, counted from 1, or changes nothing where there is no memory.
     pub fn fail_call(&mut self, n: u64) -> Result<(), AllocError>
-        ensures listed { OnOk result (self.new ≡ record self.old { failing = self.old.failing ++ n ∷ [] }) }
+        ensures listed { OnOk result
+            (self.new ≡ record self.old { failing = self.old.failing ++ n ∷ [] }) }
         ensures same { OnErr result (self.new ≡ self.old) }
     {
         self.failing.push(n)?;
@@ -83,12 +90,15 @@ impl Sink for MemSink {
         ensures bytes { WriteAppends (Some self.old.bytes) (Some self.new.bytes) result piece.now }
         ensures cause { HasCause self.old.faults self.new.faults result }
         ensures whole { IfOk result (λ count. count ≡ length piece.now) }
-        ensures listed { IsTrue (is_listed self.old.failing (next_count self.old.calls)) → IsErr result }
-        ensures refused { self.new.refused ≡
-            (if is_err result && not (is_listed self.old.failing (next_count self.old.calls)) then next_count self.old.refused else self.old.refused) }
+        ensures listed { IsTrue (is_listed self.old.failing (next_count self.old.calls))
+            → IsErr result }
+        ensures refused { self.new.refused ≡ (if is_err result
+            && not (is_listed self.old.failing (next_count self.old.calls))
+            then next_count self.old.refused else self.old.refused) }
         ensures failing { self.new.failing ≡ self.old.failing }
         ensures calls { self.new.calls ≡ next_count self.old.calls }
-        ensures faults { self.new.faults ≡ (if is_err result then next_count self.old.faults else self.old.faults) }
+        ensures faults { self.new.faults ≡ (if is_err result then next_count self.old.faults
+            else self.old.faults) }
     {
         self.calls = self.calls.saturating_add(1);
         if self.failing.contains(&self.calls) {

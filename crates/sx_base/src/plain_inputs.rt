@@ -64,7 +64,8 @@ impl Inputs for PlainInputs {
         ensures bytes { IfOk result (λ count. GivesAt (Some self.old) name.now at buf.new count) }
         ensures ends { EndsKept (Some self.old) 0 0 }
         ensures cause { HasCause 0 0 result }
-        ensures fills { IsOkAnd result (λ count. count ≡ min (length buf.new) (length (file_at self.old name.now) - at)) }
+        ensures fills { IsOkAnd result
+            (λ count. count ≡ min (length buf.new) (length (file_at self.old name.now) - at)) }
     {
         Ok(read_piece(find_file(self.files.as_slice(), name), at, buf))
     }

@@ -18,7 +18,8 @@ pub(crate) fn add_file(
     name: &str,
     bytes: &[u8],
 ) -> Result<(), AllocError>
-    ensures added { OnOk result (as_files files.new.items ≡ as_files files.old.items ++ (name.now, bytes.now) ∷ []) }
+    ensures added { OnOk result
+        (as_files files.new.items ≡ as_files files.old.items ++ (name.now, bytes.now) ∷ []) }
     ensures same { OnErr result (as_files files.new.items ≡ as_files files.old.items) }
 {
     let name = String::from_str(alloc, name)?;

@@ -93,7 +93,8 @@ pub fn attrs(body: &[u8], version: u32) -> Result<AttrTable<'_>, Refusal>
 // The number and the bytes of the attribute in front.
 #[tactic(auto, unfolding(crate::specs::Front::front_at, send_model::specs::Reading::number16))]
 fn front(rest: &[u8], version: u32) -> Result<(u16, &[u8]), Refusal>
-    ensures exact { Reads (λ a. record { kind = a.0; bytes = a.1.now }) result (front_at version rest.now) }
+    ensures exact { Reads (λ a. record { kind = a.0; bytes = a.1.now }) result
+        (front_at version rest.now) }
     ensures short { IfOk result (λ a. HasRoom version a.0 (length a.1.now)) }
 {
     if rest.len() < 2 {

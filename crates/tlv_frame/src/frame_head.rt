@@ -27,7 +27,9 @@ impl FrameHead {
     /// btrfs_cmd_header in send.h of btrfs-progs.
     #[tactic(auto, unfolding(crate::specs::Frame::head_at, send_model::specs::Reading::number16, send_model::specs::Reading::number32))]
     pub fn read(bytes: &[u8; 10]) -> Result<FrameHead, Refusal>
-        ensures exact { Reads (λ head. record { len = head.len; number = head.cmd; stored = head.crc }) result (head_at bytes.now) }
+        ensures exact { Reads
+            (λ head. record { len = head.len; number = head.cmd; stored = head.crc }) result
+            (head_at bytes.now) }
     {
         let len = u32::from_le_bytes([bytes[0], bytes[1], bytes[2], bytes[3]]);
         if len > GREATEST_BODY {
@@ -43,7 +45,10 @@ impl FrameHead {
     #[tactic(auto, unfolding(crate::specs::Frame::checksum_holds))]
     pub fn check_crc(&self, body: &[u8]) -> Result<(), Refusal>
         requires whole { length body.now ≡ self.now.len }
-        ensures exact { Reads (λ _. tt) result (checksum_holds (record { len = self.now.len; number = self.now.cmd; stored = self.now.crc }) body.now) }
+        ensures exact { Reads (λ _. tt) result
+            (checksum_holds
+            (record { len = self.now.len; number = self.now.cmd; stored = self.now.crc })
+            body.now) }
     {
         let computed = checksum(self.len, self.cmd, body);
         if self.crc != computed {

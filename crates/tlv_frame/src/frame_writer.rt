@@ -35,7 +35,8 @@ impl FrameWriter {
     /// is as it was.
     pub fn begin(to: &mut Blob, cmd: u16, version: u32) -> Result<FrameWriter, AllocError>
         ensures room { OnOk result (to.new ≡ to.old ++ head_room) }
-        ensures begun { IfOk result (λ writer. writer ≡ record { start = length to.old; number = cmd; version = version }) }
+        ensures begun { IfOk result
+            (λ writer. writer ≡ record { start = length to.old; number = cmd; version = version }) }
         ensures same { OnErr result (to.new ≡ to.old) }
     {
         let start = to.as_slice().len();
@@ -49,7 +50,10 @@ impl FrameWriter {
 
     /// Appends an attribute that is a number of eight bytes. Without memory the blob begins with the bytes that it had.
     pub fn attr_u64(&mut self, to: &mut Blob, kind: u16, n: u64) -> Result<(), AllocError>
-        ensures appended { OnOk result (to.new ≡ to.old ++ attribute_bytes self.old.version (record { kind = kind; bytes = to_le_bytes w64 n })) }
+        ensures appended { OnOk result
+            (to.new ≡ to.old
+            ++ attribute_bytes self.old.version
+            (record { kind = kind; bytes = to_le_bytes w64 n })) }
         ensures front { IsFront to.old to.new }
         ensures writer { self.new ≡ self.old }
     {
@@ -61,7 +65,9 @@ impl FrameWriter {
     #[tactic(auto, unfolding(send_model::specs::Spelling::attribute_bytes))]
     pub fn attr_bytes(&mut self, to: &mut Blob, kind: u16, bytes: &[u8]) -> Result<(), AllocError>
         requires short { HasRoom self.old.version kind (length bytes.now) }
-        ensures appended { OnOk result (to.new ≡ to.old ++ attribute_bytes self.old.version (record { kind = kind; bytes = bytes.now })) }
+        ensures appended { OnOk result
+            (to.new ≡ to.old
+            ++ attribute_bytes self.old.version (record { kind = kind; bytes = bytes.now })) }
         ensures front { IsFront to.old to.new }
         ensures writer { self.new ≡ self.old }
     {
@@ -79,7 +85,9 @@ impl FrameWriter {
     /// body. Without memory the blob begins with the bytes that it had.
     pub fn attr_data(&mut self, to: &mut Blob, bytes: &[u8]) -> Result<(), AllocError>
         requires short { HasRoom self.old.version DATA (length bytes.now) }
-        ensures appended { OnOk result (to.new ≡ to.old ++ attribute_bytes self.old.version (record { kind = DATA; bytes = bytes.now })) }
+        ensures appended { OnOk result
+            (to.new ≡ to.old
+            ++ attribute_bytes self.old.version (record { kind = DATA; bytes = bytes.now })) }
         ensures front { IsFront to.old to.new }
         ensures writer { self.new ≡ self.old }
     {
@@ -90,7 +98,8 @@ impl FrameWriter {
     pub fn finish(self, to: &mut Blob)
         requires begun { self.start + 10 ≤ length to.old }
         requires short { length to.old < self.start + 10 + 2 ^ 32 }
-        ensures framed { to.new ≡ take self.start to.old ++ frame_of self.number (drop (self.start + 10) to.old) }
+        ensures framed { to.new ≡ take self.start to.old
+            ++ frame_of self.number (drop (self.start + 10) to.old) }
     {
         let body = &to.as_slice()[self.start + 10..];
         let len = body.len() as u32;

@@ -52,7 +52,8 @@ impl<O: Origin> PlainCells<O> {
     pub(crate) fn put_run(&mut self, at: u64, origin: O, len: u64) -> Result<(), AllocError>
         requires end { at + len < 2 ^ 63 }
         requires reaches { len ≤ O.reach origin }
-        ensures { OnOk result (self.new ≡ put_cells None at (run_cells O.advanced origin len) self.old) }
+        ensures { OnOk result
+            (self.new ≡ put_cells None at (run_cells O.advanced origin len) self.old) }
     {
         let cells = run_of(self.alloc, origin, len)?;
         self.put(at, &cells)
@@ -85,7 +86,8 @@ impl<O: Origin> PlainCells<O> {
     ) -> Result<(), AllocError>
         requires end { at + len < 2 ^ 63 }
         requires source { from + len ≤ length source.now }
-        ensures { OnOk result (self.new ≡ put_cells None at (cells_between from len source.now) self.old) }
+        ensures { OnOk result
+            (self.new ≡ put_cells None at (cells_between from len source.now) self.old) }
     {
         let range = &source.cells[from as usize..][..len as usize];
         self.put(at, range)
@@ -95,7 +97,8 @@ impl<O: Origin> PlainCells<O> {
         requires end { at + len < 2 ^ 63 }
         requires source { from + len ≤ length self.old }
         requires apart { (at + len ≤ from) ⊎ (from + len ≤ at) }
-        ensures { OnOk result (self.new ≡ put_cells None at (cells_between from len self.old) self.old) }
+        ensures { OnOk result
+            (self.new ≡ put_cells None at (cells_between from len self.old) self.old) }
     {
         let range = Vec::from_slice(self.alloc, &self.cells[from as usize..][..len as usize])?;
         self.put(at, &range)
@@ -119,7 +122,8 @@ impl<O: Origin> PlainCells<O> {
 
 /// Puts zero cells at the end until there are `size` cells.
 fn fill<O: Origin>(cells: &mut Vec<Option<O>>, size: usize) -> Result<(), AllocError>
-    ensures { OnOk result (cells.new.items ≡ cells.old.items ++ replicate (size - length cells.old.items) None) }
+    ensures { OnOk result
+        (cells.new.items ≡ cells.old.items ++ replicate (size - length cells.old.items) None) }
 {
     for have in cells.len()..size {
         cells.push(None)?;
