@@ -1,4 +1,4 @@
-use Rattle.std.specs.Prelude.{[], map, drop, List, Option}
+use Rattle.std.specs.Prelude.{ℕ, [], map, drop, List, Option}
 use Rattle.std.specs.String.{string_bytes}
 use Rattle.std.proofs.Common.{◌≡◌, sym, ap, subst, ◌∙◌}
 use Rattle.std.proofs.lemmas.List.{drop-map}
