@@ -1,4 +1,5 @@
 pub mod Journal
+pub mod Laws
 pub mod Shown
 pub mod State
 pub mod Stopping

@@ -3,7 +3,9 @@
 
 mod filling;
 mod journal;
+mod laws;
 mod stops;
 
 pub use journal::{GroupPlace, Log};
+pub use laws::images_are_one_journal;
 pub use stops::LogStop;
