@@ -15,11 +15,9 @@ use Rattle.send_model.proofs.CellClones.{all_steps-cells}
 use Rattle.sx_base.specs.declared.stop.Stop.{Stop}
 use Rattle.sx_base.specs.declared.stop.Stop.TheVariants as why
 use Rattle.extent_map.specs.Pieces.{run_cells}
-use Rattle.clone_resolve.specs.Steps.{data_len, cells_put, done_by, Answers}
-use Rattle.clone_resolve.specs.declared.done.Done.{Done}
+use Rattle.clone_resolve.specs.Steps.{data_len, cells_put, Answers}
 use Rattle.guard_rules.specs.Meaning.{IsRefusedAt, used_at}
 use Rattle.auditor.specs.Following.{Followed, blank_step, beside, follow}
-use Rattle.auditor.specs.Answers.{Follows}
 
 -- ---- without cells
 
@@ -80,20 +78,3 @@ guard_refuses_item kept before bs place guard used state item refused within cou
     let found : slice_index_or (map kept bs) place (new_guard NoDevices) ≡ kept (slice_index_or bs place guard) = get_or-map kept bs place guard (new_guard NoDevices) within in
     let count : used_at (map kept bs) place ≡ used = ap (λ (g : Guard). g.used) found ∙ sym counted in
     ap (λ (a : After Followed). a.refusal) (follow_is (beside before state) item _ refused) ∙ ap (λ (n : ℕ). Some (Guarded place n)) count
-
--- No guard refuses it, so it does what its step says.
-pub guards_allow_item : (before after : List Guard) (old new : State Blank) (item : Item) (result : Result Done Stop)
-    → guarded before item.command ≡ None → after ≡ looked before item.command
-    → Answers result new (blank_step old item.command) → ((done : Done) → result ≡ Ok done → done ≡ done_by item.command)
-    → Follows result (beside after new) item (follow (beside before old) item)
-unfolding after_guards
-guards_allow_item before after old new item result allowed moved said is_done = by_result result said is_done
-  where
-    is : follow (beside before old) item ≡ watched after (blank_step old item.command)
-    is = follow_is (beside before old) item None allowed ∙ ap (λ (gs : List Guard). watched gs (blank_step old item.command)) (sym moved)
-
-    by_result : (r : Result Done Stop) → Answers r new (blank_step old item.command) → ((done : Done) → r ≡ Ok done → done ≡ done_by item.command)
-        → Follows r (beside after new) item (follow (beside before old) item)
-    by_result (Ok done) e d = (is ∙ ap (watched after) e, d done refl)
-    by_result (Err (why.Refused refusal)) e d = ap (λ (a : After Followed). a.refusal) (is ∙ ap (watched after) e)
-    by_result (Err why.NoMemory) e d = tt

@@ -90,10 +90,6 @@ file_ends told inputs name old new counted f0 f1 o e same name_is says stands =
           counts = subst (λ (r : Reading). AreCounted counted (commands_of r.items)) (sym whole) s.counts;
         }
 
--- No count is given.
-pub not_counted : (told : Option (List (List ℕ × List ℕ))) (name : List ℕ) → IfTold told name (IfCounted None)
-not_counted told name = told_always told name (IfCounted None) (λ bytes. tt)
-
 -- Where the reader stands after an item.
 pub item_moves : (o : Option read.Item) (item : read.Item) (old new : Reader) → o ≡ Some item → IfItem (Ok o) (ItemFits old new) → ItemFits old new item
 item_moves o item old new e fits = subst (λ (x : Option read.Item). IfItem (Ok x) (ItemFits old new)) e fits

@@ -2,8 +2,7 @@
 use Rattle.std.specs.Prelude.{◌≡◌, ℕ, suc, ◌-◌, ◌≤◌, List, [], ◌∷◌, ◌++◌, length, take, codes, Option, None, Some}
 use Rattle.std.specs.Fmt.{decimal}
 use Rattle.std.specs.Io.KnownBytes.{Appends}
-use Rattle.std.proofs.Common.{refl, sym, ap, subst, ◌∙◌, arith, zero-le}
-use Rattle.std.proofs.KnownBytes.{Appends-nil}
+use Rattle.std.proofs.Common.{refl, sym, ap, subst, ◌∙◌, arith}
 use Rattle.send_model.specs.Reading.{Item, reads}
 use Rattle.send_model.specs.Order.{commands_of}
 use Rattle.send_model.specs.Counts.{literal}
@@ -118,10 +117,6 @@ unfolding trial_line
 line_is seed count n a =
     λ i. codes "trial " ++ decimal count ++ 0x20 ∷ decimal (a.commands i) ++ 0x20 ∷ decimal (a.input i) ++ 0x20 ∷ decimal (a.output i)
     ++ 0x20 ∷ decimal (a.clones_are i) ++ 0x20 ∷ decimal (a.redirected i) ++ 0x0a ∷ []
-
--- Nothing is written.
-pub untried : (seed count : ℕ) (out : Option (List ℕ)) → Wrote out out (λ written. Ends (Trial count seed) [] [] ended.NoMemory written)
-untried seed count out = ([], Appends-nil out, record { count = 0; within = zero-le; written_is = refl })
 
 -- The line is written, or a part of it.
 pub line_written : (seed count : ℕ) (n : Numbers) (line : List ℕ) (old new : Option (List ℕ)) → line ≡ line_text count n → AreNumbers seed count n → Appends old new line

@@ -124,17 +124,6 @@ module _ {Z : Type 0} (names : List (String Z)) (held : meant.Key → ℕ → Li
 abbrev pub FilledTo : (meant.Key → ℕ → List ℕ) → List (Option Trace) → ℕ → List ℕ → List (List ℕ) → Type 0
 FilledTo held whole have buf files = by_piece.FilledTo (byte_in held files) whole have buf
 
--- A fill that failed, whatever cells were wanted.
-pub failed_any : (held : meant.Key → ℕ → List ℕ) (cells others : List (Option Trace)) (new other : List ℕ) (outcome : Outcome) (files : List (List ℕ)) → FillEnd held cells new (Err outcome) files → FillEnd held others other (Err outcome) files
-failed_any held cells others new other ended.InputFault files f = tt
-failed_any held cells others new other (ended.InputChanged file place) files f = absurd f
-failed_any held cells others new other ended.OutputFault files f = absurd f
-failed_any held cells others new other ended.NoMemory files f = absurd f
-failed_any held cells others new other ended.Done files f = absurd f
-failed_any held cells others new other (ended.Refused verdict) files f = absurd f
-failed_any held cells others new other (ended.InputTooLong file) files f = absurd f
-failed_any held cells others new other (ended.TooMuch sum) files f = absurd f
-
 -- ---- a turn of the loop
 
 module _ (told now : Option (List (List ℕ × List ℕ))) (names : List (List ℕ)) (held held' : meant.Key → ℕ → List ℕ) (same : now ≡ told) (kept : held' ≡ held)

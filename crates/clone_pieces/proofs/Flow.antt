@@ -1,7 +1,7 @@
 -- Bytes that go out one part after the other, and where they stop.
 use Rattle.std.specs.Prelude.{◌≡◌, ℕ, ◌+◌, List, [], ◌++◌, length, take, Option, Result, Ok, Err}
 use Rattle.std.specs.Io.KnownBytes.{Appends}
-use Rattle.std.proofs.Common.{sym, ap, subst, ◌∙◌, arith, append_assoc, append-nil, zero-le, length-append}
+use Rattle.std.proofs.Common.{sym, ap, subst, ◌∙◌, arith, append_assoc, append-nil, length-append}
 use Rattle.std.proofs.KnownBytes.{Appends-nil, Appends-trans}
 use Rattle.std.proofs.Math.Seq.{take-append-add, take-append-le}
 use Rattle.sx_base.specs.declared.outcome.Outcome.{Outcome}
@@ -12,9 +12,6 @@ use Rattle.clone_pieces.specs.Redirecting.{RedirectEnd}
 -- Nothing goes out.
 pub goes_none : (out : Option (List ℕ)) (pending : List ℕ) → GoesOut out out pending pending []
 goes_none out pending = record { sent = []; appends = Appends-nil out; rest = append-nil pending }
-
-pub front_none : (out : Option (List ℕ)) (bytes : List ℕ) → AppendsFront out out bytes
-front_none out bytes = record { count = 0; within = zero-le; appends = Appends-nil out }
 
 -- Bytes that go out behind others.
 pub goes_then : (a b c : Option (List ℕ)) (old mid new x y : List ℕ) → GoesOut a b old mid x → GoesOut b c mid new y → GoesOut a c old new (x ++ y)

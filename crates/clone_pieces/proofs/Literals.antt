@@ -10,49 +10,17 @@ use Rattle.send_model.specs.Store as meant
 use Rattle.send_model.proofs.ElementLaws.{all_take, all_drop}
 use Rattle.sx_base.specs.Calls.{IfAllTold}
 use Rattle.sx_base.specs.declared.outcome.Outcome.{Outcome}
-use Rattle.sx_base.specs.declared.outcome.Outcome.TheVariants as ended
 use Rattle.extent_map.specs.Cells.{cells_between}
 use Rattle.extent_map.proofs.CellLists.{length-between}
 use Rattle.provenance.specs.declared.trace.Trace.{Trace}
 use Rattle.clone_pieces.specs.Origins.{IsInInput}
-use Rattle.clone_pieces.specs.Sending.{PutEnd}
-use Rattle.clone_pieces.specs.Filling.{byte_in, IsHadIn, FillEnd}
+use Rattle.clone_pieces.specs.Filling.{byte_in, IsHadIn}
 use Rattle.clone_pieces.specs.Redirecting.{RedirectEnd}
 use Rattle.clone_pieces.proofs.Told.{all_always, all_map, all_two, told_moved}
-use Rattle.clone_pieces.proofs.Flow.{front_none, put_ends}
 use Rattle.clone_pieces.proofs.Chunks.{Written, written_none, written_more, written_stops, written_all, between_within, bytes_within}
 
 pub part_all : {C : Type 0} (P : C → Type 0) (from len done count : ℕ) (cells : List C) → done + count ≤ len → AllByRecursion P (cells_between from len cells) → AllByRecursion P (cells_between (from + done) count cells)
 part_all P from len done count cells le all = subst (λ l. AllByRecursion P l) (between_within from len done count cells le) (all_take P count (drop done (cells_between from len cells)) (all_drop P done (cells_between from len cells) all))
-
--- ---- one command
-
--- A fill that failed before anything was put.
-pub fill_stops : (held : meant.Key → ℕ → List ℕ) (cells : List (Option Trace)) (row : List ℕ) (out : Option (List ℕ)) (pending bytes : List ℕ) (outcome : Outcome) (files : List (List ℕ)) → FillEnd held cells row (Err outcome) files → RedirectEnd out out pending pending bytes (Err outcome)
-fill_stops held cells row out pending bytes ended.InputFault files f = front_none out _
-fill_stops held cells row out pending bytes (ended.InputChanged file place) files f = absurd f
-fill_stops held cells row out pending bytes ended.OutputFault files f = absurd f
-fill_stops held cells row out pending bytes ended.NoMemory files f = absurd f
-fill_stops held cells row out pending bytes ended.Done files f = absurd f
-fill_stops held cells row out pending bytes (ended.Refused verdict) files f = absurd f
-fill_stops held cells row out pending bytes (ended.InputTooLong file) files f = absurd f
-fill_stops held cells row out pending bytes (ended.TooMuch sum) files f = absurd f
-
-module _ (told : Option (List (List ℕ × List ℕ))) (names : List (List ℕ)) (held : meant.Key → ℕ → List ℕ) (version : ℕ) (path : List ℕ) (offset : ℕ) (cells : List (Option Trace)) (row : List ℕ) (out_old out_new : Option (List ℕ)) (old new : List ℕ) where
-  pub some_put : (before now : ℕ) (result : Result (Unit {0}) Outcome) → IfAllTold told names (FillEnd held cells row (Ok tt)) → PutEnd out_old out_new old new (canonical version (Write path offset row)) before now result
-      → IfAllTold told names (λ files. RedirectEnd out_old out_new old new (canonical version (Write path offset (map (byte_in held files) cells))) result)
-  some_put before now result filled put = all_map told names (FillEnd held cells row (Ok tt)) (λ files. RedirectEnd out_old out_new old new (canonical version (Write path offset (map (byte_in held files) cells))) result)
-      (λ files f. subst (λ (bytes : List ℕ). RedirectEnd out_old out_new old new (canonical version (Write path offset bytes)) result) f (put_ends out_old out_new old new (canonical version (Write path offset row)) before now result put)) filled
-
-pub some_stops : (told : Option (List (List ℕ × List ℕ))) (names : List (List ℕ)) (held : meant.Key → ℕ → List ℕ) (cells : List (Option Trace)) (row : List ℕ) (out : Option (List ℕ)) (pending : List ℕ) (spelled : List (List ℕ) → List ℕ) (outcome : Outcome)
-    → IfAllTold told names (FillEnd held cells row (Err outcome)) → IfAllTold told names (λ files. RedirectEnd out out pending pending (spelled files) (Err outcome))
-some_stops told names held cells row out pending spelled outcome filled =
-    all_map told names (FillEnd held cells row (Err outcome)) (λ files. RedirectEnd out out pending pending (spelled files) (Err outcome)) (λ files f. fill_stops held cells row out pending (spelled files) outcome files f) filled
-
-pub some_unmade : (told : Option (List (List ℕ × List ℕ))) (names : List (List ℕ)) (out : Option (List ℕ)) (pending : List ℕ) (spelled : List (List ℕ) → List ℕ) → IfAllTold told names (λ files. RedirectEnd out out pending pending (spelled files) (Err ended.NoMemory))
-some_unmade told names out pending spelled = all_always told names (λ files. RedirectEnd out out pending pending (spelled files) (Err ended.NoMemory)) (λ files. front_none out _)
-
--- ---- one after the other
 
 module _ (told : Option (List (List ℕ × List ℕ))) (names : List (List ℕ)) (held : meant.Key → ℕ → List ℕ) (contents : List (Option Trace)) (from len : ℕ) (within : from + len ≤ length contents) (version : ℕ) (path : List ℕ) (offset : ℕ) where
   abbrev pub Stand : (done : ℕ) → (out_old out_now : Option (List ℕ)) → (old now : List ℕ) → List (List ℕ) → Type 0

@@ -83,10 +83,6 @@ module _ {C : Type 0} where
   -- ---- the three ways of a step
 
   module _ (zero_cell : C) (put : List C) (state : State C) where
-    pub end_step : step zero_cell put state meant.End ≡ record { state = record { store = completed state; part = None }; refusal = None }
-    unfolding step
-    end_step = refl
-
     -- A command that has a head begins a part.
     pub head_step : (c : meant.Command) (head : Head) → head_of c ≡ Some head → (step zero_cell put state c ≡ step_head state head) × (done_by c ≡ done.Began)
     unfolding step

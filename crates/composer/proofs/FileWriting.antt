@@ -90,12 +90,6 @@ stands_at_start told names plan number file name reader now out place e there =
       reached = omega (arith);
     })) there
 
--- The cells of what was composed so far stand in the files.
-pub stand_there : (told : Option (List (List ℕ × List ℕ))) (names : List (List ℕ)) (plan : Plan) (number file : ℕ) (c0 : Kept) (out0 : Option (List ℕ)) (reader : Reader) (now : Kept) (out_now : Option (List ℕ)) (before place : Place)
-    → IfAllTold told names (λ files. Stands files plan file c0 out0 reader now out_now before place (get_or files number [])) → IfAllTold told names (λ files. AllCells (IsInInput files) now.state)
-stand_there told names plan number file c0 out0 reader now out_now before place s =
-    all_map told names (λ files. Stands files plan file c0 out0 reader now out_now before place (get_or files number [])) (λ files. AllCells (IsInInput files) now.state) (λ files x. x.there) s
-
 -- ---- the next item
 
 -- What is found of the next item, of the file among all files.

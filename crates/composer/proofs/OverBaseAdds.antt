@@ -4,14 +4,12 @@ use Rattle.std.specs.List.{flat_map, sum_by}
 use Rattle.std.proofs.lemmas.List.Sums.{sum_by-cons}
 use Rattle.send_model.specs.Reading.{Item}
 use Rattle.send_model.specs.Due.{uncarried_of}
-use Rattle.std.proofs.Common.{refl, ap, ap₂, ◌∙◌, append-nil, arith}
-use Rattle.std.proofs.lemmas.Bool.{false≢true}
+use Rattle.std.proofs.Common.{refl, ap, ◌∙◌, append-nil, arith}
 use Rattle.send_model.specs.Command.{Command, Subvol, Snapshot, Clone, End}
-use Rattle.send_model.specs.Spelling.{canonical, canonical_all}
+use Rattle.send_model.specs.Spelling.{canonical_all}
 use Rattle.send_model.specs.Store.{Head, head_of}
-use Rattle.send_model.specs.Provenance.{Piece, literal_len, uncarried_in, is_own, is_redirected, clone_range, pieces_of}
+use Rattle.send_model.specs.Provenance.{Piece, literal_len, uncarried_in, is_redirected, clone_range, pieces_of}
 use Rattle.send_model.specs.Composed.{piece_commands}
-use Rattle.send_model.proofs.Sorts.{is_plain}
 use Rattle.composer.specs.OverBase.{Plan, Composing, begin_bytes, added_with}
 
 -- A head begins the stream or adds nothing.
@@ -25,15 +23,6 @@ adds_head plan now last c head h = cc
 pub adds_end : (plan : Plan) (now : Composing) (last : Head) → added_with plan now (Some last) End ≡ []
 unfolding canonical_all
 adds_end plan now last = refl
-
--- A plain edit adds itself.
-pub adds_plain : (plan : Plan) (now : Composing) (last : Head) (c : Command) → is_plain c ≡ true → added_with plan now (Some last) c ≡ canonical plan.version c
-unfolding canonical_all
-adds_plain plan now last (Subvol uuid ctransid path) h = absurd (false≢true h)
-adds_plain plan now last (Snapshot uuid ctransid path clone_uuid clone_ctransid) h = absurd (false≢true h)
-adds_plain plan now last (Clone path offset clone_uuid clone_ctransid clone_path clone_offset clone_len) h = absurd (false≢true h)
-adds_plain plan now last End h = absurd (false≢true h)
-adds_plain plan now last c h = append-nil (canonical plan.version c)
 
 -- ---- clones
 
@@ -49,23 +38,6 @@ module _ (plan : Plan) (now : Composing) (last : Head) (path : List ℕ) (offset
 
   abbrev chosen : Bool → Bool → List ℕ
   chosen own redirected = canonical_all plan.version (if own then own_commands else (if redirected then redirected_commands else this ∷ []))
-
-  -- A clone from its own part names the new part.
-  pub adds_own : is_own now.current uuid ≡ true → added_with plan now (Some last) (Clone path offset uuid ctransid clone_path from len) ≡ canonical plan.version (Clone path offset last.key.uuid last.key.ctransid clone_path from len)
-  unfolding canonical_all
-  adds_own own = ap (λ (b : Bool). chosen b (is_redirected plan.parts now.current this)) own ∙ append-nil _
-
-  -- One from an outside subvolume adds itself.
-  pub adds_kept : is_own now.current uuid ≡ false → is_redirected plan.parts now.current (Clone path offset uuid ctransid clone_path from len) ≡ false
-      → added_with plan now (Some last) (Clone path offset uuid ctransid clone_path from len) ≡ canonical plan.version (Clone path offset uuid ctransid clone_path from len)
-  unfolding canonical_all
-  adds_kept own redirected = ap₂ chosen own redirected ∙ append-nil _
-
-  -- One from an earlier part gives way to its pieces.
-  pub adds_redirected : is_own now.current uuid ≡ false → is_redirected plan.parts now.current (Clone path offset uuid ctransid clone_path from len) ≡ true
-      → added_with plan now (Some last) (Clone path offset uuid ctransid clone_path from len)
-      ≡ canonical_all plan.version (flat_map (piece_commands plan.base path offset) (pieces_of plan.base (clone_range now.state (Clone path offset uuid ctransid clone_path from len))))
-  adds_redirected own redirected = ap₂ chosen own redirected
 
 -- ---- the sum of uncarried bytes
 

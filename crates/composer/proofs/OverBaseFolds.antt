@@ -62,10 +62,6 @@ all_unsent plan sent now (item ∷ items) =
 pub all_unsent_ok : (plan : Plan) (sent : List ℕ) (now next : Composing) (items : List Item) → advance_all plan now items ≡ Ok next → advance_all plan (unsent sent now) items ≡ Ok (unsent sent next)
 all_unsent_ok plan sent now next items e = all_unsent plan sent now items ∙ ap (shift sent) e
 
--- Nothing was sent, or more.
-pub unsent_nil : (now : Composing) → unsent [] now ≡ now
-unsent_nil now = refl
-
 pub unsent_more : (sent more : List ℕ) (now : Composing) → unsent sent (unsent more now) ≡ unsent (sent ++ more) now
 unsent_more sent more now = ap (λ (bytes : List ℕ). record now { pending = bytes }) (sym (append_assoc sent more now.pending))
 

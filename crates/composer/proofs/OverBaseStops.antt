@@ -1,10 +1,9 @@
 -- Where composing over any base stops: what was written is a front part of all that is due to be written, and not a whole stream.
-use Rattle.std.specs.Prelude.{◌≡◌, ◌≢◌, ℕ, ◌+◌, ◌<◌, ◌≤◌, Bool, true, false, ◌||◌, List, [], ◌∷◌, ◌++◌, map, length, take, Option, None, Some, Ok, Err, nat_lt, if◌then◌else◌}
+use Rattle.std.specs.Prelude.{◌≡◌, ◌≢◌, ℕ, ◌+◌, ◌<◌, ◌≤◌, Bool, true, false, ◌||◌, List, [], ◌∷◌, ◌++◌, map, length, take, Option, None, Some}
 use Rattle.std.specs.List.{AllByRecursion}
 use Rattle.std.specs.Str.{bytes_eq}
 use Rattle.std.proofs.Common.{refl, sym, ap, ap₂, subst, ◌∙◌, arith, append_assoc, length-append}
 use Rattle.std.proofs.lemmas.List.{map-append, take-append-le}
-use Rattle.std.proofs.lemmas.Bool.{ltb-true}
 use Rattle.send_model.specs.Refusal.{Refusal}
 use Rattle.send_model.specs.Command.{Command, End}
 use Rattle.send_model.specs.Spelling.{stream_header, canonical, canonical_all}
@@ -15,7 +14,7 @@ use Rattle.send_model.specs.Order.{heads, heads_of, commands_of, breaks_order, p
 use Rattle.send_model.specs.Outside.{is_among, part_uuids}
 use Rattle.send_model.specs.Provenance.{traced_store, ranges_from, uncarried_in}
 use Rattle.send_model.specs.Composed.{first_head, last_head, head_command, version_of, composed_from, composed_edits, composed_with, composed_of, composed_part, composed_before_of}
-use Rattle.send_model.specs.Due.{most_literal, uncarried_of}
+use Rattle.send_model.specs.Due.{most_literal}
 use Rattle.send_model.specs.Headline.{IsUnfinished, IsFrontOf, IsStoppedOf, stream_front, output_of, whole_output_of}
 use Rattle.send_model.specs.Cells.{recelled_state}
 use Rattle.send_model.proofs.Runs.{step_of}
@@ -24,9 +23,9 @@ use Rattle.send_model.proofs.Composed.{first_there, last_of_some, items_with_hea
 use Rattle.send_model.proofs.Writing.{heads_of-append, nothing_unfinished, unfinished_part}
 use Rattle.send_model.proofs.Streams.{canonical_long}
 use Rattle.send_model.proofs.Fronts.{lawful_more, part_front, nothing_front}
-use Rattle.composer.specs.OverBase.{Plan, plan_of, Composing, Halt, Refuses, Exceeds, after_item, then_kept, advance, composed_up_to, written_with, current_after, AreWritable, HasNone}
-use Rattle.composer.proofs.OneMore.{composed_from-append, uncarried-append}
-use Rattle.composer.proofs.OverBaseProgress.{base_start, Progress, err_is, one_sum, front-append}
+use Rattle.composer.specs.OverBase.{Plan, plan_of, Composing, composed_up_to, written_with, current_after, AreWritable, HasNone}
+use Rattle.composer.proofs.OneMore.{composed_from-append}
+use Rattle.composer.proofs.OverBaseProgress.{base_start, Progress, front-append}
 use Rattle.send_model.proofs.Tracing.{byte_of}
 use Rattle.composer.proofs.OverBaseEnds.{taken_bytes, written_is}
 use Rattle.composer.proofs.PartsSoFar.{InBoth, known_start, composed_alike}
@@ -216,28 +215,3 @@ stopped_end base reading now sent count whole some version writable p within =
 pub record IsTooMuch (plan : Plan) (items : List Item) (sum : ℕ) : Type 0 where
   pub sum_is : sum ≡ uncarried_in plan.base (ranges_from plan.parts (base_start plan) None items)
   pub above : most_literal < sum
-
-exceeds : (o : Option Refusal) (unordered : Bool) (next : Composing) (sum : ℕ) → then_kept o unordered next ≡ Err (Exceeds sum) → (sum ≡ next.sum) × (most_literal < sum)
-exceeds (Some refusal) unordered next sum e = absurd (let h = err_is e in cc)
-exceeds None true next sum e = absurd (let h = err_is e in cc)
-exceeds None false next sum e = one (nat_lt most_literal next.sum) refl e
-  where
-    sum_of : Halt → ℕ
-    sum_of (Exceeds n) = n
-    sum_of (Refuses r) = 0
-
-    one : (b : Bool) → nat_lt most_literal next.sum ≡ b → (if b then Err (Exceeds next.sum) else Ok next) ≡ Err (Exceeds sum) → (sum ≡ next.sum) × (most_literal < sum)
-    one true h q = let same : next.sum ≡ sum = ap sum_of (err_is q) in (sym same, (let above = ltb-true most_literal next.sum h in omega (arith, above, same)))
-    one false h q = cc
-
--- The sum that is too much is that of the uncarried bytes up to the item, and with it the first that is too great.
-pub advance_too_much : (plan : Plan) (items : List Item) (item : Item) (now : Composing) (sent : List ℕ) (sum : ℕ) → Progress plan items now sent → advance plan now item ≡ Err (Exceeds sum) → IsTooMuch plan (items ++ item ∷ []) sum
-unfolding advance
-advance_too_much plan items item now sent sum p e =
-    let x = exceeds _ _ (after_item plan now item) sum e in
-    record {
-      sum_is = x.0 ∙ ap₂ (λ (a : ℕ) (k : Option (List ℕ)). a + uncarried_of plan.base plan.parts now.state k item) p.sum p.current
-          ∙ ap (λ (n : ℕ). uncarried_in plan.base (ranges_from plan.parts (base_start plan) None items) + n) (sym (one_sum plan now.state (current_after None items) item))
-          ∙ sym (uncarried-append plan.base plan.parts items (item ∷ []) (base_start plan) now.state None p.taken);
-      above = x.1;
-    }

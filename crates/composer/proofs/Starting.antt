@@ -57,9 +57,6 @@ pub nothing_traced : (core : Store (Option Trace)) → core ≡ [] → IsTraced 
 unfolding traced_store
 nothing_traced core e told = subst (λ (s : Store (Option Trace)). ◌≡◌ {A = Store Traced} (recelled_store (seen (byte_of_trace told []) place_of) s) (traced_store [])) (sym e) refl
 
-pub nothing_had : (core : Store (Option Trace)) → core ≡ [] → AllCells (IsHad 0 []) (start_of core)
-nothing_had core e = subst (λ (s : Store (Option Trace)). AllCells (IsHad 0 []) (start_of s)) (sym e) (record { complete = tt; part = tt })
-
 pub nothing_held : AreHeld (λ key ino. []) []
 unfolding find
 nothing_held key ino = refl

@@ -25,9 +25,6 @@ module _ {C : Type 0} (empty : C) where
       ∙ sym (get_or_past cells i empty le))
       (cases_lt i (length cells))
 
-  pub get_or-resize_past : (size : ℕ) (cells : List C) (i : ℕ) → size ≤ i → get_or (resize_cells empty size cells) i empty ≡ empty
-  get_or-resize_past size cells i h = get_or_past (resize_cells empty size cells) i empty (omega (arith, length-resize size cells))
-
   -- no new cells change nothing
   pub put_none : (at : ℕ) (cells : List C) → put_cells empty at [] cells ≡ cells
   unfolding put_cells

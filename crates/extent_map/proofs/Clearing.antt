@@ -9,7 +9,7 @@ use Rattle.std.specs.Map.{lookup}
 use Rattle.std.specs.Ordering.{nat_cmp}
 use Rattle.std.specs.BTreeMap.{is_at}
 use Rattle.extent_map.proofs.Cover.{Covers, cell-covered, cell-uncovered}
-use Rattle.extent_map.proofs.Edits.{shorter_runs, shorter_cells, added_runs, added_outside, added_inside}
+use Rattle.extent_map.proofs.Edits.{shorter_runs, shorter_cells, added_outside, added_inside}
 
 -- the laws of an origin
 pub record AreLaws {O : Type 0} (advanced : O → ℕ → O) (reach : O → ℕ) : Type 0 where
@@ -77,9 +77,6 @@ module _ {O : Type 0} (advanced : O → ℕ → O) (reach : O → ℕ) (laws : A
         back_empty : (place : ℕ) → limit ≤ place → place < limit + (back_of advanced start run limit).len → cell_at advanced middle place ≡ None
         back_empty place above under = shortened.inside place (omega arith) (omega arith)
 
-        pub split_runs : AreRuns reach new
-        split_runs = added_runs advanced reach middle new cleared_runs limit (back_of advanced start run limit) back_some back_reaches back_fits back_empty h'
-
         back_same : (place : ℕ) → limit ≤ place → place < start + run.len → cell_at advanced new place ≡ cell_at advanced old place
         back_same place above under =
             let b = a.reaches start run last.1 in
@@ -106,19 +103,6 @@ module _ {O : Type 0} (advanced : O → ℕ → O) (reach : O → ℕ) (laws : A
           inside = λ place above under. same_middle place (inl under) ∙ shortened.inside place above (omega arith);
         }
 
--- what was cleared before stays clear
-pub clears_more : {O : Type 0} (advanced : O → ℕ → O) (old middle new : ℕ → Option (Run O)) (from limit to : ℕ) → from ≤ limit → limit ≤ to → Clears advanced old middle limit to → Clears advanced middle new from limit → Clears advanced old new from to
-clears_more advanced old middle new from limit to l l' h h' = record {
-  outside = λ place out. ⊎_elim
-      (λ lt. h'.outside place (inl lt) ∙ h.outside place (inl (omega arith)))
-      (λ le. h'.outside place (inr (omega arith)) ∙ h.outside place (inr le))
-      out;
-  inside = λ place above below. ⊎_elim
-      (λ lt. h'.inside place above lt)
-      (λ le. h'.outside place (inr le) ∙ h.inside place le below)
-      (cases_lt place limit);
-}
-
 -- cells that were empty count as cleared
 pub clears_empty : {O : Type 0} (advanced : O → ℕ → O) (old new : ℕ → Option (Run O)) (from limit to : ℕ) → from ≤ limit → limit ≤ to → Clears advanced old new limit to → ((place : ℕ) → from ≤ place → place < limit → cell_at advanced new place ≡ None) → Clears advanced old new from to
 clears_empty advanced old new from limit to l l' h empty = record {
@@ -126,25 +110,12 @@ clears_empty advanced old new from limit to l l' h empty = record {
   inside = λ place above below. ⊎_elim (λ lt. empty place above lt) (λ le. h.inside place le below) (cases_lt place limit);
 }
 
--- nothing is cleared yet
-pub clears_none : {O : Type 0} (advanced : O → ℕ → O) (old : ℕ → Option (Run O)) (to : ℕ) → Clears advanced old old to to
-clears_none advanced old to = record {
-  outside = λ place out. refl;
-  inside = λ place above below. absurd (omega arith);
-}
-
 -- the same entries are the same runs
 pub same_runs : {O : Type 0} (old new : BTreeMap ℕ (Run O)) → IsUnchanged old new → runs_at new ≡ runs_at old
 same_runs {O} old new e = ap (λ (es : List (ℕ × Run O)). λ (k : ℕ). lookup (is_at (nat_cmp k)) es) e
 
-pub are_runs_same : {O : Type 0} (reach : O → ℕ) (old new : BTreeMap ℕ (Run O)) → IsUnchanged old new → AreRuns reach (runs_at old) → AreRuns reach (runs_at new)
-are_runs_same {O} reach old new e h = subst (λ (runs : ℕ → Option (Run O)). AreRuns reach runs) (sym (same_runs old new e)) h
-
 pub loses_same : {O : Type 0} (advanced : O → ℕ → O) (old : ℕ → Option (Run O)) (middle new : BTreeMap ℕ (Run O)) → LosesOnly advanced old (runs_at middle) → IsUnchanged middle new → LosesOnly advanced old (runs_at new)
 loses_same {O} advanced old middle new h e = subst (λ (runs : ℕ → Option (Run O)). LosesOnly advanced old runs) (sym (same_runs middle new e)) h
-
-pub loses_none : {O : Type 0} (advanced : O → ℕ → O) (old : ℕ → Option (Run O)) → LosesOnly advanced old old
-loses_none advanced old place e = e
 
 -- clearing loses only
 pub clears_loses : {O : Type 0} (advanced : O → ℕ → O) (old new : ℕ → Option (Run O)) (from to : ℕ) → Clears advanced old new from to → LosesOnly advanced old new

@@ -24,10 +24,6 @@ module _ {K W : Type 0} where
   was_free (Some value) put old new fresh e puts = absurd (true≢false (sym e ∙ puts.0))
 
 module _ {S : Type 0} where
-  pub stays_put : (was : Option ℕ) (moved old new : S) → is_some was ≡ true → new ≡ old → MovesIfFree was moved old new false
-  stays_put None moved old new some same = absurd (true≢false (sym some))
-  stays_put (Some there) moved old new some same = (refl, same)
-
   pub has_moved : (was : Option ℕ) (moved old new : S) → was ≡ None → new ≡ moved → MovesIfFree was moved old new true
   has_moved None moved old new none is = (refl, is)
   has_moved (Some there) moved old new none is = cc

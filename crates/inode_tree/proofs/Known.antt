@@ -11,7 +11,7 @@ use Rattle.send_model.proofs.Fuel.{bound, required, ok_same}
 use Rattle.send_model.proofs.PathLaws.{path_names_all}
 use Rattle.send_model.proofs.WalkLaws.{Step, Leads, leads-map, leads-leaf, leads_from_walk, walk_from_leads}
 use Rattle.inode_tree.specs.Places.{one_step, last_of, spot_from}
-use Rattle.inode_tree.specs.Walked.{Walked, nothing, front_of, IsFront, LeadsTo, IsKnown, LearnsFront, LearnsPath, without_name, GoesOn, spot_below}
+use Rattle.inode_tree.specs.Walked.{Walked, nothing, front_of, IsFront, LeadsTo, IsKnown, LearnsFront, without_name, GoesOn, spot_below}
 use Rattle.inode_tree.proofs.Chains.{goes_on, stops}
 use Rattle.inode_tree.proofs.Fronts.{names_behind, front_and_name, front_lawful, front_cut, some_name, one_name}
 use Rattle.inode_tree.proofs.Walks.{walk_begins, walk_refused, walk_goes_on, walk_stops, walk_ends, spot_refused, spot_root, spot_begins, spot_goes_on, spot_stops, spot_ends_there, spot_ends_nowhere}
@@ -249,10 +249,6 @@ module _ {C : Type 0} (t : Subvolume C) where
   front_learnt sound old new front directory is known (inl e) = subst (λ (w : Walked). IsKnown t w) (sym e) (record { front = is; path = known.path })
   front_learnt sound old new front directory is known (inr (inl e)) = subst (λ (w : Walked). IsKnown t w) (sym e) known
   front_learnt sound old new front directory is known (inr (inr e)) = subst (λ (w : Walked). IsKnown t w) (sym e) (record { front = no_front sound; path = known.path })
-
-  pub path_learnt : (old new : Walked) (path : List ℕ) (ino : ℕ) → walk t path ≡ Ok ino → IsKnown t old → LearnsPath old new path ino → IsKnown t new
-  path_learnt old new path ino walked known (inl e) = subst (λ (w : Walked). IsKnown t w) (sym e) (record { front = known.front; path = walked })
-  path_learnt old new path ino walked known (inr e) = subst (λ (w : Walked). IsKnown t w) (sym e) (record { front = known.front; path = tt })
 
   -- Where a name went that is no directory's, directories stay; else nothing is remembered.
   pub known_without : (s : Subvolume C) (directory : Bool) → (directory ≡ false → DirectoriesStay s t) → IsSound t → (last : Walked) → IsKnown s last → IsKnown t (without_name directory last)

@@ -1,13 +1,13 @@
 -- What RENAME says, from what its tests give.
-use Rattle.std.specs.Prelude.{◌≡◌, ℕ, ◌-◌, Bool, true, false, not, ◌&&◌, ◌||◌, List, [], ◌∷◌, Option, None, Some, Result, Ok, Err, ◌==◌, if◌then◌else◌}
+use Rattle.std.specs.Prelude.{◌≡◌, ℕ, ◌-◌, Bool, true, false, ◌&&◌, ◌||◌, List, [], ◌∷◌, Option, None, Some, Result, Ok, Err, ◌==◌, if◌then◌else◌}
 use Rattle.std.proofs.Common.{refl, sym, ap, subst, ◌∙◌}
 use Rattle.std.specs.List.{list_any}
-use Rattle.send_model.specs.Refusal.{Refusal, NoEntry, NotDirectory, IsDirectory, NotEmpty, IntoItself}
-use Rattle.send_model.specs.Chain.{◌>>◌, require, refuse_if}
+use Rattle.send_model.specs.Refusal.{Refusal, NoEntry, IntoItself}
+use Rattle.send_model.specs.Chain.{◌>>◌, refuse_if}
 use Rattle.send_model.specs.Command.{Rename}
 use Rattle.send_model.specs.Path.{path_names}
 use Rattle.send_model.specs.Map.{Map, named_cmp, value_at, with_value, without}
-use Rattle.send_model.specs.Subvolume.{Subvolume, Spot, root, spot, named, is_directory, is_empty_directory, all_but_last, inodes_on_way, name_count, IsSound}
+use Rattle.send_model.specs.Subvolume.{Subvolume, Spot, root, spot, named, is_directory, all_but_last, inodes_on_way, name_count, IsSound}
 use Rattle.send_model.specs.Edit.{rename, rename_onto, can_replace, lies_below, move_name, take_name, at_spot, edit}
 use Rattle.send_model.proofs.MapLaws.{named_cmp_total, named_cmp_exact, without-here, without-other, count-with_value, count-without}
 use Rattle.send_model.proofs.SoundRenames.{edit_keeps_sound, taken_names}
@@ -104,30 +104,6 @@ unfolding edit
 rename_keeps_sound zero_cell path path_to s t h e = edit_keeps_sound zero_cell [] (Rename path path_to) s t h e
 
 module _ {C : Type 0} (s : Subvolume C) where
-  -- ---- what gives way
-
-  module _ (moved there : ℕ) where
-    pub replace_plain : is_directory s moved ≡ true → is_directory s there ≡ false → can_replace s moved there ≡ Err NotDirectory
-    replace_plain m t = refuses (is_directory s moved && not (is_directory s there)) NotDirectory _ ((λ i. m i && not (t i)) ∙ refl)
-
-    pub replace_directory : is_directory s moved ≡ false → is_directory s there ≡ true → can_replace s moved there ≡ Err IsDirectory
-    replace_directory m t =
-        spares (is_directory s moved && not (is_directory s there)) NotDirectory _ ((λ i. m i && not (t i)) ∙ refl)
-        ∙ refuses (not (is_directory s moved) && is_directory s there) IsDirectory _ ((λ i. not (m i) && t i) ∙ refl)
-
-    pub replace_last : (b : Bool) → is_directory s moved ≡ b → is_directory s there ≡ b → can_replace s moved there ≡ require (not b || is_empty_directory s there) NotEmpty
-    replace_last true m t =
-        spares (is_directory s moved && not (is_directory s there)) NotDirectory _ ((λ i. m i && not (t i)) ∙ refl)
-        ∙ spares (not (is_directory s moved) && is_directory s there) IsDirectory _ ((λ i. not (m i) && t i) ∙ refl)
-        ∙ ap (λ (d : Bool). require (not d || is_empty_directory s there) NotEmpty) t
-    replace_last false m t =
-        spares (is_directory s moved && not (is_directory s there)) NotDirectory _ ((λ i. m i && not (t i)) ∙ refl)
-        ∙ spares (not (is_directory s moved) && is_directory s there) IsDirectory _ ((λ i. not (m i) && t i) ∙ refl)
-        ∙ ap (λ (d : Bool). require (not d || is_empty_directory s there) NotEmpty) t
-
-    pub replace_full : is_directory s moved ≡ true → is_directory s there ≡ true → is_empty_directory s there ≡ false → can_replace s moved there ≡ Err NotEmpty
-    replace_full m t full = replace_last true m t ∙ ap (λ (e : Bool). require e NotEmpty) full
-
   -- ---- the way to a place
 
   abbrev pub passes_on : ℕ → ℕ → List (List ℕ) → Bool

@@ -177,9 +177,6 @@ module _ (bytes next written : List ℕ) (old new : State (Option Kept)) (S : St
 
 -- ---- before the first command and after the last
 
-pub nothing_lawful : IsLawfulStore []
-nothing_lawful = record { distinct = tt; entries = tt }
-
 pub complete_kept : (P : Option Kept → Type 0) (state : State (Option Kept)) → P None → AllCells P state → AllCells P (start_of (completed state))
 unfolding step
 complete_kept P state none h = cells_after_step P None [] state End none tt h refl
@@ -197,9 +194,6 @@ module _ (bytes : List ℕ) (state : State (Option Kept)) (core : Store (Option 
     lawful = subst (λ (s : Store ℕ). IsLawfulStore s) (sym finish_is) lawful;
     kept = subst (λ (s : Store (Option Kept)). AllCells (IsKept (length bytes)) (start_of s)) (sym core_is) (complete_kept (IsKept (length bytes)) state tt h);
   }
-
-pub empty_base : (bytes : List ℕ) (core : Store (Option Kept)) → core ≡ [] → IsBase bytes core
-empty_base bytes core e = subst (λ (s : Store (Option Kept)). IsBase bytes s) (sym e) (record { lawful = nothing_lawful; kept = record { complete = tt; part = tt } })
 
 -- ---- the commands so far
 

@@ -4,7 +4,6 @@ use Rattle.std.specs.Ordering.{eq_by_cmp}
 use Rattle.std.specs.Cmp.{Equal-is}
 use Rattle.std.specs.List.{AllByRecursion, list_all, join_with_byte}
 use Rattle.std.proofs.Common.{refl, sym, ap, subst, ◌∙◌, arith, inl, append_assoc, append-nil, length-append}
-use Rattle.std.proofs.lemmas.Bool.{and_parts}
 use Rattle.send_model.specs.Path.{slash, is_name, between_slashes, path_names}
 use Rattle.send_model.specs.Map.{Map, named_cmp, value_at}
 use Rattle.send_model.specs.Subvolume.{Subvolume, IsSound, IsLawful, root, named, is_directory}
@@ -32,14 +31,6 @@ join_longer (name ∷ front) names = one (front ++ names) (join_longer front nam
     one : (more : List (List ℕ)) → length (join_with_byte slash names) ≤ length (join_with_byte slash more) → length (join_with_byte slash names) ≤ length (join_with_byte slash (name ∷ more))
     one [] h = omega (arith, h)
     one (m ∷ more) h = omega (arith, h, length-append name (slash ∷ join_with_byte slash (m ∷ more)))
-
-nothing_appended : (xs : List (List ℕ)) (x : List ℕ) (ys : List (List ℕ)) → xs ++ x ∷ ys ≡ [] → ⊥
-nothing_appended [] x ys e = cc
-nothing_appended (y ∷ xs) x ys e = cc
-
-all_of_both : (xs ys : List (List ℕ)) → list_all is_name xs ≡ true → list_all is_name ys ≡ true → list_all is_name (xs ++ ys) ≡ true
-all_of_both [] ys a b = b
-all_of_both (x ∷ xs) ys a b = let p = and_parts (is_name x) (list_all is_name xs) a in rw (p.0) (all_of_both xs ys p.1 b)
 
 good_at : (m : Map (ℕ × List ℕ) ℕ) (k : ℕ × List ℕ) (x : ℕ) → AllByRecursion (λ e. is_name e.0.1 ≡ true) m → value_at named_cmp k m ≡ Some x → is_name k.1 ≡ true
 good_at [] k x all e = cc

@@ -51,6 +51,3 @@ pub one_formed : (table : Table) (wanted : List ℕ) (i kind : ℕ) (bytes : Lis
     → drop i wanted ≡ kind ∷ drop (i + 1) wanted → value_at table kind ≡ Some bytes → form_fits (form_of kind) bytes ≡ true → FormsLeft table wanted (i + 1)
 one_formed table wanted i kind bytes left next there fits rest =
     left (subst (λ (kinds : List ℕ). HaveForms table kinds) (sym next) (rw there fits, rest))
-
-pub all_formed : (table : Table) (wanted : List ℕ) (i : ℕ) → FormsLeft table wanted i → length wanted ≤ i → HaveForms table wanted
-all_formed table wanted i left past = left (subst (λ (kinds : List ℕ). HaveForms table kinds) (sym (drop_all i wanted past)) tt)

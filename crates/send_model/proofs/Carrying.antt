@@ -28,9 +28,6 @@ same_place_true a b e =
     let q = both (same_key a.key b.key) (a.ino == b.ino) p.0 in
     λ i. record { key = same_key_true a.key b.key q.0 i; ino = eqb-true a.ino b.ino q.1 i; offset = eqb-true a.offset b.offset p.1 i }
 
-map_bytes : List Traced → List ℕ
-map_bytes cells = map (λ c. c.byte) cells
-
 module _ (store : Store ℕ) (keys : List Key) where
   -- ---- where cells come from
 

@@ -11,7 +11,7 @@ use Rattle.send_model.specs.Refusal.{Refusal, NotDirectory, NoEntry, BadPath, Is
 use Rattle.send_model.specs.Chain.{◌>>=◌, ◌>>◌, require, found}
 use Rattle.send_model.specs.Path.{path_names}
 use Rattle.send_model.specs.Map.{Map, value_at, with_value, without}
-use Rattle.send_model.specs.Subvolume.{Inode, Subvolume, root, inode_at, named, passes_inode, is_directory_kind, is_file_kind, is_directory, is_file, walk_names, walk, spot, last_name, all_but_last, inodes_on_way, name_count, is_empty_directory}
+use Rattle.send_model.specs.Subvolume.{Inode, Subvolume, root, inode_at, named, passes_inode, is_directory_kind, is_file_kind, is_directory, is_file, walk_names, walk, spot, last_name, all_but_last, inodes_on_way}
 use Rattle.send_model.specs.Edit.{filled, resized, overwritten, written_at, Allocation, Lengthen, KeepSize, PunchHole, ZeroRange, ZeroWithin, zeroed, allocated, fallocated, set_inode, change_inode}
 use Rattle.send_model.specs.Provenance.{inode_with}
 use Rattle.send_model.specs.Cells.{recelled}
@@ -100,14 +100,6 @@ module _ {C D : Type 0} (f : C → D) where
           → (elim o as (λ x. List ℕ) [ None ↦ ino ∷ [] | Some below ↦ ino ∷ inodes_on_way (recelled f s) below rest ]) ≡ (elim o as (λ x. List ℕ) [ None ↦ ino ∷ [] | Some below ↦ ino ∷ inodes_on_way s below rest ])
       one None more = refl
       one (Some below) more = ap (λ (r : List ℕ). ino ∷ r) (more below)
-
-  pub name_count-cells : (s : Subvolume C) (ino : ℕ) → name_count (recelled f s) ino ≡ name_count s ino
-  unfolding name_count
-  name_count-cells s ino = refl
-
-  pub is_empty_directory-cells : (s : Subvolume C) (ino : ℕ) → is_empty_directory (recelled f s) ino ≡ is_empty_directory s ino
-  unfolding is_empty_directory
-  is_empty_directory-cells s ino = refl
 
   -- ---- lists of cells
 

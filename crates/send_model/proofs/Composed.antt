@@ -2,13 +2,13 @@
 use Rattle.std.specs.Prelude.{◌≡◌, ◌≢◌, ℕ, List, [], ◌∷◌, ◌++◌, Option, None, Some}
 use Rattle.std.proofs.Common.{refl, ap, ap₂, ◌∙◌}
 use Rattle.send_model.specs.Command.{Command, End}
-use Rattle.send_model.specs.Reading.{Item, input}
+use Rattle.send_model.specs.Reading.{Item}
 use Rattle.send_model.specs.Store.{Head, Store}
 use Rattle.send_model.specs.Receive.{start_of}
 use Rattle.send_model.specs.Order.{heads, commands_of}
 use Rattle.send_model.specs.Outside.{part_uuids}
 use Rattle.send_model.specs.Provenance.{traced_store}
-use Rattle.send_model.specs.Composed.{first_head, last_head, head_command, composed_edits, composed_with, composed_for, composed_of, composed}
+use Rattle.send_model.specs.Composed.{first_head, last_head, head_command, composed_edits, composed_with, composed_for, composed_of}
 use Rattle.send_model.proofs.Merging.{NoClones, edits_of}
 use Rattle.send_model.proofs.Headlines.{plain_composed}
 
@@ -26,10 +26,6 @@ composed_plain store items first last n =
 pub composed_items : (store : Store ℕ) (items : List Item) (first last : Head) → first_head (heads items) ≡ Some first → last_head (heads items) ≡ Some last → NoClones (commands_of items)
     → composed_of store items ≡ head_command last.name last.key first.parent ∷ (edits_of (commands_of items) ++ End ∷ [])
 composed_items store items first last f l n = items_with_heads store items first last f l ∙ composed_plain store items first last n
-
-pub composed_list : (store : Store ℕ) (files : List (List ℕ)) (first last : Head) → first_head (heads (input files).items) ≡ Some first → last_head (heads (input files).items) ≡ Some last → NoClones (commands_of (input files).items)
-    → composed store files ≡ head_command last.name last.key first.parent ∷ (edits_of (commands_of (input files).items) ++ End ∷ [])
-composed_list store files first last f l n = composed_items store (input files).items first last f l n
 
 pub first_there : (hs : List Head) → hs ≢ [] → (h : Head) × (first_head hs ≡ Some h)
 first_there [] some = absurd (some refl)

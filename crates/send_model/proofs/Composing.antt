@@ -78,9 +78,6 @@ pub record Comes (store : Store ℕ) (cs : List Command) (end : State ℕ) : Typ
 Arrives : List Command → Type 0
 Arrives cs = (store : Store ℕ) (end : State ℕ) → NoClones cs → heads_of cs ≢ [] → EachFollows (heads_of cs) → Takes (record { store = store; part = None }) cs end → Comes store cs end
 
-here_and_there : (key : Key) (more : List Key) → IsAmong key (key ∷ more)
-here_and_there key more = inl refl
-
 -- What the first head names is named.
 named_first : (c : Command) (head : Head) → head_of c ≡ Some head → (more : List Key) → AllByRecursion (λ key. IsAmong key (keys_named c ++ more)) (all_keys_named (head_command head.name head.key head.parent ∷ []))
 named_first (Subvol uuid ctransid path) head h more = let P : Head → Type 0 = λ x. AllByRecursion (λ key. IsAmong key more) (all_keys_named (head_command x.name x.key x.parent ∷ [])) in subst P (same_inside h) tt

@@ -36,9 +36,6 @@ writes_clones (suc n) at path (b ∷ bytes) = writes_clones n (at + write_len) p
 abbrev pub one_if : Bool → ℕ
 one_if b = cond b 1 0
 
-abbrev pub clone_one : Command → ℕ
-clone_one c = one_if (is_clone c)
-
 pub piece_written : (store : Store ℕ) (path : List ℕ) (offset : ℕ) (p : Piece) → written (piece_commands store path offset p) ≡ literal_len p
 piece_written store path offset (Literal at bytes) = writes_len 49151 (length bytes) (offset + at) path bytes refl (omega arith)
 piece_written store path offset (Carried at place len) = refl

@@ -9,15 +9,15 @@ use Rattle.send_model.specs.Spelling.{stream_header, canonical_all}
 use Rattle.send_model.specs.Reading.{Item, Verdict, input}
 use Rattle.send_model.specs.Store.{Key, Head, head_of, Store, State}
 use Rattle.send_model.specs.Receive.{byte_cells, start_of}
-use Rattle.send_model.specs.Order.{heads, heads_of, onto_heads, commands_of, breaks_order, part_after, then_lawful, lawful_items, lawful, judge}
+use Rattle.send_model.specs.Order.{heads, heads_of, onto_heads, commands_of, breaks_order, part_after, then_lawful, lawful_items, lawful}
 use Rattle.send_model.specs.Provenance.{Traced, traced_store, traced_step, uuid_after}
 use Rattle.send_model.specs.Outside.{part_uuids}
-use Rattle.send_model.specs.Composed.{first_head, last_head, head_command, commands_for, composed_from, composed_edits, composed_with, composed_for, composed, composed_part, composed_before}
-use Rattle.send_model.specs.Headline.{stream_front, output_version, output_for, whole_output, IsFrontOf}
+use Rattle.send_model.specs.Composed.{first_head, last_head, head_command, commands_for, composed_from, composed_edits, composed_with, composed_for, composed, composed_part}
+use Rattle.send_model.specs.Headline.{stream_front, output_for, whole_output, IsFrontOf}
 use Rattle.send_model.proofs.Runs.{step_of, Takes}
 use Rattle.send_model.proofs.Merging.{NoClones, edits_of}
 use Rattle.send_model.proofs.Headlines.{plain_composed}
-use Rattle.send_model.proofs.Writing.{written_so_far, canonical_all-append}
+use Rattle.send_model.proofs.Writing.{canonical_all-append}
 use Rattle.send_model.proofs.Judging.{empty_store, AreOrdered}
 
 -- ---- the commands that are taken

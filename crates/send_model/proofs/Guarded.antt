@@ -1,7 +1,6 @@
 -- What is accepted under guards is within the limits of each.
 use Rattle.std.specs.Prelude.{◌≡◌, ℕ, ◌+◌, ◌≤◌, Bool, true, false, List, [], ◌∷◌, map, length, Option, None, Some, if◌then◌else◌}
 use Rattle.std.specs.List.{AllByRecursion}
-use Rattle.std.specs.Option.{option_map}
 use Rattle.std.proofs.Common.{refl, ap, subst, arith, zero-le}
 use Rattle.std.proofs.lemmas.Bool.{ltb-false}
 use Rattle.std.proofs.lemmas.List.Sums.{sum_by-cons}
@@ -12,7 +11,7 @@ use Rattle.send_model.specs.Store.{After, State}
 use Rattle.send_model.specs.Receive.{Ran, run_by, then_run, bytes_of, start_of, fault_of}
 use Rattle.send_model.specs.Order.{commands_of}
 use Rattle.send_model.specs.Counts.{literal}
-use Rattle.send_model.specs.Guards.{GuardSpec, MostBytes, MostCommands, NoDevices, MostEnd, Guard, new_guard, is_above, guard_refuses, guard_after, refused_from, guarded, looked, Watched, watched_step, receive_watched, receive_under}
+use Rattle.send_model.specs.Guards.{GuardSpec, MostBytes, MostCommands, NoDevices, MostEnd, Guard, new_guard, guard_refuses, guard_after, refused_from, guarded, looked, Watched, watched_step, receive_watched, receive_under}
 use Rattle.send_model.specs.GuardLaws.{IsWithin, AcceptedIsWithin}
 use Rattle.send_model.proofs.Guarding.{after_looks, looks_are, no_fault, does_step}
 
@@ -22,10 +21,6 @@ use Rattle.send_model.proofs.Guarding.{after_looks, looks_are, no_fault, does_st
 abbrev Allows : Guard → List Command → Type 0
 Allows guard [] = Unit {0}
 Allows guard (c ∷ cs) = (guard_refuses guard c ≡ false) × Allows (guard_after guard c) cs
-
-one_counted : (most used len : ℕ) (o : Option ℕ) → o ≡ Some len → is_above most (option_map (λ n. used + n) o) ≡ false → used + len ≤ most
-one_counted most used len None e h = cc
-one_counted most used len (Some n) e h = let same : n ≡ len = ap (λ (x : Option ℕ). elim x as (λ y. ℕ) [ None ↦ 0 | Some k ↦ k ]) e in let low = ltb-false most (used + n) h in omega (arith, same, low)
 
 within_bytes : (cs : List Command) (most used : ℕ) → used ≤ most → Allows (record { spec = MostBytes most; used = used }) cs → used + literal cs ≤ most
 unfolding literal guard_refuses guard_after

@@ -2,14 +2,13 @@
 use Rattle.std.specs.Prelude.{◌≡◌, ℕ, Bool, true, false, List, [], ◌∷◌, ◌++◌, Option, None, Some}
 use Rattle.std.proofs.Common.{refl, sym, ap, ◌∙◌, append-nil}
 use Rattle.std.proofs.lemmas.Bool.{not-false}
-use Rattle.send_model.specs.Refusal.{Refusal, NotConsecutive}
-use Rattle.send_model.specs.Reading.{Item, Verdict, Ending, Reading, input}
+use Rattle.send_model.specs.Refusal.{Refusal}
+use Rattle.send_model.specs.Reading.{Item, Verdict}
 use Rattle.send_model.specs.Store.{Key, Head, head_of, Store, State}
-use Rattle.send_model.specs.Receive.{byte_cells, verdict_of, fault_of, first_of, start_of}
-use Rattle.send_model.specs.Order.{heads, heads_of, onto_heads, commands_of, EachFollows, is_parent, breaks_order, part_after, then_judge, judge_items, without_parts, judge_reading, judge}
+use Rattle.send_model.specs.Receive.{byte_cells, start_of}
+use Rattle.send_model.specs.Order.{heads, heads_of, onto_heads, commands_of, EachFollows, is_parent, breaks_order, part_after, then_judge, judge_items}
 use Rattle.send_model.proofs.Runs.{step_of, Takes}
 use Rattle.send_model.proofs.Stores.{same_key_true}
-use Rattle.send_model.proofs.Sorts.{same_inside}
 
 -- The part that the next head has to follow, after items.
 abbrev pub previous_after : Option Key → List Item → Option Key
@@ -44,36 +43,10 @@ judge_done (item ∷ items) more previous state end t o =
     judge_on item s.state s.refusal (breaks_order previous (head_of item.command)) _ t.0 o.0
     ∙ judge_done items more (part_after previous (head_of item.command)) s.state end t.1 o.1
 
-judge_stop : (item : Item) (state : State ℕ) (o : Option Refusal) (breaks : Bool) (rest : Option Verdict) (refusal : Refusal) → o ≡ Some refusal → then_judge item (record { state = state; refusal = o }) breaks rest ≡ Some (verdict_of item refusal)
-judge_stop item state None breaks rest refusal e = cc
-judge_stop item state (Some r) breaks rest refusal e = ap (λ (x : Refusal). Some (verdict_of item x)) (same_inside e)
-
-judge_break : (item : Item) (state : State ℕ) (o : Option Refusal) (breaks : Bool) (rest : Option Verdict) → o ≡ None → breaks ≡ true → then_judge item (record { state = state; refusal = o }) breaks rest ≡ Some (verdict_of item NotConsecutive)
-judge_break item state None true rest e b = refl
-judge_break item state None false rest e b = cc
-judge_break item state (Some r) breaks rest e b = cc
-
-pub judge_refused : (item : Item) (more : List Item) (previous : Option Key) (state : State ℕ) (refusal : Refusal) → (step_of state item.command).refusal ≡ Some refusal → judge_items 0 byte_cells state previous (item ∷ more) ≡ Some (verdict_of item refusal)
-unfolding judge_items
-judge_refused item more previous state refusal e = let s = step_of state item.command in judge_stop item s.state s.refusal (breaks_order previous (head_of item.command)) (judge_items 0 byte_cells s.state (part_after previous (head_of item.command)) more) refusal e
-
-pub judge_unordered : (item : Item) (more : List Item) (previous : Option Key) (state : State ℕ) → (step_of state item.command).refusal ≡ None → breaks_order previous (head_of item.command) ≡ true → judge_items 0 byte_cells state previous (item ∷ more) ≡ Some (verdict_of item NotConsecutive)
-unfolding judge_items
-judge_unordered item more previous state e b = let s = step_of state item.command in judge_break item s.state s.refusal (breaks_order previous (head_of item.command)) (judge_items 0 byte_cells s.state (part_after previous (head_of item.command)) more) e b
-
 -- ---- whole files
 
 abbrev pub empty_store : Store ℕ
 empty_store = []
-
--- The verdict where an item after those that were taken is refused.
-pub judge_at_item : (files : List (List ℕ)) (items : List Item) (item : Item) (more : List Item) (ending : Ending) (end : State ℕ) (verdict : Verdict) → input files ≡ record { items = items ++ item ∷ more; end = ending } → Takes (start_of empty_store) (commands_of items) end → AreOrdered None items
-    → judge_items 0 byte_cells end (previous_after None items) (item ∷ more) ≡ Some verdict → judge empty_store files ≡ Some verdict
-unfolding judge_reading
-judge_at_item files items item more ending end verdict is t o v =
-    let j : Reading → Option Verdict = λ r. judge_reading 0 byte_cells empty_store r in
-    let k : Option Verdict → Option Verdict = λ x. first_of x (first_of (fault_of ending) (without_parts (items ++ item ∷ more) (heads (items ++ item ∷ more)))) in
-    ap j is ∙ ap k (judge_done items (item ∷ more) None (start_of empty_store) end t o ∙ v)
 
 judge_nothing : (state : State ℕ) (previous : Option Key) → judge_items 0 byte_cells state previous [] ≡ None
 unfolding judge_items
@@ -81,15 +54,6 @@ judge_nothing state previous = refl
 
 pub judged_all : (items : List Item) (end : State ℕ) → Takes (start_of empty_store) (commands_of items) end → AreOrdered None items → judge_items 0 byte_cells (start_of empty_store) None items ≡ None
 judged_all items end t o = ap (judge_items 0 byte_cells (start_of empty_store) None) (sym (append-nil items)) ∙ judge_done items [] None (start_of empty_store) end t o ∙ judge_nothing end (previous_after None items)
-
--- The verdict where all commands were taken: the fault with which the reading ended, or no part at all, or none.
-pub judge_at_end : (files : List (List ℕ)) (items : List Item) (ending : Ending) (end : State ℕ) → input files ≡ record { items = items; end = ending } → Takes (start_of empty_store) (commands_of items) end → AreOrdered None items
-    → judge empty_store files ≡ first_of (fault_of ending) (without_parts items (heads items))
-unfolding judge_reading
-judge_at_end files items ending end is t o =
-    let j : Reading → Option Verdict = λ r. judge_reading 0 byte_cells empty_store r in
-    let k : Option Verdict → Option Verdict = λ x. first_of x (first_of (fault_of ending) (without_parts items (heads items))) in
-    ap j is ∙ ap k (judged_all items end t o)
 
 -- ---- the order of heads
 

@@ -1,11 +1,9 @@
 -- Laws of paths: their pieces are std's parts of a list that is cut at each slash, and what their names are in each case.
-use Rattle.std.proofs.Common.{◌≡◌, ◌==◌, ℕ, ◌<◌, ◌≤◌, Bool, true, false, cond, ◌&&◌, nat_le, not, ◌+◌, List, [], ◌∷◌, length, Some, None, inl, inr, refl, sym, ap, ◌∙◌, arith}
+use Rattle.std.proofs.Common.{◌≡◌, ◌==◌, ℕ, ◌<◌, ◌≤◌, Bool, true, false, cond, ◌&&◌, nat_le, not, List, [], ◌∷◌, length, Some, None, inl, inr, refl, sym, ap, ◌∙◌, arith}
 use Rattle.std.proofs.lemmas.Bool.{cases_lt, cases_Bool, le-leb, lt-leb, leb-true, and_parts}
-use Rattle.std.proofs.lemmas.List.Splits.{length-slice_split}
-use Rattle.std.proofs.lemmas.List.Sums.{count_by-le-length}
 use Rattle.std.specs.Str.{bytes_eq}
 use Rattle.std.specs.Prelude.{codes}
-use Rattle.std.specs.List.{slice_split, list_all, list_any, count_by}
+use Rattle.std.specs.List.{slice_split, list_all, list_any}
 use Rattle.send_model.specs.Path.{is_name, between_slashes, path_names}
 
 -- The pieces are std's parts of a list that is cut at each slash.
@@ -72,18 +70,6 @@ path_names_short path names found =
       | inl long ↦ absurd (none_not_some names (sym (path_too_long path long) ∙ found))
       | inr short ↦ short
     ]
-
--- A path has at most one name more than it has bytes.
-pub path_names_few : (path : List ℕ) (names : List (List ℕ)) → path_names path ≡ Some names → length names ≤ length path + 1
-path_names_few [] names found = omega (arith, ap length (none_left names found))
-path_names_few (b ∷ path) names found =
-    let pieces : length names ≡ length (between_slashes (b ∷ path)) =
-    ap length (path_names_pieces (b ∷ path) names (omega arith) found).0
-    in
-    let parts : length (between_slashes (b ∷ path)) ≡ count_by (λ c. c == 47) (b ∷ path) + 1 =
-    ap length (between_slashes-split (b ∷ path)) ∙ length-slice_split (λ c. c == 47) (b ∷ path)
-    in
-    omega (arith, pieces, parts, count_by-le-length (λ c. c == 47) (b ∷ path))
 
 length_parts : (name : List ℕ) (p q r s : Bool) →
     (nat_le 1 (length name) && nat_le (length name) 255 && p && q && r && s) ≡ true →

@@ -69,10 +69,6 @@ plain_names_nothing (Snapshot uuid ctransid path clone_uuid clone_ctransid) h = 
 plain_names_nothing (Clone path offset clone_uuid clone_ctransid clone_path clone_offset clone_len) h = absurd (false≢true h)
 plain_names_nothing c h = refl
 
-pub plain_is_no_clone : (c : Command) → is_plain c ≡ true → is_clone c ≡ false
-plain_is_no_clone (Clone path offset clone_uuid clone_ctransid clone_path clone_offset clone_len) h = absurd (false≢true h)
-plain_is_no_clone c h = refl
-
 -- What is no head, no END and no clone is a plain edit.
 pub plain_from : (c : Command) → is_clone c ≡ false → is_end c ≡ false → head_of c ≡ None → is_plain c ≡ true
 plain_from (Subvol uuid ctransid path) clone end head = cc

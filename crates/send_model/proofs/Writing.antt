@@ -1,9 +1,8 @@
--- What compose has written after some items: nothing before the first head, then the stream's header, the new head and the
--- edits so far. It is never read as a whole stream before its END.
+-- Commands of lists that are joined; what is taken before the first head; and that no front part of a stream is read as whole
+-- before its END.
 use Rattle.std.specs.Prelude.{◌≡◌, ℕ, zero, suc, ◌<◌, ◌≤◌, true, List, [], ◌∷◌, ◌++◌, length, take, Option, None, Some}
 use Rattle.std.specs.List.{AllByRecursion}
 use Rattle.std.proofs.Common.{refl, sym, ap, subst, ◌∙◌, arith, append_assoc, append-nil, length-append, lit≤}
-use Rattle.std.proofs.lemmas.List.{take-append-le}
 use Rattle.std.proofs.lemmas.Bool.{true≢false}
 use Rattle.send_model.specs.Refusal.{NoSubvolume}
 use Rattle.send_model.specs.Command.{Command, End}
@@ -12,27 +11,17 @@ use Rattle.send_model.specs.Reading.{is_version}
 use Rattle.send_model.specs.Store.{Head, head_of, Store, State, step, completed}
 use Rattle.send_model.specs.Receive.{bytes_of}
 use Rattle.send_model.specs.Order.{onto_heads, heads_of}
-use Rattle.send_model.specs.Composed.{head_command}
 use Rattle.send_model.specs.Headline.{IsUnfinished}
 use Rattle.send_model.proofs.Sorts.{by_sort, is_plain, plain_step_without}
 use Rattle.send_model.proofs.Runs.{Takes}
-use Rattle.send_model.proofs.Merging.{NoClones, edit_in, edits_of}
-use Rattle.send_model.proofs.Streams.{IsInner, canonical_long}
+use Rattle.send_model.proofs.Merging.{NoClones, edits_of}
+use Rattle.send_model.proofs.Streams.{IsInner}
 use Rattle.send_model.proofs.Prefixes.{stream_cut}
-
--- The bytes for the commands so far, where the first head among them is given, as the part of the last head.
-unfoldable pub written_so_far : ℕ → Head → Option Head → List Command → List ℕ
-written_so_far version last None cs = []
-written_so_far version last (Some first) cs = stream_header version ++ canonical_all version (head_command last.name last.key first.parent ∷ edits_of cs)
 
 pub canonical_all-append : (version : ℕ) (cs ds : List Command) → canonical_all version (cs ++ ds) ≡ canonical_all version cs ++ canonical_all version ds
 unfolding canonical_all
 canonical_all-append version [] ds = refl
 canonical_all-append version (c ∷ cs) ds = ap (λ (r : List ℕ). canonical version c ++ r) (canonical_all-append version cs ds) ∙ sym (append_assoc (canonical version c) (canonical_all version cs) (canonical_all version ds))
-
-pub edits_of-append : (cs ds : List Command) → edits_of (cs ++ ds) ≡ edits_of cs ++ edits_of ds
-edits_of-append [] ds = refl
-edits_of-append (c ∷ cs) ds = ap (λ (r : List Command). edit_in (head_of c) c ++ r) (edits_of-append cs ds) ∙ sym (append_assoc (edit_in (head_of c) c) (edits_of cs) (edits_of ds))
 
 pub heads_of-append : (cs ds : List Command) → heads_of (cs ++ ds) ≡ heads_of cs ++ heads_of ds
 unfolding heads_of
@@ -42,17 +31,6 @@ heads_of-append (c ∷ cs) ds = one (head_of c) (heads_of-append cs ds)
     one : (o : Option Head) → heads_of (cs ++ ds) ≡ heads_of cs ++ heads_of ds → onto_heads o (heads_of (cs ++ ds)) ≡ onto_heads o (heads_of cs) ++ heads_of ds
     one None more = more
     one (Some h) more = ap (λ (r : List Head). h ∷ r) more
-
--- One more command after the first head.
-pub written-more : (version : ℕ) (last first : Head) (cs : List Command) (c : Command) → written_so_far version last (Some first) (cs ++ c ∷ []) ≡ written_so_far version last (Some first) cs ++ canonical_all version (edit_in (head_of c) c)
-unfolding written_so_far
-written-more version last first cs c =
-    let h : Command = head_command last.name last.key first.parent in
-    let e : List Command = edit_in (head_of c) c in
-    let all : edits_of (cs ++ c ∷ []) ≡ edits_of cs ++ e = edits_of-append cs (c ∷ []) ∙ ap (λ (r : List Command). edits_of cs ++ r) (append-nil e) in
-    ap (λ (r : List Command). stream_header version ++ canonical_all version (h ∷ r)) all
-    ∙ ap (λ (r : List ℕ). stream_header version ++ r) (canonical_all-append version (h ∷ edits_of cs) e)
-    ∙ sym (append_assoc (stream_header version) (canonical_all version (h ∷ edits_of cs)) (canonical_all version e))
 
 -- ---- before the first head
 
@@ -76,11 +54,6 @@ pub quiet : (cs : List Command) (store : Store ℕ) (end : State ℕ) → NoClon
 unfolding Quiet
 quiet [] = λ store end n none t. (refl, sym t)
 quiet (c ∷ cs) = by_sort {P = λ c. Quiet cs → Quiet (c ∷ cs)} (λ c head h ih. quiet_head c head h cs) (quiet_end cs) (λ c h ih store end n none t. absurd (true≢false (sym h ∙ n.0))) (λ c h ih. quiet_plain c h cs) c (quiet cs)
-
--- The first head.
-pub written-first : (version : ℕ) (last first : Head) (cs : List Command) → edits_of cs ≡ [] → written_so_far version last (Some first) cs ≡ stream_header version ++ canonical version (head_command last.name last.key first.parent)
-unfolding written_so_far canonical_all
-written-first version last first cs none = ap (λ (r : List Command). stream_header version ++ canonical_all version (head_command last.name last.key first.parent ∷ r)) none ∙ ap (λ (r : List ℕ). stream_header version ++ r) (append-nil (canonical version (head_command last.name last.key first.parent)))
 
 -- ---- unfinished
 
@@ -109,12 +82,3 @@ unfinished_part version cs k is inner h =
     let whole = whole_parts version (stream_header version) cs in
     let U : List ℕ → Type 0 = λ b. k < length b → IsUnfinished (take k b) in
     subst U whole (stream_cut 1 version cs k is inner) h
-
-pub unfinished_so_far : (version : ℕ) (last : Head) (first : Option Head) (cs : List Command) (k : ℕ) → is_version version ≡ true → ((f : Head) → first ≡ Some f → AllByRecursion (IsInner version) (head_command last.name last.key f.parent ∷ edits_of cs)) → k ≤ length (written_so_far version last first cs) → IsUnfinished (take k (written_so_far version last first cs))
-unfolding written_so_far
-unfinished_so_far version last None cs k is inner h = nothing_unfinished k
-unfinished_so_far version last (Some first) cs k is inner h =
-    let es : List Command = head_command last.name last.key first.parent ∷ edits_of cs in
-    let bytes : List ℕ = stream_header version ++ canonical_all version es in
-    let U : List ℕ → Type 0 = λ b. IsUnfinished b in
-    subst U (take-append-le k bytes (canonical version End) h) (unfinished_part version es k is (inner first refl) (omega (arith, h, length-append bytes (canonical version End), canonical_long version End)))

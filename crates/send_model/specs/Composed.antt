@@ -132,6 +132,3 @@ composed_part store (Some first) None items = []
 
 abbrev pub composed_before_of : Store ℕ → List Item → List Command
 composed_before_of store items = composed_part store (first_head (heads (lawful_of store items))) (last_head (heads items)) (lawful_of store items)
-
-abbrev pub composed_before : Store ℕ → List (List ℕ) → List Command
-composed_before store files = composed_before_of store (input files).items

@@ -28,9 +28,6 @@ pub record CanReceiveOf (base : Store ℕ) (items : List Item) (last : Head) (st
   pub no_name : has_name last.name store ≡ false
   pub no_uuid : has_uuid last.key.uuid store ≡ false
 
-abbrev pub CanReceive : (base : Store ℕ) (files : List (List ℕ)) (last : Head) (store : Store ℕ) → Type 0
-CanReceive base files last store = CanReceiveOf base (input files).items last store
-
 -- The entry that such a store gets: the last part's name, key and subvolume, with the first part's parent.
 abbrev pub last_entry : Head → Head → Subvolume ℕ → Entry (Subvolume ℕ)
 last_entry first last subvolume = record { name = last.name; key = last.key; parent = first.parent; contents = Some subvolume }
@@ -101,10 +98,6 @@ IsUnfinished written = (reads 1 written).end ≢ Whole
 abbrev pub stream_front : ℕ → List Command → List ℕ
 stream_front version [] = []
 stream_front version (c ∷ cs) = stream_header version ++ canonical_all version (c ∷ cs)
-
--- The version of the stream that is written for files: by all that is read of them.
-abbrev pub output_version : List (List ℕ) → ℕ
-output_version files = version_of (input files).items
 
 -- All that compose may write for items, by the verdict on what was read: what they are composed to; or, where a command is unlawful
 -- or reading ended at a fault, what the commands before that place are composed to, without END. And so for files.

@@ -80,12 +80,9 @@ judge_reading zero_cell cells store reading =
     first_of (judge_items zero_cell cells (start_of store) None reading.items)
     (first_of (fault_of reading.end) (without_parts reading.items (heads reading.items)))
 
--- The same into a store of bytes, and of files.
+-- The same into a store of bytes.
 abbrev pub judge_of : Store ℕ → Reading → Option Verdict
 judge_of store reading = judge_reading 0 byte_cells store reading
-
-abbrev pub judge : Store ℕ → List (List ℕ) → Option Verdict
-judge store files = judge_of store (input files)
 
 -- ---- what is taken before the verdict
 

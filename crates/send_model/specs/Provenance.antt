@@ -160,9 +160,6 @@ ranges_from parts state current (item ∷ items) =
 abbrev pub ranges_of : Store ℕ → List Item → List (List Traced)
 ranges_of store items = ranges_from (part_uuids items) (start_of (traced_store store)) None items
 
-abbrev pub redirected_ranges : Store ℕ → List (List ℕ) → List (List Traced)
-redirected_ranges store files = ranges_of store (input files).items
-
 -- ---- blocks
 
 -- The blocks of a range from its start; the last may be short. The first number bounds how many there are.

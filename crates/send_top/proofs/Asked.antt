@@ -217,17 +217,6 @@ module _ (ends_before ends_now inputs_before inputs_now out_before out_now : ℕ
 
 -- ---- files that were changed
 
--- A call that reads no byte twice finds no file changed.
-pub not_changed : (inputs_before inputs_now out_before out_now : ℕ) (names : List (List ℕ)) (last : EarlyEnd) (outcome : Outcome) → Caused inputs_before inputs_now out_before out_now outcome → FoundChanged names last outcome
-not_changed inputs_before inputs_now out_before out_now names last ended.Done w = tt
-not_changed inputs_before inputs_now out_before out_now names last (ended.Refused verdict) w = tt
-not_changed inputs_before inputs_now out_before out_now names last (ended.InputTooLong file) w = tt
-not_changed inputs_before inputs_now out_before out_now names last (ended.TooMuch sum) w = tt
-not_changed inputs_before inputs_now out_before out_now names last (ended.InputChanged file place) w = absurd w
-not_changed inputs_before inputs_now out_before out_now names last ended.InputFault w = tt
-not_changed inputs_before inputs_now out_before out_now names last ended.OutputFault w = tt
-not_changed inputs_before inputs_now out_before out_now names last ended.NoMemory w = tt
-
 -- A file that was found changed among those of a request is so among those of the request that words and guards ask for.
 pub changed_at : (words : List (List ℕ)) (guards : List Guard) (last : EarlyEnd) (mine : Request) (outcome : Outcome) → ((request : Request) → Asks words guards request → mine ≡ request)
     → FoundChanged (names_asked mine words) last outcome → IsChangedAt words guards last (outcome_of outcome)

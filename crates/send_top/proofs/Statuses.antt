@@ -1,20 +1,7 @@
 -- What a status says of its answer.
-use Rattle.std.proofs.Common.{◌≡◌, ◌⊎◌, ℕ, refl, ap, [], IsTrue, arith}
+use Rattle.std.proofs.Common.{◌≡◌, ◌⊎◌, ℕ, refl, ap, [], arith}
 use Rattle.send_model.specs.Answer.{Answer, Done, Refused, Usage, InputFault, OutputFault, NoMemory, InputTooLong, TooMuch, InputChanged, status_of, note_of}
-use Rattle.send_top.specs.Answered.{is_status}
 use Rattle.send_top.specs.Run.{IfOfCompose}
-
-pub status_is_listed : (answer : Answer) → IsTrue (is_status (status_of answer))
-unfolding status_of
-status_is_listed Done = refl
-status_is_listed (Refused verdict) = refl
-status_is_listed Usage = refl
-status_is_listed InputFault = refl
-status_is_listed OutputFault = refl
-status_is_listed NoMemory = refl
-status_is_listed (InputTooLong file) = refl
-status_is_listed (TooMuch sum) = refl
-status_is_listed (InputChanged file place) = refl
 
 pub usage-of_two : (answer : Answer) → status_of answer ≡ 2 → answer ≡ Usage
 unfolding status_of

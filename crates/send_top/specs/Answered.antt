@@ -1,6 +1,5 @@
 -- The code's answers as those of the definitions, and what is written of them.
-use Rattle.std.specs.Prelude.{◌≡◌, ◌⊎◌, ℕ, ◌==◌, Bool, List, [], ◌∷◌, Option}
-use Rattle.std.specs.List.{list_any}
+use Rattle.std.specs.Prelude.{◌≡◌, ◌⊎◌, ℕ, List, [], Option}
 use Rattle.std.specs.Io.KnownBytes.{Appends}
 use Rattle.send_model.specs.Answer as meant
 use Rattle.sx_base.specs.Causes.{Rose}
@@ -24,10 +23,6 @@ outcome_of (ended.InputChanged file place) = meant.InputChanged file place
 abbrev pub answer_of : Answer → meant.Answer
 answer_of made.Usage = meant.Usage
 answer_of (made.Ended outcome) = outcome_of outcome
-
--- The exit statuses.
-abbrev pub is_status : ℕ → Bool
-is_status status = list_any (λ n. n == status) (0 ∷ 1 ∷ 2 ∷ 3 ∷ 4 ∷ 7 ∷ 9 ∷ 11 ∷ 13 ∷ [])
 
 -- What a run gave of an answer: its exit status, and in the notes its whole note, or a proper prefix of it where their count
 -- of faults rose.

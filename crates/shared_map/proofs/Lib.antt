@@ -5,4 +5,3 @@ pub mod Edits
 pub mod Parts
 pub mod Editing
 pub mod Spots
-pub mod Fronts

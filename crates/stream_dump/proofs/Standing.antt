@@ -223,13 +223,6 @@ caused_end inputs_before inputs_now out_before out_mid out_now text outcome resu
 caused_end inputs_before inputs_now out_before out_mid out_now text outcome result taken_old taken_now early (inr (is, rose, part)) caused =
     subst (λ (x : Outcome). Caused inputs_before inputs_now out_before out_now x) (sym is) (rose_since out_before out_mid out_now early rose)
 
-pub caused_stop : (told : Option (List (List ℕ × List ℕ))) (old new : Reader) (inputs_before inputs_mid inputs_now out_before out_now : ℕ) (why : ReadStop) → inputs_before ≤ inputs_mid
-    → NextSays told old new inputs_mid inputs_now (Err why) → Caused inputs_before inputs_now out_before out_now (outcome_at 1 why)
-caused_stop told old new inputs_before inputs_mid inputs_now out_before out_now (stop.Refused verdict) early says = tt
-caused_stop told old new inputs_before inputs_mid inputs_now out_before out_now stop.NoMemory early says = tt
-caused_stop told old new inputs_before inputs_mid inputs_now out_before out_now stop.InputFault early says = rose_since inputs_before inputs_mid inputs_now early says
-caused_stop told old new inputs_before inputs_mid inputs_now out_before out_now stop.InputTooLong early says = tt
-
 pub caused_item : (inputs_before inputs_now out_before out_mid out_now : ℕ) (outcome : Outcome) → out_before ≤ out_mid → StopsWriting out_mid out_now outcome → Caused inputs_before inputs_now out_before out_now outcome
 caused_item inputs_before inputs_now out_before out_mid out_now ended_by.NoMemory early why = tt
 caused_item inputs_before inputs_now out_before out_mid out_now ended_by.OutputFault early why = rose_since out_before out_mid out_now early why

@@ -1,6 +1,6 @@
 -- The values of a command, printed one after the other.
-use Rattle.std.proofs.Common.{◌≡◌, ℕ, ◌+◌, ◌<◌, ◌≤◌, List, [], ◌∷◌, ◌++◌, length, take, drop, replicate, map, slice_index_or, refl, sym, ap, ap₂, subst, ◌∙◌, add-one, append_assoc, append-nil, drop-cons}
-use Rattle.std.proofs.lemmas.List.{drop_all, get_or-map, length-map, take-replicate}
+use Rattle.std.proofs.Common.{◌≡◌, ℕ, ◌+◌, ◌<◌, ◌≤◌, List, [], ◌∷◌, ◌++◌, length, take, drop, replicate, map, slice_index_or, refl, sym, ap, ap₂, subst, ◌∙◌, add-one, append_assoc, drop-cons}
+use Rattle.std.proofs.lemmas.List.{get_or-map, length-map, take-replicate}
 use Rattle.send_model.specs.Attribute.{Field}
 use Rattle.std.specs.Ordering.{nat_cmp}
 use Rattle.std.specs.Option.{unwrap_or}
@@ -44,12 +44,6 @@ value_printed start now after kinds values place d v less within is =
     subst (λ (l : List ℕ). IsValuesTo start l kinds (map field_of values) (place + 1))
     (ap (λ (f : Field). now ++ one_value (slice_index_or kinds place 0) f) same ∙ sym is)
     (next_value start now kinds (map field_of values) place (field_of d) v less there)
-
--- All values were printed.
-pub values_printed : (start now kinds : List ℕ) (fields : List Field) (place : ℕ) → IsValuesTo start now kinds fields place → length kinds ≤ place → length fields ≤ place
-    → now ≡ start ++ values_text kinds fields
-values_printed start now kinds fields place v past over =
-    sym (ap (λ (l : List ℕ). now ++ l) (ap₂ values_text (drop_all place kinds past) (drop_all place fields over)) ∙ append-nil now) ∙ v.rest
 
 -- The first of nine zeros.
 pub zeros_taken : (count : ℕ) → count ≤ 9 → take {A = ℕ} count (0x30 ∷ 0x30 ∷ 0x30 ∷ 0x30 ∷ 0x30 ∷ 0x30 ∷ 0x30 ∷ 0x30 ∷ 0x30 ∷ []) ≡ replicate count 0x30

@@ -1,11 +1,10 @@
 -- A frame with one attribute more in front of its others.
 use Rattle.std.specs.Prelude.{◌≡◌, ℕ, ◌+◌, ◌-◌, ◌^◌, ◌<◌, ◌≤◌, ◌==◌, Bool, true, false, List, [], ◌∷◌, ◌++◌, length, take, drop}
-use Rattle.std.specs.Int.{w32, to_le_bytes}
 use Rattle.std.proofs.Common.{refl, sym, ap, ◌∙◌, arith, append_assoc, length-append}
 use Rattle.std.proofs.Math.Seq.{take-append_seam, drop-append_seam}
 use Rattle.std.proofs.lemmas.List.{length-drop}
 use Rattle.send_model.specs.Command.{Command, Kind, kind_of, row}
-use Rattle.send_model.specs.Spelling.{Attribute, attribute_bytes, attributes_of, body_of, frame_of, canonical, greatest_body, magic, stream_header}
+use Rattle.send_model.specs.Spelling.{Attribute, attribute_bytes, attributes_of, body_of, frame_of, canonical, greatest_body}
 use Rattle.send_model.specs.Receivable.{number_zero, asked_for, receivable_attributes, receivable}
 use Rattle.send_model.specs.Laws.{CanWrite}
 use Rattle.send_commands.specs.Writing.{IsShortEnough, IfSecond}
@@ -14,12 +13,6 @@ use Rattle.tlv_frame.specs.Frame.{head_room}
 use Rattle.stream_export.specs.declared.asked.Asked.{Asked}
 use Rattle.stream_export.specs.declared.asked.Asked.TheVariants as made
 use Rattle.stream_export.specs.Asking.{attribute_of, kind_asked}
-
--- The header of a stream, in two pieces.
-pub header_is : (to now bytes : List ℕ) (version : ℕ) → now ≡ to ++ magic → bytes ≡ to_le_bytes w32 version → now ++ bytes ≡ to ++ stream_header version
-unfolding stream_header
-header_is to now bytes version front four =
-    ap (λ (l : List ℕ). l ++ bytes) front ∙ append_assoc to magic bytes ∙ ap (λ (l : List ℕ). to ++ (magic ++ l)) four
 
 -- ---- conditions of the canonical spelling
 

@@ -26,13 +26,6 @@ agrees_whole (b ∷ bytes) (c ∷ image) agrees short = (λ i. agrees.0 i ∷ ag
 pub only_settled : (bytes image : List ℕ) → IsImage (settled bytes) image → image ≡ bytes
 only_settled bytes image is = agrees_whole bytes image is.known is.short
 
-pub agrees_all : (bytes : List ℕ) → Agrees (map Some bytes) bytes
-agrees_all [] = tt
-agrees_all (b ∷ bytes) = (refl, agrees_all bytes)
-
-pub settled_is_image : (bytes : List ℕ) → IsImage (settled bytes) bytes
-settled_is_image bytes = record { known = agrees_all bytes; short = omega arith }
-
 -- a write behind known bytes leaves them known
 pub forget_behind : (front : List ℕ) (others : List (Option ℕ)) (at count : ℕ) → forget (length front + at) count (map Some front ++ others) ≡ map Some front ++ forget at count others
 forget_behind [] others at count = ap (λ (n : ℕ). forget n count others) (omega arith)

@@ -1,6 +1,6 @@
 -- What the bytes in front of a list say of all of it: the header of a stream, the header of a frame, its body.
-use Rattle.std.specs.Prelude.{◌≡◌, ℕ, ◌+◌, ◌<◌, ◌≤◌, Bool, true, false, List, [], ◌∷◌, length, take, drop, Result, Ok, Err, nat_le, nat_lt}
-use Rattle.std.proofs.Common.{refl, sym, ap, subst, ◌∙◌, arith, length-take, le-leb, ltb-false, le-ltb, lit≤}
+use Rattle.std.specs.Prelude.{◌≡◌, ℕ, ◌+◌, ◌<◌, ◌≤◌, Bool, true, false, List, [], length, take, drop, Result, Ok, Err, nat_le, nat_lt}
+use Rattle.std.proofs.Common.{refl, ap, subst, ◌∙◌, arith, length-take, le-leb, ltb-false, lit≤}
 use Rattle.std.specs.Str.{bytes_eq}
 use Rattle.std.specs.Int.{w16, w32, from_le_bytes}
 use Rattle.std.proofs.lemmas.List.{take-take, drop-take}
@@ -10,7 +10,7 @@ use Rattle.send_model.specs.Chain.{◌>>◌, refuse_if}
 use Rattle.send_model.specs.Spelling.{magic, greatest_body}
 use Rattle.send_model.specs.Reading.{stream_version, header_len, frame_header_len, number16, number32, is_version, frame_at, frame_with}
 use Rattle.send_model.proofs.Fuel.{not_refused, required, ok_same}
-use Rattle.tlv_frame.specs.Frame.{Head, head_at, checksum_holds}
+use Rattle.tlv_frame.specs.Frame.{Head, head_at}
 
 abbrev pub error_or : {X : Type 0} → meant.Refusal → Result X meant.Refusal → meant.Refusal
 error_or d (Ok x) = d
@@ -19,10 +19,6 @@ error_or d (Err r) = r
 abbrev IsOk : {X : Type 0} → Result X meant.Refusal → Type 0
 IsOk (Ok x) = Unit {0}
 IsOk (Err r) = ⊥
-
-pub take_len : (bytes : List ℕ) → take (length bytes) bytes ≡ bytes
-take_len [] = refl
-take_len (b ∷ bytes) = ap (λ (r : List ℕ). b ∷ r) (take_len bytes)
 
 pub short_version : (bytes : List ℕ) → length bytes < 17 → stream_version bytes ≡ Err meant.Truncated
 unfolding stream_version
@@ -50,9 +46,6 @@ version_front bytes h =
     let version : number32 (drop 13 (take 17 bytes)) ≡ number32 (drop 13 bytes) = front32 bytes 13 4 (lit≤ tt) in
     rw (long, short, text, version) refl
 
-pub take_whole : (bytes : List ℕ) (n : ℕ) → length bytes ≡ n → take n bytes ≡ bytes
-take_whole bytes n e = ap (λ (m : ℕ). take m bytes) (sym e) ∙ take_len bytes
-
 pub same_error : {X Y : Type 0} {a b : meant.Refusal} → ◌≡◌ {A = Result X meant.Refusal} (Err a) (Err b) → ◌≡◌ {A = Result Y meant.Refusal} (Err a) (Err b)
 same_error {a = a} e = let f : Result _ meant.Refusal → Result _ meant.Refusal = λ r. Err (error_or a r) in ap f e
 
@@ -78,20 +71,6 @@ head_refused bytes refusal e long =
     let there : nat_le frame_header_len (length bytes) ≡ true = le-leb _ _ long in
     let made : Head = record { len = number32 bytes; number = number16 (drop 4 bytes); stored = number32 (drop 6 bytes) } in
     rw there (refused_first (nat_lt greatest_body (number32 bytes)) (meant.LongCommand (number32 bytes)) refusal (Ok made) _ tt e)
-
-pub body_short : (len number stored : ℕ) (after : List ℕ) → len ≤ greatest_body → length after < len → frame_with len number stored after ≡ Err meant.Truncated
-unfolding frame_with
-body_short len number stored after small h =
-    let fits : nat_lt greatest_body len ≡ false = le-ltb _ _ small in
-    let cut : nat_le len (length after) ≡ false = lt-leb _ _ h in
-    rw (fits, cut) refl
-
-pub body_with : (len number stored : ℕ) (after : List ℕ) → len ≤ greatest_body → len ≤ length after → frame_with len number stored after ≡ (checksum_holds (record { len = len; number = number; stored = stored }) (take len after) >> Ok (record { number = number; body = take len after; rest = drop len after }))
-unfolding frame_with checksum_holds
-body_with len number stored after small h =
-    let fits : nat_lt greatest_body len ≡ false = le-ltb _ _ small in
-    let there : nat_le len (length after) ≡ true = le-leb _ _ h in
-    rw (fits, there) refl
 
 -- A version that was read is known.
 pub version_known : (bytes : List ℕ) (version : ℕ) → stream_version bytes ≡ Ok version → is_version version ≡ true

@@ -120,25 +120,9 @@ none_carried {A = A} {B = B} (Err r) k e = by_cut (is_truncated r) e
     by_cut true e = refl
     by_cut false e = cc
 
--- What is next where the bytes that are left are refused, or cut short.
-pub head_none : (fed : Fed) → fed.due ≡ HeaderDue → fed.refused ≡ None → unless_more (stream_version fed.left) ≡ Ok None → next_of fed ≡ Ok None
-head_none fed due good e = rw (good, due) (none_carried (stream_version fed.left) head_handed e)
-
-pub head_err : (fed : Fed) (refusal : meant.Refusal) → fed.due ≡ HeaderDue → fed.refused ≡ None → unless_more (stream_version fed.left) ≡ Err refusal → next_of fed ≡ Err refusal
-head_err fed refusal due good e = rw (good, due) (carried (stream_version fed.left) head_handed refusal e)
-
-pub frame_none : (fed : Fed) (version : ℕ) → fed.due ≡ CommandDue version → fed.refused ≡ None → unless_more (frame_at fed.left) ≡ Ok None → next_of fed ≡ Ok None
-frame_none fed version due good e = rw (good, due) (none_carried (frame_at fed.left) (λ frame. frame_handed version frame.number frame.body) e)
-
-pub frame_err : (fed : Fed) (version : ℕ) (refusal : meant.Refusal) → fed.due ≡ CommandDue version → fed.refused ≡ None → unless_more (frame_at fed.left) ≡ Err refusal → next_of fed ≡ Err refusal
-frame_err fed version refusal due good e = rw (good, due) (carried (frame_at fed.left) (λ frame. frame_handed version frame.number frame.body) refusal e)
-
 -- What is kept then.
 pub none_kept : (fed : Fed) → next_of fed ≡ Ok None → fed ≡ fed_after fed
 none_kept fed e = sym (ap (after fed) e)
-
-pub err_kept : (fed : Fed) (refusal : meant.Refusal) → next_of fed ≡ Err refusal → record fed { refused = Some refusal } ≡ fed_after fed
-err_kept fed refusal e = sym (ap (after fed) e)
 
 -- Further on by so many bytes.
 further : (items : List ℕ) (start count : ℕ) (due : Due) (ended : Bool) (refused : Option meant.Refusal) → refused ≡ None
