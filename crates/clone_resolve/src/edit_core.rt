@@ -39,7 +39,7 @@ struct Source<'a> {
 
 /// The subvolumes that were received, in the order in which they began, seen as the store of the definitions over cells that are
 /// an origin or zero.
-#[derive(Drop)]
+#[derive(Debug, Drop)]
 pub struct EditCore<O: Origin> {
     catalog: Catalog<Subvol<O>>,
     alloc: Global,

@@ -8,7 +8,7 @@ use subvol::Subvol;
 use subvol_catalog::Key;
 
 /// The part that is being received: its key and its subvolume so far.
-#[derive(Drop)]
+#[derive(Debug, Drop)]
 pub struct Part<O: Origin> {
     pub(crate) key: Key,
     pub(crate) sub: Subvol<O>,

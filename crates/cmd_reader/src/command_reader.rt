@@ -19,7 +19,7 @@ use tlv_frame::Passed;
 /// file, with the bytes that it was given from there on. It asks the inputs for 65,536 bytes at a
 /// time, and only where it has no whole header or frame. Once made, it takes memory for the values
 /// of commands alone.
-#[derive(Drop)]
+#[derive(Debug, Drop)]
 pub struct CmdReader {
     alloc: Global,
     file: u64,

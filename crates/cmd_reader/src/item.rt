@@ -3,7 +3,7 @@ use send_commands::Command;
 use sx_base::Verdict;
 
 /// A command with where it stands.
-#[derive(Drop)]
+#[derive(Debug, Drop)]
 pub struct Item {
     /// The command.
     pub command: Command,
@@ -21,7 +21,7 @@ pub struct Item {
 }
 
 /// What is seen of a command that is not made, unless it begins a part.
-#[derive(Drop)]
+#[derive(Debug, Drop)]
 pub struct Glance {
     /// The command itself where it begins a part, None where it does not.
     pub head: Option<Command>,

@@ -18,7 +18,7 @@ const LIMIT: u64 = 1 << 62;
 const PIECE: usize = 65_536;
 
 // A file that is read from its front on, in pieces.
-#[derive(Drop)]
+#[derive(Debug, Drop)]
 pub(crate) struct Source {
     pub(crate) name: String,
     pub(crate) feed: Feed,

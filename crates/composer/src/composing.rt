@@ -57,7 +57,7 @@ struct Range<'a> {
 
 /// Composes consecutive parts into one stream that stands for them: the first part's head with the name and the key of the
 /// last, then what stands for the edits of all, then END. It keeps no byte of a file.
-#[derive(Drop)]
+#[derive(Debug, Drop)]
 pub struct Composer {
     alloc: Global,
     core: EditCore<Trace>,

@@ -10,7 +10,7 @@ use sx_base::{Disk, Failed};
 /// A disk that passes a number of calls to the disk inside, and then fails every one, as when the power fails. A
 /// write or a cut that fails so counts as done: it reaches the disk inside, and stays unstable there. No later
 /// sync and no later read does.
-#[derive(Drop)]
+#[derive(Debug, Drop)]
 pub struct FuseDisk<D> {
     disk: D,
     left: u64,

@@ -14,7 +14,7 @@ use sx_base::{Disk, Failed};
 
 /// A disk in memory. It keeps what each successful sync made stable, so that `crash` can give an image that a loss
 /// of power may leave. A call fails for want of memory alone, for the bytes or for what is kept.
-#[derive(Drop)]
+#[derive(Debug, Drop)]
 pub struct MemDisk {
     alloc: Global,
     current: Stretch,

@@ -4,7 +4,7 @@ ghost use Rattle.sx_base.specs.Disk.{overwritten};
 
 use std::alloc::{AllocError, Global};
 
-#[derive(Drop)]
+#[derive(Debug, Drop)]
 pub(crate) struct Stretch {
     /// What a read gives.
     pub(crate) bytes: Vec<u8>,

@@ -4,7 +4,7 @@ ghost use Rattle.std.specs.Prelude.{◌+◌, ◌-◌, ◌^◌};
 use extent_map::Origin;
 
 /// A byte, by its number among all bytes that were written.
-#[derive(Clone, Copy)]
+#[derive(Debug, Clone, Copy)]
 pub struct Byte {
     pub number: u64,
 }

@@ -8,7 +8,7 @@ use std::alloc::AllocError;
 const BLOCK: u64 = 4096;
 
 /// Numbers that look drawn, and are the same each time.
-#[derive(Drop)]
+#[derive(Debug, Drop)]
 pub struct Draw {
     state: u64,
 }
@@ -78,7 +78,7 @@ pub fn clone_parts(
 }
 
 /// What reading all pieces of a file finds.
-#[derive(Drop)]
+#[derive(Debug, Drop)]
 pub struct Reading {
     pub runs: u64,
     pub holes: u64,

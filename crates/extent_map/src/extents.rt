@@ -12,7 +12,7 @@ use std::marker::Model;
 
 /// The contents of a file, seen as a list of cells. A cell is an origin, or None where it is zero.
 /// A hole takes no memory, and a run of cells as much as any other run.
-#[derive(Drop)]
+#[derive(Debug, Drop)]
 pub struct Extents<O: Origin> {
     runs: BTreeMap<u64, Run<O>>,
     size: u64,

@@ -11,7 +11,7 @@ use std::marker::Model;
 
 /// The cells that are left of a range, seen as their list. Each call of `next` gives a piece: an origin and the length
 /// of the run of cells from it, or None and the length of so many zero cells.
-#[derive(Drop)]
+#[derive(Debug, Drop)]
 pub struct Pieces<'a, O: Origin> {
     runs: &'a BTreeMap<u64, Run<O>>,
     at: u64,

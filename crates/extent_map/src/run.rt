@@ -8,7 +8,7 @@ use std::alloc::AllocError;
 use std::collections::BTreeMap;
 
 /// So many cells, the first of which is `origin`, and each further one the origin advanced by one more.
-#[derive(Copy)]
+#[derive(Debug, Copy)]
 pub(crate) struct Run<O> {
     pub(crate) origin: O,
     pub(crate) len: u64,

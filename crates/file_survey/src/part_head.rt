@@ -17,7 +17,7 @@ use sx_base::Blob;
 use tlv_frame::StreamHead;
 
 /// The name, the key and the parent's key of a part. The name is shorter than 65,536 bytes.
-#[derive(Drop)]
+#[derive(Debug, Drop)]
 pub struct PartHead {
     name: Blob,
     key: Key,

@@ -8,7 +8,7 @@ use std::marker::Model;
 use uuid::Uuid;
 
 // UUIDs in their order, some of them maybe more than once, with an index by which each is found.
-#[derive(Drop)]
+#[derive(Debug, Drop)]
 pub(crate) struct PartUuids {
     list: Vec<Uuid>,
     index: IndexSet<Uuid>,

@@ -6,7 +6,7 @@ ghost use Rattle.sx_base.specs.Refusals.{refusal_of};
 use sx_base::{Refusal, Verdict};
 
 /// Where a command stands.
-#[derive(Clone, Copy)]
+#[derive(Debug, Clone, Copy)]
 pub struct Place {
     /// The file, counted from 1.
     pub file: u64,

@@ -15,7 +15,7 @@ use uuid::Uuid;
 
 /// What is known of files once they were read for their heads: the head of the last part, the UUIDs of all parts, and the version
 /// of the stream that stands for them, which is 2 where a command of the files has it, and else 1.
-#[derive(Drop)]
+#[derive(Debug, Drop)]
 pub struct Survey {
     last: Option<PartHead>,
     parts: PartUuids,

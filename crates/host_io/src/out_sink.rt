@@ -6,7 +6,7 @@ use sx_base::{Failed, Sink};
 
 /// A stream of the system that takes bytes, as standard output. It tells nothing of them. Each `Failed` raises its count
 /// of faults, which ends at the greatest u64.
-#[derive(Drop)]
+#[derive(Debug, Drop)]
 pub struct OutSink<W> {
     stream: W,
     faults: u64,

@@ -18,7 +18,7 @@ const OPEN_FILES: usize = 16;
 /// The 16 files that were asked for last stay open, each with its place, and one is moved only where the place that is asked
 /// for is not the one at which it stands. So a pipe can be read in order, and only once: a file that is opened again is
 /// always moved, which a pipe answers with a fault.
-#[derive(Drop)]
+#[derive(Debug, Drop)]
 pub struct PathInputs<'a, R: Files> {
     files: &'a R,
     alloc: Global,
@@ -33,7 +33,7 @@ pub struct PathInputs<'a, R: Files> {
     last_place: u64,
 }
 
-#[derive(Drop)]
+#[derive(Debug, Drop)]
 struct OpenInput<F> {
     name: String,
     // Short reads come from a buffer, and long ones go past it.

@@ -12,7 +12,7 @@ use std::rt::Clock;
 use sx_base::{Failed, Inputs, Lost, Sink};
 
 /// How much was read: the number of the pass, the bytes read in it, and whether a file has ended in it.
-#[derive(Clone, Copy)]
+#[derive(Debug, Clone, Copy)]
 pub struct Tally {
     pass: u64,
     done: u64,
@@ -54,7 +54,7 @@ impl Tally {
 /// want of memory for a line, only leave lines out.
 ///
 /// A pass is counted by what `read_at` gives. What `read_again` gives was counted before.
-#[derive(Drop)]
+#[derive(Debug, Drop)]
 pub struct Progress<'a, I, C, S> {
     inputs: I,
     clock: &'a C,

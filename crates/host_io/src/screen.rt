@@ -16,7 +16,7 @@ const BEFORE: u64 = 2000;
 const BETWEEN: u64 = 200;
 
 /// A line on a terminal that is written over again, and taken back at the end. Times are milliseconds of one clock.
-#[derive(Drop)]
+#[derive(Debug, Drop)]
 pub struct Screen<S> {
     sink: S,
     // From this time on the next line may be written.
@@ -120,7 +120,7 @@ impl<S: Sink> Screen<S> {
 
 /// A sink that has the line of a terminal taken back before it takes bytes, after which none comes any more. What it takes and
 /// its faults are those of the inner sink.
-#[derive(Drop)]
+#[derive(Debug, Drop)]
 pub struct AfterLine<'a, O, S> {
     inner: O,
     screen: &'a RefCell<Screen<S>>,

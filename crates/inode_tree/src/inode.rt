@@ -16,7 +16,7 @@ use std::alloc::{AllocError, Global};
 use std::marker::Model;
 
 /// An inode, seen as that of the definitions, where a cell is an origin or zero.
-#[derive(Drop)]
+#[derive(Debug, Drop)]
 pub struct Inode<O: Origin> {
     kind: NodeKind,
     mode: u16,

@@ -11,7 +11,7 @@ use std::rc::RcSlice;
 
 /// Bytes that their copies share, seen as their list: the target of a symbolic link, or the name or the value of an extended
 /// attribute.
-#[derive(Drop)]
+#[derive(Debug, Drop)]
 pub struct Bytes {
     // None where there are no bytes, so that these take no memory.
     bytes: Option<RcSlice<u8>>,
@@ -177,7 +177,7 @@ const OPENING: usize = 16;
 
 // A name in a directory. Its first sixteen bytes stand in it, so that most comparisons need not look elsewhere, and a name that has no
 // more takes no memory. Copies of a longer one share its bytes.
-#[derive(Drop)]
+#[derive(Debug, Drop)]
 pub(crate) struct Name {
     directory: u64,
     // The first bytes, and zero bytes behind the end of a name that has fewer.

@@ -22,7 +22,7 @@ use sx_base::Refusal;
 
 /// The inodes and names of a subvolume, seen as that of the definitions over cells that are an origin or zero. A copy shares
 /// all that neither changes.
-#[derive(Drop)]
+#[derive(Debug, Drop)]
 pub struct Tree<O: Origin> {
     pub(crate) inodes: SharedMap<u64, Shared<Inode<O>>>,
     pub(crate) names: SharedMap<Name, u64>,

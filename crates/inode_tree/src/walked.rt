@@ -13,7 +13,7 @@ const LONGEST_PATH: usize = 4_095;
 
 // The last path with more than one name, as far as the directory of its last name, and the last path that led to an inode. The room
 // for their bytes is kept from walk to walk; where there is no memory for them, less is remembered.
-#[derive(Drop)]
+#[derive(Debug, Drop)]
 pub(crate) struct LastWalks {
     // The bytes in front of a path's last name, and the directory that they lead to.
     front: Vec<u8>,

@@ -14,7 +14,7 @@ use std::marker::Model;
 use sx_base::{Blob, Inputs, Outcome, Stop};
 
 /// Subvolumes in memory with the bytes of their files, seen as the store of the definitions. It is a lawful store.
-#[derive(Drop)]
+#[derive(Debug, Drop)]
 pub struct MemoryBase {
     pub(crate) core: EditCore<Kept>,
     pub(crate) bytes: Blob,

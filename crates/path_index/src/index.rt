@@ -24,7 +24,7 @@ const ROOT: u64 = 256;
 const LONGEST_PATH: usize = 4095;
 
 /// A complete subvolume with its inodes' names by their numbers, seen as the subvolume. It is lawful.
-#[derive(Drop)]
+#[derive(Debug, Drop)]
 pub struct PathIndex<O: Origin> {
     sub: Subvol<O>,
     names: SharedMap<u64, Links>,

@@ -7,7 +7,7 @@ use std::marker::Model;
 use sx_base::Blob;
 
 // A name in a directory, seen as the number of the directory and the bytes.
-#[derive(Drop)]
+#[derive(Debug, Drop)]
 pub(crate) struct Link {
     directory: u64,
     name: Blob,
@@ -38,7 +38,7 @@ impl Link {
 }
 
 // Names in their order, seen as their list.
-#[derive(Drop)]
+#[derive(Debug, Drop)]
 pub(crate) struct Links {
     links: Vec<Link>,
 }

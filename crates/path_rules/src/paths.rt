@@ -16,7 +16,7 @@ const LONGEST_PATH: usize = 4_095;
 pub struct BadPath;
 
 /// The names of a path in order, from the root on. Contracts see the list of those that are left.
-#[derive(Drop)]
+#[derive(Debug, Drop)]
 pub struct Parts<'a> {
     left: Option<&'a [u8]>,
 }

@@ -16,7 +16,7 @@ use std::marker::Model;
 
 /// What is left of a range, seen as what it is cut into: the maximal runs of carried blocks, and the maximal stretches of other
 /// bytes between them, in order. A call of `next` goes by the runs and holes of the contents, and not by blocks. It takes no memory.
-#[derive(Drop)]
+#[derive(Debug, Drop)]
 pub struct PlanIter<'a, E: Ends> {
     contents: &'a Extents<Trace>,
     at: u64,

@@ -31,7 +31,7 @@ impl Time {
 
 /// A command with its values. Paths, names and data are bytes; sizes, offsets and lengths count bytes. Source: enum
 /// btrfs_send_cmd in send.h of btrfs-progs.
-#[derive(Drop)]
+#[derive(Debug, Drop)]
 pub enum Command {
     /// Begins a subvolume of its own.
     Subvol {

@@ -7,7 +7,7 @@ use itoa::Buffer;
 use std::marker::Model;
 
 /// A line of at most 160 bytes, seen as their list. It takes no memory.
-#[derive(Drop)]
+#[derive(Debug, Drop)]
 pub struct Line {
     bytes: [u8; 160],
     len: usize,

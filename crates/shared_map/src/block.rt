@@ -12,7 +12,7 @@ use std::rc::Rc;
 pub(crate) const BLOCK_ENTRIES: usize = 128;
 
 // A run of entries. Its copies share them, and a change of what is shared copies them first.
-#[derive(Drop)]
+#[derive(Debug, Drop)]
 pub(crate) struct Block<K, V> {
     rc: Rc<Vec<(K, V)>>,
 }

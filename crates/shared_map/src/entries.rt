@@ -8,7 +8,7 @@ use crate::page::Page;
 use std::marker::Model;
 
 /// The entries that are left, seen as their list.
-#[derive(Drop)]
+#[derive(Debug, Drop)]
 pub struct Entries<'a, K: Key, V: Copied> {
     rest: &'a [(K, V)],
     pages: &'a [Page<K, V>],

@@ -15,7 +15,7 @@ use std::alloc::{AllocError, Global};
 use std::marker::Model;
 
 /// An ordered map, seen as the list of its entries in rising order of their keys. Copies share their entries.
-#[derive(Drop)]
+#[derive(Debug, Drop)]
 pub struct SharedMap<K: Key, V: Copied> {
     pages: Vec<Page<K, V>>,
     len: u64,

@@ -10,7 +10,7 @@ use std::marker::Model;
 
 // A run of one entry or more, which copies share. The first key stands beside it once more, so that the search for a page follows
 // no pointer.
-#[derive(Drop)]
+#[derive(Debug, Drop)]
 pub(crate) struct Page<K, V> {
     first: K,
     block: Block<K, V>,

@@ -7,7 +7,7 @@ use std::marker::Model;
 use std::rc::Rc;
 
 /// A value that its copies share, seen as the value.
-#[derive(Drop)]
+#[derive(Debug, Drop)]
 pub struct Shared<T> {
     rc: Rc<T>,
 }
@@ -67,7 +67,7 @@ impl<T: Drop> Copied for Shared<T> {
 }
 
 /// An edit of a value that may be shared, seen as the edit of the value itself. It tells whether the value had to be copied.
-#[derive(Drop)]
+#[derive(Debug, Drop)]
 pub struct InShared<E> {
     edit: E,
     alloc: Global,

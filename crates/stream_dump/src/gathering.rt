@@ -13,7 +13,7 @@ use std::alloc::{AllocError, Global};
 use sx_base::Blob;
 
 /// Bytes that are not written yet, and whether the next command begins a stream.
-#[derive(Drop)]
+#[derive(Debug, Drop)]
 pub struct Gathered {
     /// The bytes.
     pub bytes: Blob,

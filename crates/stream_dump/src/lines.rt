@@ -12,7 +12,7 @@ use std::alloc::AllocError;
 use sx_base::Blob;
 
 /// A line for each command, and in front of it one for its stream where it begins one.
-#[derive(Drop)]
+#[derive(Debug, Drop)]
 pub struct DumpLines;
 
 impl ItemForm for DumpLines {

@@ -13,7 +13,7 @@ use tlv_frame::attribute_numbers::*;
 use uuid::Uuid;
 
 /// A value of a command.
-#[derive(Clone, Copy)]
+#[derive(Debug, Clone, Copy)]
 pub enum Value<'a> {
     /// An identifier.
     Identifier(Uuid),

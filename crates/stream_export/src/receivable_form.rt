@@ -18,7 +18,7 @@ use tlv_frame::attribute_numbers::{CTIME, INO};
 use tlv_frame::{FRAME_HEAD_LEN, FrameWriter, StreamHead};
 
 /// The receivable spelling, each stream behind its header. It keeps the canonical frame of the command at hand.
-#[derive(Drop)]
+#[derive(Debug, Drop)]
 pub struct ReceivableForm {
     frame: Blob,
 }

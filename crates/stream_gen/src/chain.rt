@@ -10,7 +10,7 @@ use std::marker::Model;
 use sx_base::Blob;
 
 /// A chain of which some parts are made. It is seen as the number that it is made from, and how many parts are made.
-#[derive(Drop)]
+#[derive(Debug, Drop)]
 pub struct Chain {
     alloc: Global,
     seed: u64,

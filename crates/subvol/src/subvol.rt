@@ -13,7 +13,7 @@ use std::marker::Model;
 
 /// The inodes, names and contents of a subvolume, seen as that of the definitions over cells that are an origin or zero. A copy
 /// shares all that neither changes.
-#[derive(Drop)]
+#[derive(Debug, Drop)]
 pub struct Subvol<O: Origin> {
     pub(crate) tree: Tree<O>,
     pub(crate) alloc: Global,

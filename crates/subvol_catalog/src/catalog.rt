@@ -17,7 +17,7 @@ use sx_base::{Blob, Refusal, Stop};
 use uuid::Uuid;
 
 /// Subvolumes in the order in which they began, found by name and by key. No name and no UUID stands twice.
-#[derive(Drop)]
+#[derive(Debug, Drop)]
 pub struct Catalog<V> {
     entries: IndexMap<Uuid, Entry<V>>,
     // The UUID of each entry by its name. A call for which memory ran out may leave a name here: it counts only where the

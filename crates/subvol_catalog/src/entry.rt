@@ -6,7 +6,7 @@ use sx_base::Blob;
 use uuid::Uuid;
 
 /// A subvolume of a catalogue.
-#[derive(Drop)]
+#[derive(Debug, Drop)]
 pub struct Entry<V> {
     /// Its name.
     pub name: Blob,

@@ -6,7 +6,7 @@ use std::alloc::{AllocError, Global};
 use std::marker::Model;
 
 /// Bytes that grow, seen as their list. A blob keeps the allocator that it was made with.
-#[derive(Drop)]
+#[derive(Debug, Drop)]
 pub struct Blob {
     bytes: Vec<u8>,
 }

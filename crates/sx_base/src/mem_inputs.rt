@@ -14,7 +14,7 @@ use std::marker::Model;
 
 /// Files in memory, of which exactly the chosen calls of `read_at` and `read_again` fail, counted from 1. Of
 /// files of one name the first counts. Their count of ends is always 0.
-#[derive(Drop)]
+#[derive(Debug, Drop)]
 pub struct MemInputs {
     alloc: Global,
     files: Vec<StoredFile>,

@@ -11,7 +11,7 @@ use std::marker::Model;
 
 /// A sink that keeps the bytes in memory. The chosen writes fail, counted from 1; another one fails for want
 /// of memory alone, and exactly then the number of refused writes rises.
-#[derive(Drop)]
+#[derive(Debug, Drop)]
 pub struct MemSink {
     bytes: Vec<u8>,
     failing: Vec<u64>,

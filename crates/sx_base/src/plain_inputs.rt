@@ -13,7 +13,7 @@ use std::marker::Model;
 
 /// Files in memory that never fail, seen as the list of their names and bytes. Of files of one name the first
 /// counts. Their counts of faults and of ends are always 0.
-#[derive(Drop)]
+#[derive(Debug, Drop)]
 pub struct PlainInputs {
     alloc: Global,
     files: Vec<StoredFile>,

@@ -7,7 +7,7 @@ use crate::failed::Failed;
 use crate::sink::Sink;
 
 /// A sink that takes every piece whole, drops it, and tells nothing. It never fails.
-#[derive(Drop)]
+#[derive(Debug, Drop)]
 pub struct PlainSink;
 
 impl PlainSink {

@@ -5,7 +5,7 @@ ghost use Rattle.sx_base.specs.Stored.{as_files};
 
 use std::alloc::{AllocError, Global};
 
-#[derive(Drop)]
+#[derive(Debug, Drop)]
 pub(crate) struct StoredFile {
     pub(crate) name: String,
     pub(crate) bytes: Vec<u8>,

@@ -14,14 +14,14 @@ use sx_base::Refusal;
 const SLOTS: usize = 32;
 
 // An attribute's bytes, and the place of the first of them in the body.
-#[derive(Clone, Copy)]
+#[derive(Debug, Clone, Copy)]
 struct Slot<'a> {
     place: usize,
     bytes: &'a [u8],
 }
 
 /// The attributes of a frame's body, which it borrows. It is seen as its slots with the version of the stream.
-#[derive(Drop)]
+#[derive(Debug, Drop)]
 pub struct AttrTable<'a> {
     version: u32,
     slots: [Option<Slot<'a>>; SLOTS],

@@ -38,7 +38,7 @@ pub enum Passed {
 
 /// The bytes of a file that is given in pieces of any size, and handed out as headers and frames. It is seen as the bytes that
 /// were not handed out yet, with what is due and how the last unit ended.
-#[derive(Drop)]
+#[derive(Debug, Drop)]
 pub struct Feed {
     bytes: Vec<u8>,
     // Where the last unit begins, and where it ends: there the bytes begin that were not handed out.
