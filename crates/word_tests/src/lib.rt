@@ -26,3 +26,5 @@ mod showing_tests;
 mod streams;
 #[cfg(test)]
 mod trial_tests;
+#[cfg(test)]
+mod trouble_tests;
