@@ -9,7 +9,8 @@ use Rattle.send_model.specs.Lengths.{is_too_long}
 use Rattle.send_model.specs.Due.{Due, Limited, Stop, AtEnd, AtFault, AtLimit, limited_from, then_limited}
 use Rattle.send_model.proofs.Writing.{heads_of-append}
 use Rattle.sx_base.specs.Outside.{file_at}
-use Rattle.sx_base.specs.Calls.{contents, IfAllTold, verdict_meant}
+use Rattle.sx_base.specs.Calls.{contents, IfAllTold}
+use Rattle.sx_base.specs.Refusals.{verdict_meant}
 use Rattle.sx_base.specs.declared.outcome.Outcome.{Outcome}
 use Rattle.sx_base.specs.declared.outcome.Outcome.TheVariants as ended_by
 use Rattle.cmd_reader.specs.Places.{IfTold}

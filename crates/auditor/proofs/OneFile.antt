@@ -10,8 +10,8 @@ use Rattle.send_model.specs.Order.{heads, heads_of, onto_heads, commands_of}
 use Rattle.send_model.specs.Lengths.{limit, only_ends}
 use Rattle.send_model.specs.Due.{RefusedAt, TooLong, AtFault, AtLimit}
 use Rattle.send_model.proofs.Writing.{heads_of-append}
-use Rattle.sx_base.specs.Refusals.{refusal_of}
-use Rattle.sx_base.specs.Calls.{verdict_meant, Caused}
+use Rattle.sx_base.specs.Refusals.{refusal_of, verdict_meant}
+use Rattle.sx_base.specs.Calls.{Caused}
 use Rattle.sx_base.specs.declared.outcome.Verdict.{Verdict}
 use Rattle.sx_base.specs.declared.outcome.Outcome.{Outcome}
 use Rattle.sx_base.specs.declared.outcome.Outcome.TheVariants as ended_by

@@ -11,12 +11,12 @@ use Rattle.send_model.specs.Due.{Due, DoneWhole, RefusedAt, TooLong, limited_fro
 use Rattle.send_model.specs.Words.{Audit, EndSays}
 use Rattle.sx_base.specs.Causes.{Rose}
 use Rattle.sx_base.specs.Outside.{AppendsPart}
-use Rattle.sx_base.specs.Calls.{verdict_meant, EndsAs}
+use Rattle.sx_base.specs.Calls.{EndsAs}
 use Rattle.sx_base.specs.declared.outcome.Outcome.{Outcome}
 use Rattle.sx_base.specs.declared.outcome.Outcome.TheVariants as ended
 use Rattle.sx_base.specs.declared.stop.Stop.{Stop}
 use Rattle.sx_base.specs.declared.stop.Stop.TheVariants as why
-use Rattle.sx_base.specs.Refusals.{refusal_of}
+use Rattle.sx_base.specs.Refusals.{refusal_of, verdict_meant}
 use Rattle.clone_resolve.specs.Steps.{done_by}
 use Rattle.clone_resolve.specs.declared.done.Done.{Done}
 use Rattle.clone_resolve.specs.declared.done.Done.TheVariants as did

@@ -11,7 +11,7 @@ use Rattle.send_model.specs.Store.{Key, Store, Part, clone_source, edit_part, fi
 use Rattle.extent_map.specs.Pieces.{run_cells}
 use Rattle.extent_map.proofs.Layouts.{length-run_cells}
 use Rattle.sx_base.specs.declared.stop.Stop.{Stop}
-use Rattle.inode_tree.specs.Answers.{MayChange}
+use Rattle.sx_base.specs.Answers.{MayChange}
 use Rattle.send_commands.specs.declared.command.Command as code
 use Rattle.send_commands.specs.declared.command.Command.TheVariants as made
 use Rattle.send_commands.specs.Meaning.{meaning_of}

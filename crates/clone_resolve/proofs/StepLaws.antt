@@ -13,7 +13,7 @@ use Rattle.send_commands.specs.declared.command.Command as code
 use Rattle.send_commands.specs.declared.command.Command.TheVariants as made
 use Rattle.send_commands.specs.Meaning.{meaning_of}
 use Rattle.clone_resolve.specs.declared.done.Done.TheVariants as done
-use Rattle.inode_tree.specs.Answers.{MayChange}
+use Rattle.sx_base.specs.Answers.{MayChange}
 use Rattle.clone_resolve.specs.Heads.{Begins}
 use Rattle.clone_resolve.specs.Steps.{is_open, Fits, Answers, done_by}
 

@@ -7,7 +7,7 @@ ghost use Rattle.send_model.specs.Chain.{found};
 ghost use Rattle.send_model.specs.Clone.{clone};
 ghost use Rattle.send_model.specs.Store.{has_name, with_contents, start_from, head_of, clone_source, edit_part, completed, step_head, step_edit, step};
 ghost use Rattle.send_commands.specs.Meaning.{meaning_of};
-ghost use Rattle.inode_tree.specs.Answers.{MayChange};
+ghost use Rattle.sx_base.specs.Answers.{MayChange};
 ghost use Rattle.subvol_catalog.specs.Entries.{key_of, entry_of};
 ghost use Rattle.subvol_catalog.specs.Admission.{is_new, Adds, without_name, without_uuid};
 ghost use Rattle.clone_resolve.specs.declared.done.Done.TheVariants as did;

@@ -2,7 +2,7 @@
 ghost use Rattle.std.specs.Prelude.{◌≡◌, false, None, []};
 ghost use Rattle.send_model.specs.Edit as edit;
 ghost use Rattle.send_commands.specs.Meaning.{meaning_of};
-ghost use Rattle.inode_tree.specs.Answers.{MayChange};
+ghost use Rattle.sx_base.specs.Answers.{MayChange};
 ghost use Rattle.inode_tree.specs.Kinds.{kind_of, new_of_kind};
 ghost use Rattle.inode_tree.specs.Kinds as tree_times;
 ghost use Rattle.send_commands.specs.Meaning.{time_of};

@@ -2,8 +2,7 @@
 use Rattle.std.specs.Prelude.{◌≡◌, ℕ, List, Option, None, Some, Result, Ok, Err, ⊤, IfSome}
 use Rattle.send_model.specs.Refusal.{Refusal}
 use Rattle.send_model.specs.Reading as reading
-use Rattle.sx_base.specs.Calls.{verdict_meant}
-use Rattle.sx_base.specs.Refusals.{refusal_of}
+use Rattle.sx_base.specs.Refusals.{refusal_of, verdict_meant}
 use Rattle.sx_base.specs.declared.outcome.Verdict.{Verdict}
 use Rattle.cmd_reader.specs.declared.fault.Fault.{Fault}
 use Rattle.cmd_reader.specs.declared.fault.Fault.TheVariants.{Refused, NoMemory, InputFault, InputTooLong}

@@ -8,8 +8,7 @@ use Rattle.send_model.specs.Spelling.{canonical}
 use Rattle.send_model.specs.Laws.{CanWrite}
 use Rattle.send_model.specs.Lengths.{limit, only_ends}
 use Rattle.sx_base.specs.Causes.{Rose}
-use Rattle.sx_base.specs.Calls.{verdict_meant}
-use Rattle.sx_base.specs.Refusals.{refusal_of}
+use Rattle.sx_base.specs.Refusals.{refusal_of, verdict_meant}
 use Rattle.sx_base.specs.declared.outcome.Verdict.{Verdict}
 use Rattle.send_commands.specs.Meaning.{meaning_of}
 use Rattle.send_commands.specs.Writing.{IsWritable}

@@ -24,7 +24,8 @@ use Rattle.send_model.proofs.Endings.{EndsWithEnd, EndsWell, input_ends}
 use Rattle.send_model.proofs.HeadlineLaw.{fronts_are_writable, readings_hold}
 use Rattle.send_model.proofs.Stores.{same_key_same, bytes_eq_same}
 use Rattle.sx_base.specs.Outside.{file_at, AppendsPart}
-use Rattle.sx_base.specs.Calls.{contents, IfAllTold, Wrote, verdict_meant}
+use Rattle.sx_base.specs.Calls.{contents, IfAllTold, Wrote}
+use Rattle.sx_base.specs.Refusals.{verdict_meant}
 use Rattle.sx_base.specs.declared.outcome.Verdict.{Verdict}
 use Rattle.sx_base.specs.declared.outcome.Outcome.{Outcome}
 use Rattle.sx_base.specs.declared.outcome.Outcome.TheVariants as over

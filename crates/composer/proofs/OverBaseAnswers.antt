@@ -11,7 +11,8 @@ use Rattle.send_model.proofs.Fronts.{nothing_front}
 use Rattle.send_model.proofs.Writing.{nothing_unfinished}
 use Rattle.sx_base.specs.declared.outcome.Verdict.{Verdict}
 use Rattle.sx_base.specs.declared.outcome.Outcome.TheVariants as over
-use Rattle.sx_base.specs.Calls.{Ends, verdict_meant}
+use Rattle.sx_base.specs.Calls.{Ends}
+use Rattle.sx_base.specs.Refusals.{verdict_meant}
 use Rattle.composer.proofs.OverBaseAhead.{due_fits}
 
 module _ (store at : ℕ) (base : Store ℕ) (files : List (List ℕ)) (written : List ℕ) where

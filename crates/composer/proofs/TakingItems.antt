@@ -21,7 +21,7 @@ use Rattle.sx_base.specs.declared.stop.Stop.{Stop}
 use Rattle.sx_base.specs.declared.outcome.Verdict.{Verdict}
 use Rattle.sx_base.specs.declared.outcome.Outcome.{Outcome}
 use Rattle.sx_base.specs.declared.outcome.Outcome.TheVariants as ended
-use Rattle.sx_base.specs.Calls.{verdict_meant}
+use Rattle.sx_base.specs.Refusals.{verdict_meant}
 use Rattle.extent_map.specs.Pieces.{run_cells}
 use Rattle.clone_resolve.specs.Steps.{data_len, cells_put, Answers}
 use Rattle.clone_resolve.proofs.TakenStates.{AllCells, part_after_step, cells_after_step}

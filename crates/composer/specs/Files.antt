@@ -11,7 +11,8 @@ use Rattle.send_model.specs.Due.{RefusedAt}
 use Rattle.send_model.specs.Lengths.{is_too_long}
 use Rattle.send_model.specs.Outside.{IsSayable}
 use Rattle.send_model.specs.Headline.{IsComposed}
-use Rattle.sx_base.specs.Calls.{verdict_meant, Ends}
+use Rattle.sx_base.specs.Calls.{Ends}
+use Rattle.sx_base.specs.Refusals.{verdict_meant}
 use Rattle.sx_base.specs.declared.outcome.Outcome.{Outcome}
 use Rattle.sx_base.specs.declared.outcome.Outcome.TheVariants as ended
 use Rattle.send_model.specs.Words.{Compose}

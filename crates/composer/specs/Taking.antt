@@ -8,7 +8,8 @@ use Rattle.send_model.specs.Store.{Head, head_of, same_key}
 use Rattle.send_model.specs.Receive.{bytes_of, first_of, verdict_of}
 use Rattle.sx_base.specs.Causes.{Rose}
 use Rattle.sx_base.specs.Outside.{AppendsPart}
-use Rattle.sx_base.specs.Calls.{verdict_meant, CausedAgain}
+use Rattle.sx_base.specs.Calls.{CausedAgain}
+use Rattle.sx_base.specs.Refusals.{verdict_meant}
 use Rattle.sx_base.specs.declared.outcome.Verdict.{Verdict}
 use Rattle.sx_base.specs.declared.outcome.Outcome.{Outcome}
 use Rattle.sx_base.specs.declared.outcome.Outcome.TheVariants as ended

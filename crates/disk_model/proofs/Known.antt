@@ -1,6 +1,7 @@
 -- What stays known of a disk in memory after each of its calls.
 use Rattle.std.proofs.Common.{◌≡◌, ℕ, zero, suc, ◌+◌, ◌-◌, ◌≤◌, min, max, Bool, true, false, Option, Some, None, Result, Ok, Err, OnOk, OnErr, List, [], ◌∷◌, ◌++◌, length, take, drop, map, replicate, refl, ◌∙◌, ap, arith, length-append, length-take, length-drop}
-use Rattle.sx_base.specs.Disk.{forget, written, shortened, settled, overwritten}
+use Rattle.sx_base.specs.Disk.{forget, written, shortened, settled}
+use Rattle.sx_base.specs.Bytes.{put_at}
 use Rattle.disk_model.specs.Stretch.{known_of}
 
 -- a cut leaves what is known below it
@@ -39,28 +40,28 @@ known-touch (suc at) count (t ∷ touched) [] = refl
 known-touch (suc at) count (true ∷ touched) (b ∷ bytes) = ap (λ (l : List (Option ℕ)). None ∷ l) (known-touch at count touched bytes)
 known-touch (suc at) count (false ∷ touched) (b ∷ bytes) = ap (λ (l : List (Option ℕ)). Some b ∷ l) (known-touch at count touched bytes)
 
-overwritten-suc : (at : ℕ) (piece : List ℕ) (b : ℕ) (bytes : List ℕ) → overwritten (suc at) piece (b ∷ bytes) ≡ b ∷ overwritten at piece bytes
-overwritten-suc at piece b bytes = ap (λ (n : ℕ). b ∷ (take at bytes ++ piece ++ drop n (b ∷ bytes))) (let e : suc at + length piece ≡ suc (at + length piece) = omega arith in e)
+put_at-suc : (at : ℕ) (piece : List ℕ) (b : ℕ) (bytes : List ℕ) → put_at (suc at) piece (b ∷ bytes) ≡ b ∷ put_at at piece bytes
+put_at-suc at piece b bytes = ap (λ (n : ℕ). b ∷ (take at bytes ++ piece ++ drop n (b ∷ bytes))) (let e : suc at + length piece ≡ suc (at + length piece) = omega arith in e)
 
-overwritten-zero : (p : ℕ) (piece : List ℕ) (b : ℕ) (bytes : List ℕ) → overwritten zero (p ∷ piece) (b ∷ bytes) ≡ p ∷ overwritten zero piece bytes
-overwritten-zero p piece b bytes = ap (λ (n : ℕ). p ∷ (piece ++ drop n (b ∷ bytes))) (let e : zero + suc (length piece) ≡ suc (zero + length piece) = omega arith in e)
+put_at-zero : (p : ℕ) (piece : List ℕ) (b : ℕ) (bytes : List ℕ) → put_at zero (p ∷ piece) (b ∷ bytes) ≡ p ∷ put_at zero piece bytes
+put_at-zero p piece b bytes = ap (λ (n : ℕ). p ∷ (piece ++ drop n (b ∷ bytes))) (let e : zero + suc (length piece) ≡ suc (zero + length piece) = omega arith in e)
 
 -- the bytes written stand where nothing is known
-known-overwritten : (at : ℕ) (piece : List ℕ) (touched : List Bool) (bytes : List ℕ) → length touched ≤ length bytes
-    → known_of (touch at (length piece) touched) (overwritten at piece bytes) ≡ known_of (touch at (length piece) touched) bytes
+known-put_at : (at : ℕ) (piece : List ℕ) (touched : List Bool) (bytes : List ℕ) → length touched ≤ length bytes
+    → known_of (touch at (length piece) touched) (put_at at piece bytes) ≡ known_of (touch at (length piece) touched) bytes
 unfolding touch
-known-overwritten at piece [] bytes covers = refl
-known-overwritten at piece (t ∷ touched) [] covers = absurd (omega arith)
-known-overwritten zero [] (t ∷ touched) (b ∷ bytes) covers = refl
-known-overwritten zero (p ∷ piece) (t ∷ touched) (b ∷ bytes) covers =
-    ap (λ (l : List ℕ). known_of (true ∷ touch zero (length piece) touched) l) (overwritten-zero p piece b bytes)
-    ∙ ap (λ (l : List (Option ℕ)). None ∷ l) (known-overwritten zero piece touched bytes (omega (arith, covers)))
-known-overwritten (suc at) piece (true ∷ touched) (b ∷ bytes) covers =
-    ap (λ (l : List ℕ). known_of (true ∷ touch at (length piece) touched) l) (overwritten-suc at piece b bytes)
-    ∙ ap (λ (l : List (Option ℕ)). None ∷ l) (known-overwritten at piece touched bytes (omega (arith, covers)))
-known-overwritten (suc at) piece (false ∷ touched) (b ∷ bytes) covers =
-    ap (λ (l : List ℕ). known_of (false ∷ touch at (length piece) touched) l) (overwritten-suc at piece b bytes)
-    ∙ ap (λ (l : List (Option ℕ)). Some b ∷ l) (known-overwritten at piece touched bytes (omega (arith, covers)))
+known-put_at at piece [] bytes covers = refl
+known-put_at at piece (t ∷ touched) [] covers = absurd (omega arith)
+known-put_at zero [] (t ∷ touched) (b ∷ bytes) covers = refl
+known-put_at zero (p ∷ piece) (t ∷ touched) (b ∷ bytes) covers =
+    ap (λ (l : List ℕ). known_of (true ∷ touch zero (length piece) touched) l) (put_at-zero p piece b bytes)
+    ∙ ap (λ (l : List (Option ℕ)). None ∷ l) (known-put_at zero piece touched bytes (omega (arith, covers)))
+known-put_at (suc at) piece (true ∷ touched) (b ∷ bytes) covers =
+    ap (λ (l : List ℕ). known_of (true ∷ touch at (length piece) touched) l) (put_at-suc at piece b bytes)
+    ∙ ap (λ (l : List (Option ℕ)). None ∷ l) (known-put_at at piece touched bytes (omega (arith, covers)))
+known-put_at (suc at) piece (false ∷ touched) (b ∷ bytes) covers =
+    ap (λ (l : List ℕ). known_of (false ∷ touch at (length piece) touched) l) (put_at-suc at piece b bytes)
+    ∙ ap (λ (l : List (Option ℕ)). Some b ∷ l) (known-put_at at piece touched bytes (omega (arith, covers)))
 
 -- the marks as the code makes them
 abbrev pub marked : ℕ → ℕ → List Bool → List Bool
@@ -90,8 +91,8 @@ marked-touch (suc at) count (suc from) zero (t ∷ touched) f g = absurd (omega 
 marked-touch (suc at) count (suc from) (suc to) (t ∷ touched) f g =
     marked-suc from to t touched ∙ ap (λ (l : List Bool). t ∷ l) (marked-touch at count from to touched (omega (arith, f)) (omega (arith, g)))
 
-pub length-overwritten : (at : ℕ) (piece bytes : List ℕ) → at ≤ length bytes → length (overwritten at piece bytes) ≡ max (length bytes) (at + length piece)
-length-overwritten at piece bytes place =
+pub length-put_at : (at : ℕ) (piece bytes : List ℕ) → at ≤ length bytes → length (put_at at piece bytes) ≡ max (length bytes) (at + length piece)
+length-put_at at piece bytes place =
     omega (arith, length-append (take at bytes ++ piece) (drop (at + length piece) bytes), length-append (take at bytes) piece, length-take at bytes, length-drop (at + length piece) bytes)
 
 pub marked_is : (at count from to : ℕ) (marks touched : List Bool) (bytes : List ℕ) → from ≡ min at (length touched) → to ≡ min (at + count) (length touched) → marks ≡ marked from to touched → known_of marks bytes ≡ forget at count (known_of touched bytes)
@@ -101,15 +102,15 @@ marked_is at count from to marks touched bytes f g is =
 -- a write, whether memory sufficed for its bytes or not
 pub after_write : {E : Type 0} (result : Result (Unit {0}) E) (at from to greatest : ℕ) (piece old new : List ℕ) (touched marks : List Bool) → at ≤ length old → length touched ≤ length old
     → from ≡ min at (length touched) → to ≡ min (at + length piece) (length touched) → marks ≡ marked from to touched
-    → OnOk result (new ≡ overwritten at piece old) → OnErr result (new ≡ old)
+    → OnOk result (new ≡ put_at at piece old) → OnErr result (new ≡ old)
     → record { known = known_of marks new; greatest = max (max greatest (at + length piece)) (length new) } ≡ written at (length piece) (record { known = known_of touched old; greatest = max greatest (length old) })
 after_write (Ok _) at from to greatest piece old new touched marks place covers f g is ok err =
     let here : known_of marks new ≡ forget at (length piece) (known_of touched old) =
     ap (λ (l : List ℕ). known_of marks l) ok
-    ∙ ap (λ (l : List Bool). known_of l (overwritten at piece old)) (is ∙ marked-touch at (length piece) from to touched f g)
-    ∙ known-overwritten at piece touched old covers
+    ∙ ap (λ (l : List Bool). known_of l (put_at at piece old)) (is ∙ marked-touch at (length piece) from to touched f g)
+    ∙ known-put_at at piece touched old covers
     ∙ known-touch at (length piece) touched old in
-    let size : max (max greatest (at + length piece)) (length new) ≡ max (max greatest (length old)) (at + length piece) = omega (arith, ap length ok, length-overwritten at piece old place) in
+    let size : max (max greatest (at + length piece)) (length new) ≡ max (max greatest (length old)) (at + length piece) = omega (arith, ap length ok, length-put_at at piece old place) in
     λ i. record { known = here i; greatest = size i }
 after_write (Err _) at from to greatest piece old new touched marks place covers f g is ok err =
     let here : known_of marks new ≡ forget at (length piece) (known_of touched old) = ap (λ (l : List ℕ). known_of marks l) err ∙ marked_is at (length piece) from to marks touched old f g is in

@@ -1,7 +1,8 @@
 // A disk that stops.
 ghost use Rattle.std.specs.Prelude.{◌≡◌, ◌⊎◌, ◌+◌, ◌-◌, ◌^◌, ◌<◌, ◌≤◌, ◌↔◌, IsTrue, length, take, min, max, IfOk, OnOk, OnErr, IsErr, if◌then◌else◌};
 ghost use Rattle.sx_base.specs.Causes.{Rose};
-ghost use Rattle.sx_base.specs.Disk.{IsAsBefore, IsReadAt, Passes, written, shortened, settled, overwritten};
+ghost use Rattle.sx_base.specs.Disk.{IsAsBefore, IsReadAt, Passes, written, shortened, settled};
+ghost use Rattle.sx_base.specs.Bytes.{put_at};
 ghost use Rattle.disk_model.specs.FuseDisk.{of_inner, left_inside, faults_of};
 
 use std::marker::Model;
@@ -142,7 +143,7 @@ impl<D: Disk> Disk for FuseDisk<D> {
         ensures len_err { OnErr result ((D.len self.old.disk ≤ D.len self.new.disk)
             × (D.len self.new.disk ≤ max (D.len self.old.disk) (at + length piece.now))) }
         ensures seen { D.tells →
-            OnOk result (D.seen self.new.disk ≡ overwritten at piece.now (D.seen self.old.disk)) }
+            OnOk result (D.seen self.new.disk ≡ put_at at piece.now (D.seen self.old.disk)) }
         ensures pending { D.tells → D.pending self.new.disk
             ≡ written at (length piece.now) (D.pending self.old.disk) }
         ensures passes { Passes D.tells (of_inner D.moment) (left_inside D.left_since)

@@ -1,7 +1,8 @@
 // A disk in memory that may crash.
 ghost use Rattle.std.specs.Prelude.{◌≡◌, ◌+◌, ◌-◌, ◌^◌, ◌<◌, ◌≤◌, ◌++◌, [], ◌∷◌, length, take, min, max, IfOk, OnOk, OnErr, IsOk, is_ok, if◌then◌else◌};
 ghost use Rattle.std.proofs.Common.{inr, refl};
-ghost use Rattle.sx_base.specs.Disk.{IsAsBefore, IsReadAt, Passes, written, shortened, settled, overwritten};
+ghost use Rattle.sx_base.specs.Disk.{IsAsBefore, IsReadAt, Passes, written, shortened, settled};
+ghost use Rattle.sx_base.specs.Bytes.{put_at};
 ghost use Rattle.disk_model.specs.Stretch.{pending_in};
 ghost use Rattle.disk_model.specs.History.{only_this, bytes_are_image};
 ghost use Rattle.disk_model.specs.MemDisk.{seen_of, pending_of, refused_of, moment_of, left_of, past_of};
@@ -152,7 +153,7 @@ impl Disk for MemDisk {
             × (length (seen_of self.new) ≤ max (length (seen_of self.old))
             (at + length piece.now))) }
         ensures seen { OnOk result
-            (seen_of self.new ≡ overwritten at piece.now (seen_of self.old)) }
+            (seen_of self.new ≡ put_at at piece.now (seen_of self.old)) }
         ensures pending { pending_of self.new
             ≡ written at (length piece.now) (pending_of self.old) }
         ensures passes { Passes (Unit {0}) moment_of left_of pending_of refused_of

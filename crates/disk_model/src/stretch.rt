@@ -1,6 +1,6 @@
 // What a disk in memory keeps of the time from one successful sync to the next.
 ghost use Rattle.std.specs.Prelude.{◌≡◌, ◌+◌, ◌-◌, ◌^◌, ◌<◌, ◌≤◌, ◌++◌, true, length, take, drop, replicate, OnOk, OnErr};
-ghost use Rattle.sx_base.specs.Disk.{overwritten};
+ghost use Rattle.sx_base.specs.Bytes.{put_at};
 
 use std::alloc::{AllocError, Global};
 
@@ -19,7 +19,8 @@ pub(crate) struct Stretch {
 
 impl Stretch {
     ghost use Rattle.std.specs.Prelude.{◌≡◌, ◌+◌, ◌<◌, ◌-◌, ◌≤◌, ◌^◌, IfOk, OnOk, OnErr, length, take, min};
-    ghost use Rattle.sx_base.specs.Disk.{written, shortened, settled, overwritten};
+    ghost use Rattle.sx_base.specs.Disk.{written, shortened, settled};
+    ghost use Rattle.sx_base.specs.Bytes.{put_at};
     ghost use Rattle.disk_model.specs.Stretch.{pending_in};
 
     /// A disk with these bytes, all of them stable.
@@ -44,7 +45,7 @@ impl Stretch {
         requires place { at ≤ length self.old.bytes.items }
         requires room { at + length piece.now < 2 ^ 63 }
         ensures bytes { OnOk result
-            (self.new.bytes.items ≡ overwritten at piece.now self.old.bytes.items) }
+            (self.new.bytes.items ≡ put_at at piece.now self.old.bytes.items) }
         ensures kept { OnErr result (self.new.bytes.items ≡ self.old.bytes.items) }
         ensures pending { pending_in self.new
             ≡ written at (length piece.now) (pending_in self.old) }
@@ -93,7 +94,7 @@ fn mark(touched: &mut Vec<bool>, from: usize, to: usize)
 fn overwrite(bytes: &mut Vec<u8>, at: usize, piece: &[u8]) -> Result<(), AllocError>
     requires place { at ≤ length bytes.old.items }
     requires room { at + length piece.now < 2 ^ 63 }
-    ensures ok { OnOk result (bytes.new.items ≡ overwritten at piece.now bytes.old.items) }
+    ensures ok { OnOk result (bytes.new.items ≡ put_at at piece.now bytes.old.items) }
     ensures err { OnErr result (bytes.new.items ≡ bytes.old.items) }
     ensures len { length bytes.old.items ≤ length bytes.new.items }
 {

@@ -17,8 +17,8 @@ use Rattle.send_model.specs.Lengths.{limit, only_ends, too_long}
 use Rattle.send_model.proofs.Composed.{last_there}
 use Rattle.send_model.proofs.Sorts.{same_inside}
 use Rattle.sx_base.specs.Outside.{file_at}
-use Rattle.sx_base.specs.Refusals.{refusal_of}
-use Rattle.sx_base.specs.Calls.{verdict_meant, contents, IfAllTold}
+use Rattle.sx_base.specs.Refusals.{refusal_of, verdict_meant}
+use Rattle.sx_base.specs.Calls.{contents, IfAllTold}
 use Rattle.sx_base.specs.declared.outcome.Verdict.{Verdict}
 use Rattle.sx_base.specs.declared.outcome.Outcome.{Outcome}
 use Rattle.sx_base.specs.declared.outcome.Outcome.TheVariants as ended_by

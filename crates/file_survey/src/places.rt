@@ -1,7 +1,6 @@
 // Where a command stands.
 ghost use Rattle.std.specs.Prelude.{◌≡◌};
-ghost use Rattle.sx_base.specs.Calls.{verdict_meant};
-ghost use Rattle.sx_base.specs.Refusals.{refusal_of};
+ghost use Rattle.sx_base.specs.Refusals.{refusal_of, verdict_meant};
 
 use sx_base::{Refusal, Verdict};
 

@@ -4,7 +4,8 @@ use Rattle.std.specs.List.{AllByRecursion}
 use Rattle.std.specs.Int.{w64, to_le_bytes}
 use Rattle.std.proofs.lemmas.Bool.{cases_eq}
 use Rattle.std.proofs.lemmas.List.{append-nil, take_all, drop_all, take_at, drop_at}
-use Rattle.sx_base.specs.Disk.{Pending, IsImage, written, settled, overwritten}
+use Rattle.sx_base.specs.Disk.{Pending, IsImage, written, settled}
+use Rattle.sx_base.specs.Bytes.{put_at}
 use Rattle.sx_base.specs.Crash.{IsStableFront}
 use Rattle.sx_base.proofs.DiskImages.{settled_front, image_front, image_byte, only_settled}
 use Rattle.send_model.specs.Image.{Header, HasGroups, header_of, front_of, group_of, IsShort}
@@ -12,16 +13,16 @@ use Rattle.group_log.specs.State.{LogState}
 use Rattle.group_log.specs.Journal.{IsBehind, Rests, Grows, IsReady}
 
 -- bytes in the place of as many others
-pub overwritten_at : (front old new rest : List ℕ) → length new ≡ length old → overwritten (length front) new (front ++ (old ++ rest)) ≡ front ++ (new ++ rest)
-overwritten_at front old new rest same =
+pub put_at_front : (front old new rest : List ℕ) → length new ≡ length old → put_at (length front) new (front ++ (old ++ rest)) ≡ front ++ (new ++ rest)
+put_at_front front old new rest same =
     let size : length (front ++ old) ≡ length front + length new = omega (arith, length-append front old, same) in
     ap (λ (l : List ℕ). l ++ new ++ drop (length front + length new) (front ++ (old ++ rest))) (take_at front (old ++ rest) (length front) refl)
     ∙ ap (λ (l : List ℕ). front ++ new ++ l) (ap (λ (l : List ℕ). drop (length front + length new) l) (sym (append_assoc front old rest)) ∙ drop_at (front ++ old) rest (length front + length new) size)
     ∙ append_assoc front new rest
 
 -- bytes behind the end
-pub overwritten_end : (at : ℕ) (bytes piece : List ℕ) → at ≡ length bytes → overwritten at piece bytes ≡ bytes ++ piece
-overwritten_end at bytes piece end =
+pub put_at_end : (at : ℕ) (bytes piece : List ℕ) → at ≡ length bytes → put_at at piece bytes ≡ bytes ++ piece
+put_at_end at bytes piece end =
     ap (λ (l : List ℕ). l ++ piece ++ drop (at + length piece) bytes) (take_all at bytes (omega (arith, end)))
     ∙ ap (λ (l : List ℕ). bytes ++ piece ++ l) (drop_all (at + length piece) bytes (omega (arith, end)))
     ∙ append-nil (bytes ++ piece)
@@ -108,16 +109,16 @@ module _ (header : Header) (bodies : List (List ℕ)) (body : List ℕ) (log : L
       let any = image_byte (front_of header bodies) ready.gate tail image (subst (λ (p : Pending). IsImage p image) known i) in
       any_gate any.byte image any.split
 
-  pub open_is : (now : List ℕ) → now ≡ overwritten log.gate (1 ∷ []) seen → now ≡ front_of header bodies ++ 1 ∷ tail
+  pub open_is : (now : List ℕ) → now ≡ put_at log.gate (1 ∷ []) seen → now ≡ front_of header bodies ++ 1 ∷ tail
   open_is now is =
-      is ∙ ap (λ (l : List ℕ). overwritten log.gate (1 ∷ []) l) ready.bytes
-      ∙ ap (λ (n : ℕ). overwritten n (1 ∷ []) (front_of header bodies ++ ready.gate ∷ tail)) ready.behind.place
-      ∙ overwritten_at (front_of header bodies) (ready.gate ∷ []) (1 ∷ []) tail refl
+      is ∙ ap (λ (l : List ℕ). put_at log.gate (1 ∷ []) l) ready.bytes
+      ∙ ap (λ (n : ℕ). put_at n (1 ∷ []) (front_of header bodies ++ ready.gate ∷ tail)) ready.behind.place
+      ∙ put_at_front (front_of header bodies) (ready.gate ∷ []) (1 ∷ []) tail refl
 
-  pub open_has : (now : List ℕ) → now ≡ overwritten log.gate (1 ∷ []) seen → (image : List ℕ) → IsImage (settled now) image → BeforeOrAfter image
+  pub open_has : (now : List ℕ) → now ≡ put_at log.gate (1 ∷ []) seen → (image : List ℕ) → IsImage (settled now) image → BeforeOrAfter image
   open_has now is image i = inr (after image (only_settled now image i ∙ open_is now is))
 
-  pub published_rests : (new : LogState) (now : List ℕ) (known : Pending) → new.gate ≡ log.gate + 9 + length body → new.groups ≡ log.groups + 1 → new.format ≡ log.format → new.limit ≡ log.limit → now ≡ overwritten log.gate (1 ∷ []) seen → known ≡ settled now → Rests header (bodies ++ body ∷ []) new now known
+  pub published_rests : (new : LogState) (now : List ℕ) (known : Pending) → new.gate ≡ log.gate + 9 + length body → new.groups ≡ log.groups + 1 → new.format ≡ log.format → new.limit ≡ log.limit → now ≡ put_at log.gate (1 ∷ []) seen → known ≡ settled now → Rests header (bodies ++ body ∷ []) new now known
   published_rests new now known place count format limit is stable =
       let front = front_of header (bodies ++ body ∷ []) in
       let size : length front ≡ length (front_of header bodies) + (9 + length body) = ap length (front_push header bodies body) ∙ length-append (front_of header bodies) (group_of body) ∙ ap (λ (n : ℕ). length (front_of header bodies) + n) (length-group body) in

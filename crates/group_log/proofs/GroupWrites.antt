@@ -2,14 +2,15 @@
 use Rattle.std.proofs.Common.{◌≡◌, ℕ, ◌+◌, ◌≤◌, List, [], ◌∷◌, ◌++◌, length, take, refl, sym, ◌∙◌, ap, subst, arith, length-append, append_assoc}
 use Rattle.std.specs.Int.{w32, w64, to_le_bytes}
 use Rattle.std.proofs.lemmas.List.{append-nil, take_at}
-use Rattle.sx_base.specs.Disk.{Pending, IsImage, written, shortened, settled, overwritten}
+use Rattle.sx_base.specs.Disk.{Pending, IsImage, written, shortened, settled}
+use Rattle.sx_base.specs.Bytes.{put_at}
 use Rattle.sx_base.specs.Crash.{IsStableFront}
 use Rattle.sx_base.proofs.DiskImages.{written_behind, shortened_behind, settled_front, only_settled}
 use Rattle.send_model.specs.Checksum.{crc_of}
 use Rattle.send_model.specs.Image.{Header, HasGroups, front_of, sealed}
 use Rattle.group_log.specs.State.{LogState}
 use Rattle.group_log.specs.Journal.{IsBehind, Rests, Grows, IsReady}
-use Rattle.group_log.proofs.GatedGroups.{overwritten_at, overwritten_end, has_closed, length-le}
+use Rattle.group_log.proofs.GatedGroups.{put_at_front, put_at_end, has_closed, length-le}
 
 pub behind_same : (header : Header) (bodies : List (List ℕ)) (log new : LogState) → new.gate ≡ log.gate → new.groups ≡ log.groups → new.format ≡ log.format → new.limit ≡ log.limit → IsBehind header bodies log → IsBehind header bodies new
 behind_same header bodies log new gate groups format limit behind = record {
@@ -65,10 +66,10 @@ cut_is header bodies log gate rest seen now behind bytes is =
     is ∙ ap (λ (l : List ℕ). take (log.gate + 1) l) (bytes ∙ sym (append_assoc (front_of header bodies) (gate ∷ []) rest)) ∙ take_at (front_of header bodies ++ gate ∷ []) rest (log.gate + 1) size
 
 -- then room for the length
-pub begun_is : (header : Header) (bodies : List (List ℕ)) (log : LogState) (gate : ℕ) (space cut now : List ℕ) → IsBehind header bodies log → cut ≡ front_of header bodies ++ gate ∷ [] → now ≡ overwritten (log.gate + 1) space cut → now ≡ front_of header bodies ++ gate ∷ (space ++ [])
+pub begun_is : (header : Header) (bodies : List (List ℕ)) (log : LogState) (gate : ℕ) (space cut now : List ℕ) → IsBehind header bodies log → cut ≡ front_of header bodies ++ gate ∷ [] → now ≡ put_at (log.gate + 1) space cut → now ≡ front_of header bodies ++ gate ∷ (space ++ [])
 begun_is header bodies log gate space cut now behind bytes is =
     let size : log.gate + 1 ≡ length cut = omega (arith, behind.place, length-gate header bodies gate, ap length bytes) in
-    is ∙ overwritten_end (log.gate + 1) cut space size
+    is ∙ put_at_end (log.gate + 1) cut space size
     ∙ ap (λ (l : List ℕ). l ++ space) bytes
     ∙ append_assoc (front_of header bodies) (gate ∷ []) space
     ∙ ap (λ (l : List ℕ). front_of header bodies ++ gate ∷ l) (sym (append-nil space))
@@ -79,9 +80,9 @@ unfolding crc_of
 none_summed = refl
 
 -- a piece more of the body
-pub added_is : (front : List ℕ) (gate at : ℕ) (space body piece seen now : List ℕ) → seen ≡ front ++ gate ∷ (space ++ body) → at ≡ length seen → now ≡ overwritten at piece seen → now ≡ front ++ gate ∷ (space ++ (body ++ piece))
+pub added_is : (front : List ℕ) (gate at : ℕ) (space body piece seen now : List ℕ) → seen ≡ front ++ gate ∷ (space ++ body) → at ≡ length seen → now ≡ put_at at piece seen → now ≡ front ++ gate ∷ (space ++ (body ++ piece))
 added_is front gate at space body piece seen now bytes end is =
-    is ∙ overwritten_end at seen piece end
+    is ∙ put_at_end at seen piece end
     ∙ ap (λ (l : List ℕ). l ++ piece) bytes
     ∙ append_assoc front (gate ∷ (space ++ body)) piece
     ∙ ap (λ (l : List ℕ). front ++ gate ∷ l) (append_assoc space body piece)
@@ -95,7 +96,7 @@ module _ (header : Header) (bodies : List (List ℕ)) (body : List ℕ) (log : L
       omega (arith, ap length grows.bytes, length-append (front_of header bodies) (grows.gate ∷ (grows.space ++ body)), length-append grows.space body, grows.eight, grows.behind.place)
 
   -- the length, and behind the bytes their checksum and the next gate
-  pub sealed_is : (at len sum : ℕ) (length_bytes tail first now : List ℕ) → length_bytes ≡ to_le_bytes w64 len → len ≡ 4 + length body → sum ≡ log.sum → tail ≡ to_le_bytes w32 sum ++ 0 ∷ [] → first ≡ overwritten (log.gate + 1) length_bytes seen → at ≡ length seen → now ≡ overwritten at tail first → now ≡ front_of header bodies ++ grows.gate ∷ (to_le_bytes w64 (length (sealed body)) ++ sealed body ++ 0 ∷ [])
+  pub sealed_is : (at len sum : ℕ) (length_bytes tail first now : List ℕ) → length_bytes ≡ to_le_bytes w64 len → len ≡ 4 + length body → sum ≡ log.sum → tail ≡ to_le_bytes w32 sum ++ 0 ∷ [] → first ≡ put_at (log.gate + 1) length_bytes seen → at ≡ length seen → now ≡ put_at at tail first → now ≡ front_of header bodies ++ grows.gate ∷ (to_le_bytes w64 (length (sealed body)) ++ sealed body ++ 0 ∷ [])
   sealed_is at len sum length_bytes tail first now le long same_sum tail_is f end s =
       let front = front_of header bodies ++ grows.gate ∷ [] in
       let digits = to_le_bytes w64 (length (sealed body)) in
@@ -104,14 +105,14 @@ module _ (header : Header) (bodies : List (List ℕ)) (body : List ℕ) (log : L
       let same : len ≡ length (sealed body) = omega (arith, long, length-sealed body) in
       let bytes : length_bytes ≡ digits = le ∙ ap (λ (n : ℕ). to_le_bytes w64 n) same in
       let first_is : first ≡ front ++ (digits ++ body) =
-      f ∙ ap (λ (l : List ℕ). overwritten (log.gate + 1) l seen) bytes
-      ∙ ap (λ (l : List ℕ). overwritten (log.gate + 1) digits l) (grows.bytes ∙ sym (append_assoc (front_of header bodies) (grows.gate ∷ []) (grows.space ++ body)))
-      ∙ ap (λ (n : ℕ). overwritten n digits (front ++ (grows.space ++ body))) place
-      ∙ overwritten_at front grows.space digits body (length-le (length (sealed body)) ∙ sym grows.eight) in
+      f ∙ ap (λ (l : List ℕ). put_at (log.gate + 1) l seen) bytes
+      ∙ ap (λ (l : List ℕ). put_at (log.gate + 1) digits l) (grows.bytes ∙ sym (append_assoc (front_of header bodies) (grows.gate ∷ []) (grows.space ++ body)))
+      ∙ ap (λ (n : ℕ). put_at n digits (front ++ (grows.space ++ body))) place
+      ∙ put_at_front front grows.space digits body (length-le (length (sealed body)) ∙ sym grows.eight) in
       let size : at ≡ length first =
       omega (arith, end, length-grows, ap length first_is, length-append front (digits ++ body), length-append digits body, length-le (length (sealed body)), place) in
       let end_is : tail ≡ check ++ 0 ∷ [] = tail_is ∙ ap (λ (n : ℕ). to_le_bytes w32 n ++ 0 ∷ []) (same_sum ∙ grows.sum) in
-      s ∙ overwritten_end at first tail size
+      s ∙ put_at_end at first tail size
       ∙ ap (λ (l : List ℕ). l ++ tail) first_is
       ∙ ap (λ (l : List ℕ). (front ++ (digits ++ body)) ++ l) end_is
       ∙ append_assoc front (digits ++ body) (check ++ 0 ∷ [])

@@ -10,7 +10,7 @@ use Rattle.send_model.specs.Map.{Map, IsMap, named_cmp, value_at, with_value, wi
 use Rattle.send_model.specs.Subvolume.{Subvolume, named}
 use Rattle.send_model.proofs.MapLaws.{named_cmp_total, named_cmp_exact, cases_key, with_value-order, without-order, with_value-here, with_value-other, without-here, without-other}
 use Rattle.shared_map.specs.Edited.{PutsNew}
-use Rattle.inode_tree.specs.Answers.{MovesIfFree}
+use Rattle.inode_tree.specs.Places.{MovesIfFree}
 
 -- ---- what is said of a key that may have a value
 

@@ -11,7 +11,7 @@ use Rattle.send_model.specs.Subvolume.{Inode, Subvolume, Spot, is_directory_kind
 use Rattle.send_model.specs.Edit.{unlink, take_name, at_spot}
 use Rattle.send_model.proofs.MapLaws.{named_cmp_total, named_cmp_exact}
 use Rattle.sx_base.specs.declared.stop.Stop.{Stop}
-use Rattle.inode_tree.specs.Answers.{MayChange}
+use Rattle.sx_base.specs.Answers.{MayChange}
 use Rattle.inode_tree.specs.Places.{spot_of, unlink_at}
 use Rattle.inode_tree.specs.Trees.{further_names, IsTree}
 use Rattle.inode_tree.specs.Walked.{Walked, IsKnown, without_name}

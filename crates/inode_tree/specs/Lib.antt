@@ -1,4 +1,3 @@
-pub mod Answers
 pub mod Changes
 pub mod Kinds
 pub mod Openings

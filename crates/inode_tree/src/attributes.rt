@@ -3,7 +3,7 @@ ghost use Rattle.std.specs.Prelude.{◌≡◌, ◌%◌, if◌then◌else◌, IfO
 ghost use Rattle.send_model.specs.Subvolume.{is_file};
 ghost use Rattle.send_model.specs.Clone.{cells_of};
 ghost use Rattle.send_model.specs.Edit as edit;
-ghost use Rattle.inode_tree.specs.Answers.{MayChange};
+ghost use Rattle.sx_base.specs.Answers.{MayChange};
 ghost use Rattle.inode_tree.specs.Changes.{with_times, changed};
 ghost use Rattle.inode_tree.specs.Kinds.{time_of};
 

@@ -1,7 +1,7 @@
 // Making inodes and names.
 ghost use Rattle.std.specs.Prelude.{◌≡◌, IfOk};
 ghost use Rattle.send_model.specs.Edit as edit;
-ghost use Rattle.inode_tree.specs.Answers.{MayChange};
+ghost use Rattle.sx_base.specs.Answers.{MayChange};
 ghost use Rattle.inode_tree.specs.Kinds.{kind_of, new_of_kind};
 ghost use Rattle.inode_tree.specs.Trees.{further_names};
 

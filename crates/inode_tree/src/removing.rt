@@ -2,7 +2,7 @@
 ghost use Rattle.std.specs.Prelude.{◌≡◌, ◌≢◌, ℕ, List, Some, OnOk};
 ghost use Rattle.send_model.specs.Subvolume.{named, is_directory, is_empty_directory};
 ghost use Rattle.send_model.specs.Edit as edit;
-ghost use Rattle.inode_tree.specs.Answers.{MayChange};
+ghost use Rattle.sx_base.specs.Answers.{MayChange};
 ghost use Rattle.inode_tree.specs.Places.{spot_of, unlink_at};
 
 use crate::making::further_names;

@@ -2,7 +2,8 @@
 ghost use Rattle.std.specs.Prelude.{◌≡◌, ◌≢◌, ◌&&◌, ℕ, List, Some, None, Ok, IfOk, OnOk};
 ghost use Rattle.send_model.specs.Subvolume.{IsSound, named, is_directory, spot};
 ghost use Rattle.send_model.specs.Edit as edit;
-ghost use Rattle.inode_tree.specs.Answers.{Finds, MayChange, MovesIfFree};
+ghost use Rattle.sx_base.specs.Answers.{Finds, MayChange};
+ghost use Rattle.inode_tree.specs.Places.{MovesIfFree};
 ghost use Rattle.inode_tree.specs.Places.{spot_of};
 
 use crate::name::Place;

@@ -5,7 +5,7 @@ ghost use Rattle.std.specs.Ordering.{nat_cmp};
 ghost use Rattle.send_model.specs.Map.{named_cmp};
 ghost use Rattle.send_model.specs.Subvolume.{root_alone, inode_at, named, is_directory, is_file, walk, spot};
 ghost use Rattle.shared_map.specs.Sought.{entry_after};
-ghost use Rattle.inode_tree.specs.Answers.{Finds};
+ghost use Rattle.sx_base.specs.Answers.{Finds};
 ghost use Rattle.inode_tree.specs.Places.{spot_of, FindsSpot, one_step};
 ghost use Rattle.inode_tree.specs.Walked.{spot_below, Begins};
 

@@ -23,8 +23,7 @@ use Rattle.send_model.proofs.CellSteps.{completed-cells}
 use Rattle.send_model.proofs.CellClones.{all_steps-cells}
 use Rattle.send_model.proofs.Held.{cell_of, Holds}
 use Rattle.send_model.proofs.LawfulStores.{received_is_lawful}
-use Rattle.sx_base.specs.Refusals.{refusal_of}
-use Rattle.sx_base.specs.Calls.{verdict_meant}
+use Rattle.sx_base.specs.Refusals.{refusal_of, verdict_meant}
 use Rattle.sx_base.specs.declared.stop.Stop.{Stop}
 use Rattle.sx_base.specs.declared.stop.Stop.TheVariants as stop
 use Rattle.sx_base.specs.declared.outcome.Verdict as code_verdict

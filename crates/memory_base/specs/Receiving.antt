@@ -6,8 +6,7 @@ use Rattle.send_model.specs.Receive.{IsAccepted, start_of, receive}
 use Rattle.send_model.specs.Lengths.{limit}
 use Rattle.send_model.specs.Cells.{recelled_state}
 use Rattle.send_model.specs.Lawful.{IsLawfulStore}
-use Rattle.sx_base.specs.Calls.{verdict_meant}
-use Rattle.sx_base.specs.Refusals.{refusal_of}
+use Rattle.sx_base.specs.Refusals.{refusal_of, verdict_meant}
 use Rattle.sx_base.specs.declared.stop.Stop.{Stop}
 use Rattle.sx_base.specs.declared.stop.Stop.TheVariants as stop
 use Rattle.sx_base.specs.declared.outcome.Outcome.{Outcome}

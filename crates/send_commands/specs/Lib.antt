@@ -1,4 +1,3 @@
-pub mod Answers
 pub mod Meaning
 pub mod Values
 pub mod Writing

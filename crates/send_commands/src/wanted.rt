@@ -3,7 +3,7 @@ ghost use Rattle.std.specs.Prelude.{◌≡◌, List, IfOk};
 ghost use Rattle.send_model.specs.Spelling.{Attribute};
 ghost use Rattle.send_model.specs.Reading.{wanted_there};
 ghost use Rattle.tlv_frame.specs.Table.{StandsFor};
-ghost use Rattle.tlv_frame.specs.Answers.{Reads};
+ghost use Rattle.sx_base.specs.Answers.{Reads};
 ghost use Rattle.send_commands.specs.Values.{HaveForms, are_timely};
 
 use crate::form::Form;

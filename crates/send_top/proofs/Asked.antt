@@ -12,7 +12,7 @@ use Rattle.sx_base.specs.declared.outcome.Outcome.{Outcome}
 use Rattle.sx_base.specs.declared.outcome.Outcome.TheVariants as ended
 use Rattle.auditor.specs.Answers.{AuditEnds}
 use Rattle.composer.specs.Files as composing
-use Rattle.send_top.specs.Answered.{outcome_of}
+use Rattle.send_top.specs.Answered.{outcome_meant}
 use Rattle.send_top.specs.Requests.{Asks, names_asked}
 use Rattle.send_top.specs.Ending.{Answers}
 use Rattle.send_top.specs.Run.{IfComposes, EndCaused, IfOfCompose, IsChangedAt}
@@ -110,7 +110,7 @@ of_one_file asked moves told name words at old new outcome is =
 pub same_request : {R : Type 0} (asked : Option R) (mine other : R) → Some mine ≡ asked → asked ≡ Some other → mine ≡ other
 same_request asked mine other e f = ap (λ (o : Option _). elim o [ None ↦ mine | Some request ↦ request ]) (e ∙ f)
 
-pub is_done : (outcome : Outcome) → outcome_of outcome ≡ meant.Done → outcome ≡ ended.Done
+pub is_done : (outcome : Outcome) → outcome_meant outcome ≡ meant.Done → outcome ≡ ended.Done
 is_done ended.Done e = refl
 is_done (ended.Refused verdict) e = cc
 is_done (ended.InputTooLong file) e = cc
@@ -121,7 +121,7 @@ is_done ended.OutputFault e = cc
 is_done ended.NoMemory e = cc
 
 pub answers : (old new : Option (List ℕ)) (request : Request) (files : List (List ℕ)) (outcome : Outcome)
-    → Wrote old new (λ written. Ends request [] files outcome written) → Wrote old new (Answers request [] files (outcome_of outcome))
+    → Wrote old new (λ written. Ends request [] files outcome written) → Wrote old new (Answers request [] files (outcome_meant outcome))
 answers old new request files ended.Done w = w
 answers old new request files (ended.Refused verdict) w = w
 answers old new request files (ended.InputTooLong file) w = w
@@ -164,29 +164,29 @@ module _ (ends_before ends_now inputs_before inputs_now out_before out_now : ℕ
   again (Gen count seed) outcome w = once outcome w
   again (Trial count seed) outcome w = once outcome w
 
-  fault_again : (outcome : Outcome) → CausedAgain ends_before ends_now inputs_before inputs_now out_before out_now outcome → outcome_of outcome ≡ meant.InputFault → Rose inputs_before inputs_now
+  fault_again : (outcome : Outcome) → CausedAgain ends_before ends_now inputs_before inputs_now out_before out_now outcome → outcome_meant outcome ≡ meant.InputFault → Rose inputs_before inputs_now
   fault_again ended.InputFault w e = w
   fault_again outcome w e = cc
 
-  output_again : (outcome : Outcome) → CausedAgain ends_before ends_now inputs_before inputs_now out_before out_now outcome → outcome_of outcome ≡ meant.OutputFault → Rose out_before out_now
+  output_again : (outcome : Outcome) → CausedAgain ends_before ends_now inputs_before inputs_now out_before out_now outcome → outcome_meant outcome ≡ meant.OutputFault → Rose out_before out_now
   output_again ended.OutputFault w e = w
   output_again outcome w e = cc
 
-  change_again : (outcome : Outcome) (file place : ℕ) → CausedAgain ends_before ends_now inputs_before inputs_now out_before out_now outcome → outcome_of outcome ≡ meant.InputChanged file place → Rose ends_before ends_now
+  change_again : (outcome : Outcome) (file place : ℕ) → CausedAgain ends_before ends_now inputs_before inputs_now out_before out_now outcome → outcome_meant outcome ≡ meant.InputChanged file place → Rose ends_before ends_now
   change_again (ended.InputChanged number at) file place w e = w
   change_again outcome file place w e = cc
 
   -- What an answer says of its cause.
-  pub fault_caused : (request : Request) (outcome : Outcome) → EndCaused request ends_before ends_now inputs_before inputs_now out_before out_now outcome → outcome_of outcome ≡ meant.InputFault → Rose inputs_before inputs_now
+  pub fault_caused : (request : Request) (outcome : Outcome) → EndCaused request ends_before ends_now inputs_before inputs_now out_before out_now outcome → outcome_meant outcome ≡ meant.InputFault → Rose inputs_before inputs_now
   fault_caused request outcome w e = fault_again outcome (again request outcome w) e
 
-  pub output_caused : (request : Request) (outcome : Outcome) → EndCaused request ends_before ends_now inputs_before inputs_now out_before out_now outcome → outcome_of outcome ≡ meant.OutputFault → Rose out_before out_now
+  pub output_caused : (request : Request) (outcome : Outcome) → EndCaused request ends_before ends_now inputs_before inputs_now out_before out_now outcome → outcome_meant outcome ≡ meant.OutputFault → Rose out_before out_now
   output_caused request outcome w e = output_again outcome (again request outcome w) e
 
-  pub change_caused : (request : Request) (outcome : Outcome) (file place : ℕ) → EndCaused request ends_before ends_now inputs_before inputs_now out_before out_now outcome → outcome_of outcome ≡ meant.InputChanged file place → Rose ends_before ends_now
+  pub change_caused : (request : Request) (outcome : Outcome) (file place : ℕ) → EndCaused request ends_before ends_now inputs_before inputs_now out_before out_now outcome → outcome_meant outcome ≡ meant.InputChanged file place → Rose ends_before ends_now
   change_caused request outcome file place w e = change_again outcome file place (again request outcome w) e
 
-  not_once : (outcome : Outcome) (P : Type 0) → Caused inputs_before inputs_now out_before out_now outcome → IfOfCompose (outcome_of outcome) P
+  not_once : (outcome : Outcome) (P : Type 0) → Caused inputs_before inputs_now out_before out_now outcome → IfOfCompose (outcome_meant outcome) P
   not_once ended.Done P w = tt
   not_once (ended.Refused verdict) P w = tt
   not_once (ended.InputTooLong file) P w = tt
@@ -197,10 +197,10 @@ module _ (ends_before ends_now inputs_before inputs_now out_before out_now : ℕ
   not_once ended.NoMemory P w = tt
 
   -- Whatever holds where composing is asked for holds of the answers that composing alone gives.
-  pub composing_alone : (request : Request) (outcome : Outcome) (P : Type 0) → ((store files : ℕ) → request ≡ Compose store files → P) → EndCaused request ends_before ends_now inputs_before inputs_now out_before out_now outcome → IfOfCompose (outcome_of outcome) P
+  pub composing_alone : (request : Request) (outcome : Outcome) (P : Type 0) → ((store files : ℕ) → request ≡ Compose store files → P) → EndCaused request ends_before ends_now inputs_before inputs_now out_before out_now outcome → IfOfCompose (outcome_meant outcome) P
   composing_alone (Compose store files) outcome P given w = of_compose outcome (given store files refl)
     where
-      of_compose : (outcome : Outcome) → P → IfOfCompose (outcome_of outcome) P
+      of_compose : (outcome : Outcome) → P → IfOfCompose (outcome_meant outcome) P
       of_compose ended.Done p = tt
       of_compose (ended.Refused verdict) p = tt
       of_compose (ended.InputTooLong file) p = tt
@@ -219,7 +219,7 @@ module _ (ends_before ends_now inputs_before inputs_now out_before out_now : ℕ
 
 -- A file that was found changed among those of a request is so among those of the request that words and guards ask for.
 pub changed_at : (words : List (List ℕ)) (guards : List Guard) (last : EarlyEnd) (mine : Request) (outcome : Outcome) → ((request : Request) → Asks words guards request → mine ≡ request)
-    → FoundChanged (names_asked mine words) last outcome → IsChangedAt words guards last (outcome_of outcome)
+    → FoundChanged (names_asked mine words) last outcome → IsChangedAt words guards last (outcome_meant outcome)
 changed_at words guards last mine (ended.InputChanged file place) same found = λ request asks. subst (λ (r : Request). IsEndOf (names_asked r words) last file place) (same request asks) found
 changed_at words guards last mine ended.Done same found = tt
 changed_at words guards last mine (ended.Refused verdict) same found = tt

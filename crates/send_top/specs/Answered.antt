@@ -6,23 +6,23 @@ use Rattle.sx_base.specs.Causes.{Rose}
 use Rattle.sx_base.specs.Outside.{AppendsPart}
 use Rattle.sx_base.specs.declared.outcome.Outcome.{Outcome}
 use Rattle.sx_base.specs.declared.outcome.Outcome.TheVariants as ended
-use Rattle.sx_base.specs.Calls.{verdict_meant}
+use Rattle.sx_base.specs.Refusals.{verdict_meant}
 use Rattle.send_top.specs.declared.noting.Answer.{Answer}
 use Rattle.send_top.specs.declared.noting.Answer.TheVariants as made
 
-abbrev pub outcome_of : Outcome → meant.Answer
-outcome_of ended.Done = meant.Done
-outcome_of (ended.Refused verdict) = meant.Refused (verdict_meant verdict)
-outcome_of ended.InputFault = meant.InputFault
-outcome_of ended.OutputFault = meant.OutputFault
-outcome_of ended.NoMemory = meant.NoMemory
-outcome_of (ended.InputTooLong file) = meant.InputTooLong file
-outcome_of (ended.TooMuch sum) = meant.TooMuch sum
-outcome_of (ended.InputChanged file place) = meant.InputChanged file place
+abbrev pub outcome_meant : Outcome → meant.Answer
+outcome_meant ended.Done = meant.Done
+outcome_meant (ended.Refused verdict) = meant.Refused (verdict_meant verdict)
+outcome_meant ended.InputFault = meant.InputFault
+outcome_meant ended.OutputFault = meant.OutputFault
+outcome_meant ended.NoMemory = meant.NoMemory
+outcome_meant (ended.InputTooLong file) = meant.InputTooLong file
+outcome_meant (ended.TooMuch sum) = meant.TooMuch sum
+outcome_meant (ended.InputChanged file place) = meant.InputChanged file place
 
 abbrev pub answer_of : Answer → meant.Answer
 answer_of made.Usage = meant.Usage
-answer_of (made.Ended outcome) = outcome_of outcome
+answer_of (made.Ended outcome) = outcome_meant outcome
 
 -- What a run gave of an answer: its exit status, and in the notes its whole note, or a proper prefix of it where their count
 -- of faults rose.

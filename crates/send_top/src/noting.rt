@@ -4,8 +4,7 @@ ghost use Rattle.std.specs.Io.KnownBytes.{Appends};
 ghost use Rattle.send_model.specs.Answer.{Done, status_of, note_of, kept_values, verdict_text};
 ghost use Rattle.sx_base.specs.Causes.{HasCause};
 ghost use Rattle.sx_base.specs.Outside.{AppendsPart};
-ghost use Rattle.sx_base.specs.Refusals.{refusal_of};
-ghost use Rattle.sx_base.specs.Calls.{verdict_meant};
+ghost use Rattle.sx_base.specs.Refusals.{refusal_of, verdict_meant};
 ghost use Rattle.send_top.specs.Answered.{answer_of};
 
 use crate::one_line::Line;

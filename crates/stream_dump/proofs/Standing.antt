@@ -12,7 +12,7 @@ use Rattle.send_model.specs.Lengths.{limit, only_ends}
 use Rattle.send_model.proofs.Fronts.{is_front, part_front}
 use Rattle.sx_base.specs.Causes.{Rose}
 use Rattle.sx_base.specs.Outside.{file_at}
-use Rattle.sx_base.specs.Refusals.{refusal_of}
+use Rattle.sx_base.specs.Refusals.{refusal_of, verdict_meant}
 use Rattle.sx_base.specs.declared.outcome.Verdict.{Verdict}
 use Rattle.sx_base.specs.declared.outcome.Outcome.{Outcome}
 use Rattle.sx_base.specs.declared.outcome.Outcome.TheVariants as ended_by
@@ -26,7 +26,7 @@ use Rattle.cmd_reader.specs.Next.{item_of, HasEnded, IsFaulty, OnlyEnds, IsNext,
 use Rattle.cmd_reader.proofs.Aheads.{next_item, next_end}
 use Rattle.cmd_reader.proofs.Told.{Here, told_both, told_map, told_always, told_here, told_moved}
 use Rattle.stream_dump.specs.declared.gathering.Gathered.{Gathered}
-use Rattle.sx_base.specs.Calls.{verdict_meant, Caused, IfAllTold, Wrote}
+use Rattle.sx_base.specs.Calls.{Caused, IfAllTold, Wrote}
 use Rattle.stream_dump.specs.Written.{pieces_from, written_of, WritesFile}
 use Rattle.cmd_reader.specs.Stopping.{outcome_at}
 use Rattle.stream_dump.specs.Steps.{ItemAdded, ItemEnds, StopsWriting, last_bytes, EndsWith}

@@ -2,7 +2,7 @@
 ghost use Rattle.std.specs.Prelude.{◌≡◌, ◌+◌, ◌^◌, ◌<◌, ◌≤◌, ◌==◌, ◌&&◌, true, false, length, None, Some, IfSome, IfOk, OnOk};
 ghost use Rattle.extent_map.specs.Cells.{cells_between};
 ghost use Rattle.send_model.specs.Clone as meant;
-ghost use Rattle.inode_tree.specs.Answers.{Finds, MayChange};
+ghost use Rattle.sx_base.specs.Answers.{Finds, MayChange};
 ghost use Rattle.subvol.specs.Files.{clone_files, check_range};
 
 use crate::contents::{check_end, file_at};

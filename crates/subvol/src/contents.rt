@@ -6,7 +6,7 @@ ghost use Rattle.send_model.specs.Subvolume.{is_file};
 ghost use Rattle.send_model.specs.Edit as edit;
 ghost use Rattle.send_model.specs.Clone.{cells_of};
 ghost use Rattle.extent_map.specs.Pieces.{run_cells};
-ghost use Rattle.inode_tree.specs.Answers.{Finds, MayChange};
+ghost use Rattle.sx_base.specs.Answers.{Finds, MayChange};
 ghost use Rattle.subvol.specs.Files.{file_at};
 
 use crate::allocation::{allocate, allocation_of};

@@ -2,21 +2,15 @@
 -- failed, and what each answer says of the files. This program's own.
 use Rattle.std.specs.Prelude.{◌≡◌, ⊤, ℕ, ◌-◌, ◌≤◌, List, [], map, length, get_or, Option, None, Some, Result, Ok, Err}
 use Rattle.std.specs.Io.KnownBytes.{Appends}
-use Rattle.send_model.specs.Reading as reading
 use Rattle.send_model.specs.Store.{Store}
 use Rattle.send_model.specs.Due.{Due, DoneWhole, RefusedAt, TooLong, TooMuch}
 use Rattle.send_model.specs.Words.{Request, due, EndSays, StandsBefore, StandsCut}
 use Rattle.sx_base.specs.Again.{EarlyEnd}
 use Rattle.sx_base.specs.Causes.{Rose}
 use Rattle.sx_base.specs.Outside.{file_at}
-use Rattle.sx_base.specs.Refusals.{refusal_of}
-use Rattle.sx_base.specs.declared.outcome.Verdict.{Verdict}
+use Rattle.sx_base.specs.Refusals.{verdict_meant}
 use Rattle.sx_base.specs.declared.outcome.Outcome.{Outcome}
 use Rattle.sx_base.specs.declared.outcome.Outcome.TheVariants as ended
-
--- A verdict of the code as that of the definitions.
-abbrev pub verdict_meant : Verdict → reading.Verdict
-verdict_meant v = record { file = v.file; command = v.command; offset = v.offset; refusal = refusal_of v.refusal }
 
 -- ---- files and what is written
 

@@ -1,6 +1,6 @@
 -- What a disk holds, and what a crash may leave of it. A crash is a loss of power: what was stable stays, and of
 -- what was written since the last successful sync any part may have reached the disk.
-use Rattle.std.specs.Prelude.{◌≡◌, ◌⊎◌, ℕ, zero, suc, ◌+◌, ◌-◌, ◌≤◌, max, Option, Some, None, Result, List, [], ◌∷◌, ◌++◌, length, take, drop, map}
+use Rattle.std.specs.Prelude.{◌≡◌, ◌⊎◌, ℕ, zero, suc, ◌+◌, ◌-◌, ◌≤◌, max, Option, Some, None, Result, List, [], ◌∷◌, length, take, drop, map}
 use Rattle.sx_base.specs.Causes.{HasCause, Rose}
 
 -- What is known of the disk since its last successful sync. For each place below the least size since then, `known`
@@ -41,10 +41,6 @@ shortened size pending = record { known = take size pending.known; greatest = pe
 -- After a successful sync: all bytes are known, and there are no others.
 abbrev pub settled : List ℕ → Pending
 settled bytes = record { known = map Some bytes; greatest = length bytes }
-
--- The bytes with this piece in place of those from `at` on, the last of them past the end if it is long.
-abbrev pub overwritten : ℕ → List ℕ → List ℕ → List ℕ
-overwritten at piece bytes = take at bytes ++ piece ++ drop (at + length piece) bytes
 
 -- What is read and what a crash may leave are as before.
 pub record IsAsBefore {D : Type 0} (seen_of : D → List ℕ) (pending_of : D → Pending) (old new : D) : Type 0 where

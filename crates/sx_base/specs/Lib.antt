@@ -4,6 +4,7 @@ pub mod Causes
 pub mod Memory
 pub mod Outside
 pub mod Refusals
+pub mod Answers
 pub mod Stored
 pub mod Disk
 pub mod Crash

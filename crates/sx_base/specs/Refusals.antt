@@ -1,7 +1,9 @@
--- The refusals of the code as those of the definitions: each keeps its values.
+-- The refusals of the code as those of the definitions, each with the values that it keeps; and so its verdicts.
 use Rattle.send_model.specs.Refusal as meant
+use Rattle.send_model.specs.Reading as reading
 use Rattle.sx_base.specs.declared.refusal.Refusal.{Refusal}
 use Rattle.sx_base.specs.declared.refusal.Refusal.TheVariants as made
+use Rattle.sx_base.specs.declared.outcome.Verdict.{Verdict}
 
 abbrev pub refusal_of : Refusal → meant.Refusal
 refusal_of made.BadMagic = meant.BadMagic
@@ -41,3 +43,7 @@ refusal_of (made.BadFallocate mode) = meant.BadFallocate mode
 refusal_of made.NotConsecutive = meant.NotConsecutive
 refusal_of (made.NotBuilt kept) = meant.NotBuilt kept
 refusal_of made.NoNumber = meant.NoNumber
+
+-- A verdict of the code as that of the definitions.
+abbrev pub verdict_meant : Verdict → reading.Verdict
+verdict_meant v = record { file = v.file; command = v.command; offset = v.offset; refusal = refusal_of v.refusal }

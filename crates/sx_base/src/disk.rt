@@ -1,6 +1,7 @@
 // A disk that may lose what was not yet stable when power fails.
 ghost use Rattle.std.specs.Prelude.{◌≡◌, ◌⊎◌, ◌+◌, ◌^◌, ◌<◌, ◌≤◌, ℕ, List, length, max, take, IfOk, OnOk, OnErr};
-ghost use Rattle.sx_base.specs.Disk.{Pending, IsImage, IsAsBefore, IsReadAt, Passes, written, shortened, settled, overwritten};
+ghost use Rattle.sx_base.specs.Disk.{Pending, IsImage, IsAsBefore, IsReadAt, Passes, written, shortened, settled};
+ghost use Rattle.sx_base.specs.Bytes.{put_at};
 
 use crate::Failed;
 
@@ -55,7 +56,7 @@ pub trait Disk {
         ensures len_err { OnErr result ((len self.old ≤ len self.new)
             × (len self.new ≤ max (len self.old) (at + length piece.now))) }
         ensures seen { tells
-            → OnOk result (seen self.new ≡ overwritten at piece.now (seen self.old)) }
+            → OnOk result (seen self.new ≡ put_at at piece.now (seen self.old)) }
         ensures pending { tells
             → pending self.new ≡ written at (length piece.now) (pending self.old) }
         ensures passes { Passes tells moment left_since pending faults self.old self.new result };

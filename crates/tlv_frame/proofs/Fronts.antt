@@ -1,5 +1,5 @@
 -- What the bytes in front of a list say of all of it: the header of a stream, the header of a frame, its body.
-use Rattle.std.specs.Prelude.{◌≡◌, ℕ, ◌+◌, ◌<◌, ◌≤◌, Bool, true, false, List, [], length, take, drop, Result, Ok, Err, nat_le, nat_lt}
+use Rattle.std.specs.Prelude.{◌≡◌, ℕ, ◌+◌, ◌<◌, ◌≤◌, Bool, true, false, List, length, take, drop, Result, Ok, Err, nat_le, nat_lt}
 use Rattle.std.proofs.Common.{refl, ap, subst, ◌∙◌, arith, length-take, le-leb, ltb-false, lit≤}
 use Rattle.std.specs.Str.{bytes_eq}
 use Rattle.std.specs.Int.{w16, w32, from_le_bytes}

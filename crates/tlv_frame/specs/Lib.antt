@@ -1,4 +1,3 @@
-pub mod Answers
 pub mod Frame
 pub mod Table
 pub mod Front

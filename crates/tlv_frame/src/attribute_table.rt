@@ -2,7 +2,7 @@
 ghost use Rattle.std.specs.Prelude.{◌≡◌, length, IfOk, IfSome, option_map};
 ghost use Rattle.send_model.specs.Attribute.{HasRoom, last_attribute, takes_rest};
 ghost use Rattle.send_model.specs.Reading.{attributes_at, attribute_head};
-ghost use Rattle.tlv_frame.specs.Answers.{Reads};
+ghost use Rattle.sx_base.specs.Answers.{Reads};
 ghost use Rattle.tlv_frame.specs.Table.{Table, ReadsTable, value_at, place_at};
 ghost use Rattle.tlv_frame.specs.Front.{front_at};
 

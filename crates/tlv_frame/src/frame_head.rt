@@ -2,7 +2,7 @@
 ghost use Rattle.std.specs.Prelude.{◌≡◌, length};
 ghost use Rattle.std.specs.Int.{w16, w32, to_le_bytes};
 ghost use Rattle.send_model.specs.Spelling.{frame_checksum};
-ghost use Rattle.tlv_frame.specs.Answers.{Reads};
+ghost use Rattle.sx_base.specs.Answers.{Reads};
 ghost use Rattle.tlv_frame.specs.Frame.{head_at, head_bytes, checksum_holds};
 
 use crc32c_part::update;

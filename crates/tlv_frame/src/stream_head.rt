@@ -2,7 +2,7 @@
 ghost use Rattle.std.specs.Prelude.{◌≡◌};
 ghost use Rattle.send_model.specs.Spelling.{stream_header};
 ghost use Rattle.send_model.specs.Reading.{stream_version};
-ghost use Rattle.tlv_frame.specs.Answers.{Reads};
+ghost use Rattle.sx_base.specs.Answers.{Reads};
 
 use sx_base::Refusal;
 

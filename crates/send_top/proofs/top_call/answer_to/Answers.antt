@@ -4,7 +4,7 @@ use Rattle.std.proofs.Common.{subst, sym, ap, ◌∙◌}
 use Rattle.sx_base.specs.Calls.{IfAllTold, Wrote, Ends}
 use Rattle.send_model.specs.Guards.{Guard}
 use Rattle.send_model.specs.Words.{Request, new_guards}
-use Rattle.send_top.specs.Answered.{outcome_of}
+use Rattle.send_top.specs.Answered.{outcome_meant}
 use Rattle.send_top.specs.Requests.{answered_request, request_meant, names_asked, specs_of}
 use Rattle.send_top.specs.Ending.{Answers}
 use Rattle.send_top.specs.Run.{IfComposes, AskToCompose}
@@ -27,9 +27,9 @@ returns-clause-answered g c request asks =
     let old = g.O.Sink.taken c.args.out.now in
     let new = g.O.Sink.taken c.end_of.new.out in
     let mine : Request = request_meant words c.in-Some.request in
-    subst (λ (r : Request). IfAllTold told (names_asked r words) (λ files. Wrote old new (Answers r [] files (outcome_of c.end_of.result))))
+    subst (λ (r : Request). IfAllTold told (names_asked r words) (λ files. Wrote old new (Answers r [] files (outcome_meant c.end_of.result))))
     (same_request (answered_request words) mine request c.in-Some.ensures.meaning asks.meant)
-    (then_told told (names_asked mine words) (λ files. Wrote old new (λ written. Ends mine [] files c.end_of.result written)) (λ files. Wrote old new (Answers mine [] files (outcome_of c.end_of.result)))
+    (then_told told (names_asked mine words) (λ files. Wrote old new (λ written. Ends mine [] files c.end_of.result written)) (λ files. Wrote old new (Answers mine [] files (outcome_meant c.end_of.result)))
     (λ files. answers old new mine files c.end_of.result) c.end_of.ensures.ends)
 
 pub returns-clause-input_fault : goal.returns-clause-input_fault
