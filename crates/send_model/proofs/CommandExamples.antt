@@ -89,6 +89,11 @@ block_made : inode 263 (made (MkNod 0o60000 8 (codes "x"))) ≡ Some (new_inode 
 unfolding composing_words
 block_made = refl
 
+-- The type of a symbolic link shares bits with that of a character device.
+no_link_device : refused (made (MkNod 0o120644 0 (codes "x"))) ≡ Some BadDevice
+unfolding composing_words
+no_link_device = refl
+
 no_device : refused (made (MkNod 0o100644 0 (codes "d//x"))) ≡ Some BadDevice
 unfolding composing_words
 no_device = refl
@@ -559,6 +564,11 @@ short_before_end = refl
 short_at_its_end : clone_refused (Clone (codes "y") 0 (uuid 0x11) 1 (codes "x") 4_096 4_106) ≡ None
 unfolding composing_words
 short_at_its_end = refl
+
+-- What is not aligned is told before what ends too far.
+unaligned_first : clone_refused (Clone (codes "y") 9_223_372_036_854_775_807 (uuid 0x11) 1 (codes "y") 0 4_096) ≡ Some Unaligned
+unfolding composing_words
+unaligned_first = refl
 
 clone_too_far : clone_refused (Clone (codes "y") 9_223_372_036_854_771_712 (uuid 0x11) 1 (codes "y") 0 4_096) ≡ Some FileTooBig
 unfolding composing_words

@@ -1,12 +1,11 @@
 -- Worked examples of the answer that is due: files as another program takes and refuses them.
 use Rattle.std.specs.Prelude.{◌≡◌, ℕ, List, [], ◌∷◌, ◌++◌, None, Some, codes, refl}
 use Rattle.std.specs.Fmt.{digits}
-use Rattle.send_model.specs.Refusal.{Refusal, refusal_number, refusal_name, BadVersion, Truncated, BadChecksum, NameThere, NoParent, NotConsecutive, Guarded}
+use Rattle.send_model.specs.Refusal.{Refusal, BadVersion, Truncated, BadChecksum, NameThere, NoParent, NotConsecutive, Guarded}
 use Rattle.send_model.specs.Lengths.{is_too_long, too_long, too_long_from}
 use Rattle.send_model.specs.Receive.{run_by}
 use Rattle.send_model.specs.Guards.{MostBytes, MostCommands, NoDevices, guard_of, new_guard, guard_refuses, guard_after, refused_from, looked}
-use Rattle.send_model.specs.Due.{Due, DoneWhole, RefusedAt, TooLong, TooMuch, due_note, due_from, compose_due, limited_from, audit_due, accepted_line, file_due}
-use Rattle.send_model.specs.Answer.{verdict_text, kept_values}
+use Rattle.send_model.specs.Due.{Due, DoneWhole, RefusedAt, due_from, compose_due, limited_from, audit_due, accepted_line, file_due}
 use Rattle.send_model.specs.Words.{Compose, Audit, Dump, Gen, guards_and_files, request_of}
 use Rattle.send_model.proofs.ExampleWords.{hexadecimal, reading_words, composing_words}
 use Rattle.send_model.proofs.ReadingExamples.{first_stream, second_stream}
@@ -107,20 +106,6 @@ dumped = refl
 not_dumped : file_due no_checksum ≡ at 1 1 17 (BadChecksum 0 0x9dc96c50)
 unfolding due_words
 not_dumped = refl
-
--- ---- notes
-
-too_much_said : due_note (TooMuch 2_199_023_255_552) ≡ codes "too much 2199023255552" ++ 10 ∷ []
-unfolding due_words due_note
-too_much_said = refl
-
-long_said : due_note (TooLong 2) ≡ codes "input too long 2" ++ 10 ∷ []
-unfolding due_words due_note
-long_said = refl
-
-guard_said : due_note (at 1 4 112 (Guarded 0 3)) ≡ codes "refused 1 4 112 33 Guarded 0 3" ++ 10 ∷ []
-unfolding due_words due_note verdict_text kept_values refusal_number refusal_name
-guard_said = refl
 
 -- ---- words
 

@@ -1,8 +1,8 @@
 -- The answer of compose is the verdict on the files, unless a file is too long or there is too much.
-use Rattle.std.specs.Prelude.{◌≡◌, ℕ, ◌+◌, ◌≤◌, Bool, true, false, List, [], ◌∷◌, map, Option, None, Some, nat_lt, if◌then◌else◌}
+use Rattle.std.specs.Prelude.{◌≡◌, ℕ, ◌+◌, ◌<◌, ◌≤◌, Bool, true, false, List, [], ◌∷◌, map, Option, None, Some, nat_lt, if◌then◌else◌}
 use Rattle.std.specs.List.{sum_by}
 use Rattle.std.proofs.Common.{refl, sym, ap, subst, ◌∙◌, arith, zero-le}
-use Rattle.std.proofs.lemmas.Bool.{ltb-false}
+use Rattle.std.proofs.lemmas.Bool.{ltb-true, ltb-false}
 use Rattle.std.proofs.lemmas.List.Sums.{sum_by-cons}
 use Rattle.send_model.specs.Refusal.{Refusal}
 use Rattle.send_model.specs.Reading.{Item, Verdict, Reading, input}
@@ -47,18 +47,18 @@ uncarried_split base parts state current item items = one (is_redirected parts c
 abbrev Says : Option Due → Option Verdict → ℕ → Type 0
 Says None verdict sum = (verdict ≡ None) × (sum ≤ most_literal)
 Says (Some (RefusedAt v)) verdict sum = verdict ≡ Some v
-Says (Some (TooMuch much)) verdict sum = Unit {0}
+Says (Some (TooMuch much)) verdict sum = (most_literal < much) × (much ≤ sum)
 Says (Some DoneWhole) verdict sum = ⊥
 Says (Some (TooLong file)) verdict sum = ⊥
 
-one_item : (item : Item) (state : State ℕ) (o : Option Refusal) (breaks : Bool) (so_far all : ℕ) (rest : Option Due) (verdict : Option Verdict) → (so_far ≤ most_literal → Says rest verdict all)
+one_item : (item : Item) (state : State ℕ) (o : Option Refusal) (breaks : Bool) (so_far all : ℕ) (rest : Option Due) (verdict : Option Verdict) → so_far ≤ all → (so_far ≤ most_literal → Says rest verdict all)
     → Says (then_due item o breaks so_far rest) (then_judge item (record { state = state; refusal = o }) breaks verdict) all
-one_item item state (Some refusal) breaks so_far all rest verdict more = refl
-one_item item state None true so_far all rest verdict more = refl
-one_item item state None false so_far all rest verdict more = one (nat_lt most_literal so_far) refl
+one_item item state (Some refusal) breaks so_far all rest verdict low more = refl
+one_item item state None true so_far all rest verdict low more = refl
+one_item item state None false so_far all rest verdict low more = one (nat_lt most_literal so_far) refl
   where
     one : (b : Bool) → nat_lt most_literal so_far ≡ b → Says (if b then Some (TooMuch so_far) else rest) verdict all
-    one true e = tt
+    one true e = (ltb-true most_literal so_far e, low)
     one false e = more (ltb-false most_literal so_far e)
 
 due_says : (base : Store ℕ) (parts : List (List ℕ)) (items : List Item) (state : State Traced) (previous : Option Key) (current : Option (List ℕ)) (sum : ℕ) → sum ≤ most_literal
@@ -75,7 +75,7 @@ due_says base parts (item ∷ items) state previous current sum low =
     let split = uncarried_split base parts state current item items in
     let all : sum + own + left ≡ sum + uncarried_in base (ranges_from parts state current (item ∷ items)) = omega (arith, split) in
     let here : Says (then_due item stepped.refusal (breaks_order previous (head_of item.command)) (sum + own) rest) (then_judge item plain (breaks_order previous (head_of item.command)) (judge_items 0 byte_cells plain.state next items)) (sum + own + left) =
-    one_item item plain.state stepped.refusal (breaks_order previous (head_of item.command)) (sum + own) (sum + own + left) rest (judge_items 0 byte_cells plain.state next items)
+    one_item item plain.state stepped.refusal (breaks_order previous (head_of item.command)) (sum + own) (sum + own + left) rest (judge_items 0 byte_cells plain.state next items) (omega arith)
     (λ low'. due_says base parts items stepped.state next (uuid_after current item.command) (sum + own) low') in
     subst (λ (n : ℕ). Says (then_due item stepped.refusal (breaks_order previous (head_of item.command)) (sum + own) rest) (judge_items 0 byte_cells (recelled_state byte_of state) previous (item ∷ items)) n) all
     (subst (λ (s : Stepped ℕ). Says (then_due item stepped.refusal (breaks_order previous (head_of item.command)) (sum + own) rest) (then_judge item s (breaks_order previous (head_of item.command)) (judge_items 0 byte_cells s.state next items)) (sum + own + left)) (sym (plain_is state item)) here)
@@ -100,24 +100,45 @@ refused_never : (o : Option Verdict) (file : ℕ) → refused_due o ≡ TooLong 
 refused_never None file e = cc
 refused_never (Some v) file e = cc
 
+refused_not_much : (o : Option Verdict) (sum : ℕ) → refused_due o ≡ TooMuch sum → ⊥
+refused_not_much None sum e = cc
+refused_not_much (Some v) sum e = cc
+
+same_sum : (a b : ℕ) → TooMuch a ≡ TooMuch b → a ≡ b
+same_sum a b q = ap sum_of q
+  where
+    sum_of : Due → ℕ
+    sum_of DoneWhole = 0
+    sum_of (RefusedAt x) = 0
+    sum_of (TooLong file) = 0
+    sum_of (TooMuch n) = n
+
 -- By what the items say, and by the end.
 record Ends (due : Due) (verdict : Option Verdict) (sum : ℕ) : Type 0 where
   done : due ≡ DoneWhole → (verdict ≡ None) × (sum ≤ most_literal)
   refused : (v : Verdict) → due ≡ RefusedAt v → verdict ≡ Some v
   never : (file : ℕ) → due ≡ TooLong file → ⊥
+  much : (m : ℕ) → due ≡ TooMuch m → (most_literal < m) × (m ≤ sum)
 
 ends : (o : Option Due) (verdict rest : Option Verdict) (sum : ℕ) → Says o verdict sum → Ends (or_due o (refused_due rest)) (first_of verdict rest) sum
 ends None verdict rest sum s = record {
   done = λ e. (ap (λ (v : Option Verdict). first_of v rest) s.0 ∙ refused_none rest e, s.1);
   refused = λ v e. ap (λ (x : Option Verdict). first_of x rest) s.0 ∙ refused_some rest v e;
   never = λ file e. refused_never rest file e;
+  much = λ m e. absurd (refused_not_much rest m e);
 }
 ends (Some (RefusedAt w)) verdict rest sum s = record {
   done = λ e. cc;
   refused = λ v e. ap (λ (x : Option Verdict). first_of x rest) s ∙ refused_some (Some w) v e;
   never = λ file e. cc;
+  much = λ m e. cc;
 }
-ends (Some (TooMuch much)) verdict rest sum s = record { done = λ e. cc; refused = λ v e. cc; never = λ file e. cc }
+ends (Some (TooMuch much)) verdict rest sum s = record {
+  done = λ e. cc;
+  refused = λ v e. cc;
+  never = λ file e. cc;
+  much = λ m e. subst (λ (n : ℕ). (most_literal < n) × (n ≤ sum)) (same_sum much m e) s;
+}
 ends (Some DoneWhole) verdict rest sum s = absurd s
 ends (Some (TooLong file)) verdict rest sum s = absurd s
 
@@ -145,8 +166,8 @@ reading_ends base reading = ends due (judge_items 0 byte_cells (start_of base) N
         (subst (λ (n : ℕ). Says due (judge_items 0 byte_cells (recelled_state byte_of (start_of (traced_store base))) None reading.items) n) (omega arith) own)
 
 pub is_judged_of : (long : Option ℕ) (base : Store ℕ) (reading : Reading) → IsJudgedOf long base reading
-is_judged_of None base reading = let e = reading_ends base reading in record { done = e.done; refused = e.refused; long = λ file d. absurd (e.never file d) }
-is_judged_of (Some file) base reading = record { done = λ d. cc; refused = λ v d. cc; long = λ other d. ap Some (same_file file other d) }
+is_judged_of None base reading = let e = reading_ends base reading in record { done = e.done; refused = e.refused; long = λ file d. absurd (e.never file d); much = e.much }
+is_judged_of (Some file) base reading = record { done = λ d. cc; refused = λ v d. cc; long = λ other d. ap Some (same_file file other d); much = λ sum d. cc }
 
 -- And of files.
 pub is_judged : (base : Store ℕ) (files : List (List ℕ)) → IsJudged base files

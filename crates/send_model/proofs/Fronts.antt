@@ -1,24 +1,16 @@
 -- What was written for some first commands is a front part of all that compose may write.
 use Rattle.std.specs.Prelude.{◌≡◌, ℕ, Bool, true, false, List, [], ◌∷◌, ◌++◌, length, take, drop, Option, None, Some}
-use Rattle.std.proofs.Common.{refl, sym, ap, subst, ap₂, ◌∙◌, arith, append_assoc, length-append}
+use Rattle.std.proofs.Common.{refl, sym, ap, ◌∙◌, arith, append_assoc, length-append}
 use Rattle.std.proofs.Math.Seq.{take-nil}
 use Rattle.std.proofs.lemmas.List.{take-append-drop, take_at}
 use Rattle.send_model.specs.Refusal.{Refusal}
-use Rattle.send_model.specs.Command.{Command, End}
-use Rattle.send_model.specs.Spelling.{stream_header, canonical_all}
-use Rattle.send_model.specs.Reading.{Item, Verdict, input}
-use Rattle.send_model.specs.Store.{Key, Head, head_of, Store, State}
-use Rattle.send_model.specs.Receive.{byte_cells, start_of}
-use Rattle.send_model.specs.Order.{heads, heads_of, onto_heads, commands_of, breaks_order, part_after, then_lawful, lawful_items, lawful}
-use Rattle.send_model.specs.Provenance.{Traced, traced_store, traced_step, uuid_after}
-use Rattle.send_model.specs.Outside.{part_uuids}
-use Rattle.send_model.specs.Composed.{first_head, last_head, head_command, commands_for, composed_from, composed_edits, composed_with, composed_for, composed, composed_part}
-use Rattle.send_model.specs.Headline.{stream_front, output_for, whole_output, IsFrontOf}
+use Rattle.send_model.specs.Reading.{Item}
+use Rattle.send_model.specs.Store.{Key, head_of, State}
+use Rattle.send_model.specs.Receive.{byte_cells}
+use Rattle.send_model.specs.Order.{commands_of, breaks_order, part_after, then_lawful, lawful_items}
+use Rattle.send_model.specs.Headline.{IsFrontOf}
 use Rattle.send_model.proofs.Runs.{step_of, Takes}
-use Rattle.send_model.proofs.Merging.{NoClones, edits_of}
-use Rattle.send_model.proofs.Headlines.{plain_composed}
-use Rattle.send_model.proofs.Writing.{canonical_all-append}
-use Rattle.send_model.proofs.Judging.{empty_store, AreOrdered}
+use Rattle.send_model.proofs.Judging.{AreOrdered}
 
 -- ---- the commands that are taken
 

@@ -1,7 +1,6 @@
 -- A worked example of too much: a file that was made longer by 2^41 zero bytes, and a clone of all of it into the next part. Its cells are
 -- more than can be computed, so they stay unopened, and all that is known of them is how many there are.
 use Rattle.std.specs.Prelude.{◌≡◌, ℕ, zero, suc, ◌+◌, ◌-◌, ◌≤◌, ◌==◌, Bool, true, false, ◌&&◌, ◌||◌, List, [], ◌∷◌, ◌++◌, map, length, take, drop, replicate, Option, None, Some, Result, Ok, Err, nat_lt, nat_le, codes, if◌then◌else◌}
-use Rattle.std.specs.Fmt.{digits}
 use Rattle.std.specs.List.{sum_by}
 use Rattle.std.proofs.Common.{refl, ap, ◌∙◌, arith}
 use Rattle.std.proofs.lemmas.List.{length-append, length-take, length-drop, length-map, length-replicate}
@@ -21,7 +20,7 @@ use Rattle.send_model.specs.Receive.{start_of}
 use Rattle.send_model.specs.Order.{heads, heads_of}
 use Rattle.send_model.specs.Provenance.{Place, Traced, fresh, inode_with, traced_store, traced_step, come_from, can_serve, carried_from, Piece, Carried, Literal, piece_of, join_piece, pieces_from, pieces_of, literal_len, blocks_from, blocks, clone_range, uncarried_in}
 use Rattle.send_model.specs.Composed.{first_head, last_head, composed_from, composed_edits, composed_with, composed_of, composed_part}
-use Rattle.send_model.specs.Due.{Due, TooMuch, due_status, due_note, uncarried_of, then_due, due_from, reading_due, or_due, refused_due, compose_due_of, compose_due}
+use Rattle.send_model.specs.Due.{Due, TooMuch, uncarried_of, then_due, due_from, reading_due, or_due, refused_due, compose_due_of, compose_due}
 use Rattle.send_model.proofs.ExampleWords.{hexadecimal, uuid, key, directory, file, reading_words}
 
 -- ---- over a store with nothing in it
@@ -240,10 +239,6 @@ read_due = ap (λ (due : Option Due). or_due due (refused_due None)) (up_to_clon
 -- All of the clone is uncarried, and that is more than is written.
 too_much : compose_due [] hole_files ≡ TooMuch 2_199_023_255_552
 too_much = ap (λ (long : Option ℕ). compose_due_of long nothing (input hole_files)) none_long ∙ ap (reading_due nothing) hole_read ∙ read_due
-
-answered : (due_status (compose_due [] hole_files) ≡ 9) × (due_note (compose_due [] hole_files) ≡ codes "too much 2199023255552" ++ 10 ∷ [])
-unfolding due_status due_note digits
-answered = (ap due_status too_much, ap due_note too_much)
 
 -- ---- what was written before
 

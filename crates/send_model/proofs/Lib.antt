@@ -9,6 +9,7 @@ mod HoleExample
 mod CommandExamples
 mod GuardExamples
 mod LineExamples
+mod TableExamples
 mod ComposingExamples
 mod ProvenanceExamples
 pub mod ElementLaws

@@ -1,6 +1,6 @@
 -- The one answer that is due where no device fails and memory is there: for each word, over a base that is given, and the files.
 -- The order of answers is this program's own.
-use Rattle.std.specs.Prelude.{◌≡◌, ◌≤◌, ℕ, ◌+◌, ◌^◌, Bool, true, false, List, [], ◌∷◌, ◌++◌, length, take, Option, None, Some, nat_lt, codes, if◌then◌else◌}
+use Rattle.std.specs.Prelude.{◌≡◌, ◌<◌, ◌≤◌, ℕ, ◌+◌, ◌^◌, Bool, true, false, List, [], ◌∷◌, ◌++◌, length, take, Option, None, Some, nat_lt, codes, if◌then◌else◌}
 use Rattle.std.specs.Fmt.{decimal}
 use Rattle.send_model.specs.Refusal.{Refusal, NotConsecutive}
 use Rattle.send_model.specs.Reading.{Item, Verdict, Ending, Whole, Faulty, Reading, reads, input}
@@ -8,7 +8,6 @@ use Rattle.send_model.specs.Lengths.{limit, is_too_long, too_long}
 use Rattle.send_model.specs.Store.{Key, Store, State, Stepped, head_of, step}
 use Rattle.send_model.specs.Receive.{Ran, run_by, verdict_of, first_of, fault_of, byte_cells, start_of}
 use Rattle.send_model.specs.Guards.{Guard, Watched, watched_step}
-use Rattle.send_model.specs.Answer.{and_number, verdict_text, line}
 use Rattle.send_model.specs.Order.{heads, breaks_order, part_after, without_parts, judge_of}
 use Rattle.send_model.specs.Outside.{part_uuids}
 use Rattle.send_model.specs.Provenance.{Traced, traced_store, traced_step, uuid_after, is_redirected, clone_range, uncarried_in, uncarried_cells}
@@ -20,19 +19,6 @@ pub data Due : Type 0 where
   RefusedAt : Verdict → Due
   TooLong : (file : ℕ) → Due
   TooMuch : (sum : ℕ) → Due
-
-unfoldable pub due_status : Due → ℕ
-due_status DoneWhole = 0
-due_status (RefusedAt verdict) = 1
-due_status (TooMuch sum) = 9
-due_status (TooLong file) = 11
-
--- The line on standard error: nothing where all was done.
-unfoldable pub due_note : Due → List ℕ
-due_note DoneWhole = []
-due_note (RefusedAt verdict) = line (verdict_text verdict)
-due_note (TooMuch sum) = line (codes "too much" ++ and_number sum)
-due_note (TooLong file) = line (codes "input too long" ++ and_number file)
 
 -- ---- compose
 
@@ -129,11 +115,13 @@ file_due bytes = if is_too_long 1 bytes then TooLong 1 else refused_due (fault_o
 
 -- ---- laws
 
--- The answer of compose is the verdict on what was read, unless a file is too long or there is too much.
+-- The answer of compose is the verdict on what was read, unless a file is too long or there is too much: then more bytes than are
+-- written are uncarried.
 pub record IsJudgedOf (first_long : Option ℕ) (base : Store ℕ) (reading : Reading) : Type 0 where
   pub done : compose_due_of first_long base reading ≡ DoneWhole → (judge_of base reading ≡ None) × (uncarried_cells base reading.items ≤ most_literal)
   pub refused : (verdict : Verdict) → compose_due_of first_long base reading ≡ RefusedAt verdict → judge_of base reading ≡ Some verdict
   pub long : (file : ℕ) → compose_due_of first_long base reading ≡ TooLong file → first_long ≡ Some file
+  pub much : (sum : ℕ) → compose_due_of first_long base reading ≡ TooMuch sum → (most_literal < sum) × (sum ≤ uncarried_cells base reading.items)
 
 -- So it is of files.
 abbrev pub IsJudged : (base : Store ℕ) (files : List (List ℕ)) → Type 0
