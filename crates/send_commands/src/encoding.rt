@@ -41,9 +41,8 @@ pub fn encode(c: &Command, version: u32, to: &mut Blob) -> Result<(), AllocError
 }
 
 /// The place in the canonical spelling of the command where the bytes of a write begin, None for other commands.
-#[tactic(auto, unfolding(crate::specs::Writing::data_at, crate::specs::Writing::IsWritable, send_model::specs::Spelling::attributes_of, send_model::specs::Command::row))]
+#[tactic(auto, unfolding(crate::specs::Writing::data_at, send_model::specs::Spelling::attributes_of, send_model::specs::Command::row))]
 pub fn data_place(c: &Command, version: u32) -> Option<u64>
-    requires writable { IsWritable version (meaning_of c.now) }
     ensures place { result ≡ data_at version (meaning_of c.now) }
 {
     match c {

@@ -87,7 +87,7 @@ pub enum Refusal {
     BadFallocate(u32),
     /// A part does not follow on the part before it.
     NotConsecutive,
-    /// This command can't be read yet; it keeps the command's number.
+    /// Kept for commands that are not taken, of which there are none; it keeps the command's number.
     NotBuilt(u16),
     /// A subvolume has no inode number left.
     NoNumber,
