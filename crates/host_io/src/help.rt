@@ -26,7 +26,7 @@ usage: btrsend audit [GUARD..] none FILE..
   none      where the subvolumes are that the streams stand on: nowhere
   FILE      a file that `btrfs send` wrote, with one stream or several
   GUARD     guard:bytes=N, guard:commands=N, guard:nodev or guard:end=N: refuses more bytes of data, more
-            commands, device nodes, and data or sizes that end above N
+            commands, device nodes, and a WRITE, CLONE or TRUNCATE that ends above N
 
 A full stream and two incremental ones, checked, merged and restored:
 
