@@ -1,5 +1,7 @@
 // Standard output and standard error as places that take bytes.
-ghost use Rattle.std.specs.Prelude.{None};
+ghost use Rattle.std.specs.Prelude.{◌≡◌, ◌<◌, ◌≤◌, length, None, IfOk};
+ghost use Rattle.sx_base.specs.Causes.{HasCause};
+ghost use Rattle.host_io.specs.Counting.{CountsFaults};
 
 use std::io::Write;
 use sx_base::{Failed, Sink};
@@ -14,7 +16,10 @@ pub struct OutSink<W> {
 
 impl<W: Write> OutSink<W> {
     /// The stream, with no fault counted yet. Takes no memory.
-    pub fn new(stream: W) -> OutSink<W> {
+    pub fn new(stream: W) -> OutSink<W>
+        ensures stream { result.stream ≡ stream }
+        ensures faults { result.faults ≡ 0 }
+    {
         OutSink { stream, faults: 0 }
     }
 }
@@ -24,7 +29,12 @@ impl<W: Write> Sink for OutSink<W> {
 
     ghost faults = { λ s. s.faults };
 
-    fn write(&mut self, piece: &[u8]) -> Result<usize, Failed> {
+    fn write(&mut self, piece: &[u8]) -> Result<usize, Failed>
+        ensures bound { IfOk result (λ count. count ≤ length piece.now) }
+        ensures progress { IfOk result (λ count. 0 < length piece.now → 0 < count) }
+        ensures cause { HasCause self.old.faults self.new.faults result }
+        ensures counted { CountsFaults self.old.faults self.new.faults result }
+    {
         match self.stream.write(piece) {
             Ok(count) if 0 < count || piece.is_empty() => Ok(count),
             _ => {

@@ -1,6 +1,9 @@
 // Files of the system, named by their paths.
-ghost use Rattle.std.specs.Prelude.{◌≡◌, ◌≤◌, length, string_bytes, IfOk, None};
-ghost use Rattle.sx_base.specs.Causes.{Rose};
+ghost use Rattle.std.specs.Prelude.{◌≡◌, ◌≤◌, length, string_bytes, IfOk, OnOk, None};
+ghost use Rattle.sx_base.specs.Again.{FillsFrom, EndsKept, LostFor, MeetsEnd};
+ghost use Rattle.sx_base.specs.Causes.{HasCause, Rose};
+ghost use Rattle.sx_base.specs.Outside.{GivesAt};
+ghost use Rattle.host_io.specs.Counting.{one_more, CountsFaults, CountsLosses};
 
 use std::alloc::Global;
 use std::io::{BufReader, Read, Seek, SeekFrom};
@@ -44,7 +47,11 @@ struct OpenInput<F> {
 
 impl<'a, R: Files> PathInputs<'a, R> {
     /// The files of the system, none of them open. Takes no memory.
-    pub fn new(files: &'a R, alloc: Global) -> PathInputs<'a, R> {
+    pub fn new(files: &'a R, alloc: Global) -> PathInputs<'a, R>
+        ensures faults { result.faults ≡ 0 }
+        ensures ends { result.ends ≡ 0 }
+        ensures open { length result.open.items ≡ 0 }
+    {
         PathInputs {
             files,
             alloc,
@@ -62,6 +69,7 @@ impl<'a, R: Files> PathInputs<'a, R> {
         ensures bound { IfOk result (λ count. count ≤ length buf.new) }
         ensures faults { self.new.faults ≡ self.old.faults }
         ensures ends { self.new.ends ≡ self.old.ends }
+        ensures few { length self.old.open.items ≤ 16 → length self.new.open.items ≤ 16 }
     {
         let mut done = 0;
         while done < buf.len() {
@@ -81,6 +89,7 @@ impl<'a, R: Files> PathInputs<'a, R> {
         ensures bound { IfOk result (λ count. count ≤ length buf.new) }
         ensures faults { self.new.faults ≡ self.old.faults }
         ensures ends { self.new.ends ≡ self.old.ends }
+        ensures few { length self.old.open.items ≤ 16 → length self.new.open.items ≤ 16 }
     {
         let known = self
             .open
@@ -99,6 +108,7 @@ impl<'a, R: Files> PathInputs<'a, R> {
     fn open_file(&mut self, name: &str) -> io::Result<OpenInput<R::File>>
         ensures faults { self.new.faults ≡ self.old.faults }
         ensures ends { self.new.ends ≡ self.old.ends }
+        ensures open { self.new.open ≡ self.old.open }
     {
         let again = self.names.iter().any(|known| known.as_str() == name);
         if !again {
@@ -115,7 +125,9 @@ impl<'a, R: Files> PathInputs<'a, R> {
     fn count_fault(&mut self)
         ensures later { self.old.faults ≤ self.new.faults }
         ensures rose { Rose self.old.faults self.new.faults }
+        ensures counted { self.new.faults ≡ one_more self.old.faults }
         ensures ends { self.new.ends ≡ self.old.ends }
+        ensures open { self.new.open ≡ self.old.open }
     {
         self.faults = self.faults.saturating_add(1);
     }
@@ -144,7 +156,15 @@ impl<'a, R: Files> Inputs for PathInputs<'a, R> {
 
     ghost last_end = { λ s. record { name = string_bytes s.last_name; place = s.last_place } };
 
-    fn read_at(&mut self, name: &str, at: u64, buf: &mut [u8]) -> Result<usize, Failed> {
+    fn read_at(&mut self, name: &str, at: u64, buf: &mut [u8]) -> Result<usize, Failed>
+        ensures bound { IfOk result (λ count. count ≤ length buf.new) }
+        ensures bytes { IfOk result (λ count. GivesAt None name.now at buf.new count) }
+        ensures ends_later { EndsKept None self.old.ends self.new.ends }
+        ensures ends { self.new.ends ≡ self.old.ends }
+        ensures cause { HasCause self.old.faults self.new.faults result }
+        ensures counted { CountsFaults self.old.faults self.new.faults result }
+        ensures few { length self.old.open.items ≤ 16 → length self.new.open.items ≤ 16 }
+    {
         let answer = self.read_file(name, at, buf);
         if let Ok(count) = answer {
             return Ok(count);
@@ -153,7 +173,18 @@ impl<'a, R: Files> Inputs for PathInputs<'a, R> {
         Err(Failed)
     }
 
-    fn read_again(&mut self, name: &str, at: u64, buf: &mut [u8]) -> Result<(), Lost> {
+    fn read_again(&mut self, name: &str, at: u64, buf: &mut [u8]) -> Result<(), Lost>
+        ensures bytes { OnOk result (FillsFrom None name.now at buf.new) }
+        ensures later { self.old.faults ≤ self.new.faults }
+        ensures ends { EndsKept None self.old.ends self.new.ends }
+        ensures cause { LostFor None at (length buf.new) self.old.faults self.new.faults self.old.ends
+            self.new.ends result }
+        ensures met { MeetsEnd name.now
+            (record { name = string_bytes self.new.last_name; place = self.new.last_place }) result }
+        ensures counted { CountsLosses self.old.faults self.new.faults self.old.ends self.new.ends
+            result }
+        ensures few { length self.old.open.items ≤ 16 → length self.new.open.items ≤ 16 }
+    {
         let Ok(count) = self.fill(name, at, buf) else {
             self.count_fault();
             return Err(Lost::Failed);

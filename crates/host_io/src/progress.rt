@@ -78,6 +78,11 @@ impl<'a, I: Inputs, C: Clock, S: Sink> Progress<'a, I, C, S> {
         all: Option<u64>,
     ) -> Progress<'a, I, C, S>
         ensures inputs { result.inputs ≡ inputs }
+        ensures first { result.first ≡ first }
+        ensures all { result.all ≡ all }
+        ensures pass { result.tally.pass ≡ 1 }
+        ensures done { result.tally.done ≡ 0 }
+        ensures ended { result.tally.ended ≡ false }
     {
         Progress {
             inputs,
@@ -93,6 +98,8 @@ impl<'a, I: Inputs, C: Clock, S: Sink> Progress<'a, I, C, S> {
     // Says how far the run is, if it is time to.
     fn look(&mut self, name: &str)
         ensures inputs { self.new.inputs ≡ self.old.inputs }
+        ensures first { self.new.first ≡ self.old.first }
+        ensures all { self.new.all ≡ self.old.all }
         ensures tally { self.new.tally ≡ self.old.tally }
     {
         let Some(now) = millis_of(self.clock) else {
@@ -142,6 +149,8 @@ impl<'a, I: Inputs, C: Clock, S: Sink> Inputs for Progress<'a, I, C, S> {
             (at == 0 && bytes_eq name.now (string_bytes self.old.first))
             (count == 0 && not (length buf.new == 0)) self.old.tally.ended) }
         ensures kept { OnErr result (self.new.tally ≡ self.old.tally) }
+        ensures first { self.new.first ≡ self.old.first }
+        ensures all { self.new.all ≡ self.old.all }
     {
         let count = self.inputs.read_at(name, at, buf)?;
         let at_start = at == 0 && name == self.first.as_str();
@@ -163,6 +172,8 @@ impl<'a, I: Inputs, C: Clock, S: Sink> Inputs for Progress<'a, I, C, S> {
             (I.ends self.old.inputs) (I.ends self.new.inputs) result }
         ensures met { MeetsEnd name.now (I.last_end self.new.inputs) result }
         ensures tally { self.new.tally ≡ self.old.tally }
+        ensures first { self.new.first ≡ self.old.first }
+        ensures all { self.new.all ≡ self.old.all }
     {
         let answer = self.inputs.read_again(name, at, buf);
         self.look(name);

@@ -39,8 +39,8 @@ impl<S: Sink> Screen<S> {
         }
     }
 
-    /// Says how far a run is: the terminal takes its line for these numbers, or a part of it where the sink's count of faults rose.
-    /// Nothing where it is too early, or with an error that there is no memory.
+    /// Says how far a run is: the terminal takes its line for these numbers, or a part of it where the sink's count of faults rose; the
+    /// next one may come a fifth of a second later. Nothing where it is too early, or with an error that there is no memory.
     pub fn say(
         &mut self,
         alloc: Global,
@@ -59,6 +59,10 @@ impl<S: Sink> Screen<S> {
             (line_of name.now pass done all)
             ⊎ Rose (S.faults self.old.sink) (S.faults self.new.sink)) }
         ensures shown { self.old.next ≤ now → OnOk result (self.new.shown ≡ true) }
+        ensures next { self.old.next ≤ now
+            → OnOk result (self.new.next ≡ min (now + 200) (2 ^ 64 - 1)) }
+        ensures kept { OnErr result (self.new ≡ self.old) }
+        ensures later { S.faults self.old.sink ≤ S.faults self.new.sink }
     {
         if now < self.next {
             return Ok(());
