@@ -83,3 +83,4 @@ mod ReceivableExamples
 pub mod EightFiles
 pub mod GeneratedChains
 pub mod TooLong
+mod LongFiles

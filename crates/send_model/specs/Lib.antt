@@ -28,6 +28,7 @@ pub mod Generated
 pub mod Headline
 pub mod Lawful
 pub mod Due
+pub mod LengthLaws
 pub mod Words
 pub mod Receivable
 pub mod Cells

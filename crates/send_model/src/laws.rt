@@ -9,6 +9,7 @@ ghost use Rattle.send_model.specs.Store.{Key, Store, State};
 ghost use Rattle.send_model.specs.Provenance.{Traced};
 ghost use Rattle.send_model.specs.GuardLaws.{NoGuardsChangeNothing, AllowedIsAccepted, AcceptedIsWithin};
 ghost use Rattle.send_model.specs.Due.{IsJudgedOf, IsJudged};
+ghost use Rattle.send_model.specs.LengthLaws.{FilesAreMeasured, NamedIsFirstLong, FirstLongIsNamed, UnnamedIsWithin, WithinIsUnnamed, NamedStopsReading, StoppedIsNamed, ReadToTheLimit};
 ghost use Rattle.send_model.specs.Lawful.{KeepsLawfulness, EditsKeepSayable, ReceivedIsLawful, FilesLeaveLawful, LawfulFindsSayable, LawfulStoresHold};
 ghost use Rattle.send_model.specs.Receivable.{ReceivableSpells, ReceivableRises, ExportedIsSame, ExportedIsComposed};
 ghost use Rattle.send_model.specs.Laws.{SpelledIsRead, SpelledIsFront, FrameHasOneReading, ReadWasSpelled, RulesWereSpelled, DataIsThere, CanonicalSpells, SpelledIsSpellable, SecondSaysMore, AreInner, StreamIsRead, CutIsUnfinished, EditLooksAtItsPart, StepKeepsCells, FirstPathsAreLeast, AreCounted, ItemsHold, ItemsSpelled, FrontsAreWritable, ReadingsHold, PlainReadingsHold, FilesAreWhole, FilesHold, PlainFilesHold, ChainIsLawful};
@@ -86,6 +87,21 @@ pub fn guards_only_refuse()
     ensures none { NoGuardsChangeNothing }
     ensures allowed { AllowedIsAccepted }
     ensures within { AcceptedIsWithin }
+{}
+
+/// A file is too long where all bytes that are read at the most are there, and are read whole or are cut short; one that is
+/// shorter never is, nor is one whose bytes before the limit break a rule. The file that is named is the first of these, the files
+/// before it are read whole, and none is named exactly where there is none, up to the first fault. What reads on to the limit stops
+/// at that file and at no other, and has what stands before.
+pub fn first_long_file_is_named()
+    ensures measured { FilesAreMeasured }
+    ensures first { NamedIsFirstLong }
+    ensures named { FirstLongIsNamed }
+    ensures none { UnnamedIsWithin }
+    ensures unnamed { WithinIsUnnamed }
+    ensures stops { NamedStopsReading }
+    ensures stopped { StoppedIsNamed }
+    ensures read { ReadToTheLimit }
 {}
 
 /// The composed commands, from every state, carry the bytes of the commands themselves and the cells of redirected clones
