@@ -84,3 +84,4 @@ pub mod EightFiles
 pub mod GeneratedChains
 pub mod TooLong
 mod LongFiles
+mod Audited

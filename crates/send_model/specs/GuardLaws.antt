@@ -3,11 +3,13 @@ use Rattle.std.specs.Prelude.{◌≡◌, ◌≤◌, ℕ, false, List, [], map, l
 use Rattle.std.specs.List.{AllByRecursion}
 use Rattle.send_model.specs.Command.{Command}
 use Rattle.send_model.specs.Reading.{input}
+use Rattle.send_model.specs.Lengths.{too_long}
 use Rattle.send_model.specs.Store.{Store}
 use Rattle.send_model.specs.Receive.{Ran, receive}
 use Rattle.send_model.specs.Order.{commands_of}
 use Rattle.send_model.specs.Counts.{literal}
 use Rattle.send_model.specs.Guards.{GuardSpec, MostBytes, MostCommands, NoDevices, MostEnd, Guard, new_guard, seen, end_of, is_device, is_above, Watched, receive_under}
+use Rattle.send_model.specs.Due.{refused_due, audit_due}
 
 -- A run, with guards beside its state.
 abbrev pub watched_run : {S : Type 0} → List Guard → Ran S → Ran (Watched S)
@@ -34,3 +36,8 @@ IsWithin (MostEnd most) commands = AllByRecursion (λ c. is_above most (end_of (
 abbrev pub AcceptedIsWithin : Type 0
 AcceptedIsWithin = (store : Store ℕ) (specs : List GuardSpec) (files : List (List ℕ)) → (receive_under store (map new_guard specs) files).refused ≡ None
     → AllByRecursion (λ spec. IsWithin spec (commands_of (input files).items)) specs
+
+-- The answer that is due to an audit is that of receiving under guards, where no file is too long.
+abbrev pub AuditIsReceiving : Type 0
+AuditIsReceiving = (store : Store ℕ) (guards : List Guard) (files : List (List ℕ)) → too_long files ≡ None
+    → audit_due store guards files ≡ refused_due (receive_under store guards files).refused

@@ -7,7 +7,7 @@ ghost use Rattle.send_model.specs.Edit.{edit};
 ghost use Rattle.send_model.specs.Clone.{clone};
 ghost use Rattle.send_model.specs.Store.{Key, Store, State};
 ghost use Rattle.send_model.specs.Provenance.{Traced};
-ghost use Rattle.send_model.specs.GuardLaws.{NoGuardsChangeNothing, AllowedIsAccepted, AcceptedIsWithin};
+ghost use Rattle.send_model.specs.GuardLaws.{NoGuardsChangeNothing, AllowedIsAccepted, AcceptedIsWithin, AuditIsReceiving};
 ghost use Rattle.send_model.specs.Due.{IsJudgedOf, IsJudged};
 ghost use Rattle.send_model.specs.LengthLaws.{FilesAreMeasured, NamedIsFirstLong, FirstLongIsNamed, UnnamedIsWithin, WithinIsUnnamed, NamedStopsReading, StoppedIsNamed, ReadToTheLimit};
 ghost use Rattle.send_model.specs.Lawful.{KeepsLawfulness, EditsKeepSayable, ReceivedIsLawful, FilesLeaveLawful, LawfulFindsSayable, LawfulStoresHold};
@@ -82,11 +82,13 @@ pub fn first_paths_are_least<C>()
 {}
 
 /// Guards add refusals to a run and nothing else: without guards it is the plain run, and what is accepted under guards is
-/// accepted without them and leads to the same state. It is within the limits of each guard.
+/// accepted without them and leads to the same state. It is within the limits of each guard. The answer that is due to an audit is
+/// that of receiving under its guards, where no file is too long.
 pub fn guards_only_refuse()
     ensures none { NoGuardsChangeNothing }
     ensures allowed { AllowedIsAccepted }
     ensures within { AcceptedIsWithin }
+    ensures audited { AuditIsReceiving }
 {}
 
 /// A file is too long where all bytes that are read at the most are there, and are read whole or are cut short; one that is
