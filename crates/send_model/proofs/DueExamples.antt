@@ -2,7 +2,7 @@
 use Rattle.std.specs.Prelude.{◌≡◌, ℕ, List, [], ◌∷◌, ◌++◌, None, Some, codes, refl}
 use Rattle.std.specs.Fmt.{digits}
 use Rattle.send_model.specs.Refusal.{Refusal, BadVersion, Truncated, BadChecksum, NameThere, NoParent, NotConsecutive, Guarded}
-use Rattle.send_model.specs.Lengths.{is_too_long, too_long, too_long_from}
+use Rattle.send_model.specs.Lengths.{limit, is_too_long, too_long, too_long_from}
 use Rattle.send_model.specs.Receive.{run_by}
 use Rattle.send_model.specs.Guards.{MostBytes, MostCommands, NoDevices, guard_of, new_guard, guard_refuses, guard_after, refused_from, looked}
 use Rattle.send_model.specs.Due.{Due, DoneWhole, RefusedAt, due_from, compose_due, limited_from, audit_due, accepted_line, file_due}
@@ -156,3 +156,8 @@ two_dumped = refl
 other_word : request_of (codes "composed" ∷ codes "none" ∷ codes "f" ∷ []) ≡ None
 unfolding request_of
 other_word = refl
+
+-- ---- the limit
+
+limit_is : limit ≡ 4_611_686_018_427_387_904
+limit_is = refl

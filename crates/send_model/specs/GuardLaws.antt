@@ -1,15 +1,17 @@
 -- What guards mean for receiving: they add refusals and nothing else. This program's own.
-use Rattle.std.specs.Prelude.{◌≡◌, ◌≤◌, ℕ, false, List, [], map, length, None}
+use Rattle.std.specs.Prelude.{◌≡◌, ◌≤◌, ℕ, false, List, [], ◌∷◌, ◌++◌, map, length, take, None}
 use Rattle.std.specs.List.{AllByRecursion}
+use Rattle.std.specs.Option.{option_map}
 use Rattle.send_model.specs.Command.{Command}
-use Rattle.send_model.specs.Reading.{input}
-use Rattle.send_model.specs.Lengths.{too_long}
+use Rattle.send_model.specs.Reading.{Whole, input}
+use Rattle.send_model.specs.Lengths.{limit, too_long}
 use Rattle.send_model.specs.Store.{Store}
-use Rattle.send_model.specs.Receive.{Ran, receive}
+use Rattle.send_model.specs.Receive.{Ran, byte_cells, receive}
 use Rattle.send_model.specs.Order.{commands_of}
 use Rattle.send_model.specs.Counts.{literal}
-use Rattle.send_model.specs.Guards.{GuardSpec, MostBytes, MostCommands, NoDevices, MostEnd, Guard, new_guard, seen, end_of, is_device, is_above, Watched, receive_under}
-use Rattle.send_model.specs.Due.{refused_due, audit_due}
+use Rattle.send_model.specs.Guards.{GuardSpec, MostBytes, MostCommands, NoDevices, MostEnd, Guard, new_guard, seen, end_of, is_device, is_above, Watched, receive_watched, receive_under}
+use Rattle.send_model.specs.Due.{RefusedAt, TooLong, refused_due, or_due, audit_due}
+use Rattle.send_model.specs.LengthLaws.{IsFirstLong}
 
 -- A run, with guards beside its state.
 abbrev pub watched_run : {S : Type 0} → List Guard → Ran S → Ran (Watched S)
@@ -41,3 +43,9 @@ AcceptedIsWithin = (store : Store ℕ) (specs : List GuardSpec) (files : List (L
 abbrev pub AuditIsReceiving : Type 0
 AuditIsReceiving = (store : Store ℕ) (guards : List Guard) (files : List (List ℕ)) → too_long files ≡ None
     → audit_due store guards files ≡ refused_due (receive_under store guards files).refused
+
+-- Where one is too long, it is the first refusal of what stands before the limit of the first such file; and else it names that file.
+abbrev pub AuditStopsAtLimit : Type 0
+AuditStopsAtLimit = (store : Store ℕ) (guards : List Guard) (files : List (List ℕ)) (n : ℕ) (first : IsFirstLong 1 n files)
+    → let before = (input (first.before ++ take limit first.bytes ∷ [])).items in
+    audit_due store guards files ≡ or_due (option_map RefusedAt (receive_watched 0 byte_cells store guards (record { items = before; end = Whole })).refused) (TooLong n)

@@ -7,7 +7,7 @@ ghost use Rattle.send_model.specs.Edit.{edit};
 ghost use Rattle.send_model.specs.Clone.{clone};
 ghost use Rattle.send_model.specs.Store.{Key, Store, State};
 ghost use Rattle.send_model.specs.Provenance.{Traced};
-ghost use Rattle.send_model.specs.GuardLaws.{NoGuardsChangeNothing, AllowedIsAccepted, AcceptedIsWithin, AuditIsReceiving};
+ghost use Rattle.send_model.specs.GuardLaws.{NoGuardsChangeNothing, AllowedIsAccepted, AcceptedIsWithin, AuditIsReceiving, AuditStopsAtLimit};
 ghost use Rattle.send_model.specs.Due.{IsJudgedOf, IsJudged};
 ghost use Rattle.send_model.specs.LengthLaws.{FilesAreMeasured, NamedIsFirstLong, FirstLongIsNamed, UnnamedIsWithin, WithinIsUnnamed, NamedStopsReading, StoppedIsNamed, ReadToTheLimit};
 ghost use Rattle.send_model.specs.Lawful.{KeepsLawfulness, EditsKeepSayable, ReceivedIsLawful, FilesLeaveLawful, LawfulFindsSayable, LawfulStoresHold};
@@ -83,12 +83,14 @@ pub fn first_paths_are_least<C>()
 
 /// Guards add refusals to a run and nothing else: without guards it is the plain run, and what is accepted under guards is
 /// accepted without them and leads to the same state. It is within the limits of each guard. The answer that is due to an audit is
-/// that of receiving under its guards, where no file is too long.
+/// that of receiving under its guards, where no file is too long; and where one is, the first refusal of what stands before its
+/// limit, and else that the file is too long.
 pub fn guards_only_refuse()
     ensures none { NoGuardsChangeNothing }
     ensures allowed { AllowedIsAccepted }
     ensures within { AcceptedIsWithin }
     ensures audited { AuditIsReceiving }
+    ensures limited { AuditStopsAtLimit }
 {}
 
 /// A file is too long where all bytes that are read at the most are there, and are read whole or are cut short; one that is

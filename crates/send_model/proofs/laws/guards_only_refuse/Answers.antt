@@ -1,6 +1,6 @@
 use Rattle.send_model.proofs.Guarding.{no_guards_change_nothing, allowed_is_accepted}
 use Rattle.send_model.proofs.Guarded.{accepted_is_within}
-use Rattle.send_model.proofs.Audited.{audit_is_receiving}
+use Rattle.send_model.proofs.Audited.{audit_is_receiving, audit_stops_at_limit}
 use Rattle.send_model.proofs.laws.guards_only_refuse.Goals as goal
 
 pub returns-clause-none : goal.returns-clause-none
@@ -14,3 +14,6 @@ returns-clause-within c = accepted_is_within
 
 pub returns-clause-audited : goal.returns-clause-audited
 returns-clause-audited c = audit_is_receiving
+
+pub returns-clause-limited : goal.returns-clause-limited
+returns-clause-limited c = audit_stops_at_limit
