@@ -1,4 +1,4 @@
--- What guards mean for receiving: they add refusals and nothing else. This program's own.
+-- What guards mean for receiving: they add refusals and nothing else; and that an audit is receiving under them. This program's own.
 use Rattle.std.specs.Prelude.{◌≡◌, ◌≤◌, ℕ, false, List, [], ◌∷◌, ◌++◌, map, length, take, None}
 use Rattle.std.specs.List.{AllByRecursion}
 use Rattle.std.specs.Option.{option_map}
