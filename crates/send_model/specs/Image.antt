@@ -114,6 +114,13 @@ example_no_gate = record {
   lengths_fit = tt;
 }
 
+example_fault : HasFault (take 20 new_store) 1
+example_fault = example_no_gate
+
+-- a limit that no file can have is the greatest that one can
+example_limit : limit_of (record { format = 2; number = 2 ^ 64 - 1 }) ≡ 2 ^ 63 - 1
+example_limit = refl
+
 -- a group of two bytes without a checksum, published, and then a closed gate
 example_group : front_of (record { format = 1; number = 2 ^ 40 }) ((7 ∷ 8 ∷ []) ∷ []) ++ 0 ∷ []
     ≡ header_of (record { format = 1; number = 2 ^ 40 }) ++ 1 ∷ 2 ∷ 0 ∷ 0 ∷ 0 ∷ 0 ∷ 0 ∷ 0 ∷ 0 ∷ 7 ∷ 8 ∷ 0 ∷ []
