@@ -1,10 +1,11 @@
--- An image has one header and one list of groups.
-use Rattle.std.proofs.Common.{◌≡◌, ◌≢◌, ◌⊎◌, inl, inr, get_or, arith, ℕ, ◌^◌, ◌<◌, List, [], ◌∷◌, ◌++◌, length, take, drop, flat_map, refl, sym, ◌∙◌, ap, append_assoc}
+-- An image has one header and one list of groups, and no fault; a fault is of one group.
+use Rattle.std.proofs.Common.{◌≡◌, ◌≢◌, ◌⊎◌, inl, inr, get_or, arith, ℕ, zero, suc, ◌+◌, ◌^◌, ◌<◌, List, [], ◌∷◌, ◌++◌, length, take, drop, flat_map, refl, sym, ◌∙◌, ap, subst, length-append, append_assoc}
 use Rattle.std.specs.List.{AllByRecursion}
 use Rattle.std.specs.Int.{w64, to_le_bytes, from_le_bytes}
 use Rattle.std.proofs.lemmas.Nat.{from_le_bytes-to_le_bytes_8}
 use Rattle.std.proofs.lemmas.List.{take_at, drop_at}
-use Rattle.send_model.specs.Image.{Header, HasGroups, start_of, header_of, group_of, IsShort}
+use Rattle.send_model.specs.Image.{Header, HasGroups, HasHeader, HasFault, IsTorn, IsCutShort, start_of, header_of, group_of, front_of, IsShort}
+use Rattle.group_log.proofs.GatedGroups.{length-le}
 
 le_one : (m n : ℕ) → m < 2 ^ 64 → n < 2 ^ 64 → to_le_bytes w64 m ≡ to_le_bytes w64 n → m ≡ n
 le_one m n small_m small_n same =
@@ -28,23 +29,40 @@ group_one a b x y short_a short_b is =
     let bodies : a ++ x ≡ b ++ y = back_one (1 ∷ to_le_bytes w64 (length a)) (1 ∷ to_le_bytes w64 (length b)) (a ++ x) (b ++ y) refl whole in
     (front_one a b x y sizes bodies, back_one a b x y sizes bodies)
 
-closed_is_open : (gate : ℕ) (rest body others : List ℕ) → gate ≢ 1 → gate ∷ rest ≡ group_of body ++ others → ⊥
-closed_is_open gate rest body others closed is = closed (cc (is ∙ opened body others))
+-- What stands behind the last group: no whole group begins there.
+abbrev IsEnd : List ℕ → Type 0
+IsEnd rest = (body others : List ℕ) → IsShort body → rest ≡ group_of body ++ others → ⊥
+
+closed_ends : (gate : ℕ) (rest : List ℕ) → gate ≢ 1 → IsEnd (gate ∷ rest)
+closed_ends gate rest closed body others short is = closed (cc (is ∙ opened body others))
+
+cut_ends : (rest : List ℕ) → IsCutShort rest → IsEnd rest
+cut_ends rest cut body others short is =
+    let there : IsCutShort ((1 ∷ to_le_bytes w64 (length body)) ++ (body ++ others)) = subst IsCutShort (is ∙ opened body others) cut in
+    let stands : from_le_bytes w64 (take 8 (to_le_bytes w64 (length body) ++ (body ++ others))) ≡ length body =
+    ap (λ (l : List ℕ). from_le_bytes w64 l) (take_at (to_le_bytes w64 (length body)) (body ++ others) 8 refl) ∙ from_le_bytes-to_le_bytes_8 (length body) short in
+    let long : length (to_le_bytes w64 (length body) ++ (body ++ others)) < 8 + length body =
+    subst (λ (n : ℕ). length (to_le_bytes w64 (length body) ++ (body ++ others)) < 8 + n) stands there.1 in
+    absurd (omega (arith, long, length-append (to_le_bytes w64 (length body)) (body ++ others), length-append body others, length-le (length body)))
 
 one_not_two : start_of 1 ≡ start_of 2 → ⊥
 one_not_two is = absurd (omega (arith, ap (λ (l : List ℕ). get_or (drop 8 l) 0 0) is))
 
-groups_one : (xs ys : List (List ℕ)) (g h : ℕ) (x y : List ℕ) → g ≢ 1 → h ≢ 1 → AllByRecursion IsShort xs → AllByRecursion IsShort ys → flat_map group_of xs ++ g ∷ x ≡ flat_map group_of ys ++ h ∷ y → xs ≡ ys
-groups_one [] [] g h x y closed_g closed_h fits_a fits_b is = refl
-groups_one [] (b ∷ ys) g h x y closed_g closed_h fits_a fits_b is =
-    absurd (closed_is_open g x b (flat_map group_of ys ++ h ∷ y) closed_g (is ∙ append_assoc (group_of b) (flat_map group_of ys) (h ∷ y)))
-groups_one (a ∷ xs) [] g h x y closed_g closed_h fits_a fits_b is =
-    absurd (closed_is_open h y a (flat_map group_of xs ++ g ∷ x) closed_h (sym is ∙ append_assoc (group_of a) (flat_map group_of xs) (g ∷ x)))
-groups_one (a ∷ xs) (b ∷ ys) g h x y closed_g closed_h fits_a fits_b is =
-    let split = group_one a b (flat_map group_of xs ++ g ∷ x) (flat_map group_of ys ++ h ∷ y) fits_a.0 fits_b.0
-    (sym (append_assoc (group_of a) (flat_map group_of xs) (g ∷ x)) ∙ is ∙ append_assoc (group_of b) (flat_map group_of ys) (h ∷ y)) in
-    let rest = groups_one xs ys g h x y closed_g closed_h fits_a.1 fits_b.1 split.1 in
-    λ i. split.0 i ∷ rest i
+-- what stands before such an end are the same groups, and it is the same end
+groups_one : (xs ys : List (List ℕ)) (x y : List ℕ) → IsEnd x → IsEnd y → AllByRecursion IsShort xs → AllByRecursion IsShort ys → flat_map group_of xs ++ x ≡ flat_map group_of ys ++ y → (xs ≡ ys) × (x ≡ y)
+groups_one [] [] x y ends_x ends_y fits_a fits_b is = (refl, is)
+groups_one [] (b ∷ ys) x y ends_x ends_y fits_a fits_b is = absurd (ends_x b (flat_map group_of ys ++ y) fits_b.0 (is ∙ append_assoc (group_of b) (flat_map group_of ys) y))
+groups_one (a ∷ xs) [] x y ends_x ends_y fits_a fits_b is = absurd (ends_y a (flat_map group_of xs ++ x) fits_a.0 (sym is ∙ append_assoc (group_of a) (flat_map group_of xs) x))
+groups_one (a ∷ xs) (b ∷ ys) x y ends_x ends_y fits_a fits_b is =
+    let split = group_one a b (flat_map group_of xs ++ x) (flat_map group_of ys ++ y) fits_a.0 fits_b.0
+    (sym (append_assoc (group_of a) (flat_map group_of xs) x) ∙ is ∙ append_assoc (group_of b) (flat_map group_of ys) y) in
+    let rest = groups_one xs ys x y ends_x ends_y fits_a.1 fits_b.1 split.1 in
+    (λ i. split.0 i ∷ rest.0 i, rest.1)
+
+-- headers have one length
+behind_one : (m n : Header) (xs ys : List (List ℕ)) (x y : List ℕ) → front_of m xs ++ x ≡ front_of n ys ++ y → flat_map group_of xs ++ x ≡ flat_map group_of ys ++ y
+behind_one m n xs ys x y is =
+    back_one (header_of m) (header_of n) _ _ refl (sym (append_assoc (header_of m) (flat_map group_of xs) x) ∙ is ∙ append_assoc (header_of n) (flat_map group_of ys) y)
 
 format_one : (m n : ℕ) → (m ≡ 1) ⊎ (m ≡ 2) → (n ≡ 1) ⊎ (n ≡ 2) → start_of m ≡ start_of n → m ≡ n
 format_one m n (inl a) (inl b) is = a ∙ sym b
@@ -63,6 +81,29 @@ one_header image m n xs ys left right =
 
 pub one_journal : (image : List ℕ) (m n : Header) (xs ys : List (List ℕ)) → HasGroups m xs image → HasGroups n ys image → xs ≡ ys
 one_journal image m n xs ys left right =
-    let whole : header_of m ++ (flat_map group_of xs ++ left.gate ∷ left.rest) ≡ header_of n ++ (flat_map group_of ys ++ right.gate ∷ right.rest) =
-    sym (append_assoc (header_of m) (flat_map group_of xs) (left.gate ∷ left.rest)) ∙ sym left.bytes ∙ right.bytes ∙ append_assoc (header_of n) (flat_map group_of ys) (right.gate ∷ right.rest) in
-    groups_one xs ys left.gate right.gate left.rest right.rest left.closed right.closed left.lengths_fit right.lengths_fit (back_one (header_of m) (header_of n) _ _ refl whole)
+    let whole = behind_one m n xs ys (left.gate ∷ left.rest) (right.gate ∷ right.rest) (sym left.bytes ∙ right.bytes) in
+    let one = groups_one xs ys (left.gate ∷ left.rest) (right.gate ∷ right.rest) (closed_ends left.gate left.rest left.closed) (closed_ends right.gate right.rest right.closed) left.lengths_fit right.lengths_fit whole in
+    one.0
+
+-- an end is not both closed and cut short
+pub no_fault : (image : List ℕ) (header : Header) (bodies : List (List ℕ)) (group : ℕ) → HasGroups header bodies image → HasFault image group → ⊥
+no_fault image header bodies zero has fault =
+    fault (record { header = header; rest = flat_map group_of bodies ++ has.gate ∷ has.rest; bytes = has.bytes ∙ append_assoc (header_of header) (flat_map group_of bodies) (has.gate ∷ has.rest); lawful = has.lawful })
+no_fault image header bodies (suc groups) has fault =
+    let whole = behind_one header fault.header bodies fault.bodies (has.gate ∷ has.rest) fault.rest (sym has.bytes ∙ fault.bytes) in
+    let one = groups_one bodies fault.bodies (has.gate ∷ has.rest) fault.rest (closed_ends has.gate has.rest has.closed) (cut_ends fault.rest fault.torn) has.lengths_fit fault.lengths_fit whole in
+    let cut : IsCutShort (has.gate ∷ has.rest) = subst IsCutShort (sym one.1) fault.torn in
+    has.closed cut.0
+
+torn_header : (image : List ℕ) (groups : ℕ) → IsTorn image groups → HasHeader image
+torn_header image groups torn =
+    record { header = torn.header; rest = flat_map group_of torn.bodies ++ torn.rest; bytes = torn.bytes ∙ append_assoc (header_of torn.header) (flat_map group_of torn.bodies) torn.rest; lawful = torn.lawful }
+
+pub one_fault : (image : List ℕ) (g h : ℕ) → HasFault image g → HasFault image h → g ≡ h
+one_fault image zero zero left right = refl
+one_fault image zero (suc h) left right = absurd (left (torn_header image h right))
+one_fault image (suc g) zero left right = absurd (right (torn_header image g left))
+one_fault image (suc g) (suc h) left right =
+    let whole = behind_one left.header right.header left.bodies right.bodies left.rest right.rest (sym left.bytes ∙ right.bytes) in
+    let one = groups_one left.bodies right.bodies left.rest right.rest (cut_ends left.rest left.torn) (cut_ends right.rest right.torn) left.lengths_fit right.lengths_fit whole in
+    ap suc (sym left.count ∙ ap length one.0 ∙ right.count)
