@@ -146,6 +146,9 @@ impl<D: Disk> Disk for FuseDisk<D> {
             OnOk result (D.seen self.new.disk ≡ put_at at piece.now (D.seen self.old.disk)) }
         ensures pending { D.tells → D.pending self.new.disk
             ≡ written at (length piece.now) (D.pending self.old.disk) }
+        ensures reaches { D.tells →
+            (D.seen self.new.disk ≡ put_at at piece.now (D.seen self.old.disk))
+            ⊎ Rose (D.faults self.old.disk) (D.faults self.new.disk) }
         ensures passes { Passes D.tells (of_inner D.moment) (left_inside D.left_since)
             (of_inner D.pending) (faults_of D.faults) self.old self.new result }
         ensures counts { self.new.left ≡ self.old.left - 1 }
@@ -170,6 +173,9 @@ impl<D: Disk> Disk for FuseDisk<D> {
             OnOk result (D.seen self.new.disk ≡ take size (D.seen self.old.disk)) }
         ensures pending { D.tells → D.pending self.new.disk
             ≡ shortened size (D.pending self.old.disk) }
+        ensures reaches { D.tells →
+            (D.seen self.new.disk ≡ take size (D.seen self.old.disk))
+            ⊎ Rose (D.faults self.old.disk) (D.faults self.new.disk) }
         ensures passes { Passes D.tells (of_inner D.moment) (left_inside D.left_since)
             (of_inner D.pending) (faults_of D.faults) self.old self.new result }
         ensures counts { self.new.left ≡ self.old.left - 1 }
