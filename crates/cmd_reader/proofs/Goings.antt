@@ -37,6 +37,7 @@ use Rattle.cmd_reader.specs.Sources.{HasPassed, StandsThere, HasStayed, IsCutSho
 use Rattle.cmd_reader.specs.Left.{Reader, left, left_from, HasAhead}
 use Rattle.cmd_reader.specs.Commands.{body_read}
 use Rattle.cmd_reader.specs.Next.{item_of, is_last, HasBegun, BeginsAt, HasEnded, OnlyEnds, GoesOn, IsNext, IsFaulty, Says, NextSays, ItemFits, IfItem, EndsAfterEnd, HasRead}
+use Rattle.cmd_reader.specs.Stands.{HasPassedFrame}
 use Rattle.cmd_reader.specs.Frames.{frame_here, HasGonePast, HasReached, FrameFits, StepSays, FrameSays}
 use Rattle.cmd_reader.specs.Glances.{IsGlance, GlanceSays, GlanceFits}
 use Rattle.cmd_reader.specs.Items.{StopAt, ItemIs, GlanceIs, IsRefusedAt, BodySays, ItemSays, HeadSays}
@@ -351,6 +352,33 @@ pub frame_fits : (told : Option (List (List ℕ × List ℕ))) (old new : Reader
 frame_fits told old new before now (Ok (Some frame)) says = past_fits told says.1.mid new frame says.1.past
 frame_fits told old new before now (Ok None) says = tt
 frame_fits told old new before now (Err why) says = tt
+
+-- What a reader has of the frame that it has reached.
+pub frame_passed : (told : Option (List (List ℕ × List ℕ))) (old new : Reader) (frame : FrameAt) → HasReached told old new frame → HasPassedFrame told old new frame.offset
+frame_passed told old new frame r = subst (λ (f : FrameAt). HasPassedFrame told old new f.offset) (sym p.is) (record {
+  version = p.version;
+  frame = record { number = p.head.cmd; body = own_body new; rest = [] };
+  number = p.number ∙ ap (λ (n : ℕ). n + 1) r.begun.number;
+  behind = r.begun.later;
+  reaches = p.passes.place ∙ ap (λ (n : ℕ). r.mid.offset + n) size;
+  within = p.within;
+  read = own_frame told r.mid new frame p;
+  due = p.passes.due ∙ due.0;
+  at_end = p.passes.ended ∙ due.1;
+  bytes = told_moved told told old.name r.mid.name here refl r.begun.name (told_map told r.mid.name (StandsThere r.mid.offset r.mid.fed new.offset new.fed p.h) here (λ file s. s.bytes ∙ ap (λ (n : ℕ). take n (drop r.mid.offset file)) size) p.stands);
+})
+  where
+    p : HasGonePast told r.mid new frame
+    p = r.past
+
+    here : List ℕ → Type 0
+    here file = new.fed.last ≡ take (length new.fed.last) (drop r.mid.offset file)
+
+    size : p.h.taken ≡ length new.fed.last
+    size = p.passes.taken ∙ sym p.passes.fits.0
+
+    due : (p.h.due ≡ due_past p.version p.head.cmd) × (p.h.ended ≡ is_end p.head.cmd)
+    due = frame_due p.version p.passes.front p.h p.head.cmd (own_body new) (came told r.mid new frame p) p.passes.piece
 
 -- An item by its fields.
 abbrev item_by : ℕ → ℕ → ℕ → ℕ → ℕ → model.Command → reading.Item

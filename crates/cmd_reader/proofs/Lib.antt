@@ -9,3 +9,4 @@ mod Sourcing
 mod Goings
 mod Steps
 pub mod Aheads
+mod Standing

@@ -115,6 +115,7 @@ passes told name at next feed mid new unit due new_is place was_due p ahead =
     let h : Handed = p.0 in
     let here = (handed_next mid h p.1.0).1 in
     let moved : new ≡ after mid (Ok (Some h)) = new_is ∙ ap (after mid) p.1.0 in
+    let within : h.taken ≤ length mid.left = handed_within mid.due mid.left h here in
     let taken : h.taken ≡ unit_len unit = taken_is mid new unit h was_due p.1.1.1 p.1.1.0 here in
     let next_place : next ≡ at + h.taken = place ∙ ap (λ (n : ℕ). at + n) (sym taken) in (
       h,
@@ -135,6 +136,7 @@ passes told name at next feed mid new unit due new_is place was_due p ahead =
             let s = stands at mid h file p.1.0 a in
             record {
               here = ap (λ (d : Due). handed d (drop at file)) (sym due) ∙ s.0;
+              bytes = ap (λ (f : Fed). f.last) moved ∙ sym (take-append-le h.taken mid.left (drop (at + length mid.left) file) within) ∙ ap (take h.taken) (sym a.bytes);
               ahead = subst (λ (f : Fed). IsAhead next f file) (sym new_is) (subst (λ (n : ℕ). IsAhead n (fed_after mid) file) (sym next_place) s.1);
             }) ahead,
       ),

@@ -1,5 +1,5 @@
 -- A frame that a reader has gone past, before anything is read of its body.
-use Rattle.std.specs.Prelude.{◌≡◌, ℕ, ◌+◌, ◌<◌, ◌≤◌, true, List, length, drop, Option, None, Some, Result}
+use Rattle.std.specs.Prelude.{◌≡◌, ℕ, ◌+◌, ◌<◌, ◌≤◌, true, List, length, drop, Option, None, Some, Result, Ok, Err, ⊤}
 use Rattle.send_model.specs.Spelling.{greatest_body}
 use Rattle.send_model.specs.Reading.{is_version}
 use Rattle.send_model.specs.Lengths.{limit}
@@ -8,6 +8,7 @@ use Rattle.tlv_frame.specs.declared.feed.Passed.TheVariants as passed
 use Rattle.tlv_frame.specs.declared.frame_head.FrameHead.{FrameHead}
 use Rattle.cmd_reader.specs.declared.front.FrameAt.{FrameAt}
 use Rattle.cmd_reader.specs.declared.item.ReadStop.{ReadStop}
+use Rattle.cmd_reader.specs.declared.item.ReadStop.TheVariants as stop
 use Rattle.cmd_reader.specs.Places.{IfTold}
 use Rattle.cmd_reader.specs.Sources.{HasPassed, StandsThere}
 use Rattle.cmd_reader.specs.Left.{Reader}
@@ -52,3 +53,17 @@ StepSays told old new before now (Some answer) = EndsAfterEnd old answer × Says
 -- All steps up to an answer.
 abbrev pub FrameSays : Option (List (List ℕ × List ℕ)) → Reader → Reader → ℕ → ℕ → Result (Option FrameAt) ReadStop → Type 0
 FrameSays told old new before now answer = EndsAfterEnd old answer × Says (HasReached told old new) told old before now answer
+
+-- Where there is no frame, none was gone past; a refusal stands where the reader stands.
+abbrev pub Halts : Reader → Reader → Result (Option FrameAt) ReadStop → Type 0
+Halts old new (Ok (Some frame)) = ⊤
+Halts old new (Ok None) = HasBegun old new
+Halts old new (Err (stop.Refused verdict)) = HasBegun old new × (new.offset ≡ verdict.offset)
+Halts old new (Err stop.NoMemory) = ⊥
+Halts old new (Err stop.InputFault) = HasBegun old new
+Halts old new (Err stop.InputTooLong) = HasBegun old new
+
+-- The same after one step.
+abbrev pub StepHalts : Reader → Reader → Option (Result (Option FrameAt) ReadStop) → Type 0
+StepHalts old new None = ⊤
+StepHalts old new (Some answer) = Halts old new answer

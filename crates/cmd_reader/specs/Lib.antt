@@ -6,6 +6,7 @@ pub mod Alone
 pub mod Commands
 pub mod Heads
 pub mod Next
+pub mod Stands
 pub mod Frames
 pub mod Glances
 pub mod Items

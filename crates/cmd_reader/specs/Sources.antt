@@ -73,6 +73,7 @@ pub record HasPassed (at : ℕ) (feed : Fed) (next : ℕ) (new : Fed) (unit : Pa
 -- It is the one that stands in the file.
 pub record StandsThere (at : ℕ) (feed : Fed) (next : ℕ) (new : Fed) (h : Handed) (file : List ℕ) : Type 0 where
   pub here : handed feed.due (drop at file) ≡ Ok h
+  pub bytes : new.last ≡ take h.taken (drop at file)
   pub ahead : IsAhead next new file
 
 -- Nothing was gone past.

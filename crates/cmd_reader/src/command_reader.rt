@@ -3,7 +3,8 @@ ghost use Rattle.std.specs.Prelude.{◌≡◌, ◌≤◌, IfOk};
 ghost use Rattle.cmd_reader.specs.Places.{IfTold};
 ghost use Rattle.cmd_reader.specs.Left.{Reader, at_start, HasAhead};
 ghost use Rattle.cmd_reader.specs.Next.{NextSays, ItemFits, IfItem, EndsAfterEnd};
-ghost use Rattle.cmd_reader.specs.Frames.{FrameFits, StepSays, FrameSays};
+ghost use Rattle.cmd_reader.specs.Stands.{NextStands, GlanceStands};
+ghost use Rattle.cmd_reader.specs.Frames.{FrameFits, StepSays, FrameSays, Halts, StepHalts};
 ghost use Rattle.cmd_reader.specs.Glances.{GlanceFits, GlanceSays};
 
 use crate::fault::Fault;
@@ -68,6 +69,7 @@ impl CmdReader {
         ensures end { EndsAfterEnd self.old result }
         ensures read { NextSays (I.told inputs.old) self.old self.new
             (I.faults inputs.old) (I.faults inputs.new) result }
+        ensures stands { NextStands (I.told inputs.old) self.old self.new result }
     {
         let frame = match self.frame(inputs) {
             Ok(Some(frame)) => frame,
@@ -91,6 +93,7 @@ impl CmdReader {
         ensures end { EndsAfterEnd self.old result }
         ensures read { GlanceSays (I.told inputs.old) self.old self.new
             (I.faults inputs.old) (I.faults inputs.new) result }
+        ensures stands { GlanceStands (I.told inputs.old) self.old self.new result }
     {
         let frame = match self.frame(inputs) {
             Ok(Some(frame)) => frame,
@@ -125,6 +128,7 @@ impl CmdReader {
         ensures fits { IfItem result (FrameFits self.new) }
         ensures says { FrameSays (I.told inputs.old) self.old self.new
             (I.faults inputs.old) (I.faults inputs.new) result }
+        ensures halts { Halts self.old self.new result }
     {
         loop {
             match self.step(inputs) {
@@ -144,6 +148,7 @@ impl CmdReader {
         ensures name { self.new.name ≡ self.old.name }
         ensures says { StepSays (I.told inputs.old) self.old self.new
             (I.faults inputs.old) (I.faults inputs.new) result }
+        ensures halts { StepHalts self.old self.new result }
     {
         let number = self.number;
         let offset = self.source.at;

@@ -1,5 +1,6 @@
 use Rattle.std.proofs.Common.{refl, ◌∙◌, arith}
 use Rattle.cmd_reader.proofs.Goings.{begun_at_start, begun_further, begun_ahead, answered, frame_fits}
+use Rattle.cmd_reader.proofs.Standing.{halted_over}
 use Rattle.cmd_reader.proofs.command_reader.CmdReader.frame.Goals as goal
 
 pub loop-answer-init : goal.loop-answer-init
@@ -32,4 +33,5 @@ returns-in-Some g c =
       name = e.name ∙ i.begun.0.name;
       fits = frame_fits (g.I.Inputs.told c.args.inputs.now) c.args.self.now c.step.new.self _ _ c.in-Some.answer says;
       says = says;
+      halts = halted_over c.args.self.now c.loop-answer.self c.step.new.self c.in-Some.answer i.begun.0 e.halts;
     }

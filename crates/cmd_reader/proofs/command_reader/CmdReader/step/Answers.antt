@@ -1,6 +1,7 @@
 use Rattle.std.proofs.Common.{refl, ap, sym, ◌∙◌, arith}
 use Rattle.std.specs.String.{string_bytes}
 use Rattle.cmd_reader.proofs.Steps.{fault_said, head_said, frame_said, whole_said, cut_said}
+use Rattle.cmd_reader.proofs.Standing.{fault_halted, whole_halted, cut_halted}
 use Rattle.cmd_reader.proofs.command_reader.CmdReader.step.Goals as goal
 
 pub returns-then-whole-clause-says : goal.returns-then-whole-clause-says
@@ -11,6 +12,21 @@ returns-in-Ok-None-clause-says g c = cut_said _ _ _ c.args.self.now _ _ _ _ c.in
 
 pub returns-in-Err-clause-says : goal.returns-in-Err-clause-says
 returns-in-Err-clause-says g c = fault_said _ _ _ c.args.self.now _ _ _ _ _ _ c.self.view_is c.in-Err.ensures.says c.stop_at-in-Err.ensures.stop
+
+pub returns-then-whole-clause-halts : goal.returns-then-whole-clause-halts
+returns-then-whole-clause-halts g c =
+    let e = c.in-Ok-None.ensures in
+    whole_halted _ _ _ _ 0 0 c.in-Ok-None.field-0 c.self.view_is c.in-Ok-None.field-0-is refl (ap string_bytes e.name) refl e.says
+
+pub returns-in-Ok-None-clause-halts : goal.returns-in-Ok-None-clause-halts
+returns-in-Ok-None-clause-halts g c =
+    let e = c.in-Ok-None.ensures in
+    cut_halted _ _ _ _ 0 0 c.in-Ok-None.field-0 _ c.self.view_is c.in-Ok-None.field-0-is refl (ap string_bytes e.name) refl e.says c.stop_at.ensures.stop
+
+pub returns-in-Err-clause-halts : goal.returns-in-Err-clause-halts
+returns-in-Err-clause-halts g c =
+    let e = c.in-Err.ensures in
+    fault_halted _ _ _ _ _ _ _ _ c.self.view_is refl (ap string_bytes e.name) refl e.says c.stop_at-in-Err.ensures.stop
 
 pub returns-in-Head-clause-says : goal.returns-in-Head-clause-says
 returns-in-Head-clause-says g c =
