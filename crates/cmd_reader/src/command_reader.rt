@@ -57,7 +57,8 @@ impl CmdReader {
     /// where the bytes break a rule of reading, by the first rule that they break; InputFault only
     /// where the inputs count another fault; InputTooLong exactly where the file has 2^62 bytes or
     /// more and what is left of the first 2^62 ends at once, whole or cut short. Where the inputs
-    /// tell, they are those that gave the reader its bytes, and it has not stopped before.
+    /// tell, they are those that gave the reader its bytes, and it has not stopped before. Whatever it answers, it has gone past
+    /// headers, and past one frame only where it gives a command or its body gave none.
     pub fn next<I: Inputs>(&mut self, inputs: &mut I) -> Result<Option<Item>, ReadStop>
         requires ahead { IfTold (I.told inputs.old) self.old.name (HasAhead self.old) }
         ensures same { I.told inputs.new ≡ I.told inputs.old }
@@ -104,8 +105,8 @@ impl CmdReader {
         glance_in(alloc, frame, body_in(self.last_frame()))
     }
 
-    /// The bytes of the frame of the command that was read last, as they stand in the file. Takes
-    /// no memory.
+    /// The bytes of the frame of the command that was read last, as they stand in the file: after `next`, from the item's place
+    /// on, and after both, up to where the reader stands. Takes no memory.
     pub fn last_frame(&self) -> &[u8]
         ensures bytes { result.now ≡ self.now.fed.last }
     {
