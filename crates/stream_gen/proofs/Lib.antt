@@ -1,3 +1,4 @@
 pub mod ChainParts
 pub mod DrawnNumbers
 pub mod EachFile
+pub mod Kept

@@ -1,6 +1,7 @@
 // A chain of parts, made one after the other.
 ghost use Rattle.std.specs.Prelude.{◌≡◌, ◌+◌, ◌<◌, ◌++◌, ◌^◌, OnOk, OnErr, IfOk};
 ghost use Rattle.stream_gen.specs.Parts.{Made, part_bytes, number_at};
+ghost use Rattle.sx_base.specs.Bytes.{IsFront};
 
 use crate::commands::uuid_of;
 use crate::draws::draw;
@@ -42,11 +43,13 @@ impl Chain {
         }
     }
 
-    /// Appends the next part, a whole stream. Without memory the chain is unchanged, and some of the part may be there.
+    /// Appends the next part, a whole stream. Without memory the chain is unchanged, and the blob begins with the bytes that it
+    /// had; some of the part may stand behind them.
     pub fn next_part(&mut self, to: &mut Blob) -> Result<(), AllocError>
         requires room { self.old.parts + 1 < 2 ^ 64 }
         ensures appended { OnOk result
             (to.new ≡ to.old ++ part_bytes self.old.seed (self.old.parts + 1)) }
+        ensures kept { IsFront to.old to.new }
         ensures next { OnOk result
             (self.new ≡ record { seed = self.old.seed; parts = self.old.parts + 1 }) }
         ensures same { OnErr result (self.new ≡ self.old) }
@@ -78,6 +81,7 @@ fn push_part(
     requires room { parts + 1 < 2 ^ 64 }
     requires number { number ≡ number_at seed parts }
     ensures appended { OnOk result (to.new ≡ to.old ++ part_bytes seed (parts + 1)) }
+    ensures kept { IsFront to.old to.new }
     ensures next { IfOk result (λ next. next ≡ number_at seed (parts + 1)) }
 {
     if parts == 0 {

@@ -8,6 +8,7 @@ ghost use Rattle.stream_gen.specs.Parts.{clone_by};
 ghost use Rattle.send_commands.specs.Meaning.{meaning_of};
 ghost use Rattle.send_commands.specs.Writing.{IsWritable};
 ghost use Rattle.send_model.specs.Generated.{part_name, part_uuid, file_name};
+ghost use Rattle.sx_base.specs.Bytes.{IsFront};
 
 use crate::draws::Drawn;
 use itoa::Buffer;
@@ -64,6 +65,7 @@ pub fn uuid_of(seed: u64, part: u64) -> Uuid
 /// Appends the header of a stream of version 1.
 pub fn push_header(to: &mut Blob) -> Result<(), AllocError>
     ensures appended { OnOk result (to.new ≡ to.old ++ stream_header 1) }
+    ensures kept { IsFront to.old to.new }
 {
     to.push_all(&StreamHead { version: 1 }.bytes())
 }
@@ -73,6 +75,7 @@ pub fn push_header(to: &mut Blob) -> Result<(), AllocError>
 fn push_short(command: &Command, to: &mut Blob) -> Result<(), AllocError>
     requires writable { IsWritable 1 (meaning_of command.now) }
     ensures appended { OnOk result (to.new ≡ to.old ++ canonical 1 (meaning_of command.now)) }
+    ensures kept { IsFront to.old to.new }
 {
     encode(command, 1, to)
 }
@@ -81,6 +84,7 @@ fn push_short(command: &Command, to: &mut Blob) -> Result<(), AllocError>
 #[tactic(auto, unfolding(send_commands::specs::Writing::IsWritable, send_model::specs::Command::row))]
 pub fn push_subvol(alloc: Global, uuid: Uuid, to: &mut Blob) -> Result<(), AllocError>
     ensures appended { OnOk result (to.new ≡ to.old ++ canonical 1 (Subvol uuid 1 (part_name 1))) }
+    ensures kept { IsFront to.old to.new }
 {
     let command = Command::Subvol {
         uuid,
@@ -102,6 +106,7 @@ pub fn push_snapshot(
     requires later { 2 ≤ part }
     ensures appended { OnOk result
         (to.new ≡ to.old ++ canonical 1 (Snapshot uuid part (part_name part) before (part - 1))) }
+    ensures kept { IsFront to.old to.new }
 {
     let command = Command::Snapshot {
         uuid,
@@ -117,6 +122,7 @@ pub fn push_snapshot(
 #[tactic(auto, unfolding(send_commands::specs::Writing::IsWritable, send_model::specs::Command::row))]
 pub fn push_mkfile(alloc: Global, file: u64, to: &mut Blob) -> Result<(), AllocError>
     ensures appended { OnOk result (to.new ≡ to.old ++ canonical 1 (MkFile (file_name file))) }
+    ensures kept { IsFront to.old to.new }
 {
     let command = Command::MkFile {
         path: name_of_file(alloc, file)?,
@@ -137,6 +143,7 @@ pub fn push_write(
     requires short { count < 65_536 }
     ensures appended { OnOk result
         (to.new ≡ to.old ++ canonical 1 (Write (file_name file) offset (replicate count byte))) }
+    ensures kept { IsFront to.old to.new }
 {
     let bytes = Vec::from_elem(alloc, byte, count)?;
     let command = Command::Write {
@@ -161,6 +168,7 @@ pub fn push_clone(
     requires source { drawn.now.source_block < 3 }
     ensures appended { OnOk result
         (to.new ≡ to.old ++ canonical 1 (clone_by before part drawn.now)) }
+    ensures kept { IsFront to.old to.new }
 {
     let command = Command::Clone {
         path: name_of_file(alloc, drawn.goal)?,
@@ -179,6 +187,7 @@ pub fn push_clone(
 fn push_away(alloc: Global, file: u64, to: &mut Blob) -> Result<(), AllocError>
     ensures appended { OnOk result
         (to.new ≡ to.old ++ canonical 1 (Rename (file_name file) (codes "t"))) }
+    ensures kept { IsFront to.old to.new }
 {
     let mut other = Blob::new(alloc);
     other.push_all(b"t")?;
@@ -194,6 +203,7 @@ fn push_away(alloc: Global, file: u64, to: &mut Blob) -> Result<(), AllocError>
 fn push_back(alloc: Global, file: u64, to: &mut Blob) -> Result<(), AllocError>
     ensures appended { OnOk result
         (to.new ≡ to.old ++ canonical 1 (Rename (codes "t") (file_name file))) }
+    ensures kept { IsFront to.old to.new }
 {
     let mut other = Blob::new(alloc);
     other.push_all(b"t")?;
@@ -209,6 +219,7 @@ pub fn push_renames(alloc: Global, file: u64, to: &mut Blob) -> Result<(), Alloc
     ensures appended { OnOk result
         (to.new ≡ to.old ++ canonical 1 (Rename (file_name file) (codes "t"))
         ++ canonical 1 (Rename (codes "t") (file_name file))) }
+    ensures kept { IsFront to.old to.new }
 {
     push_away(alloc, file, to)?;
     push_back(alloc, file, to)
@@ -218,6 +229,7 @@ pub fn push_renames(alloc: Global, file: u64, to: &mut Blob) -> Result<(), Alloc
 #[tactic(auto, unfolding(send_commands::specs::Writing::IsWritable, send_model::specs::Command::row))]
 pub fn push_end(to: &mut Blob) -> Result<(), AllocError>
     ensures appended { OnOk result (to.new ≡ to.old ++ canonical 1 End) }
+    ensures kept { IsFront to.old to.new }
 {
     push_short(&Command::End, to)
 }

@@ -4,13 +4,14 @@ ghost use Rattle.send_model.specs.Words.{Gen};
 ghost use Rattle.sx_base.specs.Calls.{Caused, Wrote, Ends};
 ghost use Rattle.sx_base.specs.Outside.{AppendsPart};
 ghost use Rattle.stream_gen.specs.Parts.{part_bytes};
+ghost use Rattle.sx_base.specs.Bytes.{IsFront};
 
 use crate::chain::Chain;
 use std::alloc::{AllocError, Global};
 use sx_base::{Blob, Outcome, Sink, write_whole};
 
 /// Appends one part of a chain of `count` parts, a whole stream of version 1; parts are counted from 1. The numbers for the parts
-/// before are drawn first. Without memory some of the part may be there.
+/// before are drawn first. Without memory the blob begins with the bytes that it had, and some of the part may stand behind them.
 pub fn generate(
     alloc: Global,
     count: u64,
@@ -21,6 +22,7 @@ pub fn generate(
     requires first { 1 ≤ part }
     requires last { part ≤ count }
     ensures appended { OnOk result (to.new ≡ to.old ++ part_bytes seed part) }
+    ensures kept { IsFront to.old to.new }
 {
     let mut chain = Chain::new(alloc, seed);
     for _ in 1..part {

@@ -4,6 +4,7 @@ ghost use Rattle.send_model.specs.Command.{MkFile, Write};
 ghost use Rattle.send_model.specs.Spelling.{canonical_all, stream_header};
 ghost use Rattle.send_model.specs.Generated.{files, file_name};
 ghost use Rattle.stream_gen.specs.Parts.{first_by, part_by};
+ghost use Rattle.sx_base.specs.Bytes.{IsFront};
 
 use crate::commands::{
     BLOCK, push_clone, push_end, push_header, push_mkfile, push_renames, push_snapshot,
@@ -24,6 +25,7 @@ const FILE_LEN: usize = 12_288;
 pub fn push_first_part(alloc: Global, uuid: Uuid, to: &mut Blob) -> Result<(), AllocError>
     ensures appended { OnOk result
         (to.new ≡ to.old ++ (stream_header 1 ++ canonical_all 1 (first_by uuid))) }
+    ensures kept { IsFront to.old to.new }
 {
     push_header(to)?;
     push_subvol(alloc, uuid, to)?;
@@ -35,6 +37,7 @@ pub fn push_first_part(alloc: Global, uuid: Uuid, to: &mut Blob) -> Result<(), A
 fn push_files(alloc: Global, to: &mut Blob) -> Result<(), AllocError>
     ensures appended { OnOk result
         (to.new ≡ to.old ++ canonical_all 1 (map (λ file. MkFile (file_name file)) files)) }
+    ensures kept { IsFront to.old to.new }
 {
     for file in 0..FILES {
         push_mkfile(alloc, file, to)?;
@@ -46,6 +49,7 @@ fn push_contents(alloc: Global, to: &mut Blob) -> Result<(), AllocError>
     ensures appended { OnOk result
         (to.new ≡ to.old
         ++ canonical_all 1 (map (λ file. Write (file_name file) 0 (replicate 12_288 file)) files)) }
+    ensures kept { IsFront to.old to.new }
 {
     for file in 0..FILES {
         push_write(alloc, file, 0, file as u8, FILE_LEN, to)?;
@@ -70,6 +74,7 @@ pub fn push_later_part(
     ensures appended { OnOk result
         (to.new ≡ to.old
         ++ (stream_header 1 ++ canonical_all 1 (part_by uuid before part drawn.now))) }
+    ensures kept { IsFront to.old to.new }
 {
     push_header(to)?;
     push_snapshot(alloc, uuid, before, part, to)?;

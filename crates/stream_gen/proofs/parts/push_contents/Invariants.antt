@@ -1,5 +1,5 @@
 use Rattle.std.proofs.Common.{◌≡◌, ◌++◌, map, take, replicate}
-use Rattle.send_model.specs.Command.{MkFile, Write}
+use Rattle.send_model.specs.Command.{Write}
 use Rattle.send_model.specs.Spelling.{canonical_all}
 use Rattle.send_model.specs.Generated.{files, file_name}
 use Rattle.stream_gen.proofs.parts.push_contents.Given as goal

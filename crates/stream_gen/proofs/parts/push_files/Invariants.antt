@@ -1,5 +1,5 @@
-use Rattle.std.proofs.Common.{◌≡◌, ◌++◌, map, take, replicate}
-use Rattle.send_model.specs.Command.{MkFile, Write}
+use Rattle.std.proofs.Common.{◌≡◌, ◌++◌, map, take}
+use Rattle.send_model.specs.Command.{MkFile}
 use Rattle.send_model.specs.Spelling.{canonical_all}
 use Rattle.send_model.specs.Generated.{files, file_name}
 use Rattle.stream_gen.proofs.parts.push_files.Given as goal
