@@ -1,6 +1,6 @@
 -- The numbers of a chain, drawn one after the other.
-use Rattle.std.specs.Prelude.{◌≡◌, ℕ, zero, suc, ◌+◌, ◌-◌, ◌*◌, ◌%◌, ◌≤◌, ◌==◌, Bool, false, List, [], ◌∷◌, ◌++◌, if◌then◌else◌}
-use Rattle.std.proofs.Common.{refl, sym, ap, subst, ◌∙◌, arith}
+use Rattle.std.specs.Prelude.{◌≡◌, ℕ, zero, suc, ◌+◌, ◌-◌, ◌*◌, ◌%◌, ◌≤◌, ◌==◌, Bool, false, List, ◌++◌, if◌then◌else◌}
+use Rattle.std.proofs.Common.{refl, sym, ap, ◌∙◌, arith}
 use Rattle.send_model.specs.Command.{Command}
 use Rattle.send_model.specs.Spelling.{stream_header, canonical_all}
 use Rattle.send_model.specs.Generated.{next_number, drawn, number_after, draw, part_uuid, first_part, later_part}

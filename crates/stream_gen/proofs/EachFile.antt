@@ -1,7 +1,7 @@
 -- A command for each of the eight files, one after the other.
 use Rattle.std.specs.Prelude.{◌≡◌, ℕ, zero, suc, ◌+◌, ◌<◌, ◌≤◌, List, [], ◌∷◌, ◌++◌, map, take}
 use Rattle.std.specs.List.{flat_map}
-use Rattle.std.proofs.Common.{refl, sym, ap, subst, ◌∙◌, arith, append_assoc, append-nil}
+use Rattle.std.proofs.Common.{refl, sym, ap, ◌∙◌, arith, append_assoc, append-nil}
 use Rattle.send_model.specs.Command.{Command, End}
 use Rattle.send_model.specs.Spelling.{canonical, canonical_all}
 use Rattle.send_model.specs.Generated.{files}

@@ -1,5 +1,5 @@
 -- The parts of a chain by their numbers, and where its numbers stand between them.
-use Rattle.std.specs.Prelude.{ℕ, ◌+◌, ◌-◌, ◌*◌, ◌%◌, ◌==◌, List, [], ◌∷◌, ◌++◌, codes, map, replicate, if◌then◌else◌}
+use Rattle.std.specs.Prelude.{ℕ, ◌-◌, ◌*◌, ◌%◌, ◌==◌, List, [], ◌∷◌, ◌++◌, codes, map, replicate, if◌then◌else◌}
 use Rattle.send_model.specs.Command.{Command, Subvol, Snapshot, MkFile, Rename, Write, Clone, End}
 use Rattle.send_model.specs.Spelling.{stream_header, canonical_all}
 use Rattle.send_model.specs.Generated.{drawn, number_after, part_name, file_name, files, first_part, later_part}

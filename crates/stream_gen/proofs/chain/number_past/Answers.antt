@@ -1,4 +1,4 @@
-use Rattle.std.proofs.Common.{◌≡◌, ◌≤◌, refl, ◌∙◌, sym, arith}
+use Rattle.std.proofs.Common.{◌≤◌, ◌∙◌, sym, arith}
 use Rattle.stream_gen.proofs.DrawnNumbers.{number_second, number_next}
 use Rattle.stream_gen.proofs.chain.number_past.Goals as goal
 

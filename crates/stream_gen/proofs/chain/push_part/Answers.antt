@@ -1,4 +1,4 @@
-use Rattle.std.proofs.Common.{◌≡◌, ◌≤◌, ◌++◌, ℕ, List, refl, ap, ◌∙◌, sym, arith}
+use Rattle.std.proofs.Common.{◌≤◌, ◌++◌, ℕ, List, ap, ◌∙◌, sym, arith}
 use Rattle.stream_gen.proofs.DrawnNumbers.{number_second, number_next, first_bytes, later_bytes}
 use Rattle.stream_gen.proofs.chain.push_part.Goals as goal
 
