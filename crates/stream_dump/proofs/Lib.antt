@@ -1,5 +1,6 @@
 pub mod CommandLines
 pub mod Dumps
+pub mod Kept
 pub mod Lengths
 pub mod Octal
 pub mod Standing

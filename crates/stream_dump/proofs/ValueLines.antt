@@ -6,6 +6,7 @@ use Rattle.std.specs.Ordering.{nat_cmp}
 use Rattle.std.specs.Option.{unwrap_or}
 use Rattle.send_model.specs.Map.{value_at}
 use Rattle.send_model.specs.Lines.{value_names, value_text, values_text}
+use Rattle.send_model.specs.Printed.{hex_bytes, uuid_text}
 use Rattle.stream_dump.specs.declared.values.Value.{Value}
 use Rattle.stream_dump.specs.Values.{field_of, name_of, one_value}
 
@@ -48,3 +49,23 @@ value_printed start now after kinds values place d v less within is =
 -- The first of nine zeros.
 pub zeros_taken : (count : ℕ) → count ≤ 9 → take {A = ℕ} count (0x30 ∷ 0x30 ∷ 0x30 ∷ 0x30 ∷ 0x30 ∷ 0x30 ∷ 0x30 ∷ 0x30 ∷ 0x30 ∷ []) ≡ replicate count 0x30
 zeros_taken count few = take-replicate count 9 0x30 few
+
+-- The groups of an identifier, one after the other.
+pub uuid_printed : (to bytes uuid node first second third fourth : List ℕ) → bytes ≡ uuid → node ≡ drop 10 bytes
+    → first ≡ to ++ hex_bytes (take 4 bytes) → second ≡ first ++ 0x2d ∷ hex_bytes (take 2 (drop 4 bytes))
+    → third ≡ second ++ 0x2d ∷ hex_bytes (take 2 (drop 6 bytes)) → fourth ≡ third ++ 0x2d ∷ hex_bytes (take 2 (drop 8 bytes))
+    → fourth ++ 0x2d ∷ hex_bytes node ≡ to ++ uuid_text uuid
+unfolding uuid_text
+uuid_printed to bytes uuid node first second third fourth same is e1 e2 e3 e4 =
+    let a : List ℕ = hex_bytes (take 4 bytes) in
+    let b : List ℕ = 0x2d ∷ hex_bytes (take 2 (drop 4 bytes)) in
+    let c : List ℕ = 0x2d ∷ hex_bytes (take 2 (drop 6 bytes)) in
+    let d : List ℕ = 0x2d ∷ hex_bytes (take 2 (drop 8 bytes)) in
+    let e : List ℕ = 0x2d ∷ hex_bytes node in
+    ap (λ (l : List ℕ). l ++ e) (e4 ∙ ap (λ (l : List ℕ). l ++ d) (e3 ∙ ap (λ (l : List ℕ). l ++ c) (e2 ∙ ap (λ (l : List ℕ). l ++ b) e1)))
+    ∙ ap (λ (l : List ℕ). ((l ++ c) ++ d) ++ e) (append_assoc to a b)
+    ∙ ap (λ (l : List ℕ). (l ++ d) ++ e) (append_assoc to (a ++ b) c)
+    ∙ ap (λ (l : List ℕ). l ++ e) (append_assoc to ((a ++ b) ++ c) d)
+    ∙ append_assoc to (((a ++ b) ++ c) ++ d) e
+    ∙ ap (λ (l : List ℕ). to ++ ((((a ++ b) ++ c) ++ d) ++ 0x2d ∷ hex_bytes l)) is
+    ∙ ap (λ (u : List ℕ). to ++ uuid_text u) same

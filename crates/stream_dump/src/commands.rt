@@ -4,6 +4,7 @@ ghost use Rattle.send_model.specs.Command.{row};
 ghost use Rattle.send_model.specs.Lines.{values_text};
 ghost use Rattle.send_commands.specs.Meaning.{meaning_of, kind_meant};
 ghost use Rattle.stream_dump.specs.Values.{field_of, command_text};
+ghost use Rattle.sx_base.specs.Bytes.{IsFront};
 
 use crate::values::{Value, push_values};
 use send_commands::{Command, Kind};
@@ -14,6 +15,7 @@ use sx_base::Blob;
 #[tactic(auto, unfolding(crate::specs::Values::command_text, send_model::specs::Command::row))]
 pub fn push_command(command: &Command, to: &mut Blob) -> Result<(), AllocError>
     ensures pushed { OnOk result (to.new ≡ to.old ++ command_text (meaning_of command.now)) }
+    ensures kept { IsFront to.old to.new }
 {
     match command {
         Command::Subvol {
@@ -200,6 +202,7 @@ fn put(kind: Kind, values: &[Value<'_>], to: &mut Blob) -> Result<(), AllocError
     ensures pushed { OnOk result
         (to.new ≡ to.old ++ (row (kind_meant kind)).name
         ++ values_text (row (kind_meant kind)).wanted (map field_of values.now)) }
+    ensures kept { IsFront to.old to.new }
 {
     to.push_all(command_name(kind))?;
     push_values(kind, values, to)

@@ -5,6 +5,7 @@ ghost use Rattle.send_model.specs.Laws.{CanWrite};
 ghost use Rattle.send_commands.specs.Meaning.{meaning_of};
 ghost use Rattle.send_commands.specs.Writing.{IsWritable};
 ghost use Rattle.cmd_reader.specs.Next.{item_of};
+ghost use Rattle.sx_base.specs.Bytes.{IsFront};
 
 use cmd_reader::Item;
 use std::alloc::AllocError;
@@ -14,9 +15,11 @@ use sx_base::Blob;
 pub trait ItemForm {
     ghost piece: { Bool → reading.Item → List ℕ };
 
-    /// Appends the bytes of a command that was read. Without memory some of them may be there.
+    /// Appends the bytes of a command that was read. Without memory the blob begins with the bytes that it had, and some of those of
+    /// the command may stand behind them.
     fn add(&mut self, begins: bool, item: &Item, to: &mut Blob) -> Result<(), AllocError>
         requires writable { IsWritable item.now.version (meaning_of item.now.command) }
         requires sayable { CanWrite item.now.version (meaning_of item.now.command) }
-        ensures added { OnOk result (to.new ≡ to.old ++ piece begins (item_of 1 item.now)) };
+        ensures added { OnOk result (to.new ≡ to.old ++ piece begins (item_of 1 item.now)) }
+        ensures kept { IsFront to.old to.new };
 }

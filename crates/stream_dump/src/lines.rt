@@ -3,6 +3,7 @@ ghost use Rattle.std.specs.Prelude.{◌≡◌, ◌++◌, OnOk};
 ghost use Rattle.send_model.specs.Lines.{stream_line, command_line};
 ghost use Rattle.cmd_reader.specs.Next.{item_of};
 ghost use Rattle.stream_dump.specs.Written.{dump_lines};
+ghost use Rattle.sx_base.specs.Bytes.{IsFront};
 
 use crate::commands::push_command;
 use crate::item_form::ItemForm;
@@ -28,6 +29,7 @@ impl ItemForm for DumpLines {
 
 fn push_stream_line(version: u32, to: &mut Blob) -> Result<(), AllocError>
     ensures added { OnOk result (to.new ≡ to.old ++ stream_line version) }
+    ensures kept { IsFront to.old to.new }
 {
     to.push_all(b"stream ")?;
     push_decimal(version as u64, to)?;
@@ -37,6 +39,7 @@ fn push_stream_line(version: u32, to: &mut Blob) -> Result<(), AllocError>
 #[tactic(auto, unfolding(send_model::specs::Lines::command_line, crate::specs::Values::command_text))]
 fn push_line(item: &Item, to: &mut Blob) -> Result<(), AllocError>
     ensures added { OnOk result (to.new ≡ to.old ++ command_line (item_of 1 item.now)) }
+    ensures kept { IsFront to.old to.new }
 {
     push_decimal(item.number, to)?;
     to.push_all(b" ")?;

@@ -4,6 +4,7 @@ ghost use Rattle.send_model.specs.Command.{row};
 ghost use Rattle.send_model.specs.Lines.{value_text, values_text};
 ghost use Rattle.send_commands.specs.Meaning.{kind_meant};
 ghost use Rattle.stream_dump.specs.Values.{field_of, name_of, one_value};
+ghost use Rattle.sx_base.specs.Bytes.{IsFront};
 
 use crate::numbers::{push_decimal, push_octal, push_time, push_uuid};
 use send_commands::{Kind, Time};
@@ -32,6 +33,7 @@ pub fn push_values(kind: Kind, values: &[Value<'_>], to: &mut Blob) -> Result<()
     requires count { length values.now ≡ length (row (kind_meant kind)).wanted }
     ensures pushed { OnOk result
         (to.new ≡ to.old ++ values_text (row (kind_meant kind)).wanted (map field_of values.now)) }
+    ensures kept { IsFront to.old to.new }
 {
     let wanted = kind.wanted();
     for place in 0..values.len() {
@@ -43,6 +45,7 @@ pub fn push_values(kind: Kind, values: &[Value<'_>], to: &mut Blob) -> Result<()
 // Appends a value after a space, with its name.
 fn push_value(kind: u16, value: &Value<'_>, to: &mut Blob) -> Result<(), AllocError>
     ensures pushed { OnOk result (to.new ≡ to.old ++ one_value kind (field_of value.now)) }
+    ensures kept { IsFront to.old to.new }
 {
     to.push_all(b" ")?;
     to.push_all(value_name(kind))?;
@@ -52,6 +55,7 @@ fn push_value(kind: u16, value: &Value<'_>, to: &mut Blob) -> Result<(), AllocEr
 
 fn push_text(kind: u16, value: &Value<'_>, to: &mut Blob) -> Result<(), AllocError>
     ensures pushed { OnOk result (to.new ≡ to.old ++ value_text kind (field_of value.now)) }
+    ensures kept { IsFront to.old to.new }
 {
     match value {
         Value::Identifier(uuid) => push_uuid(uuid, to),

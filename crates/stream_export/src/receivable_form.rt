@@ -7,6 +7,7 @@ ghost use Rattle.send_model.specs.Laws.{CanWrite};
 ghost use Rattle.send_commands.specs.Meaning.{meaning_of};
 ghost use Rattle.send_commands.specs.Writing.{IsWritable};
 ghost use Rattle.stream_export.specs.Asking.{attribute_of, kind_asked, export_bytes};
+ghost use Rattle.sx_base.specs.Bytes.{IsFront};
 
 use crate::asked::{Asked, asked_of};
 use cmd_reader::Item;
@@ -58,6 +59,7 @@ impl ReceivableForm {
         requires sayable { CanWrite version (meaning_of command.now) }
         ensures added { OnOk result
             (to.new ≡ to.old ++ receivable version (meaning_of command.now)) }
+        ensures kept { IsFront to.old to.new }
     {
         let Some(asked) = asked_of(command) else {
             return encode(command, version, to);
@@ -76,6 +78,7 @@ fn push_frame(asked: Asked, version: u32, body: &[u8], to: &mut Blob) -> Result<
         (to.new ≡ to.old
         ++ frame_of (row (kind_asked asked)).number
         (attribute_bytes version (attribute_of asked) ++ body.now)) }
+    ensures kept { IsFront to.old to.new }
 {
     let mut writer = FrameWriter::begin(to, asked.number(), version)?;
     push_asked(&mut writer, asked, to)?;
@@ -88,6 +91,7 @@ fn push_frame(asked: Asked, version: u32, body: &[u8], to: &mut Blob) -> Result<
 fn push_asked(writer: &mut FrameWriter, asked: Asked, to: &mut Blob) -> Result<(), AllocError>
     ensures appended { OnOk result
         (to.new ≡ to.old ++ attribute_bytes writer.old.version (attribute_of asked)) }
+    ensures kept { IsFront to.old to.new }
     ensures writer { writer.new ≡ writer.old }
 {
     match asked {

@@ -2,12 +2,10 @@ use Rattle.std.proofs.Common.{◌≡◌, OnOk, ℕ, List, subst}
 use Rattle.stream_dump.proofs.CommandLines.{clone_printed}
 use Rattle.stream_dump.proofs.commands.push_command.Goals as goal
 
-pub returns-in-Clone : goal.returns-in-Clone
-returns-in-Clone c =
+pub returns-in-Clone-clause-pushed : goal.returns-in-Clone-clause-pushed
+returns-in-Clone-clause-pushed c =
     let v = c.in-Clone in
-    record {
-      pushed = subst (λ (l : List ℕ). OnOk c.put-in-Clone.result (c.put-in-Clone.new.to ≡ l))
-          (clone_printed c.args.to.now c.args.command.now v.path v.offset v.clone_uuid v.clone_ctransid v.clone_path v.clone_offset v.clone_len c.as_slice-in-Clone.result.now c.as_slice-in-Clone-2.result.now
-          v.is c.as_slice-in-Clone.ensures.bytes c.as_slice-in-Clone-2.ensures.bytes)
-          c.put-in-Clone.ensures.pushed;
-    }
+    subst (λ (l : List ℕ). OnOk c.put-in-Clone.result (c.put-in-Clone.new.to ≡ l))
+    (clone_printed c.args.to.now c.args.command.now v.path v.offset v.clone_uuid v.clone_ctransid v.clone_path v.clone_offset v.clone_len c.as_slice-in-Clone.result.now c.as_slice-in-Clone-2.result.now
+    v.is c.as_slice-in-Clone.ensures.bytes c.as_slice-in-Clone-2.ensures.bytes)
+    c.put-in-Clone.ensures.pushed

@@ -11,9 +11,8 @@ overflow_sub-at-in-loop-left c = room c.loop-left.at c.loop-left.left c.loop-lef
 pub loop-left-preserved : goal.loop-left-preserved
 loop-left-preserved c = octal_next c.args.n c.loop-left.digits c.loop-left.at c.loop-left.left c.loop-left.invariant c.loop-left-test.true
 
-pub returns : goal.returns
-returns c = record {
-  pushed = subst (λ (l : List ℕ). OnOk c.push_all.result (c.push_all.new.self ≡ c.args.to.now ++ l))
-      (octal_end c.args.n c.loop-left.digits c.loop-left.at c.loop-left.left c.loop-left.invariant c.loop-left-test.false)
-      c.push_all.ensures.appended;
-}
+pub returns-clause-pushed : goal.returns-clause-pushed
+returns-clause-pushed c =
+    subst (λ (l : List ℕ). OnOk c.push_all.result (c.push_all.new.self ≡ c.args.to.now ++ l))
+    (octal_end c.args.n c.loop-left.digits c.loop-left.at c.loop-left.left c.loop-left.invariant c.loop-left-test.false)
+    c.push_all.ensures.appended

@@ -6,10 +6,9 @@ use Rattle.stream_export.specs.Asking.{attribute_of, kind_asked}
 use Rattle.stream_export.proofs.AskedFrames.{frame_long, frame_short, tail_short, plain_is, asked_is}
 use Rattle.stream_export.proofs.receivable_form.ReceivableForm.push_receivable.Goals as goal
 
-pub returns-in_default : goal.returns-in_default
-returns-in_default c = record {
-  added = subst (λ (l : List ℕ). OnOk c.encode.result (c.encode.new.to ≡ c.args.to.now ++ l)) (plain_is c.args.version (meaning_of c.args.command.now) c.in_default.ensures.asked) c.encode.ensures.appended;
-}
+pub returns-in_default-clause-added : goal.returns-in_default-clause-added
+returns-in_default-clause-added c =
+    subst (λ (l : List ℕ). OnOk c.encode.result (c.encode.new.to ≡ c.args.to.now ++ l)) (plain_is c.args.version (meaning_of c.args.command.now) c.in_default.ensures.asked) c.encode.ensures.appended
 
 pub split_at-requires : goal.split_at-requires
 split_at-requires c = frame_long c.args.version (meaning_of c.args.command.now) c.as_slice.result.now
@@ -22,13 +21,11 @@ push_frame-requires c = record {
       (c.as_slice.ensures.bytes ∙ c.in_ok-encode.ensures.appended ∙ ap (λ (l : List ℕ). l ++ canonical c.args.version (meaning_of c.args.command.now)) c.clear.ensures.empty));
 }
 
-pub returns : goal.returns
-returns c =
+pub returns-clause-added : goal.returns-clause-added
+returns-clause-added c =
     let attribute : List ℕ = attribute_bytes c.args.version (attribute_of c.in-Some.asked) in
-    record {
-      added = subst (λ (l : List ℕ). OnOk c.push_frame.result (c.push_frame.new.to ≡ c.args.to.now ++ l))
-          (ap (λ (l : List ℕ). frame_of (row (kind_asked c.in-Some.asked)).number (attribute ++ l)) c.split_at.ensures.back
-          ∙ asked_is c.args.version (meaning_of c.args.command.now) c.in-Some.asked c.as_slice.result.now c.in-Some.ensures.asked
-          (c.as_slice.ensures.bytes ∙ c.in_ok-encode.ensures.appended ∙ ap (λ (l : List ℕ). l ++ canonical c.args.version (meaning_of c.args.command.now)) c.clear.ensures.empty))
-          c.push_frame.ensures.added;
-    }
+    subst (λ (l : List ℕ). OnOk c.push_frame.result (c.push_frame.new.to ≡ c.args.to.now ++ l))
+    (ap (λ (l : List ℕ). frame_of (row (kind_asked c.in-Some.asked)).number (attribute ++ l)) c.split_at.ensures.back
+    ∙ asked_is c.args.version (meaning_of c.args.command.now) c.in-Some.asked c.as_slice.result.now c.in-Some.ensures.asked
+    (c.as_slice.ensures.bytes ∙ c.in_ok-encode.ensures.appended ∙ ap (λ (l : List ℕ). l ++ canonical c.args.version (meaning_of c.args.command.now)) c.clear.ensures.empty))
+    c.push_frame.ensures.added
