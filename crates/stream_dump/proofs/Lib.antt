@@ -1,6 +1,5 @@
 pub mod CommandLines
 pub mod Dumps
-pub mod Kept
 pub mod Lengths
 pub mod Octal
 pub mod Standing

@@ -1,4 +1,3 @@
 pub mod ChainParts
 pub mod DrawnNumbers
 pub mod EachFile
-pub mod Kept

@@ -6,3 +6,4 @@ pub mod DiskImages
 pub mod DiskMoments
 pub mod FilledBuffers
 pub mod NamedFiles
+pub mod KeptFronts

@@ -1,6 +1,6 @@
 use Rattle.std.proofs.Common.{◌++◌, ◌<◌, ℕ, List, length, slice_index_or, sym, ap, subst, ◌∙◌}
 use Rattle.stream_dump.specs.Values.{field_of, one_value}
-use Rattle.stream_dump.proofs.Kept.{kept_then}
+use Rattle.sx_base.proofs.KeptFronts.{kept_then}
 use Rattle.stream_dump.proofs.ValueLines.{value_printed}
 use Rattle.stream_dump.proofs.values.push_values.Goals as goal
 

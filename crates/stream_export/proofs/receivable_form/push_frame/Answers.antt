@@ -3,7 +3,7 @@ use Rattle.send_model.specs.Command.{row}
 use Rattle.send_model.specs.Spelling.{attribute_bytes, frame_of}
 use Rattle.tlv_frame.specs.Frame.{Begun, head_room}
 use Rattle.stream_export.specs.Asking.{attribute_of, kind_asked}
-use Rattle.stream_dump.proofs.Kept.{kept_then}
+use Rattle.sx_base.proofs.KeptFronts.{kept_then}
 use Rattle.stream_export.proofs.AskedFrames.{room_is, framed_is}
 use Rattle.stream_export.proofs.receivable_form.push_frame.Goals.{In_ok-push_all}
 use Rattle.stream_export.proofs.receivable_form.push_frame.Goals as goal

@@ -3,7 +3,7 @@ use Rattle.send_model.specs.Command.{Write}
 use Rattle.send_model.specs.Spelling.{canonical_all}
 use Rattle.send_model.specs.Generated.{files, file_name}
 use Rattle.stream_gen.proofs.EachFile.{each_first, each_next, each_done}
-use Rattle.stream_gen.proofs.Kept.{kept_then}
+use Rattle.sx_base.proofs.KeptFronts.{kept_then}
 use Rattle.stream_gen.proofs.parts.push_contents.Goals as goal
 
 pub loop-file-init : goal.loop-file-init

@@ -3,7 +3,7 @@ use Rattle.send_model.specs.Command.{Subvol, MkFile, Write, End}
 use Rattle.send_model.specs.Spelling.{stream_header, canonical, canonical_all}
 use Rattle.send_model.specs.Generated.{part_name, file_name, files}
 use Rattle.stream_gen.proofs.EachFile.{first_spelled}
-use Rattle.stream_gen.proofs.Kept.{kept_then}
+use Rattle.sx_base.proofs.KeptFronts.{kept_then}
 use Rattle.stream_gen.proofs.parts.push_first_part.Goals as goal
 
 pub returns-in_err-push_subvol-clause-kept : goal.returns-in_err-push_subvol-clause-kept

@@ -1,4 +1,4 @@
-use Rattle.stream_gen.proofs.Kept.{kept_then}
+use Rattle.sx_base.proofs.KeptFronts.{kept_then}
 use Rattle.stream_gen.proofs.parts.push_later_part.Goals as goal
 
 pub returns-clause-kept : goal.returns-clause-kept
