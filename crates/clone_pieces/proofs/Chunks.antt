@@ -8,10 +8,10 @@ use Rattle.send_model.specs.Command.{Command, Write}
 use Rattle.send_model.specs.Spelling.{canonical, canonical_all}
 use Rattle.send_model.specs.Composed.{write_len, writes_from}
 use Rattle.send_model.proofs.Overwriting.{drop_twice}
-use Rattle.sx_base.specs.declared.outcome.Outcome.{Outcome}
 use Rattle.extent_map.specs.Cells.{cells_between}
 use Rattle.clone_pieces.specs.Sending.{GoesOut}
 use Rattle.clone_pieces.specs.Redirecting.{RedirectEnd}
+use Rattle.clone_pieces.specs.declared.stops.SendStop.{SendStop}
 use Rattle.clone_pieces.proofs.Flow.{goes_none, goes_then, stops_then}
 
 -- WRITE commands of at most so many bytes each, one more than the given number.
@@ -130,12 +130,12 @@ module _ (version : ℕ) (path : List ℕ) (offset : ℕ) (bytes : List ℕ) (do
         rest = after_one ∙ sym (append_assoc w.sofar one (canonical_all version (writes_from (length bytes - (done + count)) path (offset + (done + count)) (drop (done + count) bytes))));
       }
 
-  pub written_stops : (out_next : Option (List ℕ)) (next other : List ℕ) (outcome : Outcome) → RedirectEnd out_now out_next now next (canonical version (Write path (offset + done) (take count (drop done bytes)))) (Err outcome)
-      → RedirectEnd out_old out_next old other (canonical_all version (writes_from (length bytes) path offset bytes)) (Err outcome)
-  written_stops out_next next other outcome ends =
+  pub written_stops : (out_next : Option (List ℕ)) (next other : List ℕ) (why : SendStop) → RedirectEnd out_now out_next now next (canonical version (Write path (offset + done) (take count (drop done bytes)))) (Err why)
+      → RedirectEnd out_old out_next old other (canonical_all version (writes_from (length bytes) path offset bytes)) (Err why)
+  written_stops out_next next other why ends =
       stops_then out_old out_now out_next old now next other w.sofar (canonical version (Write path (offset + done) (take count (drop done bytes))))
       (canonical_all version (writes_from (length bytes - (done + count)) path (offset + (done + count)) (drop (done + count) bytes)))
-      (canonical_all version (writes_from (length bytes) path offset bytes)) outcome after_one w.goes ends
+      (canonical_all version (writes_from (length bytes) path offset bytes)) why after_one w.goes ends
 
 writes_nothing : (n : ℕ) (path : List ℕ) (at : ℕ) → writes_from n path at [] ≡ []
 writes_nothing zero path at = refl

@@ -11,9 +11,7 @@ use Rattle.send_model.specs.Store as meant
 use Rattle.send_model.proofs.ElementLaws.{all_first, all_drop}
 use Rattle.sx_base.specs.Again.{LiesIn, EarlyEnd}
 use Rattle.sx_base.specs.Outside.{file_at}
-use Rattle.sx_base.specs.Calls.{contents, IfAllTold, ErrFoundChanged}
-use Rattle.sx_base.specs.declared.outcome.Outcome.{Outcome}
-use Rattle.sx_base.specs.declared.outcome.Outcome.TheVariants as ended
+use Rattle.sx_base.specs.Calls.{contents, IfAllTold}
 use Rattle.subvol_catalog.specs.declared.key.Key.{Key}
 use Rattle.subvol_catalog.specs.Entries.{key_of}
 use Rattle.extent_map.specs.Pieces.{piece_cells}
@@ -25,6 +23,9 @@ use Rattle.provenance.specs.declared.trace.Trace.TheVariants.{Fresh, Outside}
 use Rattle.provenance.specs.Traces.{advanced_by}
 use Rattle.clone_pieces.specs.Origins.{IsInInput}
 use Rattle.clone_pieces.specs.Filling.{byte_in, IsHadIn, PieceHad, PieceThere, FillEnd, AgainEnd}
+use Rattle.clone_pieces.specs.Redirecting.{RedirectChanged}
+use Rattle.clone_pieces.specs.declared.stops.SendStop.{SendStop}
+use Rattle.clone_pieces.specs.declared.stops.SendStop.TheVariants as stop
 use Rattle.clone_pieces.proofs.Told.{all_always, all_map, all_two, told_moved, name_at, count_names, told_file}
 
 -- ---- the cells of a piece
@@ -97,25 +98,21 @@ module _ {Z : Type 0} (names : List (String Z)) (held : meant.Key → ℕ → Li
   lies_again None there = tt
   lies_again (Some table) there = subst (λ (l : List ℕ). at + len ≤ length l) (named_bytes table) (there_is table there)
 
-  pub again_filled : (told : Option (List (List ℕ × List ℕ))) (new : List ℕ) (result : Result (Unit {0}) Outcome) → IfAllTold told (map string_bytes names) (PieceThere origin len) → length new ≡ len → AgainEnd told spelled at new result
+  pub again_filled : (told : Option (List (List ℕ × List ℕ))) (new : List ℕ) (result : Result (Unit {0}) SendStop) → IfAllTold told (map string_bytes names) (PieceThere origin len) → length new ≡ len → AgainEnd told spelled at new result
       → IfAllTold told (map string_bytes names) (FillEnd held (piece_cells advanced_by origin len) new result)
   again_filled None new result there long filled = tt
   again_filled (Some table) new (Ok done) there long filled =
       let files : List (List ℕ) = contents table (map string_bytes names) in
       filled ∙ ap (λ (n : ℕ). take n (drop at (file_at table spelled))) long ∙ ap (λ (l : List ℕ). take len (drop at l)) (sym (named_bytes table))
       ∙ sym (fresh_bytes held files file at len (there_is table there)) ∙ ap (λ (o : Option Trace). map (byte_in held files) (piece_cells advanced_by o len)) (sym origin_is)
-  again_filled (Some table) new (Err ended.InputFault) there long filled = tt
-  again_filled (Some table) new (Err (ended.InputChanged file' place)) there long filled = absurd (let e : Some table ≡ None = filled in cc)
-  again_filled (Some table) new (Err ended.OutputFault) there long filled = absurd filled
-  again_filled (Some table) new (Err ended.NoMemory) there long filled = absurd filled
-  again_filled (Some table) new (Err ended.Done) there long filled = absurd filled
-  again_filled (Some table) new (Err (ended.Refused verdict)) there long filled = absurd filled
-  again_filled (Some table) new (Err (ended.InputTooLong file')) there long filled = absurd filled
-  again_filled (Some table) new (Err (ended.TooMuch sum)) there long filled = absurd filled
+  again_filled (Some table) new (Err stop.InputFault) there long filled = tt
+  again_filled (Some table) new (Err (stop.InputChanged file' place)) there long filled = absurd (let e : Some table ≡ None = filled in cc)
+  again_filled (Some table) new (Err stop.OutputFault) there long filled = absurd filled
+  again_filled (Some table) new (Err stop.NoMemory) there long filled = absurd filled
 
   -- A file that was found changed is one of the names.
-  pub again_changed : (last : EarlyEnd) (result : Result (Unit {0}) Outcome) → ((spellings : List (List ℕ)) → file < length spellings → spelled ≡ get_or spellings file [] → ErrFoundChanged spellings last result)
-      → ErrFoundChanged (map string_bytes names) last result
+  pub again_changed : (last : EarlyEnd) (result : Result (Unit {0}) SendStop) → ((spellings : List (List ℕ)) → file < length spellings → spelled ≡ get_or spellings file [] → RedirectChanged spellings last result)
+      → RedirectChanged (map string_bytes names) last result
   again_changed last result found = found (map string_bytes names) (count_names names file file_less) (name_at names file name spelled file_less name_is spelling)
 
 -- ---- piece by piece

@@ -4,10 +4,10 @@ use Rattle.std.specs.Io.KnownBytes.{Appends}
 use Rattle.std.proofs.Common.{sym, ap, subst, ◌∙◌, arith, append_assoc, append-nil, length-append}
 use Rattle.std.proofs.KnownBytes.{Appends-nil, Appends-trans}
 use Rattle.std.proofs.Math.Seq.{take-append-add, take-append-le}
-use Rattle.sx_base.specs.declared.outcome.Outcome.{Outcome}
-use Rattle.sx_base.specs.declared.outcome.Outcome.TheVariants as ended
 use Rattle.clone_pieces.specs.Sending.{GoesOut, AppendsFront, PutEnd}
 use Rattle.clone_pieces.specs.Redirecting.{RedirectEnd}
+use Rattle.clone_pieces.specs.declared.stops.SendStop.{SendStop}
+use Rattle.clone_pieces.specs.declared.stops.SendStop.TheVariants as stop
 
 -- Nothing goes out.
 pub goes_none : (out : Option (List ℕ)) (pending : List ℕ) → GoesOut out out pending pending []
@@ -38,24 +38,16 @@ front_then a b c old mid x y z g f =
     }
 
 -- Some bytes went out, and those behind them did not all.
-pub stops_then : (a b c : Option (List ℕ)) (old mid new other x y z all : List ℕ) (outcome : Outcome) → all ≡ x ++ (y ++ z) → GoesOut a b old mid x → RedirectEnd b c mid new y (Err outcome) → RedirectEnd a c old other all (Err outcome)
-stops_then a b c old mid new other x y z all ended.OutputFault is g f = subst (λ (l : List ℕ). AppendsFront a c (old ++ l)) (sym is) (front_then a b c old mid x y z g f)
-stops_then a b c old mid new other x y z all ended.InputFault is g f = subst (λ (l : List ℕ). AppendsFront a c (old ++ l)) (sym is) (front_then a b c old mid x y z g f)
-stops_then a b c old mid new other x y z all ended.NoMemory is g f = subst (λ (l : List ℕ). AppendsFront a c (old ++ l)) (sym is) (front_then a b c old mid x y z g f)
-stops_then a b c old mid new other x y z all ended.Done is g f = absurd f
-stops_then a b c old mid new other x y z all (ended.Refused verdict) is g f = absurd f
-stops_then a b c old mid new other x y z all (ended.InputTooLong file) is g f = absurd f
-stops_then a b c old mid new other x y z all (ended.TooMuch sum) is g f = absurd f
-stops_then a b c old mid new other x y z all (ended.InputChanged file place) is g f = absurd f
+pub stops_then : (a b c : Option (List ℕ)) (old mid new other x y z all : List ℕ) (why : SendStop) → all ≡ x ++ (y ++ z) → GoesOut a b old mid x → RedirectEnd b c mid new y (Err why) → RedirectEnd a c old other all (Err why)
+stops_then a b c old mid new other x y z all stop.OutputFault is g f = subst (λ (l : List ℕ). AppendsFront a c (old ++ l)) (sym is) (front_then a b c old mid x y z g f)
+stops_then a b c old mid new other x y z all stop.InputFault is g f = subst (λ (l : List ℕ). AppendsFront a c (old ++ l)) (sym is) (front_then a b c old mid x y z g f)
+stops_then a b c old mid new other x y z all stop.NoMemory is g f = subst (λ (l : List ℕ). AppendsFront a c (old ++ l)) (sym is) (front_then a b c old mid x y z g f)
+stops_then a b c old mid new other x y z all (stop.InputChanged file place) is g f = absurd f
 
 -- What was put is what a redirected clone may end with.
-pub put_ends : (a b : Option (List ℕ)) (old new bytes : List ℕ) (before now : ℕ) (result : Result (Unit {0}) Outcome) → PutEnd a b old new bytes before now result → RedirectEnd a b old new bytes result
+pub put_ends : (a b : Option (List ℕ)) (old new bytes : List ℕ) (before now : ℕ) (result : Result (Unit {0}) SendStop) → PutEnd a b old new bytes before now result → RedirectEnd a b old new bytes result
 put_ends a b old new bytes before now (Ok done) p = p
-put_ends a b old new bytes before now (Err ended.OutputFault) p = p.1
-put_ends a b old new bytes before now (Err ended.NoMemory) p = p
-put_ends a b old new bytes before now (Err ended.InputFault) p = absurd p
-put_ends a b old new bytes before now (Err ended.Done) p = absurd p
-put_ends a b old new bytes before now (Err (ended.Refused verdict)) p = absurd p
-put_ends a b old new bytes before now (Err (ended.InputTooLong file)) p = absurd p
-put_ends a b old new bytes before now (Err (ended.TooMuch sum)) p = absurd p
-put_ends a b old new bytes before now (Err (ended.InputChanged file place)) p = absurd p
+put_ends a b old new bytes before now (Err stop.OutputFault) p = p.1
+put_ends a b old new bytes before now (Err stop.NoMemory) p = p
+put_ends a b old new bytes before now (Err stop.InputFault) p = absurd p
+put_ends a b old new bytes before now (Err (stop.InputChanged file place)) p = absurd p

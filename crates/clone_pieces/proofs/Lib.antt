@@ -1,7 +1,6 @@
 pub mod LiteralBytes
 pub mod Short
 pub mod Flow
-pub mod Causes
 pub mod Told
 pub mod Fills
 pub mod Chunks

@@ -9,13 +9,13 @@ use Rattle.send_model.specs.Composed.{writes_from}
 use Rattle.send_model.specs.Store as meant
 use Rattle.send_model.proofs.ElementLaws.{all_take, all_drop}
 use Rattle.sx_base.specs.Calls.{IfAllTold}
-use Rattle.sx_base.specs.declared.outcome.Outcome.{Outcome}
 use Rattle.extent_map.specs.Cells.{cells_between}
 use Rattle.extent_map.proofs.CellLists.{length-between}
 use Rattle.provenance.specs.declared.trace.Trace.{Trace}
 use Rattle.clone_pieces.specs.Origins.{IsInInput}
 use Rattle.clone_pieces.specs.Filling.{byte_in, IsHadIn}
 use Rattle.clone_pieces.specs.Redirecting.{RedirectEnd}
+use Rattle.clone_pieces.specs.declared.stops.SendStop.{SendStop}
 use Rattle.clone_pieces.proofs.Told.{all_always, all_map, all_two, told_moved}
 use Rattle.clone_pieces.proofs.Chunks.{Written, written_none, written_more, written_stops, written_all, between_within, bytes_within}
 
@@ -55,10 +55,10 @@ module _ (told : Option (List (List ℕ × List ℕ))) (names : List (List ℕ))
     next_bytes files = ap (λ (h : meant.Key → ℕ → List ℕ). map (byte_in h files) (cells_between (from + done) count contents)) kept ∙ sym (bytes_within (byte_in held files) from len done count contents (omega (arith, more, is)))
 
     module _ (out_old out_now out_next : Option (List ℕ)) (old now next : List ℕ) where
-      abbrev Next : Result (Unit {0}) Outcome → List (List ℕ) → Type 0
+      abbrev Next : Result (Unit {0}) SendStop → List (List ℕ) → Type 0
       Next result files = RedirectEnd out_now out_next now next (canonical version (Write path (offset + done) (map (byte_in held' files) (cells_between (from + done) count contents)))) result
 
-      here : (result : Result (Unit {0}) Outcome) (files : List (List ℕ)) → Next result files → RedirectEnd out_now out_next now next (canonical version (Write path (offset + done) (take count (drop done (map (byte_in held files) (cells_between from len contents)))))) result
+      here : (result : Result (Unit {0}) SendStop) (files : List (List ℕ)) → Next result files → RedirectEnd out_now out_next now next (canonical version (Write path (offset + done) (take count (drop done (map (byte_in held files) (cells_between from len contents)))))) result
       here result files n = subst (λ (bytes : List ℕ). RedirectEnd out_now out_next now next (canonical version (Write path (offset + done) bytes)) result) (next_bytes files) n
 
       pub stand_more : IfAllTold told names (Stand done out_old out_now old now) → IfAllTold now_told names (Next (Ok tt)) → IfAllTold told names (Stand (done + count) out_old out_next old next)
@@ -67,11 +67,11 @@ module _ (told : Option (List (List ℕ × List ℕ))) (names : List (List ℕ))
           written_more version path offset (map (byte_in held files) (cells_between from len contents)) done count out_old out_now old now s (omega (arith, l, more)) (omega (arith, l, is)) out_next next (here (Ok tt) files n))
           stands (told_moved told now_told names (Next (Ok tt)) same goes)
 
-      pub stand_stops : (other : List ℕ) (outcome : Outcome) → IfAllTold told names (Stand done out_old out_now old now) → IfAllTold now_told names (Next (Err outcome))
-          → IfAllTold told names (λ files. RedirectEnd out_old out_next old other (canonical_all version (writes_from len path offset (map (byte_in held files) (cells_between from len contents)))) (Err outcome))
-      stand_stops other outcome stands ends = all_two told names (Stand done out_old out_now old now) (Next (Err outcome))
-          (λ files. RedirectEnd out_old out_next old other (canonical_all version (writes_from len path offset (map (byte_in held files) (cells_between from len contents)))) (Err outcome))
+      pub stand_stops : (other : List ℕ) (why : SendStop) → IfAllTold told names (Stand done out_old out_now old now) → IfAllTold now_told names (Next (Err why))
+          → IfAllTold told names (λ files. RedirectEnd out_old out_next old other (canonical_all version (writes_from len path offset (map (byte_in held files) (cells_between from len contents)))) (Err why))
+      stand_stops other why stands ends = all_two told names (Stand done out_old out_now old now) (Next (Err why))
+          (λ files. RedirectEnd out_old out_next old other (canonical_all version (writes_from len path offset (map (byte_in held files) (cells_between from len contents)))) (Err why))
           (λ files s n. let l = long_is files in
-          subst (λ (m : ℕ). RedirectEnd out_old out_next old other (canonical_all version (writes_from m path offset (map (byte_in held files) (cells_between from len contents)))) (Err outcome)) l
-          (written_stops version path offset (map (byte_in held files) (cells_between from len contents)) done count out_old out_now old now s (omega (arith, l, more)) (omega (arith, l, is)) out_next next other outcome (here (Err outcome) files n)))
-          stands (told_moved told now_told names (Next (Err outcome)) same ends)
+          subst (λ (m : ℕ). RedirectEnd out_old out_next old other (canonical_all version (writes_from m path offset (map (byte_in held files) (cells_between from len contents)))) (Err why)) l
+          (written_stops version path offset (map (byte_in held files) (cells_between from len contents)) done count out_old out_now old now s (omega (arith, l, more)) (omega (arith, l, is)) out_next next other why (here (Err why) files n)))
+          stands (told_moved told now_told names (Next (Err why)) same ends)

@@ -10,7 +10,6 @@ use Rattle.send_model.specs.Store.{Store}
 use Rattle.send_model.specs.Composed.{path_of}
 use Rattle.send_model.specs.Provenance.{Traced, pieces_of}
 use Rattle.sx_base.specs.Calls.{IfAllTold}
-use Rattle.sx_base.specs.declared.outcome.Outcome.{Outcome}
 use Rattle.subvol_catalog.specs.declared.key.Key.{Key}
 use Rattle.subvol_catalog.specs.Entries.{key_of}
 use Rattle.extent_map.specs.Cells.{cells_between}
@@ -28,6 +27,7 @@ use Rattle.clone_pieces.specs.Sending.{GoesOut, PutEnd}
 use Rattle.clone_pieces.specs.Filling.{byte_in, IsHadIn}
 use Rattle.clone_pieces.specs.Cutting.{cut_len, rest_cells, cut_commands, all_commands}
 use Rattle.clone_pieces.specs.Redirecting.{seen_cells, pieces_spelled, RedirectEnd}
+use Rattle.clone_pieces.specs.declared.stops.SendStop.{SendStop}
 use Rattle.send_model.proofs.Tracing.{byte_of}
 use Rattle.clone_pieces.proofs.LiteralBytes.{again, pieces_again}
 use Rattle.clone_pieces.proofs.Told.{all_always, all_map, all_two, told_moved}
@@ -38,7 +38,7 @@ use Rattle.clone_pieces.proofs.Rows.{InRow, pieces_row, CutRow, cut_end, seen_pl
 -- ---- a run
 
 pub run_put : (told : Option (List (List ℕ × List ℕ))) (names : List (List ℕ)) (base : Store ℕ) (held : meant.Key → ℕ → List ℕ) (contents : List (Option Trace)) (version : ℕ) (path : List ℕ) (offset : ℕ) (plan : Plan) (key : Key) (ino from len : ℕ)
-    (out_old out_new : Option (List ℕ)) (old new : List ℕ) (before now : ℕ) (result : Result (Unit {0}) Outcome) → plan ≡ Carry key ino from len
+    (out_old out_new : Option (List ℕ)) (old new : List ℕ) (before now : ℕ) (result : Result (Unit {0}) SendStop) → plan ≡ Carry key ino from len
     → PutEnd out_old out_new old new (canonical version (Clone path offset key.uuid key.ctransid (path_of base (record { key = key_of key; ino = ino; offset = from })) from len)) before now result
     → IfAllTold told names (λ files. RedirectEnd out_old out_new old new (canonical_all version (cut_commands base (byte_in held files) contents path offset (planned plan))) result)
 unfolding canonical_all
@@ -137,10 +137,10 @@ module _ (told : Option (List (List ℕ × List ℕ))) (names : List (List ℕ))
 
   module _ (now_told : Option (List (List ℕ × List ℕ))) (held' : meant.Key → ℕ → List ℕ) (same : now_told ≡ told) (kept : held' ≡ held) (done : ℕ) (left : List Cut) (cut : Cut) (cuts : List Cut) (first : left ≡ cut ∷ cuts)
       (out_old out_now out_next : Option (List ℕ)) (old now next : List ℕ) where
-    abbrev Next : Result (Unit {0}) Outcome → List (List ℕ) → Type 0
+    abbrev Next : Result (Unit {0}) SendStop → List (List ℕ) → Type 0
     Next result files = RedirectEnd out_now out_next now next (canonical_all version (cut_commands base (byte_in held' files) contents path (offset + done) cut)) result
 
-    here : (result : Result (Unit {0}) Outcome) (files : List (List ℕ)) → Next result files → RedirectEnd out_now out_next now next (canonical_all version (cut_commands base (byte_in held files) contents path (offset + done) cut)) result
+    here : (result : Result (Unit {0}) SendStop) (files : List (List ℕ)) → Next result files → RedirectEnd out_now out_next now next (canonical_all version (cut_commands base (byte_in held files) contents path (offset + done) cut)) result
     here result files n = subst (λ (h : meant.Key → ℕ → List ℕ). RedirectEnd out_now out_next now next (canonical_all version (cut_commands base (byte_in h files) contents path (offset + done) cut)) result) kept n
 
     -- The commands of the next piece, and those behind it.
@@ -162,8 +162,8 @@ module _ (told : Option (List (List ℕ × List ℕ))) (names : List (List ℕ))
           rest = after_cut files s ∙ sym (append_assoc s.sofar one (canonical_all version (all_commands base (byte_in held files) contents path (offset + (done + cut_len cut)) cuts)));
         }) stands (told_moved told now_told names (Next (Ok tt)) same goes)
 
-    pub stands_stop : (other : List ℕ) (outcome : Outcome) → IfAllTold told names (Stands done left out_old out_now old now) → IfAllTold now_told names (Next (Err outcome)) → IfAllTold told names (λ files. RedirectEnd out_old out_next old other (Whole files) (Err outcome))
-    stands_stop other outcome stands ends = all_two told names (Stands done left out_old out_now old now) (Next (Err outcome)) (λ files. RedirectEnd out_old out_next old other (Whole files) (Err outcome))
+    pub stands_stop : (other : List ℕ) (why : SendStop) → IfAllTold told names (Stands done left out_old out_now old now) → IfAllTold now_told names (Next (Err why)) → IfAllTold told names (λ files. RedirectEnd out_old out_next old other (Whole files) (Err why))
+    stands_stop other why stands ends = all_two told names (Stands done left out_old out_now old now) (Next (Err why)) (λ files. RedirectEnd out_old out_next old other (Whole files) (Err why))
         (λ files s n. stops_then out_old out_now out_next old now next other s.sofar (canonical_all version (cut_commands base (byte_in held files) contents path (offset + done) cut))
-        (canonical_all version (all_commands base (byte_in held files) contents path (offset + (done + cut_len cut)) cuts)) (Whole files) outcome (after_cut files s) s.goes (here (Err outcome) files n))
-        stands (told_moved told now_told names (Next (Err outcome)) same ends)
+        (canonical_all version (all_commands base (byte_in held files) contents path (offset + (done + cut_len cut)) cuts)) (Whole files) why (after_cut files s) s.goes (here (Err why) files n))
+        stands (told_moved told now_told names (Next (Err why)) same ends)

@@ -1,10 +1,11 @@
 -- Facts of named files, where the inputs tell their files.
-use Rattle.std.specs.Prelude.{◌≡◌, ℕ, ◌<◌, List, [], map, length, get_or, slice_index_or, Option, Some, None, String}
+use Rattle.std.specs.Prelude.{◌≡◌, ℕ, ◌+◌, ◌-◌, ◌<◌, List, [], map, length, get_or, slice_index_or, Option, Some, None, String}
 use Rattle.std.specs.String.{string_bytes}
-use Rattle.std.proofs.Common.{refl, sym, ap, subst, ◌∙◌}
+use Rattle.std.proofs.Common.{refl, sym, ap, subst, ◌∙◌, arith}
 use Rattle.std.proofs.lemmas.List.{length-map, get_or-map}
+use Rattle.sx_base.specs.Again.{EarlyEnd}
 use Rattle.sx_base.specs.Outside.{file_at}
-use Rattle.sx_base.specs.Calls.{contents, IfAllTold}
+use Rattle.sx_base.specs.Calls.{contents, IfAllTold, IsEndOf}
 
 pub all_always : (told : Option (List (List ℕ × List ℕ))) (names : List (List ℕ)) (P : List (List ℕ) → Type 0) → ((files : List (List ℕ)) → P files) → IfAllTold told names P
 all_always None names P f = tt
@@ -36,3 +37,10 @@ pub told_file : {Z : Type 0} (table : List (List ℕ × List ℕ)) (names : List
 told_file table names file name lt is =
     get_or-map (file_at table) (map string_bytes names) file [] [] (count_names names file lt)
     ∙ ap (file_at table) (sym (name_at names file name (string_bytes name) lt is refl))
+
+-- The end of the file of one of the names, counted from 0.
+pub ended_among : (names : List (List ℕ)) (file place : ℕ) (name : List ℕ) (last : EarlyEnd) → file < length names → name ≡ get_or names file [] → last ≡ record { name = name; place = place } → IsEndOf names last (file + 1) place
+ended_among names file place name last less is met =
+    let back : file ≡ file + 1 - 1 = omega arith in
+    let there : List ℕ → EarlyEnd = λ n. record { name = n; place = place } in
+    record { first = omega arith; within = omega (arith, less); met = met ∙ ap there (is ∙ ap (λ (k : ℕ). get_or names k []) back) }

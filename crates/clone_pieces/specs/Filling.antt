@@ -2,11 +2,11 @@
 use Rattle.std.specs.Prelude.{◌≡◌, ⊤, ℕ, ◌+◌, ◌<◌, ◌≤◌, List, [], map, length, get_or, Option, None, Some, Result, Ok, Err}
 use Rattle.send_model.specs.Store as meant
 use Rattle.sx_base.specs.Again.{FillsFrom}
-use Rattle.sx_base.specs.declared.outcome.Outcome.{Outcome}
-use Rattle.sx_base.specs.declared.outcome.Outcome.TheVariants as ended
 use Rattle.subvol_catalog.specs.Entries.{key_of}
 use Rattle.provenance.specs.declared.trace.Trace.{Trace}
 use Rattle.provenance.specs.declared.trace.Trace.TheVariants.{Fresh, Outside}
+use Rattle.clone_pieces.specs.declared.stops.SendStop.{SendStop}
+use Rattle.clone_pieces.specs.declared.stops.SendStop.TheVariants as stop
 
 -- The byte of a cell. Input files are counted from 0.
 abbrev pub byte_in : (meant.Key → ℕ → List ℕ) → List (List ℕ) → Option Trace → ℕ
@@ -33,25 +33,17 @@ PieceThere (Some (Fresh file at)) len files = at + len ≤ length (get_or files 
 PieceThere (Some (Outside key ino at)) len files = ⊤
 
 -- The buffer has the bytes of the cells, or an object of the outside failed. Inputs that tell are not found changed.
-abbrev pub FillEnd : (meant.Key → ℕ → List ℕ) → List (Option Trace) → List ℕ → Result (Unit {0}) Outcome → List (List ℕ) → Type 0
+abbrev pub FillEnd : (meant.Key → ℕ → List ℕ) → List (Option Trace) → List ℕ → Result (Unit {0}) SendStop → List (List ℕ) → Type 0
 FillEnd held cells new (Ok done) files = new ≡ map (byte_in held files) cells
-FillEnd held cells new (Err ended.InputFault) files = ⊤
-FillEnd held cells new (Err ended.OutputFault) files = ⊥
-FillEnd held cells new (Err ended.NoMemory) files = ⊥
-FillEnd held cells new (Err ended.Done) files = ⊥
-FillEnd held cells new (Err (ended.InputChanged file place)) files = ⊥
-FillEnd held cells new (Err (ended.Refused verdict)) files = ⊥
-FillEnd held cells new (Err (ended.InputTooLong file)) files = ⊥
-FillEnd held cells new (Err (ended.TooMuch sum)) files = ⊥
+FillEnd held cells new (Err stop.InputFault) files = ⊤
+FillEnd held cells new (Err stop.OutputFault) files = ⊥
+FillEnd held cells new (Err stop.NoMemory) files = ⊥
+FillEnd held cells new (Err (stop.InputChanged file place)) files = ⊥
 
 -- The buffer has bytes of a named file from a place on, or the inputs failed. Inputs that tell are not found changed.
-abbrev pub AgainEnd : Option (List (List ℕ × List ℕ)) → List ℕ → ℕ → List ℕ → Result (Unit {0}) Outcome → Type 0
+abbrev pub AgainEnd : Option (List (List ℕ × List ℕ)) → List ℕ → ℕ → List ℕ → Result (Unit {0}) SendStop → Type 0
 AgainEnd told name at new (Ok done) = FillsFrom told name at new
-AgainEnd told name at new (Err ended.InputFault) = ⊤
-AgainEnd told name at new (Err (ended.InputChanged file place)) = told ≡ None
-AgainEnd told name at new (Err ended.OutputFault) = ⊥
-AgainEnd told name at new (Err ended.NoMemory) = ⊥
-AgainEnd told name at new (Err ended.Done) = ⊥
-AgainEnd told name at new (Err (ended.Refused verdict)) = ⊥
-AgainEnd told name at new (Err (ended.InputTooLong file)) = ⊥
-AgainEnd told name at new (Err (ended.TooMuch sum)) = ⊥
+AgainEnd told name at new (Err stop.InputFault) = ⊤
+AgainEnd told name at new (Err (stop.InputChanged file place)) = told ≡ None
+AgainEnd told name at new (Err stop.OutputFault) = ⊥
+AgainEnd told name at new (Err stop.NoMemory) = ⊥

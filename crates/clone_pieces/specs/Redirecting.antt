@@ -5,14 +5,16 @@ use Rattle.send_model.specs.Spelling.{canonical_all}
 use Rattle.send_model.specs.Store.{Store}
 use Rattle.send_model.specs.Provenance.{Traced, pieces_of}
 use Rattle.send_model.specs.Composed.{piece_commands}
-use Rattle.sx_base.specs.Causes.{Rose}
-use Rattle.sx_base.specs.declared.outcome.Outcome.{Outcome}
-use Rattle.sx_base.specs.declared.outcome.Outcome.TheVariants as ended
+use Rattle.sx_base.specs.Again.{EarlyEnd}
+use Rattle.sx_base.specs.Calls.{CausedAgain, FoundChanged}
 use Rattle.provenance.specs.declared.trace.Trace.{Trace}
 use Rattle.provenance.specs.Traces.{place_of}
 use Rattle.clone_pieces.specs.Origins.{byte_of_trace}
 use Rattle.clone_pieces.specs.Seen.{seen}
+use Rattle.clone_pieces.specs.Stopping.{outcome_with}
 use Rattle.clone_pieces.specs.Sending.{GoesOut, AppendsFront}
+use Rattle.clone_pieces.specs.declared.stops.SendStop.{SendStop}
+use Rattle.clone_pieces.specs.declared.stops.SendStop.TheVariants as stop
 
 -- Cells as bytes with their outside places.
 abbrev pub seen_cells : List (List ℕ) → Store ℕ → List (Option Trace) → List Traced
@@ -24,25 +26,19 @@ pieces_spelled version base path offset range = canonical_all version (flat_map 
 
 -- The bytes go out, or an object of the outside failed, or there is no memory; then a front part of what was pending and of them was
 -- written. Inputs that tell are not found changed.
-abbrev pub RedirectEnd : Option (List ℕ) → Option (List ℕ) → (old new bytes : List ℕ) → Result (Unit {0}) Outcome → Type 0
+abbrev pub RedirectEnd : Option (List ℕ) → Option (List ℕ) → (old new bytes : List ℕ) → Result (Unit {0}) SendStop → Type 0
 RedirectEnd out_old out_new old new bytes (Ok done) = GoesOut out_old out_new old new bytes
-RedirectEnd out_old out_new old new bytes (Err ended.OutputFault) = AppendsFront out_old out_new (old ++ bytes)
-RedirectEnd out_old out_new old new bytes (Err ended.InputFault) = AppendsFront out_old out_new (old ++ bytes)
-RedirectEnd out_old out_new old new bytes (Err ended.NoMemory) = AppendsFront out_old out_new (old ++ bytes)
-RedirectEnd out_old out_new old new bytes (Err (ended.InputChanged file place)) = ⊥
-RedirectEnd out_old out_new old new bytes (Err ended.Done) = ⊥
-RedirectEnd out_old out_new old new bytes (Err (ended.Refused verdict)) = ⊥
-RedirectEnd out_old out_new old new bytes (Err (ended.InputTooLong file)) = ⊥
-RedirectEnd out_old out_new old new bytes (Err (ended.TooMuch sum)) = ⊥
+RedirectEnd out_old out_new old new bytes (Err stop.OutputFault) = AppendsFront out_old out_new (old ++ bytes)
+RedirectEnd out_old out_new old new bytes (Err stop.InputFault) = AppendsFront out_old out_new (old ++ bytes)
+RedirectEnd out_old out_new old new bytes (Err stop.NoMemory) = AppendsFront out_old out_new (old ++ bytes)
+RedirectEnd out_old out_new old new bytes (Err (stop.InputChanged file place)) = ⊥
 
--- A fault is the outcome only where the count of its object rose, and an input is found changed only where the count of ends rose.
-abbrev pub RedirectCaused : (ends_before ends_now inputs_before inputs_now out_before out_now : ℕ) → Result (Unit {0}) Outcome → Type 0
+-- A fault is the cause only where the count of its object rose, and an input is found changed only where the count of ends rose.
+abbrev pub RedirectCaused : (ends_before ends_now inputs_before inputs_now out_before out_now : ℕ) → Result (Unit {0}) SendStop → Type 0
 RedirectCaused ends_before ends_now inputs_before inputs_now out_before out_now (Ok done) = ⊤
-RedirectCaused ends_before ends_now inputs_before inputs_now out_before out_now (Err ended.InputFault) = Rose inputs_before inputs_now
-RedirectCaused ends_before ends_now inputs_before inputs_now out_before out_now (Err (ended.InputChanged file place)) = Rose ends_before ends_now
-RedirectCaused ends_before ends_now inputs_before inputs_now out_before out_now (Err ended.OutputFault) = Rose out_before out_now
-RedirectCaused ends_before ends_now inputs_before inputs_now out_before out_now (Err ended.NoMemory) = ⊤
-RedirectCaused ends_before ends_now inputs_before inputs_now out_before out_now (Err ended.Done) = ⊥
-RedirectCaused ends_before ends_now inputs_before inputs_now out_before out_now (Err (ended.Refused verdict)) = ⊥
-RedirectCaused ends_before ends_now inputs_before inputs_now out_before out_now (Err (ended.InputTooLong file)) = ⊥
-RedirectCaused ends_before ends_now inputs_before inputs_now out_before out_now (Err (ended.TooMuch sum)) = ⊥
+RedirectCaused ends_before ends_now inputs_before inputs_now out_before out_now (Err why) = CausedAgain ends_before ends_now inputs_before inputs_now out_before out_now (outcome_with why)
+
+-- An input that was found changed is the file of the last end, with the place where it ended.
+abbrev pub RedirectChanged : (names : List (List ℕ)) (last : EarlyEnd) → Result (Unit {0}) SendStop → Type 0
+RedirectChanged names last (Ok done) = ⊤
+RedirectChanged names last (Err why) = FoundChanged names last (outcome_with why)

@@ -3,8 +3,9 @@ use Rattle.std.specs.Prelude.{◌≡◌, ℕ, ◌≤◌, List, [], ◌++◌, len
 use Rattle.std.specs.Io.KnownBytes.{Appends}
 use Rattle.sx_base.specs.Causes.{Rose}
 use Rattle.sx_base.specs.Outside.{AppendsPart}
-use Rattle.sx_base.specs.declared.outcome.Outcome.{Outcome}
-use Rattle.sx_base.specs.declared.outcome.Outcome.TheVariants as ended
+use Rattle.sx_base.specs.declared.failed.Failed.{Failed}
+use Rattle.clone_pieces.specs.declared.stops.SendStop.{SendStop}
+use Rattle.clone_pieces.specs.declared.stops.SendStop.TheVariants as stop
 
 -- Of what was pending and some more bytes a front part was written, and the rest is pending.
 pub record GoesOut (out_old out_new : Option (List ℕ)) (old new bytes : List ℕ) : Type 0 where
@@ -19,25 +20,14 @@ pub record AppendsFront (old new : Option (List ℕ)) (bytes : List ℕ) : Type 
   pub appends : Appends old new (take count bytes)
 
 -- Bytes go out, or the output failed, or there is no memory; then a front part of what was pending and of them was written.
-abbrev pub PutEnd : Option (List ℕ) → Option (List ℕ) → (old new bytes : List ℕ) → (before now : ℕ) → Result (Unit {0}) Outcome → Type 0
+abbrev pub PutEnd : Option (List ℕ) → Option (List ℕ) → (old new bytes : List ℕ) → (before now : ℕ) → Result (Unit {0}) SendStop → Type 0
 PutEnd out_old out_new old new bytes before now (Ok done) = GoesOut out_old out_new old new bytes
-PutEnd out_old out_new old new bytes before now (Err ended.OutputFault) = Rose before now × AppendsFront out_old out_new (old ++ bytes)
-PutEnd out_old out_new old new bytes before now (Err ended.NoMemory) = AppendsFront out_old out_new (old ++ bytes)
-PutEnd out_old out_new old new bytes before now (Err ended.Done) = ⊥
-PutEnd out_old out_new old new bytes before now (Err (ended.Refused verdict)) = ⊥
-PutEnd out_old out_new old new bytes before now (Err ended.InputFault) = ⊥
-PutEnd out_old out_new old new bytes before now (Err (ended.InputTooLong file)) = ⊥
-PutEnd out_old out_new old new bytes before now (Err (ended.TooMuch sum)) = ⊥
-PutEnd out_old out_new old new bytes before now (Err (ended.InputChanged file place)) = ⊥
+PutEnd out_old out_new old new bytes before now (Err stop.OutputFault) = Rose before now × AppendsFront out_old out_new (old ++ bytes)
+PutEnd out_old out_new old new bytes before now (Err stop.NoMemory) = AppendsFront out_old out_new (old ++ bytes)
+PutEnd out_old out_new old new bytes before now (Err stop.InputFault) = ⊥
+PutEnd out_old out_new old new bytes before now (Err (stop.InputChanged file place)) = ⊥
 
 -- All that was pending was written, or a proper front part of it, where the output failed.
-abbrev pub SendEnd : Option (List ℕ) → Option (List ℕ) → (old new : List ℕ) → (before now : ℕ) → Result (Unit {0}) Outcome → Type 0
+abbrev pub SendEnd : Option (List ℕ) → Option (List ℕ) → (old new : List ℕ) → (before now : ℕ) → Result (Unit {0}) Failed → Type 0
 SendEnd out_old out_new old new before now (Ok done) = (new ≡ []) × Appends out_old out_new old
-SendEnd out_old out_new old new before now (Err ended.OutputFault) = Rose before now × AppendsPart out_old out_new old × (new ≡ old)
-SendEnd out_old out_new old new before now (Err ended.NoMemory) = ⊥
-SendEnd out_old out_new old new before now (Err ended.Done) = ⊥
-SendEnd out_old out_new old new before now (Err (ended.Refused verdict)) = ⊥
-SendEnd out_old out_new old new before now (Err ended.InputFault) = ⊥
-SendEnd out_old out_new old new before now (Err (ended.InputTooLong file)) = ⊥
-SendEnd out_old out_new old new before now (Err (ended.TooMuch sum)) = ⊥
-SendEnd out_old out_new old new before now (Err (ended.InputChanged file place)) = ⊥
+SendEnd out_old out_new old new before now (Err failed) = Rose before now × AppendsPart out_old out_new old × (new ≡ old)

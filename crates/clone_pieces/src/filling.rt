@@ -3,18 +3,19 @@ ghost use Rattle.std.specs.Prelude.{◌≡◌, ℕ, ◌+◌, ◌<◌, ◌≤◌,
 ghost use Rattle.std.specs.List.{AllByRecursion};
 ghost use Rattle.std.specs.String.{string_bytes};
 ghost use Rattle.sx_base.specs.Again.{LiesIn, FillsFrom};
-ghost use Rattle.sx_base.specs.Calls.{IfAllTold, ErrFoundChanged};
+ghost use Rattle.sx_base.specs.Calls.{IfAllTold};
 ghost use Rattle.extent_map.specs.Cells.{cells_between};
 ghost use Rattle.extent_map.specs.Pieces.{piece_cells};
 ghost use Rattle.provenance.specs.Traces.{advanced_by};
 ghost use Rattle.clone_pieces.specs.Origins.{IsInInput};
 ghost use Rattle.clone_pieces.specs.Filling.{IsHadIn, PieceHad, PieceThere, FillEnd, AgainEnd};
-ghost use Rattle.clone_pieces.specs.Redirecting.{RedirectCaused};
+ghost use Rattle.clone_pieces.specs.Redirecting.{RedirectCaused, RedirectChanged};
 
 use crate::outside::OutsideBytes;
+use crate::stops::SendStop;
 use extent_map::Extents;
 use provenance::Trace;
-use sx_base::{Inputs, Lost, Outcome};
+use sx_base::{Inputs, Lost};
 
 /// Fills the buffer with the bytes of as many cells of the contents from `from` on.
 pub(crate) fn fill_cells<I: Inputs, B: OutsideBytes>(
@@ -24,7 +25,7 @@ pub(crate) fn fill_cells<I: Inputs, B: OutsideBytes>(
     inputs: &mut I,
     bytes: &mut B,
     buf: &mut [u8],
-) -> Result<(), Outcome>
+) -> Result<(), SendStop>
     requires within { from + length buf.old ≤ length contents.now }
     requires had { AllByRecursion (IsHadIn (length files.now) (B.held bytes.old))
         (cells_between from (length buf.old) contents.now) }
@@ -39,7 +40,7 @@ pub(crate) fn fill_cells<I: Inputs, B: OutsideBytes>(
     ensures cause { RedirectCaused (I.ends inputs.old) (I.ends inputs.new)
         (I.faults inputs.old + B.faults bytes.old) (I.faults inputs.new + B.faults bytes.new) 0 0
         result }
-    ensures changed { ErrFoundChanged (map string_bytes files.now) (I.last_end inputs.new) result }
+    ensures changed { RedirectChanged (map string_bytes files.now) (I.last_end inputs.new) result }
     ensures filled { IfAllTold (I.told inputs.old) (map string_bytes files.now)
         (FillEnd (B.held bytes.old) (cells_between from (length buf.old) contents.now) buf.new
         result) }
@@ -49,7 +50,7 @@ pub(crate) fn fill_cells<I: Inputs, B: OutsideBytes>(
         let end = have + len as usize;
         match fill_piece(origin, files, inputs, bytes, &mut buf[have..end]) {
             Ok(()) => have = end,
-            Err(outcome) => return Err(outcome),
+            Err(stop) => return Err(stop),
         }
     }
     Ok(())
@@ -62,7 +63,7 @@ fn fill_piece<I: Inputs, B: OutsideBytes>(
     inputs: &mut I,
     bytes: &mut B,
     buf: &mut [u8],
-) -> Result<(), Outcome>
+) -> Result<(), SendStop>
     requires had { PieceHad (length files.now) (B.held bytes.old) origin (length buf.old) }
     requires there { IfAllTold (I.told inputs.old) (map string_bytes files.now)
         (PieceThere origin (length buf.old)) }
@@ -74,7 +75,7 @@ fn fill_piece<I: Inputs, B: OutsideBytes>(
     ensures cause { RedirectCaused (I.ends inputs.old) (I.ends inputs.new)
         (I.faults inputs.old + B.faults bytes.old) (I.faults inputs.new + B.faults bytes.new) 0 0
         result }
-    ensures changed { ErrFoundChanged (map string_bytes files.now) (I.last_end inputs.new) result }
+    ensures changed { RedirectChanged (map string_bytes files.now) (I.last_end inputs.new) result }
     ensures filled { IfAllTold (I.told inputs.old) (map string_bytes files.now)
         (FillEnd (B.held bytes.old) (piece_cells advanced_by origin (length buf.old)) buf.new
         result) }
@@ -90,7 +91,7 @@ fn fill_piece<I: Inputs, B: OutsideBytes>(
         Some(Trace::Outside { key, ino, at }) => {
             match bytes.fill(key, ino, at, buf) {
                 Ok(()) => Ok(()),
-                Err(_) => Err(Outcome::InputFault),
+                Err(_) => Err(SendStop::InputFault),
             }
         }
     }
@@ -103,7 +104,7 @@ fn read_part<I: Inputs>(
     name: &str,
     at: u64,
     buf: &mut [u8],
-) -> Result<(), Outcome>
+) -> Result<(), SendStop>
     requires range { LiesIn (I.told inputs.old) name.now at (length buf.old) }
     requires number { file + 1 < 2 ^ 64 }
     ensures same { I.told inputs.new ≡ I.told inputs.old }
@@ -112,13 +113,13 @@ fn read_part<I: Inputs>(
     ensures cause { RedirectCaused (I.ends inputs.old) (I.ends inputs.new)
         (I.faults inputs.old) (I.faults inputs.new) 0 0 result }
     ensures changed { (names : List (List ℕ)) → file < length names
-        → name.now ≡ get_or names file [] → ErrFoundChanged names (I.last_end inputs.new) result }
+        → name.now ≡ get_or names file [] → RedirectChanged names (I.last_end inputs.new) result }
     ensures filled { AgainEnd (I.told inputs.old) name.now at buf.new result }
 {
     match inputs.read_again(name, at, buf) {
         Ok(()) => Ok(()),
-        Err(Lost::Failed) => Err(Outcome::InputFault),
-        Err(Lost::Ended { place }) => Err(Outcome::InputChanged {
+        Err(Lost::Failed) => Err(SendStop::InputFault),
+        Err(Lost::Ended { place }) => Err(SendStop::InputChanged {
             file: file + 1,
             place,
         }),

@@ -7,8 +7,10 @@ mod no_base;
 mod outside;
 mod redirecting;
 mod sending;
+mod stops;
 
 pub use no_base::NoBase;
 pub use outside::{Known, OutsideBytes};
 pub use redirecting::{redirect, uncarried};
 pub use sending::{put, put_bytes, send};
+pub use stops::SendStop;

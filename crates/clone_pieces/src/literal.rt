@@ -5,21 +5,22 @@ ghost use Rattle.std.specs.String.{string_bytes};
 ghost use Rattle.send_model.specs.Command.{Write};
 ghost use Rattle.send_model.specs.Spelling.{canonical, canonical_all};
 ghost use Rattle.send_model.specs.Composed.{writes_from};
-ghost use Rattle.sx_base.specs.Calls.{IfAllTold, ErrFoundChanged};
+ghost use Rattle.sx_base.specs.Calls.{IfAllTold};
 ghost use Rattle.extent_map.specs.Cells.{cells_between};
 ghost use Rattle.clone_pieces.specs.Origins.{IsInInput};
 ghost use Rattle.clone_pieces.specs.Filling.{byte_in, IsHadIn};
-ghost use Rattle.clone_pieces.specs.Redirecting.{RedirectEnd, RedirectCaused};
+ghost use Rattle.clone_pieces.specs.Redirecting.{RedirectEnd, RedirectCaused, RedirectChanged};
 ghost use Rattle.clone_pieces.specs.Sending.{PutEnd};
 
 use crate::filling::fill_cells;
 use crate::outside::OutsideBytes;
 use crate::sending::put;
+use crate::stops::SendStop;
 use extent_map::Extents;
 use provenance::Trace;
 use send_commands::Command;
 use std::alloc::{AllocError, Global};
-use sx_base::{Blob, Inputs, Outcome, Sink};
+use sx_base::{Blob, Inputs, Sink};
 
 // How many bytes one WRITE carries at the most.
 const MOST: u64 = 49_152;
@@ -38,7 +39,7 @@ pub(crate) fn write_cells<I: Inputs, B: OutsideBytes, O: Sink>(
     bytes: &mut B,
     pending: &mut Blob,
     out: &mut O,
-) -> Result<(), Outcome>
+) -> Result<(), SendStop>
     requires version { (version ≡ 1) ⊎ (version ≡ 2) }
     requires path { length path.now < 2 ^ 16 }
     requires within { from + len ≤ length contents.now }
@@ -56,7 +57,7 @@ pub(crate) fn write_cells<I: Inputs, B: OutsideBytes, O: Sink>(
     ensures cause { RedirectCaused (I.ends inputs.old) (I.ends inputs.new)
         (I.faults inputs.old + B.faults bytes.old) (I.faults inputs.new + B.faults bytes.new)
         (O.faults out.old) (O.faults out.new) result }
-    ensures changed { ErrFoundChanged (map string_bytes files.now) (I.last_end inputs.new) result }
+    ensures changed { RedirectChanged (map string_bytes files.now) (I.last_end inputs.new) result }
     ensures written { IfAllTold (I.told inputs.old) (map string_bytes files.now)
         (λ files. RedirectEnd (O.taken out.old) (O.taken out.new) pending.old pending.new
         (canonical_all version
@@ -83,7 +84,7 @@ pub(crate) fn write_cells<I: Inputs, B: OutsideBytes, O: Sink>(
             out,
         ) {
             Ok(()) => done += count,
-            Err(outcome) => return Err(outcome),
+            Err(stop) => return Err(stop),
         }
     }
     Ok(())
@@ -103,7 +104,7 @@ fn write_some<I: Inputs, B: OutsideBytes, O: Sink>(
     bytes: &mut B,
     pending: &mut Blob,
     out: &mut O,
-) -> Result<(), Outcome>
+) -> Result<(), SendStop>
     requires version { (version ≡ 1) ⊎ (version ≡ 2) }
     requires path { length path.now < 2 ^ 16 }
     requires most { len ≤ 49_152 }
@@ -121,7 +122,7 @@ fn write_some<I: Inputs, B: OutsideBytes, O: Sink>(
     ensures cause { RedirectCaused (I.ends inputs.old) (I.ends inputs.new)
         (I.faults inputs.old + B.faults bytes.old) (I.faults inputs.new + B.faults bytes.new)
         (O.faults out.old) (O.faults out.new) result }
-    ensures changed { ErrFoundChanged (map string_bytes files.now) (I.last_end inputs.new) result }
+    ensures changed { RedirectChanged (map string_bytes files.now) (I.last_end inputs.new) result }
     ensures written { IfAllTold (I.told inputs.old) (map string_bytes files.now)
         (λ files. RedirectEnd (O.taken out.old) (O.taken out.new) pending.old pending.new
         (canonical version
@@ -129,11 +130,11 @@ fn write_some<I: Inputs, B: OutsideBytes, O: Sink>(
         (map (byte_in (B.held bytes.old) files) (cells_between from len contents.now)))) result) }
 {
     let Ok(mut row) = Vec::from_elem(alloc, 0, len as usize) else {
-        return Err(Outcome::NoMemory);
+        return Err(SendStop::NoMemory);
     };
     match fill_cells(contents, from, files, inputs, bytes, row.as_mut_slice()) {
         Ok(()) => put_write(alloc, path, offset, row, version, pending, out),
-        Err(outcome) => Err(outcome),
+        Err(stop) => Err(stop),
     }
 }
 
@@ -146,7 +147,7 @@ fn put_write<O: Sink>(
     version: u32,
     pending: &mut Blob,
     out: &mut O,
-) -> Result<(), Outcome>
+) -> Result<(), SendStop>
     requires version { (version ≡ 1) ⊎ (version ≡ 2) }
     requires path { length path.now < 2 ^ 16 }
     requires most { length row.items ≤ 49_152 }
@@ -156,7 +157,7 @@ fn put_write<O: Sink>(
         result }
 {
     let Ok(path) = blob_of(alloc, path) else {
-        return Err(Outcome::NoMemory);
+        return Err(SendStop::NoMemory);
     };
     let command = Command::Write {
         path,

@@ -6,7 +6,7 @@ ghost use Rattle.send_model.specs.Command.{Clone};
 ghost use Rattle.send_model.specs.Spelling.{canonical, canonical_all};
 ghost use Rattle.send_model.specs.Provenance.{Traced, literal_len, pieces_of};
 ghost use Rattle.send_model.specs.Composed.{path_of};
-ghost use Rattle.sx_base.specs.Calls.{IfAllTold, ErrFoundChanged};
+ghost use Rattle.sx_base.specs.Calls.{IfAllTold};
 ghost use Rattle.subvol_catalog.specs.Entries.{key_of};
 ghost use Rattle.extent_map.specs.Cells.{cells_between};
 ghost use Rattle.provenance.specs.Traces.{place_in};
@@ -14,18 +14,19 @@ ghost use Rattle.provenance.specs.Plans.{planned};
 ghost use Rattle.clone_pieces.specs.Origins.{IsHad, IsInInput, AreHeld};
 ghost use Rattle.clone_pieces.specs.Filling.{byte_in, IsHadIn};
 ghost use Rattle.clone_pieces.specs.Cutting.{cut_len, rest_len, rest_cells, StandsIn, IsNamed, cut_commands};
-ghost use Rattle.clone_pieces.specs.Redirecting.{seen_cells, pieces_spelled, RedirectEnd, RedirectCaused};
+ghost use Rattle.clone_pieces.specs.Redirecting.{seen_cells, pieces_spelled, RedirectEnd, RedirectCaused, RedirectChanged};
 ghost use Rattle.clone_pieces.specs.Sending.{PutEnd};
 
 use crate::literal::{blob_of, write_cells};
 use crate::outside::{Known, OutsideBytes};
 use crate::sending::put;
+use crate::stops::SendStop;
 use extent_map::Extents;
 use provenance::{Plan, Trace, cut_blocks};
 use send_commands::Command;
 use std::alloc::Global;
 use subvol_catalog::Key;
-use sx_base::{Blob, Inputs, Outcome, Sink};
+use sx_base::{Blob, Inputs, Sink};
 
 /// How many of the `len` cells from `from` on stand in no carried block. Takes no memory.
 pub fn uncarried<'a, E: Known>(
@@ -81,7 +82,7 @@ pub fn redirect<'a, I: Inputs, E: Known, B: OutsideBytes, O: Sink>(
     bytes: &mut B,
     pending: &mut Blob,
     out: &mut O,
-) -> Result<(), Outcome>
+) -> Result<(), SendStop>
     requires version { (version ≡ 1) ⊎ (version ≡ 2) }
     requires path { length path.now < 2 ^ 16 }
     requires within { from + len ≤ length contents.now }
@@ -100,7 +101,7 @@ pub fn redirect<'a, I: Inputs, E: Known, B: OutsideBytes, O: Sink>(
     ensures cause { RedirectCaused (I.ends inputs.old) (I.ends inputs.new)
         (I.faults inputs.old + B.faults bytes.old) (I.faults inputs.new + B.faults bytes.new)
         (O.faults out.old) (O.faults out.new) result }
-    ensures changed { ErrFoundChanged (map string_bytes files.now) (I.last_end inputs.new) result }
+    ensures changed { RedirectChanged (map string_bytes files.now) (I.last_end inputs.new) result }
     ensures redirected { IfAllTold (I.told inputs.old) (map string_bytes files.now)
         (λ told. RedirectEnd (O.taken out.old) (O.taken out.new) pending.old pending.new
         (pieces_spelled version (E.base known.now) path.now offset
@@ -124,7 +125,7 @@ pub fn redirect<'a, I: Inputs, E: Known, B: OutsideBytes, O: Sink>(
             out,
         ) {
             Ok(()) => done += count,
-            Err(outcome) => return Err(outcome),
+            Err(stop) => return Err(stop),
         }
     }
     Ok(())
@@ -144,7 +145,7 @@ fn write_plan<I: Inputs, E: Known, B: OutsideBytes, O: Sink>(
     bytes: &mut B,
     pending: &mut Blob,
     out: &mut O,
-) -> Result<(), Outcome>
+) -> Result<(), SendStop>
     requires version { (version ≡ 1) ⊎ (version ≡ 2) }
     requires path { length path.now < 2 ^ 16 }
     requires end { offset + cut_len (planned plan) < 2 ^ 63 }
@@ -163,7 +164,7 @@ fn write_plan<I: Inputs, E: Known, B: OutsideBytes, O: Sink>(
     ensures cause { RedirectCaused (I.ends inputs.old) (I.ends inputs.new)
         (I.faults inputs.old + B.faults bytes.old) (I.faults inputs.new + B.faults bytes.new)
         (O.faults out.old) (O.faults out.new) result }
-    ensures changed { ErrFoundChanged (map string_bytes files.now) (I.last_end inputs.new) result }
+    ensures changed { RedirectChanged (map string_bytes files.now) (I.last_end inputs.new) result }
     ensures written { IfAllTold (I.told inputs.old) (map string_bytes files.now)
         (λ told. RedirectEnd (O.taken out.old) (O.taken out.new) pending.old pending.new
         (canonical_all version
@@ -198,7 +199,7 @@ fn clone_run<E: Known, O: Sink>(
     known: &E,
     pending: &mut Blob,
     out: &mut O,
-) -> Result<(), Outcome>
+) -> Result<(), SendStop>
     requires version { (version ≡ 1) ⊎ (version ≡ 2) }
     requires path { length path.now < 2 ^ 16 }
     requires named { IsTrue (is_some (E.Ends.ends known.now (key_of key) ino)) }
@@ -213,10 +214,10 @@ fn clone_run<E: Known, O: Sink>(
     let _bytes: &[u8] = clone_uuid.as_bytes();
     let clone_ctransid = key.ctransid;
     let Ok(Some(clone_path)) = known.first_path(alloc, key, ino) else {
-        return Err(Outcome::NoMemory);
+        return Err(SendStop::NoMemory);
     };
     let Ok(path) = blob_of(alloc, path) else {
-        return Err(Outcome::NoMemory);
+        return Err(SendStop::NoMemory);
     };
     let command = Command::Clone {
         path,

@@ -5,8 +5,9 @@ ghost use Rattle.send_commands.specs.Meaning.{meaning_of};
 ghost use Rattle.send_commands.specs.Writing.{IsWritable, IsShortEnough};
 ghost use Rattle.clone_pieces.specs.Sending.{PutEnd, SendEnd};
 
+use crate::stops::SendStop;
 use send_commands::{Command, encode};
-use sx_base::{Blob, Outcome, Sink, write_whole};
+use sx_base::{Blob, Failed, Sink, write_whole};
 
 // How many bytes are gathered before they are written.
 const PIECE: usize = 65_536;
@@ -17,7 +18,7 @@ pub fn put<O: Sink>(
     version: u32,
     pending: &mut Blob,
     out: &mut O,
-) -> Result<(), Outcome>
+) -> Result<(), SendStop>
     requires writable { IsWritable version (meaning_of c.now) }
     requires short { IsShortEnough version (meaning_of c.now) }
     ensures later { O.faults out.old ≤ O.faults out.new }
@@ -25,37 +26,43 @@ pub fn put<O: Sink>(
         (canonical version (meaning_of c.now)) (O.faults out.old) (O.faults out.new) result }
 {
     if encode(c, version, pending).is_err() {
-        return Err(Outcome::NoMemory);
+        return Err(SendStop::NoMemory);
     }
-    if pending.as_slice().len() >= PIECE {
-        return send(pending, out);
+    if pending.as_slice().len() < PIECE {
+        return Ok(());
+    }
+    if send(pending, out).is_err() {
+        return Err(SendStop::OutputFault);
     }
     Ok(())
 }
 
 /// Adds bytes to what is pending, and writes what is pending where it is 65,536 bytes or more.
-pub fn put_bytes<O: Sink>(bytes: &[u8], pending: &mut Blob, out: &mut O) -> Result<(), Outcome>
+pub fn put_bytes<O: Sink>(bytes: &[u8], pending: &mut Blob, out: &mut O) -> Result<(), SendStop>
     ensures later { O.faults out.old ≤ O.faults out.new }
     ensures put { PutEnd (O.taken out.old) (O.taken out.new) pending.old pending.new bytes.now
         (O.faults out.old) (O.faults out.new) result }
 {
     if pending.push_all(bytes).is_err() {
-        return Err(Outcome::NoMemory);
+        return Err(SendStop::NoMemory);
     }
-    if pending.as_slice().len() >= PIECE {
-        return send(pending, out);
+    if pending.as_slice().len() < PIECE {
+        return Ok(());
+    }
+    if send(pending, out).is_err() {
+        return Err(SendStop::OutputFault);
     }
     Ok(())
 }
 
 /// Writes what is pending.
-pub fn send<O: Sink>(pending: &mut Blob, out: &mut O) -> Result<(), Outcome>
+pub fn send<O: Sink>(pending: &mut Blob, out: &mut O) -> Result<(), Failed>
     ensures later { O.faults out.old ≤ O.faults out.new }
     ensures sent { SendEnd (O.taken out.old) (O.taken out.new) pending.old pending.new
         (O.faults out.old) (O.faults out.new) result }
 {
     if write_whole(out, pending.as_slice()).is_err() {
-        return Err(Outcome::OutputFault);
+        return Err(Failed);
     }
     pending.clear();
     Ok(())

@@ -2,7 +2,7 @@ use Rattle.std.specs.Prelude.{Err}
 use Rattle.std.proofs.Common.{subst}
 use Rattle.sx_base.specs.Again.{MeetsEnd}
 use Rattle.sx_base.specs.declared.lost.Lost.{Lost}
-use Rattle.clone_pieces.proofs.Causes.{ended_among}
+use Rattle.clone_pieces.proofs.Told.{ended_among}
 use Rattle.clone_pieces.proofs.filling.read_part.Goals as goal
 
 pub returns-in-Err-Ended-clause-changed : goal.returns-in-Err-Ended-clause-changed

@@ -55,7 +55,7 @@ returns-in-Err-clause-written g c =
     let is : c.min-count.result ≡ min (c.args.len - c.loop-done.done) 49_152 = omega arith in
     stand_stops (g.I.Inputs.told c.args.inputs.now) (map string_bytes c.args.files.now) (g.B.OutsideBytes.held c.args.bytes.now) c.args.contents.now c.args.from c.args.len c.requires.within c.args.version c.args.path.now c.args.offset
     (g.I.Inputs.told c.loop-done.inputs) (g.B.OutsideBytes.held c.loop-done.bytes) i.same i.held c.loop-done.done c.min-count.result c.loop-done-test.true is
-    (g.O.Sink.taken c.args.out.now) (g.O.Sink.taken c.loop-done.out) (g.O.Sink.taken c.write_some.new.out) c.args.pending.now c.loop-done.pending c.write_some.new.pending c.write_some.new.pending c.in-Err.outcome i.written c.in-Err.ensures.written
+    (g.O.Sink.taken c.args.out.now) (g.O.Sink.taken c.loop-done.out) (g.O.Sink.taken c.write_some.new.out) c.args.pending.now c.loop-done.pending c.write_some.new.pending c.write_some.new.pending c.in-Err.stop i.written c.in-Err.ensures.written
 
 pub returns-clause-written : goal.returns-clause-written
 returns-clause-written g c =

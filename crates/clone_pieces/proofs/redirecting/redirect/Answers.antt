@@ -112,7 +112,7 @@ returns-in-Err-clause-redirected g c =
     let i = c.loop-plan.invariant in
     stands_stop (g.I.Inputs.told c.args.inputs.now) (map string_bytes c.args.files.now) (g.E.Known.base c.args.known.now) (g.B.OutsideBytes.held c.args.bytes.now) c.args.contents.now c.args.from c.args.len c.args.version c.args.path.now c.args.offset
     (g.I.Inputs.told c.loop-plan.inputs) (g.B.OutsideBytes.held c.loop-plan.bytes) i.same i.held c.loop-plan.done c.loop-plan.plan-iterator (planned c.in-Some.plan) c.next.new.self c.in-Some.ensures.steps
-    (g.O.Sink.taken c.args.out.now) (g.O.Sink.taken c.loop-plan.out) (g.O.Sink.taken c.write_plan.new.out) c.args.pending.now c.loop-plan.pending c.write_plan.new.pending c.write_plan.new.pending c.in-Err.outcome i.stands c.in-Err.ensures.written
+    (g.O.Sink.taken c.args.out.now) (g.O.Sink.taken c.loop-plan.out) (g.O.Sink.taken c.write_plan.new.out) c.args.pending.now c.loop-plan.pending c.write_plan.new.pending c.write_plan.new.pending c.in-Err.stop i.stands c.in-Err.ensures.written
 
 pub returns-clause-redirected : goal.returns-clause-redirected
 returns-clause-redirected g c =
