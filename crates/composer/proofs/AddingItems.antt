@@ -28,11 +28,14 @@ use Rattle.clone_pieces.specs.Origins.{byte_of_trace}
 use Rattle.clone_pieces.specs.Seen.{seen}
 use Rattle.clone_pieces.specs.Sending.{PutEnd}
 use Rattle.clone_pieces.specs.Redirecting.{seen_cells, pieces_spelled, RedirectEnd}
+use Rattle.clone_pieces.specs.declared.stops.SendStop.{SendStop}
+use Rattle.clone_pieces.specs.declared.stops.SendStop.TheVariants as stopped
 use Rattle.file_survey.specs.Findings.{Surveyed}
 use Rattle.composer.specs.OverBase.{Composing}
 use Rattle.composer.specs.Kept.{Kept, composing_of}
-use Rattle.composer.specs.Taking.{StopEnd, ErrCausedAgain}
+use Rattle.composer.specs.Taking.{StopEnd}
 use Rattle.composer.specs.Adding.{Led, uncarried_by, Adds, AddsCommand, AddEnd, IsSourceOf, AddsRange}
+use Rattle.composer.proofs.HandedOn.{answer_with}
 use Rattle.composer.proofs.OverBaseAdds.{sum_redirected}
 
 -- ---- the contents of a source
@@ -88,10 +91,10 @@ range_exceeds files base version path offset cells count sum old new out_old out
     stop.outcome_is
 
 -- It is written, or an object of the outside failed.
-pub range_added : (files : List (List ℕ)) (base : Store ℕ) (version : ℕ) (path : List ℕ) (offset : ℕ) (cells : List (Option Trace)) (count sum : ℕ) (old new : Kept) (out_old out_new : Option (List ℕ)) (result : Result (Unit {0}) Outcome)
+pub range_added : (files : List (List ℕ)) (base : Store ℕ) (version : ℕ) (path : List ℕ) (offset : ℕ) (cells : List (Option Trace)) (count sum : ℕ) (old new : Kept) (out_old out_new : Option (List ℕ)) (result : Result (Unit {0}) SendStop)
     → IsCount base cells count → sum ≡ old.sum + count → sum ≤ most_literal → new.sum ≡ sum
     → RedirectEnd out_old out_new old.pending new.pending (pieces_spelled version base path offset (seen_cells files base cells)) result
-    → AddsRange base version path offset (seen_cells files base cells) old new out_old out_new result
+    → AddsRange base version path offset (seen_cells files base cells) old new out_old out_new (answer_with result)
 range_added files base version path offset cells count sum old new out_old out_new result is sum_is low kept end = by_result result end
   where
     range : List Traced
@@ -103,16 +106,12 @@ range_added files base version path offset cells count sum old new out_old out_n
     low_sum : old.sum + sum_by literal_len (pieces_of base range) ≤ most_literal
     low_sum = subst (λ (n : ℕ). n ≤ most_literal) counted low
 
-    by_result : (r : Result (Unit {0}) Outcome) → RedirectEnd out_old out_new old.pending new.pending (pieces_spelled version base path offset range) r → AddsRange base version path offset range old new out_old out_new r
+    by_result : (r : Result (Unit {0}) SendStop) → RedirectEnd out_old out_new old.pending new.pending (pieces_spelled version base path offset range) r → AddsRange base version path offset range old new out_old out_new (answer_with r)
     by_result (Ok done) e = (e, (kept ∙ counted, subst (λ (n : ℕ). n ≤ most_literal) (sym kept) low))
-    by_result (Err ended.OutputFault) e = inr (low_sum, e)
-    by_result (Err ended.InputFault) e = inr (low_sum, e)
-    by_result (Err ended.NoMemory) e = inr (low_sum, e)
-    by_result (Err (ended.InputChanged file place)) e = elim e [ ]
-    by_result (Err ended.Done) e = elim e [ ]
-    by_result (Err (ended.Refused verdict)) e = elim e [ ]
-    by_result (Err (ended.InputTooLong file)) e = elim e [ ]
-    by_result (Err (ended.TooMuch much)) e = elim e [ ]
+    by_result (Err stopped.OutputFault) e = inr (low_sum, e)
+    by_result (Err stopped.InputFault) e = inr (low_sum, e)
+    by_result (Err stopped.NoMemory) e = inr (low_sum, e)
+    by_result (Err (stopped.InputChanged file place)) e = elim e [ ]
 
 -- The cells of a source are those that were found.
 pub source_cells : (contents cells : List (Option Trace)) (state : State (Option Trace)) (key : Key) (path : List ℕ)
@@ -122,30 +121,27 @@ source_cells contents cells state key path found s = some_is contents (cells_of 
 
 -- ---- what a command adds
 
-adds_put : (bytes : List ℕ) (old new : Kept) (out_old out_new : Option (List ℕ)) (before now : ℕ) (result : Result (Unit {0}) Outcome) → PutEnd out_old out_new old.pending new.pending bytes before now result → new.sum ≡ old.sum → old.sum ≤ most_literal
-    → Adds 0 bytes old new out_old out_new result
+adds_put : (bytes : List ℕ) (old new : Kept) (out_old out_new : Option (List ℕ)) (before now : ℕ) (result : Result (Unit {0}) SendStop) → PutEnd out_old out_new old.pending new.pending bytes before now result → new.sum ≡ old.sum → old.sum ≤ most_literal
+    → Adds 0 bytes old new out_old out_new (answer_with result)
 adds_put bytes old new out_old out_new before now (Ok done) put same low = (put, (omega (arith, same), omega (arith, same, low)))
-adds_put bytes old new out_old out_new before now (Err ended.OutputFault) put same low = inr (omega (arith, low), put.1)
-adds_put bytes old new out_old out_new before now (Err ended.NoMemory) put same low = inr (omega (arith, low), put)
-adds_put bytes old new out_old out_new before now (Err ended.Done) put same low = elim put [ ]
-adds_put bytes old new out_old out_new before now (Err (ended.Refused verdict)) put same low = elim put [ ]
-adds_put bytes old new out_old out_new before now (Err ended.InputFault) put same low = elim put [ ]
-adds_put bytes old new out_old out_new before now (Err (ended.InputTooLong file)) put same low = elim put [ ]
-adds_put bytes old new out_old out_new before now (Err (ended.TooMuch sum)) put same low = elim put [ ]
-adds_put bytes old new out_old out_new before now (Err (ended.InputChanged file place)) put same low = elim put [ ]
+adds_put bytes old new out_old out_new before now (Err stopped.OutputFault) put same low = inr (omega (arith, low), put.1)
+adds_put bytes old new out_old out_new before now (Err stopped.NoMemory) put same low = inr (omega (arith, low), put)
+adds_put bytes old new out_old out_new before now (Err stopped.InputFault) put same low = elim put [ ]
+adds_put bytes old new out_old out_new before now (Err (stopped.InputChanged file place)) put same low = elim put [ ]
 
 -- One command that stands for itself or for another, and has no uncarried bytes.
-one_put : (base : Store ℕ) (survey : Surveyed) (last : Key) (state : Composing) (c said : Command) (old new : Kept) (out_old out_new : Option (List ℕ)) (before now : ℕ) (result : Result (Unit {0}) Outcome)
+one_put : (base : Store ℕ) (survey : Surveyed) (last : Key) (state : Composing) (c said : Command) (old new : Kept) (out_old out_new : Option (List ℕ)) (before now : ℕ) (result : Result (Unit {0}) SendStop) (answer : Result (Unit {0}) Outcome)
+    → answer ≡ answer_with result
     → commands_for base survey.parts last state.state state.current c ≡ said ∷ [] → is_redirected survey.parts state.current c ≡ false
     → PutEnd out_old out_new old.pending new.pending (canonical survey.version said) before now result → new.sum ≡ old.sum → old.sum ≤ most_literal
-    → AddsCommand base survey last state c old new out_old out_new result
+    → AddsCommand base survey last state c old new out_old out_new answer
 unfolding canonical_all
-one_put base survey last state c said old new out_old out_new before now result is kept put same low =
+one_put base survey last state c said old new out_old out_new before now result answer answered is kept put same low =
     let spelled : canonical survey.version said ≡ canonical_all survey.version (commands_for base survey.parts last state.state state.current c) =
     sym (append-nil (canonical survey.version said)) ∙ ap (canonical_all survey.version) (sym is) in
     let none : 0 ≡ uncarried_by base survey.parts state.state state.current c = sym (ap (λ (b : Bool). if b then uncarried_in base (clone_range state.state c ∷ []) else 0) kept) in
-    subst (λ (n : ℕ). Adds n (canonical_all survey.version (commands_for base survey.parts last state.state state.current c)) old new out_old out_new result) none
-    (subst (λ (bs : List ℕ). Adds 0 bs old new out_old out_new result) spelled (adds_put (canonical survey.version said) old new out_old out_new before now result put same low))
+    subst (λ (n : ℕ). Adds n (canonical_all survey.version (commands_for base survey.parts last state.state state.current c)) old new out_old out_new answer) none
+    (subst (λ (bs : List ℕ). Adds 0 bs old new out_old out_new answer) spelled (subst (λ (r : Result (Unit {0}) Outcome). Adds 0 (canonical survey.version said) old new out_old out_new r) (sym answered) (adds_put (canonical survey.version said) old new out_old out_new before now result put same low)))
 
 plain_alone : (base : Store ℕ) (parts : List (List ℕ)) (last : Key) (state : State Traced) (current : Option (List ℕ)) (c : Command) → is_plain c ≡ true → (commands_for base parts last state current c ≡ c ∷ []) × (is_redirected parts current c ≡ false)
 plain_alone base parts last state current (Subvol uuid ctransid path) h = cc
@@ -164,12 +160,12 @@ plain_of made.End h e n = absurd (e refl)
 plain_of c h e n = refl
 
 -- A plain edit adds itself.
-pub plain_adds : (files : List (List ℕ)) (base : Store ℕ) (survey : Surveyed) (last : Key) (old new : Kept) (c : Command) (out_old out_new : Option (List ℕ)) (before now : ℕ) (result : Result (Unit {0}) Outcome) → is_plain c ≡ true
-    → PutEnd out_old out_new old.pending new.pending (canonical survey.version c) before now result → new.sum ≡ old.sum → old.sum ≤ most_literal → AddEnd files base survey last old new c out_old out_new result
-plain_adds files base survey last old new c out_old out_new before now result plain put same low state cells led =
+pub plain_adds : (files : List (List ℕ)) (base : Store ℕ) (survey : Surveyed) (last : Key) (old new : Kept) (c : Command) (out_old out_new : Option (List ℕ)) (before now : ℕ) (result : Result (Unit {0}) SendStop) (answer : Result (Unit {0}) Outcome) → answer ≡ answer_with result → is_plain c ≡ true
+    → PutEnd out_old out_new old.pending new.pending (canonical survey.version c) before now result → new.sum ≡ old.sum → old.sum ≤ most_literal → AddEnd files base survey last old new c out_old out_new answer
+plain_adds files base survey last old new c out_old out_new before now result answer answered plain put same low state cells led =
     let from : Composing = composing_of files base (record old { state = state }) in
     let alone = plain_alone base survey.parts last from.state from.current c plain in
-    one_put base survey last from c c old new out_old out_new before now result alone.0 alone.1 put same low
+    one_put base survey last from c c old new out_old out_new before now result answer answered alone.0 alone.1 put same low
 
 -- END adds nothing.
 pub end_adds : (files : List (List ℕ)) (base : Store ℕ) (survey : Surveyed) (last : Key) (old : Kept) (out : Option (List ℕ)) → old.sum ≤ most_literal → AddEnd files base survey last old old End out out (Ok tt)
@@ -193,14 +189,14 @@ module _ (files : List (List ℕ)) (base : Store ℕ) (survey : Surveyed) (last 
   current_is before put led = sym (uuid_kept files base before old.state put path offset uuid ctransid clone_path from len led)
 
   -- A clone from the part itself names the new part.
-  pub own_adds : (early late : ℕ) (result : Result (Unit {0}) Outcome) → is_own (option_map (λ p. p.key.uuid) old.state.part) uuid ≡ true
+  pub own_adds : (early late : ℕ) (result : Result (Unit {0}) SendStop) (answer : Result (Unit {0}) Outcome) → answer ≡ answer_with result → is_own (option_map (λ p. p.key.uuid) old.state.part) uuid ≡ true
       → PutEnd out_old out_new old.pending new.pending (canonical survey.version (Clone path offset last.uuid last.ctransid clone_path from len)) early late result → new.sum ≡ old.sum → old.sum ≤ most_literal
-      → AddEnd files base survey last old new (Clone path offset uuid ctransid clone_path from len) out_old out_new result
-  own_adds early late result own put same low before cells led =
+      → AddEnd files base survey last old new (Clone path offset uuid ctransid clone_path from len) out_old out_new answer
+  own_adds early late result answer answered own put same low before cells led =
       let now : Composing = composing_of files base (record old { state = before }) in
       let is : is_own now.current uuid ≡ true = ap (λ (o : Option (List ℕ)). is_own o uuid) (sym (current_is before cells led)) ∙ own in
       let said : Command = Clone path offset last.uuid last.ctransid clone_path from len in
-      one_put base survey last now (Clone path offset uuid ctransid clone_path from len) said old new out_old out_new early late result
+      one_put base survey last now (Clone path offset uuid ctransid clone_path from len) said old new out_old out_new early late result answer answered
       (ap (λ (b : Bool). if b then said ∷ [] else (if is_among survey.parts uuid && not b then flat_map (piece_commands base path offset) (pieces_of base (clone_range now.state (Clone path offset uuid ctransid clone_path from len))) else Clone path offset uuid ctransid clone_path from len ∷ [])) is)
       (ap (λ (b : Bool). is_among survey.parts uuid && not b) is ∙ never (is_among survey.parts uuid)) put same low
     where
@@ -209,15 +205,15 @@ module _ (files : List (List ℕ)) (base : Store ℕ) (survey : Surveyed) (last 
       never false = refl
 
   -- One from an outside subvolume adds itself.
-  pub kept_adds : (early late : ℕ) (result : Result (Unit {0}) Outcome) → is_own (option_map (λ p. p.key.uuid) old.state.part) uuid ≡ false → is_among survey.parts uuid ≡ false
+  pub kept_adds : (early late : ℕ) (result : Result (Unit {0}) SendStop) (answer : Result (Unit {0}) Outcome) → answer ≡ answer_with result → is_own (option_map (λ p. p.key.uuid) old.state.part) uuid ≡ false → is_among survey.parts uuid ≡ false
       → PutEnd out_old out_new old.pending new.pending (canonical survey.version (Clone path offset uuid ctransid clone_path from len)) early late result → new.sum ≡ old.sum → old.sum ≤ most_literal
-      → AddEnd files base survey last old new (Clone path offset uuid ctransid clone_path from len) out_old out_new result
-  kept_adds early late result own among put same low before cells led =
+      → AddEnd files base survey last old new (Clone path offset uuid ctransid clone_path from len) out_old out_new answer
+  kept_adds early late result answer answered own among put same low before cells led =
       let now : Composing = composing_of files base (record old { state = before }) in
       let is : is_own now.current uuid ≡ false = ap (λ (o : Option (List ℕ)). is_own o uuid) (sym (current_is before cells led)) ∙ own in
       let said : Command = Clone path offset last.uuid last.ctransid clone_path from len in
       let itself : Command = Clone path offset uuid ctransid clone_path from len in
-      one_put base survey last now itself itself old new out_old out_new early late result
+      one_put base survey last now itself itself old new out_old out_new early late result answer answered
       (ap₂ (λ (b a : Bool). if b then said ∷ [] else (if a && not b then flat_map (piece_commands base path offset) (pieces_of base (clone_range now.state itself)) else itself ∷ [])) is among)
       (ap₂ (λ (b a : Bool). a && not b) is among) put same low
 
@@ -277,13 +273,15 @@ source_exceeds files base version path offset from len contents cells count sum 
     subst (λ (cs : List (Option Trace)). AddsRange base version path offset (seen_cells files base (cells_between from len cs)) old new out_old out_new (Err result)) same
     (range_exceeds files base version path offset (cells_between from len contents) count sum old new out_old out_new before now result is sum_is high stop)
 
-pub source_added : (files : List (List ℕ)) (base : Store ℕ) (version : ℕ) (path : List ℕ) (offset from len : ℕ) (contents cells : List (Option Trace)) (count sum : ℕ) (old new : Kept) (out_old out_new : Option (List ℕ)) (result : Result (Unit {0}) Outcome)
+pub source_added : (files : List (List ℕ)) (base : Store ℕ) (version : ℕ) (path : List ℕ) (offset from len : ℕ) (contents cells : List (Option Trace)) (count sum : ℕ) (old new : Kept) (out_old out_new : Option (List ℕ)) (result : Result (Unit {0}) SendStop) (answer : Result (Unit {0}) Outcome)
+    → answer ≡ answer_with result
     → contents ≡ cells → IsCount base (cells_between from len contents) count → sum ≡ old.sum + count → sum ≤ most_literal → new.sum ≡ sum
     → RedirectEnd out_old out_new old.pending new.pending (pieces_spelled version base path offset (seen_cells files base (cells_between from len contents))) result
-    → AddsRange base version path offset (seen_cells files base (cells_between from len cells)) old new out_old out_new result
-source_added files base version path offset from len contents cells count sum old new out_old out_new result same is sum_is low kept end =
-    subst (λ (cs : List (Option Trace)). AddsRange base version path offset (seen_cells files base (cells_between from len cs)) old new out_old out_new result) same
-    (range_added files base version path offset (cells_between from len contents) count sum old new out_old out_new result is sum_is low kept end)
+    → AddsRange base version path offset (seen_cells files base (cells_between from len cells)) old new out_old out_new answer
+source_added files base version path offset from len contents cells count sum old new out_old out_new result answer answered same is sum_is low kept end =
+    subst (λ (cs : List (Option Trace)). AddsRange base version path offset (seen_cells files base (cells_between from len cs)) old new out_old out_new answer) same
+    (subst (λ (r : Result (Unit {0}) Outcome). AddsRange base version path offset (seen_cells files base (cells_between from len contents)) old new out_old out_new r) (sym answered)
+    (range_added files base version path offset (cells_between from len contents) count sum old new out_old out_new result is sum_is low kept end))
 
 -- A clone whose step was taken, and whose source is not the part itself.
 pub led_taken : (before after : State (Option Trace)) (put : List (Option Trace)) (path : List ℕ) (offset : ℕ) (key : Key) (clone_path : List ℕ) (from len : ℕ) → Led before after put (Clone path offset key.uuid key.ctransid clone_path from len)
@@ -295,19 +293,7 @@ led_taken before after put path offset key clone_path from len led own =
     subst (λ (s : State (Option Trace)). TakenFrom before s path offset key clone_path from len) (ap (λ s. s.state) led)
     (taken_from None put before path offset key clone_path from len (ap (λ s. s.refusal) led) (ap (λ (o : Option (List ℕ)). is_own o key.uuid) same ∙ own))
 
--- ---- causes
-
--- Only the output fails where bytes go out, or there is no memory.
-pub put_caused : (e0 e1 i0 i1 before now : ℕ) (out_old out_new : Option (List ℕ)) (old new bytes : List ℕ) (result : Result (Unit {0}) Outcome) → PutEnd out_old out_new old new bytes before now result → ErrCausedAgain e0 e1 i0 i1 before now result
-put_caused e0 e1 i0 i1 before now out_old out_new old new bytes (Ok done) put = tt
-put_caused e0 e1 i0 i1 before now out_old out_new old new bytes (Err ended.OutputFault) put = put.0
-put_caused e0 e1 i0 i1 before now out_old out_new old new bytes (Err ended.NoMemory) put = tt
-put_caused e0 e1 i0 i1 before now out_old out_new old new bytes (Err ended.Done) put = elim put [ ]
-put_caused e0 e1 i0 i1 before now out_old out_new old new bytes (Err (ended.Refused verdict)) put = elim put [ ]
-put_caused e0 e1 i0 i1 before now out_old out_new old new bytes (Err ended.InputFault) put = elim put [ ]
-put_caused e0 e1 i0 i1 before now out_old out_new old new bytes (Err (ended.InputTooLong file)) put = elim put [ ]
-put_caused e0 e1 i0 i1 before now out_old out_new old new bytes (Err (ended.TooMuch sum)) put = elim put [ ]
-put_caused e0 e1 i0 i1 before now out_old out_new old new bytes (Err (ended.InputChanged file place)) put = elim put [ ]
+-- ---- what is not so
 
 -- What is no value is none.
 pub is_none_of : {A : Type 0} (o : Option A) → ((x : A) → o ≡ Some x → ⊥) → o ≡ None

@@ -37,12 +37,15 @@ use Rattle.file_survey.proofs.FilesAhead.{ahead_file}
 use Rattle.file_survey.proofs.TooLong.{LongAhead, long_start, long_next, long_here}
 use Rattle.file_survey.proofs.Versions.{item_version, version_is}
 use Rattle.clone_pieces.specs.Origins.{IsInInput}
+use Rattle.clone_pieces.specs.declared.stops.SendStop.{SendStop}
+use Rattle.clone_pieces.specs.declared.stops.SendStop.TheVariants as stopped
 use Rattle.composer.specs.OverBase.{Plan, plan_for, Composing, at_start, Halt, Exceeds, halt_due, advance, advance_all, unsent, AreReady}
 use Rattle.clone_resolve.proofs.TakenStates.{AllCells}
 use Rattle.composer.specs.Kept.{Kept, composing_of}
 use Rattle.composer.specs.Taking.{EndEnd, is_at_last}
 use Rattle.composer.specs.Files.{plan_with, AllSayable, IsLastPlace, FileTaken, NextHalts, NextAbove, FileWhy, FileStops, ComposeEnds, outcome_in}
 use Rattle.clone_pieces.proofs.Told.{all_map, all_two}
+use Rattle.composer.proofs.HandedOn.{answer_with}
 use Rattle.composer.proofs.LastHeads.{latest_none, latest_append, latest_alone}
 use Rattle.composer.proofs.FileWriting.{front_after}
 use Rattle.composer.proofs.OverBaseProgress.{Progress, progress_start, progress_all}
@@ -416,17 +419,13 @@ module _ (base : Store ℕ) (survey : Surveyed) (out0 : Option (List ℕ)) (now 
   )
 
   -- END was to be written.
-  by_end : (out_next : Option (List ℕ)) (f0 f1 : ℕ) (result : Result (Unit {0}) Outcome) → is_at_last now.latest survey.last ≡ true → EndEnd (now.pending ++ canonical (version_of (input files).items) End) out_now out_next f0 f1 result
-      → Wrote out0 out_next (ComposeEnds base files (outcome_in result))
+  by_end : (out_next : Option (List ℕ)) (f0 f1 : ℕ) (result : Result (Unit {0}) SendStop) → is_at_last now.latest survey.last ≡ true → EndEnd (now.pending ++ canonical (version_of (input files).items) End) out_now out_next f0 f1 result
+      → Wrote out0 out_next (ComposeEnds base files (outcome_in (answer_with result)))
   by_end out_next f0 f1 (Ok done) at_last sent = all_done at_last out_next sent
-  by_end out_next f0 f1 (Err over.OutputFault) at_last (rose, part) = end_unsent at_last out_next part
-  by_end out_next f0 f1 (Err over.NoMemory) at_last sent = end_unmade out_next sent
-  by_end out_next f0 f1 (Err over.Done) at_last s = elim s [ ]
-  by_end out_next f0 f1 (Err (over.Refused verdict)) at_last s = elim s [ ]
-  by_end out_next f0 f1 (Err over.InputFault) at_last s = elim s [ ]
-  by_end out_next f0 f1 (Err (over.InputTooLong n)) at_last s = elim s [ ]
-  by_end out_next f0 f1 (Err (over.TooMuch sum)) at_last s = elim s [ ]
-  by_end out_next f0 f1 (Err (over.InputChanged n at)) at_last s = elim s [ ]
+  by_end out_next f0 f1 (Err stopped.OutputFault) at_last (rose, part) = end_unsent at_last out_next part
+  by_end out_next f0 f1 (Err stopped.NoMemory) at_last sent = end_unmade out_next sent
+  by_end out_next f0 f1 (Err stopped.InputFault) at_last s = elim s [ ]
+  by_end out_next f0 f1 (Err (stopped.InputChanged n at)) at_last s = elim s [ ]
 
 -- ---- the ends, where the inputs tell their files
 
@@ -459,15 +458,15 @@ files_empty told names base survey old out0 number now out_now before place verd
     (λ files e. none_begun base survey out0 now out_now before place files e.0 verdict e.1 not_last verdict_is) (ended_all told names base survey old out0 number now out_now before place some past b stands)
 
 -- END was to be written.
-pub files_ended : {Z : Type 0} (told : Option (List (List ℕ × List ℕ))) (names : List (String Z)) (base : Store ℕ) (survey : Surveyed) (old : Kept) (out0 : Option (List ℕ)) (number : ℕ) (now : Kept) (out_now out_next : Option (List ℕ)) (before place : Place) (version f0 f1 : ℕ) (result : Result (Unit {0}) Outcome)
-    → names ≢ [] → length names ≤ number → is_at_last now.latest survey.last ≡ true → version ≡ survey.version → EndEnd (now.pending ++ canonical version End) out_now out_next f0 f1 result
+pub files_ended : {Z : Type 0} (told : Option (List (List ℕ × List ℕ))) (names : List (String Z)) (base : Store ℕ) (survey : Surveyed) (old : Kept) (out0 : Option (List ℕ)) (number : ℕ) (now : Kept) (out_now out_next : Option (List ℕ)) (before place : Place) (version f0 f1 : ℕ) (result : Result (Unit {0}) SendStop) (answer : Result (Unit {0}) Outcome)
+    → names ≢ [] → length names ≤ number → is_at_last now.latest survey.last ≡ true → version ≡ survey.version → EndEnd (now.pending ++ canonical version End) out_now out_next f0 f1 result → answer ≡ answer_with result
     → IfAllTold told (map string_bytes names) (HasBegun base survey old) → IfAllTold told (map string_bytes names) (FilesStand (plan_with base survey) old out0 number now out_now before place)
-    → IfAllTold told (map string_bytes names) (λ files. Wrote out0 out_next (ComposeEnds base files (outcome_in result)))
+    → IfAllTold told (map string_bytes names) (λ files. Wrote out0 out_next (ComposeEnds base files (outcome_in answer)))
 unfolding Ended
-files_ended told names base survey old out0 number now out_now out_next before place version f0 f1 result some past at_last version_is sent b stands =
-    all_map told (map string_bytes names) (Ended base survey out0 now out_now before place) (λ files. Wrote out0 out_next (ComposeEnds base files (outcome_in result)))
-    (λ files e. by_end base survey out0 now out_now before place files e.0 out_next f0 f1 result at_last
-    (subst (λ (v : ℕ). EndEnd (now.pending ++ canonical v End) out_now out_next f0 f1 result) (version_is ∙ e.0.known.read.version) sent)) (ended_all told names base survey old out0 number now out_now before place some past b stands)
+files_ended told names base survey old out0 number now out_now out_next before place version f0 f1 result answer some past at_last version_is sent answered b stands =
+    all_map told (map string_bytes names) (Ended base survey out0 now out_now before place) (λ files. Wrote out0 out_next (ComposeEnds base files (outcome_in answer)))
+    (λ files e. subst (λ (r : Result (Unit {0}) Outcome). Wrote out0 out_next (ComposeEnds base files (outcome_in r))) (sym answered) (by_end base survey out0 now out_now before place files e.0 out_next f0 f1 result at_last
+    (subst (λ (v : ℕ). EndEnd (now.pending ++ canonical v End) out_now out_next f0 f1 result) (version_is ∙ e.0.known.read.version) sent))) (ended_all told names base survey old out0 number now out_now before place some past b stands)
 
 -- ---- the survey came to no end
 

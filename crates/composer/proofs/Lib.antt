@@ -18,3 +18,4 @@ pub mod OverBaseAnswers
 pub mod TakingItems
 pub mod EditSpelling
 pub mod AddingItems
+pub mod HandedOn

@@ -16,6 +16,8 @@ use Rattle.sx_base.specs.declared.outcome.Outcome.TheVariants as ended
 use Rattle.clone_resolve.proofs.TakenStates.{AllCells}
 use Rattle.clone_pieces.specs.Origins.{IsInInput}
 use Rattle.clone_pieces.specs.Sending.{AppendsFront}
+use Rattle.clone_pieces.specs.declared.stops.SendStop.{SendStop}
+use Rattle.clone_pieces.specs.declared.stops.SendStop.TheVariants as stop
 use Rattle.composer.specs.OverBase.{Plan, Composing, Refuses, Exceeds, advance, unsent}
 use Rattle.composer.specs.Kept.{Kept, composing_of}
 
@@ -81,16 +83,12 @@ pub record StopEnd (pending : List ℕ) (out_old out_new : Option (List ℕ)) (b
   pub front : AppendsFront out_old out_new pending
 
 -- All that was pending with END was written, or a proper front part of it, where the output failed.
-abbrev pub EndEnd : List ℕ → Option (List ℕ) → Option (List ℕ) → ℕ → ℕ → Result (Unit {0}) Outcome → Type 0
+abbrev pub EndEnd : List ℕ → Option (List ℕ) → Option (List ℕ) → ℕ → ℕ → Result (Unit {0}) SendStop → Type 0
 EndEnd bytes out_old out_new before now (Ok done) = Appends out_old out_new bytes
-EndEnd bytes out_old out_new before now (Err ended.OutputFault) = Rose before now × AppendsPart out_old out_new bytes
-EndEnd bytes out_old out_new before now (Err ended.NoMemory) = Appends out_old out_new []
-EndEnd bytes out_old out_new before now (Err ended.Done) = ⊥
-EndEnd bytes out_old out_new before now (Err (ended.Refused verdict)) = ⊥
-EndEnd bytes out_old out_new before now (Err ended.InputFault) = ⊥
-EndEnd bytes out_old out_new before now (Err (ended.InputTooLong file)) = ⊥
-EndEnd bytes out_old out_new before now (Err (ended.TooMuch sum)) = ⊥
-EndEnd bytes out_old out_new before now (Err (ended.InputChanged file place)) = ⊥
+EndEnd bytes out_old out_new before now (Err stop.OutputFault) = Rose before now × AppendsPart out_old out_new bytes
+EndEnd bytes out_old out_new before now (Err stop.NoMemory) = Appends out_old out_new []
+EndEnd bytes out_old out_new before now (Err stop.InputFault) = ⊥
+EndEnd bytes out_old out_new before now (Err (stop.InputChanged file place)) = ⊥
 
 -- The head that came last is the last of all: it has its name and its key.
 abbrev pub is_at_last : Option Head → Option Head → Bool

@@ -29,7 +29,7 @@ ghost use Rattle.composer.specs.Files.{plan_with};
 ghost use Rattle.composer.specs.Taking.{DataStand, ItemEnd, ErrCausedAgain, StopEnd, EndEnd, is_at_last};
 ghost use Rattle.composer.specs.Adding.{Led, stands_out, begun_with, AddEnd, IsSourceOf, AddsRange};
 
-use clone_pieces::{Known, OutsideBytes, put, put_bytes, redirect, send, uncarried};
+use clone_pieces::{Known, OutsideBytes, SendStop, put, put_bytes, redirect, send, uncarried};
 use clone_resolve::{EditCore, Key, Part, head_of};
 use cmd_reader::Item;
 use extent_map::Extents;
@@ -305,14 +305,20 @@ impl Composer {
                     len: *clone_len,
                 };
                 if self.is_own(*clone_uuid) {
-                    return self.add_own(&range, last, survey, out);
+                    return self
+                        .add_own(&range, last, survey, out)
+                        .map_err(Outcome::from);
                 }
                 if !survey.has_part(*clone_uuid) {
-                    return put_item(item, frame, survey.version(), &mut self.pending, out);
+                    return put_item(item, frame, survey.version(), &mut self.pending, out).map_err(
+                        Outcome::from,
+                    );
                 }
                 self.add_redirected(&range, survey, files, inputs, known, bytes, out)
             }
-            _ => put_item(item, frame, survey.version(), &mut self.pending, out),
+            _ => put_item(item, frame, survey.version(), &mut self.pending, out).map_err(
+                Outcome::from,
+            ),
         }
     }
 
@@ -333,7 +339,7 @@ impl Composer {
         last: Key,
         survey: &Survey,
         out: &mut O,
-    ) -> Result<(), Outcome>
+    ) -> Result<(), SendStop>
         requires short { (length range.now.path.now < 2 ^ 16)
             × (length range.now.source_path.now < 2 ^ 16) }
         ensures state { self.new.state ≡ self.old.state }
@@ -347,10 +353,10 @@ impl Composer {
             (O.faults out.old) (O.faults out.new) result }
     {
         let Ok(path) = copied(self.alloc, range.path) else {
-            return Err(Outcome::NoMemory);
+            return Err(SendStop::NoMemory);
         };
         let Ok(clone_path) = copied(self.alloc, range.source_path) else {
-            return Err(Outcome::NoMemory);
+            return Err(SendStop::NoMemory);
         };
         let clone_uuid = last.uuid;
         let _bytes: &[u8] = clone_uuid.as_bytes();
@@ -428,6 +434,7 @@ impl Composer {
             &mut self.pending,
             out,
         )
+        .map_err(Outcome::from)
     }
 
     /// Whether the head that came last is that of the last part. Where no part has begun, it is not.
@@ -471,16 +478,19 @@ impl Composer {
     /// # Errors
     /// The output failed, or there is no memory; then nothing was written.
     #[tactic(auto, using(crate::proofs::EditSpelling::end_short), unfolding(send_commands::specs::Writing::IsWritable, send_model::specs::Command::row))]
-    pub fn end<O: Sink>(&mut self, version: u32, out: &mut O) -> Result<(), Outcome>
+    pub fn end<O: Sink>(&mut self, version: u32, out: &mut O) -> Result<(), SendStop>
         requires version { (version ≡ 1) ⊎ (version ≡ 2) }
         ensures later { O.faults out.old ≤ O.faults out.new }
         ensures ended { EndEnd (self.old.pending ++ canonical version End)
             (O.taken out.old) (O.taken out.new) (O.faults out.old) (O.faults out.new) result }
     {
         if encode(&Command::End, version, &mut self.pending).is_err() {
-            return Err(Outcome::NoMemory);
+            return Err(SendStop::NoMemory);
         }
-        send(&mut self.pending, out)
+        if send(&mut self.pending, out).is_err() {
+            return Err(SendStop::OutputFault);
+        }
+        Ok(())
     }
 }
 
@@ -491,7 +501,7 @@ fn put_item<O: Sink>(
     version: u32,
     pending: &mut Blob,
     out: &mut O,
-) -> Result<(), Outcome>
+) -> Result<(), SendStop>
     requires frame { item.now.canonical ≡ true
         → frame.now ≡ canonical item.now.version (meaning_of item.now.command) }
     requires writable { IsWritable version (meaning_of item.now.command) }
@@ -534,7 +544,7 @@ fn ended<O: Sink>(outcome: Outcome, pending: &mut Blob, out: &mut O) -> Outcome
     }
     match send(pending, out) {
         Ok(()) => outcome,
-        Err(fault) => fault,
+        Err(_) => Outcome::OutputFault,
     }
 }
 

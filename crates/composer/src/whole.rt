@@ -155,7 +155,7 @@ fn write_files<I: Inputs, E: Known, B: OutsideBytes, O: Sink>(
     if !composer.is_at_last(survey) {
         return Err(Outcome::Refused(place.refused(Refusal::NotConsecutive)));
     }
-    composer.end(survey.version(), out)
+    composer.end(survey.version(), out).map_err(Outcome::from)
 }
 
 // Composes a file's commands, and gives the place of the last. The number counts files from 0.

@@ -6,6 +6,7 @@ use Rattle.clone_resolve.proofs.TakenStates.{AllCells}
 use Rattle.composer.specs.Files.{plan_with}
 use Rattle.clone_pieces.proofs.Told.{told_moved}
 use Rattle.composer.proofs.FilesWriting.{files_start, files_there, files_after, begun, files_stopped, files_empty, files_ended}
+use Rattle.composer.proofs.HandedOn.{answer_is, end_caused, end_unchanged}
 use Rattle.composer.proofs.whole.write_files.Goals as goal
 
 pub loop-file-init : goal.loop-file-init
@@ -59,6 +60,12 @@ returns-then-not-is_at_last-clause-ends g c =
 
 pub returns-clause-ends : goal.returns-clause-ends
 returns-clause-ends g c =
-    files_ended _ c.args.files.now (g.E.Known.base c.args.known.now) c.args.survey.now c.args.composer.now _ c.loop-file.file c.loop-file.composer _ _ c.start-place.result c.loop-file.place c.version.result _ _ c.end.result
-    c.requires.some (omega (arith, c.loop-file-test.false)) (sym c.is_at_last.ensures.last ∙ c.if-not-is_at_last.false) c.version.ensures.version c.end.ensures.ended
+    files_ended _ c.args.files.now (g.E.Known.base c.args.known.now) c.args.survey.now c.args.composer.now _ c.loop-file.file c.loop-file.composer _ _ c.start-place.result c.loop-file.place c.version.result _ _ c.end.result c.map_err.result
+    c.requires.some (omega (arith, c.loop-file-test.false)) (sym c.is_at_last.ensures.last ∙ c.if-not-is_at_last.false) c.version.ensures.version c.end.ensures.ended (answer_is c.end.result c.map_err.result c.map_err.ensures.cases)
     (begun _ (map string_bytes c.args.files.now) (g.E.Known.base c.args.known.now) c.args.survey.now c.args.composer.now c.requires.apart c.requires.sayable c.requires.surveyed c.requires.start) c.loop-file.invariant.stand
+
+pub returns-clause-cause : goal.returns-clause-cause
+returns-clause-cause g c = end_caused _ _ _ _ _ _ _ _ _ _ c.end.result c.map_err.result (answer_is c.end.result c.map_err.result c.map_err.ensures.cases) c.loop-file.invariant.out_later c.end.ensures.ended
+
+pub returns-clause-changed : goal.returns-clause-changed
+returns-clause-changed g c = end_unchanged _ _ _ _ _ _ _ c.end.result c.map_err.result (answer_is c.end.result c.map_err.result c.map_err.ensures.cases) c.end.ensures.ended

@@ -1,6 +1,6 @@
 use Rattle.std.specs.Prelude.{◌≡◌, ◌≤◌, ℕ, List, map, Option, Ok}
 use Rattle.std.specs.String.{string_bytes}
-use Rattle.std.proofs.Common.{refl, sym, ap, ap₂, subst, ◌∙◌, arith, rules}
+use Rattle.std.proofs.Common.{refl, sym, ap, ap₂, subst, ◌∙◌, arith}
 use Rattle.send_model.specs.Command.{Command, Clone}
 use Rattle.send_model.specs.Spelling.{canonical}
 use Rattle.send_model.specs.Due.{most_literal}
@@ -18,7 +18,8 @@ use Rattle.composer.specs.Adding.{Led, AddEnd, IsSourceOf, AddsRange}
 use Rattle.composer.specs.contracts.composing.Composer.{the_view}
 use Rattle.composer.proofs.EditSpelling.{paths_short}
 use Rattle.clone_pieces.proofs.Told.{all_always, all_map}
-use Rattle.composer.proofs.AddingItems.{led_taken, own_adds, kept_adds, redirected_adds, plain_of, plain_adds, end_adds, put_caused}
+use Rattle.composer.proofs.AddingItems.{led_taken, own_adds, kept_adds, redirected_adds, plain_of, plain_adds, end_adds}
+use Rattle.composer.proofs.HandedOn.{answer_is, put_caused, put_unchanged}
 use Rattle.composer.proofs.composing.Composer.add.Goals as goal
 
 pub add_own-requires : goal.add_own-requires
@@ -35,11 +36,17 @@ returns-then-is_own-clause-added g c =
     let C : List ℕ → List ℕ → Command = λ p q. Clone p c.in-Clone.offset c.in-Clone.clone_uuid c.in-Clone.clone_ctransid q c.in-Clone.clone_offset c.in-Clone.clone_len in
     let is : meaning_of c.args.item.now.command ≡ C c.as_slice.result.now c.as_slice-in-Clone.result.now = ap meaning_of c.in-Clone.is ∙ ap₂ C (sym c.as_slice.ensures.bytes) (sym c.as_slice-in-Clone.ensures.bytes) in
     all_always (g.I.Inputs.told c.args.inputs.now) (map string_bytes c.args.files.now) _ (λ told.
-    subst (λ (m : Command). AddEnd told (g.E.Known.base c.args.known.now) c.args.survey.now (key_of c.args.last) c.args.self.now c.add_own.new.self m (g.O.Sink.taken c.args.out.now) (g.O.Sink.taken c.add_own.new.out) c.add_own.result) (sym is)
+    subst (λ (m : Command). AddEnd told (g.E.Known.base c.args.known.now) c.args.survey.now (key_of c.args.last) c.args.self.now c.add_own.new.self m (g.O.Sink.taken c.args.out.now) (g.O.Sink.taken c.add_own.new.out) c.map_err.result) (sym is)
     (own_adds told (g.E.Known.base c.args.known.now) c.args.survey.now (key_of c.args.last) c.args.self.now c.add_own.new.self (g.O.Sink.taken c.args.out.now) (g.O.Sink.taken c.add_own.new.out)
     c.as_slice.result.now c.in-Clone.offset c.in-Clone.clone_uuid c.in-Clone.clone_ctransid c.as_slice-in-Clone.result.now c.in-Clone.clone_offset c.in-Clone.clone_len
-    (g.O.Sink.faults c.args.out.now) (g.O.Sink.faults c.add_own.new.out) c.add_own.result (sym c.is_own.ensures ∙ c.if-is_own.true) c.add_own.ensures.put c.add_own.ensures.sum
+    (g.O.Sink.faults c.args.out.now) (g.O.Sink.faults c.add_own.new.out) c.add_own.result c.map_err.result (answer_is c.add_own.result c.map_err.result c.map_err.ensures.cases) (sym c.is_own.ensures ∙ c.if-is_own.true) c.add_own.ensures.put c.add_own.ensures.sum
     (subst (λ (k : Kept). k.sum ≤ most_literal) c.self-in-Clone.view_is c.self-in-Clone.invariant.1)))
+
+pub returns-then-is_own-clause-cause : goal.returns-then-is_own-clause-cause
+returns-then-is_own-clause-cause g c = put_caused _ _ _ _ _ _ _ _ _ _ _ c.add_own.result c.map_err.result (answer_is c.add_own.result c.map_err.result c.map_err.ensures.cases) c.add_own.ensures.put
+
+pub returns-then-is_own-clause-changed : goal.returns-then-is_own-clause-changed
+returns-then-is_own-clause-changed g c = put_unchanged _ _ _ _ _ _ _ _ _ c.add_own.result c.map_err.result (answer_is c.add_own.result c.map_err.result c.map_err.ensures.cases) c.add_own.ensures.put
 
 pub put_item-requires-clause-writable : goal.put_item-requires-clause-writable
 put_item-requires-clause-writable g c =
@@ -55,15 +62,23 @@ returns-then-not-has_part-clause-added g c =
     let is : meaning_of c.args.item.now.command ≡ C c.in-Clone.path c.in-Clone.clone_path = ap meaning_of c.in-Clone.is in
     let new : Kept = record (the_view c.self-in-Clone.inside) { pending = c.put_item.new.pending } in
     all_always (g.I.Inputs.told c.args.inputs.now) (map string_bytes c.args.files.now) _ (λ told.
-    subst (λ (m : Command). AddEnd told (g.E.Known.base c.args.known.now) c.args.survey.now (key_of c.args.last) c.args.self.now new m (g.O.Sink.taken c.args.out.now) (g.O.Sink.taken c.put_item.new.out) c.put_item.result) (sym is)
+    subst (λ (m : Command). AddEnd told (g.E.Known.base c.args.known.now) c.args.survey.now (key_of c.args.last) c.args.self.now new m (g.O.Sink.taken c.args.out.now) (g.O.Sink.taken c.put_item.new.out) c.map_err-then-not-has_part.result) (sym is)
     (kept_adds told (g.E.Known.base c.args.known.now) c.args.survey.now (key_of c.args.last) c.args.self.now new (g.O.Sink.taken c.args.out.now) (g.O.Sink.taken c.put_item.new.out)
     c.in-Clone.path c.in-Clone.offset c.in-Clone.clone_uuid c.in-Clone.clone_ctransid c.in-Clone.clone_path c.in-Clone.clone_offset c.in-Clone.clone_len
-    (g.O.Sink.faults c.args.out.now) (g.O.Sink.faults c.put_item.new.out) c.put_item.result (sym c.is_own.ensures ∙ c.if-is_own.false) (sym c.has_part.ensures ∙ c.if-not-has_part.true)
+    (g.O.Sink.faults c.args.out.now) (g.O.Sink.faults c.put_item.new.out) c.put_item.result c.map_err-then-not-has_part.result (answer_is c.put_item.result c.map_err-then-not-has_part.result c.map_err-then-not-has_part.ensures.cases) (sym c.is_own.ensures ∙ c.if-is_own.false) (sym c.has_part.ensures ∙ c.if-not-has_part.true)
     (subst (λ (m : Command). PutEnd (g.O.Sink.taken c.args.out.now) (g.O.Sink.taken c.put_item.new.out) c.args.self.now.pending c.put_item.new.pending (canonical c.args.survey.now.version m) (g.O.Sink.faults c.args.out.now) (g.O.Sink.faults c.put_item.new.out) c.put_item.result) is
     (subst (λ (v : ℕ). PutEnd (g.O.Sink.taken c.args.out.now) (g.O.Sink.taken c.put_item.new.out) c.args.self.now.pending c.put_item.new.pending (canonical v (meaning_of c.args.item.now.command)) (g.O.Sink.faults c.args.out.now) (g.O.Sink.faults c.put_item.new.out) c.put_item.result) c.version.ensures.version
     (subst (λ (k : Kept). PutEnd (g.O.Sink.taken c.args.out.now) (g.O.Sink.taken c.put_item.new.out) k.pending c.put_item.new.pending (canonical c.version.result (meaning_of c.args.item.now.command)) (g.O.Sink.faults c.args.out.now) (g.O.Sink.faults c.put_item.new.out) c.put_item.result) c.self-in-Clone.view_is c.put_item.ensures.put)))
     (ap (λ (k : Kept). k.sum) c.self-in-Clone.view_is)
     (subst (λ (k : Kept). k.sum ≤ most_literal) c.self-in-Clone.view_is c.self-in-Clone.invariant.1)))
+
+pub returns-then-not-has_part-clause-cause : goal.returns-then-not-has_part-clause-cause
+returns-then-not-has_part-clause-cause g c =
+    put_caused _ _ _ _ _ _ _ _ _ _ _ c.put_item.result c.map_err-then-not-has_part.result (answer_is c.put_item.result c.map_err-then-not-has_part.result c.map_err-then-not-has_part.ensures.cases) c.put_item.ensures.put
+
+pub returns-then-not-has_part-clause-changed : goal.returns-then-not-has_part-clause-changed
+returns-then-not-has_part-clause-changed g c =
+    put_unchanged _ _ _ _ _ _ _ _ _ c.put_item.result c.map_err-then-not-has_part.result (answer_is c.put_item.result c.map_err-then-not-has_part.result c.map_err-then-not-has_part.ensures.cases) c.put_item.ensures.put
 
 pub add_redirected-requires-clause-taken : goal.add_redirected-requires-clause-taken
 add_redirected-requires-clause-taken g c =
@@ -110,6 +125,7 @@ returns-else-not-has_part-clause-added g c =
 pub returns-in_default : goal.returns-in_default
 returns-in_default g c =
     let new : Kept = record (the_view c.self-in_default.inside) { pending = c.put_item-in_default.new.pending } in
+    let answered = answer_is c.put_item-in_default.result c.map_err-in_default.result c.map_err-in_default.ensures.cases in
     record {
       state = ap (λ (k : Kept). k.state) c.self-in_default.view_is;
       latest = ap (λ (k : Kept). k.latest) c.self-in_default.view_is;
@@ -119,11 +135,11 @@ returns-in_default g c =
       ends_later = omega arith;
       bytes_later = omega arith;
       out_later = c.put_item-in_default.ensures.later;
-      cause = put_caused _ _ _ _ _ _ _ _ _ _ _ c.put_item-in_default.result c.put_item-in_default.ensures.put;
-      changed = search rules;
+      cause = put_caused _ _ _ _ _ _ _ _ _ _ _ c.put_item-in_default.result c.map_err-in_default.result answered c.put_item-in_default.ensures.put;
+      changed = put_unchanged _ _ _ _ _ _ _ _ _ c.put_item-in_default.result c.map_err-in_default.result answered c.put_item-in_default.ensures.put;
       added = all_always (g.I.Inputs.told c.args.inputs.now) (map string_bytes c.args.files.now) _ (λ told.
           plain_adds told (g.E.Known.base c.args.known.now) c.args.survey.now (key_of c.args.last) c.args.self.now new (meaning_of c.args.item.now.command) (g.O.Sink.taken c.args.out.now) (g.O.Sink.taken c.put_item-in_default.new.out)
-          (g.O.Sink.faults c.args.out.now) (g.O.Sink.faults c.put_item-in_default.new.out) c.put_item-in_default.result (plain_of c.args.item.now.command c.requires.edit c.in_default.not-End c.in_default.not-Clone)
+          (g.O.Sink.faults c.args.out.now) (g.O.Sink.faults c.put_item-in_default.new.out) c.put_item-in_default.result c.map_err-in_default.result answered (plain_of c.args.item.now.command c.requires.edit c.in_default.not-End c.in_default.not-Clone)
           (subst (λ (v : ℕ). PutEnd (g.O.Sink.taken c.args.out.now) (g.O.Sink.taken c.put_item-in_default.new.out) c.args.self.now.pending c.put_item-in_default.new.pending (canonical v (meaning_of c.args.item.now.command)) (g.O.Sink.faults c.args.out.now) (g.O.Sink.faults c.put_item-in_default.new.out) c.put_item-in_default.result) c.version-in_default.ensures.version
           (subst (λ (k : Kept). PutEnd (g.O.Sink.taken c.args.out.now) (g.O.Sink.taken c.put_item-in_default.new.out) k.pending c.put_item-in_default.new.pending (canonical c.version-in_default.result (meaning_of c.args.item.now.command)) (g.O.Sink.faults c.args.out.now) (g.O.Sink.faults c.put_item-in_default.new.out) c.put_item-in_default.result) c.self-in_default.view_is c.put_item-in_default.ensures.put))
           (ap (λ (k : Kept). k.sum) c.self-in_default.view_is)

@@ -13,6 +13,7 @@ use Rattle.composer.specs.Kept.{Kept}
 use Rattle.composer.specs.contracts.composing.Composer.{the_view}
 use Rattle.clone_pieces.proofs.Told.{all_always, all_map}
 use Rattle.composer.proofs.AddingItems.{source_cells, source_exceeds, source_added, range_had}
+use Rattle.composer.proofs.HandedOn.{answer_is, redirect_caused, redirect_changed}
 use Rattle.composer.proofs.composing.Composer.add_redirected.Goals as goal
 
 pub returns-then-sum-gt-MOST_LITERAL-clause-added : goal.returns-then-sum-gt-MOST_LITERAL-clause-added
@@ -46,8 +47,14 @@ returns-clause-added g c =
     (pieces_spelled version (g.E.Known.base c.args.known.now) c.args.range.now.path.now c.args.range.now.offset (seen_cells told (g.E.Known.base c.args.known.now) (cells_between c.args.range.now.from c.args.range.now.len c.in-Some.contents.now))) c.redirect.result in
     all_map (g.I.Inputs.told c.args.inputs.now) (map string_bytes c.args.files.now) (E c.version.result (the_view c.self.inside)) _ (λ told end cells s.
     source_added told (g.E.Known.base c.args.known.now) c.args.survey.now.version c.args.range.now.path.now c.args.range.now.offset c.args.range.now.from c.args.range.now.len c.in-Some.contents.now cells
-    c.uncarried.result (c.self.inside.sum + c.uncarried.result) c.args.self.now (record (the_view c.self.inside) { sum = c.self.inside.sum + c.uncarried.result; pending = c.redirect.new.pending }) (g.O.Sink.taken c.args.out.now) (g.O.Sink.taken c.redirect.new.out) c.redirect.result
+    c.uncarried.result (c.self.inside.sum + c.uncarried.result) c.args.self.now (record (the_view c.self.inside) { sum = c.self.inside.sum + c.uncarried.result; pending = c.redirect.new.pending }) (g.O.Sink.taken c.args.out.now) (g.O.Sink.taken c.redirect.new.out) c.redirect.result c.map_err.result (answer_is c.redirect.result c.map_err.result c.map_err.ensures.cases)
     (source_cells c.in-Some.contents.now cells c.args.self.now.state (key_of c.args.range.now.source) c.args.range.now.source_path.now
     (λ source at f w file. c.in-Some.ensures source at (ap (λ (k : Kept). find k.state.store (key_of c.args.range.now.source)) c.self.view_is ∙ f) w file) s)
     c.uncarried.ensures.count (ap (λ (k : Kept). k.sum + c.uncarried.result) c.self.view_is) (omega (arith, c.if-sum-gt-MOST_LITERAL.false)) refl
     (subst (λ (k : Kept). E c.args.survey.now.version k told) c.self.view_is (subst (λ (v : ℕ). E v (the_view c.self.inside) told) c.version.ensures.version end))) c.redirect.ensures.redirected
+
+pub returns-clause-cause : goal.returns-clause-cause
+returns-clause-cause g c = redirect_caused _ _ _ _ _ _ c.redirect.result c.map_err.result (answer_is c.redirect.result c.map_err.result c.map_err.ensures.cases) c.redirect.ensures.cause
+
+pub returns-clause-changed : goal.returns-clause-changed
+returns-clause-changed g c = redirect_changed _ _ c.redirect.result c.map_err.result (answer_is c.redirect.result c.map_err.result c.map_err.ensures.cases) c.redirect.ensures.changed
