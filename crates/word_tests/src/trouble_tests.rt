@@ -143,9 +143,9 @@ fn short_reads_are_gone_on_with(rt: HostRuntime) -> Result<(), Fail> {
     let mut inputs = PathInputs::new(&files, rt.alloc());
     let mut buf = [0; 8];
     assert_eq!(rt; inputs.read_at("short", 0, &mut buf), Ok(3));
-    assert_eq!(rt; &buf[..3], b"012");
+    assert_eq!(rt; &buf[..3], b"012".as_slice());
     assert_eq!(rt; inputs.read_at("short", 3, &mut buf), Ok(3));
-    assert_eq!(rt; &buf[..3], b"345");
+    assert_eq!(rt; &buf[..3], b"345".as_slice());
     assert_eq!(rt; inputs.read_again("short", 1, &mut buf), Ok(()));
     assert_eq!(rt; &buf, b"12345678");
     assert_eq!(rt;
@@ -169,9 +169,9 @@ fn a_file_that_fails_in_its_middle_is_a_fault_there(rt: HostRuntime) -> Result<(
     assert_eq!(rt; inputs.read_again("bad", 2, &mut buf), Err(Lost::Failed));
     // Others can still be read.
     assert_eq!(rt; inputs.read_again("bad", 1, &mut buf[..5]), Ok(()));
-    assert_eq!(rt; &buf[..5], b"12345");
+    assert_eq!(rt; &buf[..5], b"12345".as_slice());
     assert_eq!(rt; inputs.read_at("bad", 7, &mut buf), Ok(3));
-    assert_eq!(rt; &buf[..3], b"789");
+    assert_eq!(rt; &buf[..3], b"789".as_slice());
     Ok(())
 }
 
@@ -188,7 +188,7 @@ fn a_pipe_is_read_in_order_and_once(rt: HostRuntime) -> Result<(), Fail> {
     assert_eq!(rt; inputs.read_at(&name, 4, &mut buf), Ok(4));
     assert_eq!(rt; &buf, b"4567");
     assert_eq!(rt; inputs.read_at(&name, 8, &mut buf), Ok(2));
-    assert_eq!(rt; &buf[..2], b"89");
+    assert_eq!(rt; &buf[..2], b"89".as_slice());
     assert_eq!(rt; inputs.read_at(&name, 10, &mut buf), Ok(0));
     assert_eq!(rt; inputs.read_at(&name, 0, &mut buf), Err(Failed));
     assert_eq!(rt; inputs.read_again(&name, 2, &mut buf), Err(Lost::Failed));
