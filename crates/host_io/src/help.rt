@@ -37,6 +37,9 @@ A full stream and two incremental ones, checked, merged and restored:
   btrsend compose none full second third > merged
   btrsend export merged | btrfs receive /restored
 
+WARNING: where a path of the chain names another file later (a file saved by renaming, a rotated log), `btrfs receive`
+silently makes wrong or empty files of a merged stream. Receive such a chain stream by stream.
+
 Streams of protocol versions 1 and 2 are read, with all commands but ENCODED_WRITE, which is refused as Encoded.
 
 The exit status is 0 where all was done. Else a line on standard error says why:
