@@ -1,14 +1,14 @@
 -- Worked examples of each command: what it changes, and its refusals in their order. What is expected is written down from the
 -- manual pages of the system calls, and for orders and limits from the profile of this program in words.
-use Rattle.std.specs.Prelude.{◌≡◌, ℕ, List, [], ◌∷◌, ◌++◌, Option, None, Some, Result, Ok, Err, replicate, codes, refl}
+use Rattle.std.specs.Prelude.{◌≡◌, ℕ, List, [], ◌∷◌, ◌++◌, Option, None, Some, Result, Ok, Err, replicate, codes, refl, map}
 use Rattle.send_model.specs.Refusal.{Refusal, BadPath, NoEntry, NotDirectory, EntryThere, IsDirectory, NotEmpty, IntoItself, NotFile, BadXattr, NoXattr, BadDevice, IsRoot, FileTooBig, NoSource, BadRange, Unaligned, Overlap, BadFallocate, NoNumber, NoSubvolume, BadName, NameThere, UuidThere, NoParent}
 use Rattle.send_model.specs.Command.{Command, Subvol, Snapshot, MkFile, MkDir, MkNod, MkFifo, MkSock, Symlink, Rename, Link, Unlink, Rmdir, SetXattr, RemoveXattr, Write, Clone, Truncate, Chmod, Chown, Utimes, UpdateExtent, Fallocate, FileAttr}
 use Rattle.send_model.specs.Map.{Map}
 use Rattle.send_model.specs.Subvolume.{File, Directory, SymbolicLink, CharacterDevice, BlockDevice, Fifo, Socket, Inode, Subvolume, new_inode, inode_at}
-use Rattle.send_model.specs.Edit.{edit}
+use Rattle.send_model.specs.Edit.{edit, allocation_of}
 use Rattle.send_model.specs.Store.{State, edit_part, step}
-use Rattle.send_model.specs.Receive.{bytes_of}
-use Rattle.send_model.proofs.ExampleWords.{uuid, key, directory, file, composing_words}
+use Rattle.send_model.specs.Receive.{bytes_of, start_of}
+use Rattle.send_model.proofs.ExampleWords.{uuid, key, directory, file, composing_words, one_file}
 
 -- A directory with a file in it, a file of two names, a link, a fifo, and an empty directory.
 abbrev before : Subvolume ℕ
@@ -218,6 +218,11 @@ file_onto_directory : refused (made (Rename (codes "f") (codes "m"))) ≡ Some I
 unfolding composing_words
 file_onto_directory = refl
 
+-- That a file does not replace a directory is told before that the directory is not empty.
+file_onto_full : refused (made (Rename (codes "f") (codes "d"))) ≡ Some IsDirectory
+unfolding composing_words
+file_onto_full = refl
+
 onto_full : refused (made (Rename (codes "m") (codes "d"))) ≡ Some NotEmpty
 unfolding composing_words
 onto_full = refl
@@ -426,6 +431,10 @@ no_mode_no_range : refused (made (Fallocate 0 (codes "f") 0 19)) ≡ Some (BadFa
 unfolding composing_words
 no_mode_no_range = refl
 
+-- No other bits make a mode, alone or beside the five: not those of the kernel's other modes.
+no_other_mode : map allocation_of (2 ∷ 4 ∷ 5 ∷ 7 ∷ 8 ∷ 18 ∷ 19 ∷ 32 ∷ 64 ∷ 65 ∷ []) ≡ replicate 10 None
+no_other_mode = refl
+
 allocate_too_far : refused (made (Fallocate 1 (codes "f") 9_223_372_036_854_775_807 1)) ≡ Some FileTooBig
 unfolding composing_words
 allocate_too_far = refl
@@ -493,6 +502,23 @@ unfinished_parent = refl
 parent_there : step_refused (Snapshot (uuid 0x33) 3 (codes "x") (uuid 0x11) 1) ≡ None
 unfolding composing_words
 parent_there = refl
+
+-- A part and a file in it; then a head of the same name, which is refused: it has completed the part before it, and there is none.
+abbrev first_begun : State ℕ
+first_begun = (step 0 [] (start_of []) (Subvol (uuid 0x11) 1 (codes "a"))).state
+
+abbrev head_refused : State ℕ
+head_refused = (step 0 [] (step 0 [] first_begun (MkFile (codes "x"))).state (Subvol (uuid 0x22) 2 (codes "a"))).state
+
+completed_though_refused : head_refused ≡
+    record { store = record { name = codes "a"; key = key 0x11 1; parent = None; contents = Some (one_file [] (codes "x" ∷ [])) } ∷ []; part = None }
+unfolding composing_words
+completed_though_refused = refl
+
+-- A refused edit changes nothing, and the part goes on.
+part_goes_on : (step 0 [] first_begun (Unlink (codes "q"))).state ≡ first_begun
+unfolding composing_words
+part_goes_on = refl
 
 -- ---- clones
 

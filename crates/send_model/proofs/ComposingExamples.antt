@@ -7,10 +7,10 @@ use Rattle.send_model.specs.Spelling.{stream_header, canonical_all}
 use Rattle.send_model.specs.Reading.{Item, input}
 use Rattle.send_model.specs.Store.{Store}
 use Rattle.send_model.specs.Receive.{start_of}
-use Rattle.send_model.specs.Order.{heads}
-use Rattle.send_model.specs.Outside.{part_uuids}
+use Rattle.send_model.specs.Order.{heads, lawful_items}
+use Rattle.send_model.specs.Outside.{part_uuids, base_of}
 use Rattle.send_model.specs.Provenance.{Place, Piece, Carried, Literal, traced_store, ranges_from, pieces_of, literal_len, is_run, uncarried, runs}
-use Rattle.send_model.specs.Composed.{first_head, last_head, composed_for, composed}
+use Rattle.send_model.specs.Composed.{first_head, last_head, composed_for, composed, composed_before_of}
 use Rattle.send_model.proofs.ExampleWords.{hexadecimal, uuid, key, one_file, store_of, items, reading_words, composing_words}
 use Rattle.send_model.proofs.ReadingExamples.{first_stream, second_stream, merged_stream}
 
@@ -264,3 +264,16 @@ inner_composed : composed_items [] (items (
     ∷ []
 unfolding composing_words
 inner_composed = refl
+
+-- ---- what is left of the base, and what stands before a refusal
+
+-- Only a part's own uuid goes from the base, and not the name that it shares with a subvolume there.
+same_name_stays : base_of (store_of (one_file [] [])) (items (Subvol (uuid 0x22) 1 (codes "p") ∷ End ∷ [])) ≡ store_of (one_file [] [])
+unfolding composing_words
+same_name_stays = refl
+
+-- Nothing stands for the refused command, nor for any behind it.
+before_refused : composed_before_of [] (items (Subvol (uuid 0x11) 1 (codes "a") ∷ Unlink (codes "q") ∷ MkFile (codes "x") ∷ End ∷ [])) ≡
+    Subvol (uuid 0x11) 1 (codes "a") ∷ []
+unfolding composing_words lawful_items
+before_refused = refl

@@ -1,14 +1,17 @@
 -- Worked examples of the answer that is due: files as another program takes and refuses them.
-use Rattle.std.specs.Prelude.{◌≡◌, ℕ, List, [], ◌∷◌, ◌++◌, None, Some, codes, refl}
+use Rattle.std.specs.Prelude.{◌≡◌, ℕ, List, [], ◌∷◌, ◌++◌, None, Some, codes, refl, true}
 use Rattle.std.specs.Fmt.{digits}
 use Rattle.send_model.specs.Refusal.{Refusal, BadVersion, Truncated, BadChecksum, NameThere, NoParent, NotConsecutive, Guarded}
 use Rattle.send_model.specs.Lengths.{limit, is_too_long, too_long, too_long_from}
 use Rattle.send_model.specs.Receive.{run_by}
 use Rattle.send_model.specs.Guards.{MostBytes, MostCommands, NoDevices, guard_of, new_guard, guard_refuses, guard_after, refused_from, looked}
-use Rattle.send_model.specs.Due.{Due, DoneWhole, RefusedAt, due_from, compose_due, limited_from, audit_due, accepted_line, file_due}
-use Rattle.send_model.specs.Words.{Compose, Audit, Dump, Gen, guards_and_files, request_of}
+use Rattle.send_model.specs.Due.{Due, DoneWhole, RefusedAt, due_from, compose_due, limited_from, audit_due, accepted_line, file_due, TooLong, most_literal, compose_due_of}
+use Rattle.send_model.specs.Words.{Compose, Audit, Dump, Gen, guards_and_files, request_of, StandsRefused}
+use Rattle.send_model.specs.Reading.{Reading}
+use Rattle.send_model.specs.Store.{Store}
 use Rattle.send_model.proofs.ExampleWords.{hexadecimal, reading_words, composing_words}
 use Rattle.send_model.proofs.ReadingExamples.{first_stream, second_stream}
+use Rattle.std.proofs.Common.{sym, ◌∙◌}
 
 unfoldable due_words : Unit {0}
 unfolding digits reading_words composing_words run_by guard_refuses guard_after refused_from looked is_too_long too_long too_long_from due_from limited_from audit_due accepted_line file_due first_stream second_stream
@@ -53,6 +56,11 @@ nothing_there : compose_due [] (no_part ∷ []) ≡ at 1 1 17 NotConsecutive
 unfolding due_words
 nothing_there = refl
 
+-- Where no file holds a part, the breach stands at the last END of all.
+nothing_in_two : compose_due [] (no_part ∷ no_part ∷ []) ≡ at 2 1 17 NotConsecutive
+unfolding due_words
+nothing_in_two = refl
+
 wrong_checksum : compose_due [] (no_checksum ∷ []) ≡ at 1 1 17 (BadChecksum 0 0x9dc96c50)
 unfolding due_words
 wrong_checksum = refl
@@ -69,6 +77,10 @@ no_bytes = refl
 third_version : compose_due [] (hexadecimal (codes "62747266732d73747265616d0003000000000000001500506cc99d") ∷ []) ≡ at 1 1 0 (BadVersion 3)
 unfolding due_words
 third_version = refl
+
+-- A file that is too long comes before all that was read.
+long_first : (n : ℕ) (base : Store ℕ) (reading : Reading) → compose_due_of (Some n) base reading ≡ TooLong n
+long_first n base reading = refl
 
 -- ---- audit, dump
 
@@ -107,6 +119,15 @@ not_dumped : file_due no_checksum ≡ at 1 1 17 (BadChecksum 0 0x9dc96c50)
 unfolding due_words
 not_dumped = refl
 
+-- A long file is not dumped, whatever stands in it.
+long_not_dumped : (bytes : List ℕ) → is_too_long 1 bytes ≡ true → file_due bytes ≡ TooLong 1
+unfolding file_due
+long_not_dumped bytes e = rw e refl
+
+-- What stands on standard output where a dump is refused is one text, and no front part of it will do.
+one_text : (base : Store ℕ) (files : List (List ℕ)) (a b : List ℕ) → StandsRefused (Dump 1) base files a → StandsRefused (Dump 1) base files b → a ≡ b
+one_text base files a b e f = e ∙ sym f
+
 -- ---- words
 
 composed_words : request_of (codes "compose" ∷ codes "none" ∷ codes "a" ∷ codes "b" ∷ []) ≡ Some (Compose 1 2)
@@ -133,6 +154,11 @@ guards_alone : request_of (codes "audit" ∷ codes "guard:nodev" ∷ codes "f" �
 unfolding request_of guards_and_files guard_of
 guards_alone = refl
 
+-- A store may begin as a guard does: only `guard:` with its colon is a guard's word.
+guardian_store : request_of (codes "audit" ∷ codes "guardian" ∷ codes "f" ∷ []) ≡ Some (Audit [] 1 2)
+unfolding request_of guards_and_files
+guardian_store = refl
+
 gen_words : request_of (codes "gen" ∷ codes "0002" ∷ codes "7" ∷ []) ≡ Some (Gen 2 7)
 unfolding request_of
 gen_words = refl
@@ -157,7 +183,10 @@ other_word : request_of (codes "composed" ∷ codes "none" ∷ codes "f" ∷ [])
 unfolding request_of
 other_word = refl
 
--- ---- the limit
+-- ---- the limits
 
 limit_is : limit ≡ 4_611_686_018_427_387_904
 limit_is = refl
+
+most_literal_is : most_literal ≡ 1_099_511_627_776
+most_literal_is = refl

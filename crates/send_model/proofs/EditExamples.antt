@@ -1,6 +1,6 @@
 -- Worked examples of edits: renames of hard links and of directories, and clones with a short last block.
 use Rattle.std.specs.Prelude.{◌≡◌, ℕ, List, [], ◌∷◌, ◌++◌, Result, Ok, Err, replicate, codes, refl}
-use Rattle.send_model.specs.Refusal.{Refusal, EntryThere, NotEmpty, IntoItself, NoSource, BadRange, Unaligned}
+use Rattle.send_model.specs.Refusal.{Refusal, EntryThere, NotEmpty, IntoItself, NoSource, BadRange, Unaligned, Overlap}
 use Rattle.send_model.specs.Chain.{◌>>=◌}
 use Rattle.send_model.specs.Command.{Command, MkFile, MkDir, Rename, Link, Clone}
 use Rattle.send_model.specs.Subvolume.{Subvolume, root_alone}
@@ -107,3 +107,9 @@ too_many_bytes = refl
 no_source : after_clone (key 0x99 9) 5_000 [] ≡ Err NoSource
 unfolding edit_part edit_words find
 no_source = refl
+
+-- Two names of one file are one file: a clone from one to the other overlaps as one on a single name does.
+overlap_by_names : edit_part 0 [] [] (record { key = own; subvolume = one_file (replicate 12_288 0x61) (codes "x" ∷ codes "y" ∷ []) })
+    (Clone (codes "x") 4_096 own.uuid own.ctransid (codes "y") 0 8_192) ≡ Err Overlap
+unfolding edit_part edit_words
+overlap_by_names = refl

@@ -1,10 +1,12 @@
 -- Worked examples of guards: which command of a small stream each one refuses, and with what it had counted; and guard words.
-use Rattle.std.specs.Prelude.{◌≡◌, ℕ, true, false, List, [], ◌∷◌, ◌++◌, None, Some, codes, refl}
+use Rattle.std.specs.Prelude.{◌≡◌, ℕ, true, false, List, [], ◌∷◌, ◌++◌, None, Some, codes, refl, map}
 use Rattle.send_model.specs.Refusal.{Guarded}
-use Rattle.send_model.specs.Command.{MkNod, Write, Clone, Truncate, Fallocate}
-use Rattle.send_model.specs.Receive.{run_by}
+use Rattle.send_model.specs.Command.{MkNod, Write, Clone, Truncate, Fallocate, Subvol, MkDir, MkFifo, MkSock, Unlink, UpdateExtent}
+use Rattle.send_model.specs.Receive.{run_by, byte_cells}
 use Rattle.send_model.specs.Guards.{GuardSpec, MostBytes, MostCommands, NoDevices, MostEnd, Guard, new_guard, guard_refuses, guard_after, guarded, refused_from, looked, receive_watched, receive_under, guard_of}
-use Rattle.send_model.proofs.ExampleWords.{hexadecimal, uuid, key, reading_words, composing_words}
+use Rattle.send_model.specs.Reading.{Whole}
+use Rattle.send_model.specs.Words.{new_guards}
+use Rattle.send_model.proofs.ExampleWords.{hexadecimal, uuid, key, reading_words, composing_words, items}
 use Rattle.send_model.proofs.ReadingExamples.{first_stream}
 
 unfoldable guard_words : Unit {0}
@@ -41,6 +43,13 @@ stays_unfinished : (receive_under [] (new_guard (MostCommands 3) ∷ []) (first_
 unfolding first_stream guard_words
 stays_unfinished = refl
 
+-- A guard is asked before the edit: a command that both refuse is the guard's.
+guard_first : (receive_watched 0 byte_cells [] (new_guard (MostCommands 1) ∷ [])
+    (record { items = items (Subvol (uuid 0x11) 1 (codes "a") ∷ Unlink (codes "q") ∷ []); end = Whole })).refused
+    ≡ Some (record { file = 1; command = 1; offset = 0; refusal = Guarded 0 1 })
+unfolding guard_words
+guard_first = refl
+
 -- ---- what each looks at
 
 abbrev with_used : GuardSpec → ℕ → Guard
@@ -49,6 +58,21 @@ with_used spec used = record { spec = spec; used = used }
 no_device : guarded (new_guard NoDevices ∷ []) (MkNod 0o20644 259 (codes "d")) ≡ Some (Guarded 0 0)
 unfolding guard_words
 no_device = refl
+
+-- Devices alone: no fifo, socket or directory.
+no_other_kind : map (guard_refuses (new_guard NoDevices)) (MkFifo [] ∷ MkSock [] ∷ MkDir [] ∷ []) ≡ false ∷ false ∷ false ∷ []
+unfolding guard_words
+no_other_kind = refl
+
+-- The place in a refusal is that of the guard which refused, and not how many there are.
+second_refuses : guarded (new_guard (MostCommands 9) ∷ new_guard NoDevices ∷ []) (MkNod 0o20644 259 (codes "d")) ≡ Some (Guarded 1 0)
+unfolding guard_words
+second_refuses = refl
+
+-- The bytes of a CLONE are not counted.
+clone_uncounted : guard_refuses (new_guard (MostBytes 8)) (Clone (codes "x") 4_096 (uuid 0x11) 1 (codes "y") 0 4_096) ≡ false
+unfolding guard_words
+clone_uncounted = refl
 
 -- A WRITE with data, a CLONE and a TRUNCATE end somewhere; a WRITE of no bytes and a FALLOCATE end nowhere.
 ends_above : guard_refuses (with_used (MostEnd 10) 0) (Write (codes "x") 9 (1 ∷ 2 ∷ [])) ≡ true
@@ -78,6 +102,10 @@ no_bytes = refl
 fallocate_unseen : guard_refuses (with_used (MostEnd 10) 0) (Fallocate 11 (codes "x") 0 0) ≡ false
 unfolding guard_words
 fallocate_unseen = refl
+
+extent_unseen : guard_refuses (new_guard (MostEnd 0)) (UpdateExtent 1 [] 0) ≡ false
+unfolding guard_words
+extent_unseen = refl
 
 -- ---- words
 
@@ -117,3 +145,7 @@ word_signed = refl
 word_other : guard_of (codes "guard:nodevs") ≡ None
 unfolding guard_of
 word_other = refl
+
+-- Guards stand in the order of their words.
+words_in_order : new_guards (NoDevices ∷ MostBytes 8 ∷ []) ≡ new_guard NoDevices ∷ new_guard (MostBytes 8) ∷ []
+words_in_order = refl

@@ -1,7 +1,7 @@
 -- The headline with clones holds of a worked example, so its premises can be met with a redirected clone and a carried run.
 use Rattle.std.specs.Prelude.{◌≡◌, ℕ, List, [], ◌∷◌, ◌++◌, replicate, Bool, true, false, if◌then◌else◌, None, Some, Ok, codes}
 use Rattle.std.proofs.Common.{refl, sym, ap, subst}
-use Rattle.send_model.specs.Command.{Snapshot, MkFile, Link, Write, Clone, End}
+use Rattle.send_model.specs.Command.{Snapshot, MkFile, Link, Write, Clone, End, Subvol}
 use Rattle.send_model.specs.Reading.{Item}
 use Rattle.send_model.specs.Subvolume.{Subvolume, root_alone, IsSound, IsLawful}
 use Rattle.send_model.specs.Edit.{edit}
@@ -10,7 +10,7 @@ use Rattle.send_model.specs.Receive.{run_by, run_items, byte_cells, start_of, Is
 use Rattle.send_model.specs.Order.{heads, IsConsecutive}
 use Rattle.send_model.specs.Outside.{base_of, keys_outside, FindsLawful}
 use Rattle.send_model.specs.Composed.{composed_of}
-use Rattle.send_model.specs.Headline.{AreComposed}
+use Rattle.send_model.specs.Headline.{AreComposed, CanReceiveOf}
 use Rattle.send_model.proofs.ExampleWords.{uuid, key, one_file, store_of, items, composing_words}
 use Rattle.send_model.proofs.Sorts.{same_inside}
 use Rattle.send_model.proofs.SoundChanges.{root_alone_is_sound}
@@ -89,3 +89,9 @@ consecutive = (some, (refl, tt))
 holds : AreComposed (base_of (store_of linked) cloned_items) cloned_items (composed_of (base_of (store_of linked) cloned_items) cloned_items)
 holds = items_hold (store_of linked) cloned_items consecutive (subst (λ (b : Store ℕ). IsAccepted (run_items 0 byte_cells (start_of b) cloned_items)) (sym the_base) accepted)
     (subst (λ (b : Store ℕ). FindsLawful b (keys_outside cloned_items)) (sym the_base) (λ k s among f. finds_lawful k s f))
+
+-- A store that has a subvolume can receive: it need not be empty.
+full_store_can : (s : Subvolume ℕ)
+    → CanReceiveOf [] (items (Subvol (uuid 0x22) 2 (codes "b") ∷ End ∷ [])) (record { name = codes "b"; key = key 0x22 2; parent = None }) (store_of s)
+unfolding composing_words
+full_store_can s = record { lawful = (refl, refl, tt); same = tt; no_name = refl; no_uuid = refl }

@@ -1,7 +1,9 @@
 -- Worked examples of the receivable spelling, as an assembler independent of this program makes the frames; and of a stream in it.
-use Rattle.std.specs.Prelude.{◌≡◌, ℕ, List, ◌++◌, codes, refl}
-use Rattle.send_model.specs.Command.{MkFile, MkNod, Symlink, Write, Utimes}
+use Rattle.std.specs.Prelude.{◌≡◌, ℕ, List, ◌++◌, codes, refl, [], ◌∷◌, map, replicate, take}
+use Rattle.send_model.specs.Command.{MkFile, MkNod, Symlink, Write, Utimes, MkDir, MkFifo, MkSock}
 use Rattle.send_model.specs.Receivable.{receivable_attributes, receivable, exported_from, exported}
+use Rattle.send_model.specs.Attribute.{INO}
+use Rattle.send_model.specs.Spelling.{Attribute}
 use Rattle.send_model.proofs.ExampleWords.{hexadecimal, reading_words}
 use Rattle.send_model.proofs.ReadingExamples.{first_stream}
 
@@ -21,6 +23,15 @@ link_made = refl
 device_made : receivable 1 (MkNod 0o20644 259 (codes "d")) ≡ hexadecimal (codes "2900000005004a1bd6e303000800000000000000000005000800a4210000000000000800080003010000000000000f00010064")
 unfolding receivable_words
 device_made = refl
+
+-- So have directories, fifos and sockets, and it comes first.
+abbrev no_number : Attribute
+no_number = record { kind = INO; bytes = replicate 8 0 }
+
+others_made : map (λ c. take 1 (receivable_attributes c)) (MkDir (codes "x") ∷ MkFifo (codes "x") ∷ MkSock (codes "x") ∷ [])
+    ≡ (no_number ∷ []) ∷ (no_number ∷ []) ∷ (no_number ∷ []) ∷ []
+unfolding receivable_words
+others_made = refl
 
 -- The time of the inode's change is that of its contents.
 times_set : receivable 1 (Utimes (record { secs = 1; nanos = 2 }) (record { secs = 3; nanos = 4 }) (codes "x")) ≡ hexadecimal (codes "3500000014001b2a3d7509000c000100000000000000020000000a000c000100000000000000020000000b000c000300000000000000040000000f00010078")

@@ -4,15 +4,16 @@ use Rattle.std.specs.Prelude.{◌≡◌, ℕ, true, false, List, [], ◌∷◌, 
 use Rattle.std.specs.Fmt.{digits}
 use Rattle.send_model.specs.Refusal.{Refusal, refusal_number, refusal_name, BadMagic, BadVersion, Truncated, LongCommand, BadChecksum, UnknownCommand, BadAttribute, MissingAttribute, NoSubvolume, BadName, NameThere, UuidThere, NoParent, BadPath, NoEntry, NotDirectory, EntryThere, IsDirectory, NotEmpty, IntoItself, NotFile, BadXattr, NoXattr, BadDevice, BadTime, IsRoot, FileTooBig, NoSource, BadRange, Unaligned, Overlap, Encoded, Guarded, BadFallocate, NotConsecutive, NotBuilt, NoNumber}
 use Rattle.send_model.specs.Path.{is_name, between_slashes, path_names}
-use Rattle.send_model.specs.Command.{Kind, row, SUBVOL, SNAPSHOT, MKFILE, MKDIR, MKNOD, MKFIFO, MKSOCK, SYMLINK, RENAME, LINK, UNLINK, RMDIR, SET_XATTR, REMOVE_XATTR, WRITE, CLONE, TRUNCATE, CHMOD, CHOWN, UTIMES, END, UPDATE_EXTENT, FALLOCATE, FILEATTR, Subvol, Snapshot, Utimes}
-use Rattle.send_model.specs.Spelling.{stream_header, canonical_all}
-use Rattle.send_model.specs.Reading.{Ending, Faulty, Verdict, stream_version, frame_with, reads}
+use Rattle.send_model.specs.Command.{Kind, row, SUBVOL, SNAPSHOT, MKFILE, MKDIR, MKNOD, MKFIFO, MKSOCK, SYMLINK, RENAME, LINK, UNLINK, RMDIR, SET_XATTR, REMOVE_XATTR, WRITE, CLONE, TRUNCATE, CHMOD, CHOWN, UTIMES, END, UPDATE_EXTENT, FALLOCATE, FILEATTR, Subvol, Snapshot, Utimes, Rename, Link, Chown}
+use Rattle.send_model.specs.Spelling.{stream_header, canonical_all, Attribute, attributes_of}
+use Rattle.send_model.specs.Reading.{Ending, Faulty, Verdict, stream_version, frame_with, reads, command_of}
 use Rattle.send_model.specs.Store.{step}
 use Rattle.send_model.specs.Receive.{start_of}
 use Rattle.send_model.specs.Lines.{command_line, lines_from, dump_of}
 use Rattle.send_model.specs.Printed.{is_plain, hex_digit, escaped_byte, escaped, uuid_text, time_text}
 use Rattle.send_model.specs.Answer.{Done, Refused, Usage, InputFault, OutputFault, NoMemory, InputTooLong, TooMuch, InputChanged, status_of, eight_digits, kept_values, verdict_text, note_of}
 use Rattle.send_model.specs.Words.{Export, Trial, request_of}
+use Rattle.send_model.specs.Attribute.{UID, GID, PATH, PATH_TO, PATH_LINK, MTIME, ATIME, Number, field_bytes}
 use Rattle.send_model.proofs.ExampleWords.{uuid, reading_words, composing_words}
 use Rattle.send_model.proofs.ReadingExamples.{first_stream, second_stream}
 
@@ -146,6 +147,25 @@ row_fileattr : row_of FILEATTR ≡ (24, (codes "FILEATTR", 15 ∷ 26 ∷ []))
 unfolding row
 row_fileattr = refl
 
+-- Which value each attribute has, where two of a command have the same form.
+abbrev number : ℕ → ℕ → Attribute
+number kind n = record { kind = kind; bytes = field_bytes (Number n) }
+
+abbrev text : ℕ → List ℕ → Attribute
+text kind bytes = record { kind = kind; bytes = bytes }
+
+owner_spelled : attributes_of (Chown 1 2 (codes "x")) ≡ number UID 1 ∷ number GID 2 ∷ text PATH (codes "x") ∷ []
+unfolding reading_words
+owner_spelled = refl
+
+rename_spelled : attributes_of (Rename (codes "x") (codes "y")) ≡ text PATH (codes "x") ∷ text PATH_TO (codes "y") ∷ []
+unfolding reading_words
+rename_spelled = refl
+
+link_spelled : attributes_of (Link (codes "x") (codes "y")) ≡ text PATH (codes "x") ∷ text PATH_LINK (codes "y") ∷ []
+unfolding reading_words
+link_spelled = refl
+
 -- ---- statuses and notes
 
 abbrev verdict : ℕ → ℕ → ℕ → Refusal → Verdict
@@ -180,6 +200,19 @@ changed_said = refl
 guard_said : note_of (Refused (verdict 1 4 112 (Guarded 0 3))) ≡ said (codes "refused 1 4 112 33 Guarded 0 3")
 unfolding note_of digits verdict_text kept_values refusal_number refusal_name
 guard_said = refl
+
+-- Every other refusal that keeps a value says it.
+values_said : map (λ refusal. note_of (Refused (verdict 1 2 3 refusal)))
+    (BadVersion 3 ∷ LongCommand 262_145 ∷ UnknownCommand 25 ∷ BadAttribute 15 ∷ MissingAttribute 16 ∷ BadFallocate 2 ∷ []) ≡
+    map said (
+    codes "refused 1 2 3 2 BadVersion 3"
+    ∷ codes "refused 1 2 3 4 LongCommand 262145"
+    ∷ codes "refused 1 2 3 6 UnknownCommand 25"
+    ∷ codes "refused 1 2 3 7 BadAttribute 15"
+    ∷ codes "refused 1 2 3 8 MissingAttribute 16"
+    ∷ codes "refused 1 2 3 34 BadFallocate 2" ∷ [])
+unfolding note_of digits verdict_text kept_values refusal_number refusal_name
+values_said = refl
 
 -- Checksums have eight digits, zeros in front among them.
 checksum_said : note_of (Refused (verdict 1 1 17 (BadChecksum 0 0x9dc96c50))) ≡ said (codes "refused 1 1 17 5 BadChecksum 00000000 9dc96c50")
@@ -235,6 +268,15 @@ whole_second = refl
 last_nanosecond : with_nanos 999_999_999 ≡ Faulty (verdict 1 2 64 Truncated)
 unfolding reading_words
 last_nanosecond = refl
+
+-- A time has twelve bytes; and an attribute that is missing is told before one that is no lawful time.
+short_time : command_of 1 20 (text MTIME [] ∷ []) ≡ Err (BadAttribute MTIME)
+unfolding reading_words
+short_time = refl
+
+missing_before_time : command_of 1 20 (text MTIME (replicate 12 255) ∷ text ATIME (replicate 12 0) ∷ []) ≡ Err (MissingAttribute PATH)
+unfolding reading_words
+missing_before_time = refl
 
 -- ---- parts, lines, words
 

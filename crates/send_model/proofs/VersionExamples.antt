@@ -1,13 +1,15 @@
 -- Worked examples of version 2: its frames, as an assembler independent of this program makes them; its rules of reading, beside
 -- those of version 1; and the stream that stands for one of version 1 and one of version 2.
-use Rattle.std.specs.Prelude.{◌≡◌, ℕ, List, [], ◌∷◌, ◌++◌, Result, Ok, Err, codes, refl}
-use Rattle.send_model.specs.Refusal.{Refusal, BadVersion, BadAttribute, MissingAttribute, UnknownCommand, Encoded}
+use Rattle.std.specs.Prelude.{◌≡◌, ℕ, List, [], ◌∷◌, ◌++◌, Result, Ok, Err, codes, refl, map, Some}
+use Rattle.send_model.specs.Refusal.{Refusal, BadVersion, BadAttribute, MissingAttribute, UnknownCommand, Encoded, NoEntry}
 use Rattle.send_model.specs.Attribute.{SIZE, PATH, DATA}
-use Rattle.send_model.specs.Command.{Command, Subvol, Snapshot, MkFile, Write, Clone, End, Fallocate, FileAttr}
+use Rattle.send_model.specs.Command.{Command, Subvol, Snapshot, MkFile, Write, Clone, End, Fallocate, FileAttr, Unlink}
 use Rattle.send_model.specs.Spelling.{canonical, canonical_all, stream_header}
-use Rattle.send_model.specs.Reading.{Item, stream_version, front_of, frame_at, attributes_at, command_of}
+use Rattle.send_model.specs.Reading.{Item, stream_version, front_of, frame_at, attributes_at, command_of, Verdict}
 use Rattle.send_model.specs.Chain.{◌>>=◌}
 use Rattle.send_model.specs.Composed.{version_of, composed_of}
+use Rattle.send_model.specs.Order.{lawful_items}
+use Rattle.send_model.specs.Headline.{output_of}
 use Rattle.send_model.proofs.ExampleWords.{hexadecimal, uuid, reading_words, composing_words}
 
 -- ---- spelling
@@ -68,6 +70,11 @@ encoded_bad = refl
 encoded_in_front : front_of 1 2 3 79 (hexadecimal (codes "00000000190038433a4f")) ≡ Err Encoded
 unfolding reading_words
 encoded_in_front = refl
+
+-- Only 25 is refused so: the numbers before the first command and after the last are unknown.
+no_such_number : map (λ n. command_of 2 n []) (0 ∷ 25 ∷ 26 ∷ []) ≡ Err (UnknownCommand 0) ∷ Err Encoded ∷ Err (UnknownCommand 26) ∷ []
+unfolding reading_words
+no_such_number = refl
 
 -- The commands of version 2 alone are in front as any other is, and so is a CLONE, in either version.
 punched_in_front : front_of 1 2 3 79 (hexadecimal (codes "2500000017005aa40a4a0400080001000000000000000f000100781200080000000000000000001900040003000000"))
@@ -195,3 +202,21 @@ merged_stream =
 two_versions_composed : stream_header (version_of two_versions) ++ canonical_all (version_of two_versions) (composed_of [] two_versions) ≡ merged_stream
 unfolding merged_stream reading_words composing_words version_of
 two_versions_composed = refl
+
+-- Streams of version 1 alone are composed to one of version 1.
+first_alone : version_of (of_version 1 (Subvol (uuid 0x11) 1 (codes "a")) ∷ of_version 1 End ∷ []) ≡ 1
+unfolding version_of
+first_alone = refl
+
+-- Where a command is refused, the version and the name are still those of all that was read.
+abbrev refused_before : List Item
+refused_before =
+    of_version 1 (Subvol (uuid 0x11) 1 (codes "a")) ∷ of_version 1 (Unlink (codes "q")) ∷ of_version 1 End
+    ∷ of_version 2 (Snapshot (uuid 0x22) 2 (codes "b") (uuid 0x11) 1) ∷ of_version 2 End ∷ []
+
+abbrev at_unlink : Verdict
+at_unlink = record { file = 1; command = 1; offset = 0; refusal = NoEntry }
+
+front_of_two_versions : output_of (Some at_unlink) [] refused_before ≡ stream_header 2 ++ canonical_all 2 (Subvol (uuid 0x22) 2 (codes "b") ∷ [])
+unfolding reading_words composing_words version_of lawful_items
+front_of_two_versions = refl

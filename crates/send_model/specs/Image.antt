@@ -139,3 +139,11 @@ example_sealed = refl
 -- group 1 is cut short
 example_cut : IsCutShort (1 ∷ 2 ∷ 0 ∷ 0 ∷ 0 ∷ 0 ∷ 0 ∷ 0 ∷ 0 ∷ 7 ∷ [])
 example_cut = (refl, lit< tt)
+
+-- behind what was put there is room for a checksum of four bytes and for the next gate
+example_reserve : reserve ≡ 5
+example_reserve = refl
+
+-- a gate that is neither open nor 0 is closed too
+example_other_gate : HasGroups usual_header [] (header_of usual_header ++ 7 ∷ [])
+example_other_gate = record { gate = 7; rest = []; closed = λ e. cc; bytes = refl; lawful = record { format = inr refl; number_fits = lit< tt }; lengths_fit = tt }
