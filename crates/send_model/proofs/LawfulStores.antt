@@ -44,7 +44,7 @@ find_sayable (e ∷ store) key s all f = one (same_key e.key key) (λ q. find_sa
     one false more q = more q
 
 -- Contents change neither names nor uuids.
-same_entries : (test : Entry (Subvolume ℕ) → Bool) → ((e : Entry (Subvolume ℕ)) (o : Option (Subvolume ℕ)) → test (record e { contents = o }) ≡ test e) → (uuid : List ℕ) (s : Subvolume ℕ) (store : Store ℕ) → list_any test (with_contents uuid s store) ≡ list_any test store
+pub same_entries : (test : Entry (Subvolume ℕ) → Bool) → ((e : Entry (Subvolume ℕ)) (o : Option (Subvolume ℕ)) → test (record e { contents = o }) ≡ test e) → (uuid : List ℕ) (s : Subvolume ℕ) (store : Store ℕ) → list_any test (with_contents uuid s store) ≡ list_any test store
 unfolding with_contents
 same_entries test same uuid s [] = refl
 same_entries test same uuid s (e ∷ store) = one (bytes_eq e.key.uuid uuid) (same_entries test same uuid s store)

@@ -75,6 +75,7 @@ mod HeadlineClones
 pub mod HeadlineLaw
 pub mod LawfulEdits
 pub mod LawfulStores
+mod BaseReceives
 pub mod Dues
 mod HeadlineExample
 pub mod Exporting

@@ -9,7 +9,7 @@ use Rattle.send_model.specs.Reading.{Item, Reading, Frame, Front, Whole, is_vers
 use Rattle.send_model.specs.Map.{bytes_cmp}
 use Rattle.send_model.specs.Subvolume.{Subvolume, IsNameable, walk, first_path, is_nameable}
 use Rattle.send_model.specs.Edit.{edit}
-use Rattle.send_model.specs.Store.{Key, Head, Store, Part, State, step, edit_part, head_of}
+use Rattle.send_model.specs.Store.{Key, Head, Store, Part, State, step, edit_part, head_of, IsStore}
 use Rattle.send_model.specs.Receive.{IsAccepted, run_items, byte_cells, start_of, receive_of, receive}
 use Rattle.send_model.specs.Order.{heads, commands_of, IsConsecutive, judge_of}
 use Rattle.send_model.specs.Outside.{part_uuids, base_of, base, keys_outside, outside, FindsLawful, FindsSayable}
@@ -18,7 +18,7 @@ use Rattle.send_model.specs.Counts.{literal, clones, is_clone, is_end, kept_from
 use Rattle.send_model.specs.Composed.{first_head, last_head, head_command, version_of, composed_from, composed_of}
 use Rattle.send_model.specs.Generated.{chain_items}
 use Rattle.send_model.specs.Cells.{recelled_state, recelled_step}
-use Rattle.send_model.specs.Headline.{AreComposed, IsComposedOf, IsComposed, IsUnfinished, output_of, output_for}
+use Rattle.send_model.specs.Headline.{AreComposed, IsComposedOf, IsComposed, IsUnfinished, output_of, output_for, CanReceiveOf, last_entry}
 
 -- A command that a version can say.
 pub record CanWrite (version : ℕ) (c : Command) : Type 0 where
@@ -170,6 +170,18 @@ PlainFilesHold = (store : Store ℕ) (files : List (List ℕ)) → AllByRecursio
     → IsConsecutive (input files).items → IsAccepted (receive (base store files) files)
     → AllByRecursion (λ c. is_clone c ≡ false) (commands_of (input files).items)
     → IsComposed (base store files) files (output_for None (base store files) files)
+
+-- A base that takes items can itself receive what is composed from them: so the headline speaks of one store at the least, which is
+-- not empty where the base is not.
+abbrev pub BaseCanReceive : Type 0
+BaseCanReceive = (base : Store ℕ) (items : List Item) (last : Head) → IsStore base
+    → IsAccepted (run_items 0 byte_cells (start_of base) items) → last_head (heads items) ≡ Some last → CanReceiveOf base items last base
+
+-- So it takes what was written, keeps what it had, and gets the last part's subvolume.
+abbrev pub BaseReceives : Type 0
+BaseReceives = (base : Store ℕ) (reading : Reading) (written : List ℕ) (c : IsComposedOf base reading written) → IsStore base
+    → IsAccepted (receive base (written ∷ []))
+    × ((receive base (written ∷ [])).state.store ≡ base ++ last_entry c.first c.last c.subvolume ∷ [])
 
 -- ---- paths
 

@@ -12,7 +12,7 @@ ghost use Rattle.send_model.specs.Due.{IsJudgedOf, IsJudged};
 ghost use Rattle.send_model.specs.LengthLaws.{FilesAreMeasured, NamedIsFirstLong, FirstLongIsNamed, UnnamedIsWithin, WithinIsUnnamed, NamedStopsReading, StoppedIsNamed, ReadToTheLimit};
 ghost use Rattle.send_model.specs.Lawful.{KeepsLawfulness, EditsKeepSayable, ReceivedIsLawful, FilesLeaveLawful, LawfulFindsSayable, LawfulStoresHold};
 ghost use Rattle.send_model.specs.Receivable.{ReceivableSpells, ReceivableRises, ExportedIsSame, ExportedIsComposed};
-ghost use Rattle.send_model.specs.Laws.{SpelledIsRead, SpelledIsFront, FrameHasOneReading, ReadWasSpelled, RulesWereSpelled, DataIsThere, CanonicalSpells, SpelledIsSpellable, SecondSaysMore, AreInner, StreamIsRead, CutIsUnfinished, EditLooksAtItsPart, StepKeepsCells, FirstPathsAreLeast, AreCounted, ItemsHold, ItemsSpelled, FrontsAreWritable, ReadingsHold, PlainReadingsHold, FilesAreWhole, FilesHold, PlainFilesHold, ChainIsLawful};
+ghost use Rattle.send_model.specs.Laws.{SpelledIsRead, SpelledIsFront, FrameHasOneReading, ReadWasSpelled, RulesWereSpelled, DataIsThere, CanonicalSpells, SpelledIsSpellable, SecondSaysMore, AreInner, StreamIsRead, CutIsUnfinished, EditLooksAtItsPart, StepKeepsCells, FirstPathsAreLeast, AreCounted, ItemsHold, ItemsSpelled, FrontsAreWritable, ReadingsHold, PlainReadingsHold, FilesAreWhole, FilesHold, PlainFilesHold, BaseCanReceive, BaseReceives, ChainIsLawful};
 
 /// Whatever spells a command is read as that command, whatever follows it, and spells no other; what is read was spelled. So it is
 /// of every command of either version, and of the item in front; the data of a WRITE stand where its item says. The canonical spelling spells its
@@ -120,7 +120,8 @@ pub fn composed_commands_are_counted()
 /// the last name nor uuid, accepts them and gets exactly the last part's subvolume. So it is for items, whatever of them can be
 /// read, where the subvolumes outside are lawful; and for what was read to a whole end, in terms of the stream that is written, where
 /// the format can say the subvolumes outside. Without clones these may be of any kind. Files of bytes are read so. What stands for
-/// first items alone, where composing stops among them, can be written too.
+/// first items alone, where composing stops among them, can be written too. A base that takes the items can itself receive what is
+/// composed from them.
 pub fn composed_streams_are_accepted()
     ensures items { ItemsHold }
     ensures spelled { ItemsSpelled }
@@ -130,6 +131,8 @@ pub fn composed_streams_are_accepted()
     ensures whole { FilesAreWhole }
     ensures files { FilesHold }
     ensures plain { PlainFilesHold }
+    ensures base { BaseCanReceive }
+    ensures received { BaseReceives }
 {}
 
 /// The answer that is due to compose is the verdict on what was read over the base, unless one of them is too long or the redirected

@@ -1,5 +1,6 @@
 use Rattle.send_model.proofs.HeadlineLaw.{items_hold, items_spelled, fronts_are_writable, readings_hold, plain_readings_hold, files_are_whole, files_hold, plain_files_hold}
 use Rattle.send_model.proofs.laws.composed_streams_are_accepted.Goals as goal
+use Rattle.send_model.proofs.BaseReceives.{base_can_receive, base_receives}
 
 pub returns-clause-items : goal.returns-clause-items
 returns-clause-items c = items_hold
@@ -24,3 +25,9 @@ returns-clause-files c = files_hold
 
 pub returns-clause-plain : goal.returns-clause-plain
 returns-clause-plain c = plain_files_hold
+
+pub returns-clause-base : goal.returns-clause-base
+returns-clause-base c = base_can_receive
+
+pub returns-clause-received : goal.returns-clause-received
+returns-clause-received c = base_receives
