@@ -8,7 +8,7 @@ use Rattle.std.specs.Option.{unwrap_or}
 use Rattle.send_model.specs.Command.{Command, Subvol, Snapshot, MkFile, MkDir, MkNod, MkFifo, MkSock, Symlink, Rename, Link, Unlink, Rmdir, SetXattr, RemoveXattr, Write, Clone, Truncate, Chmod, Chown, Utimes, End, UpdateExtent, Fallocate, FileAttr}
 use Rattle.send_model.specs.Reading.{Item, input}
 use Rattle.send_model.specs.Subvolume.{first_path}
-use Rattle.send_model.specs.Store.{Key, Head, head_of, Store, State, find}
+use Rattle.send_model.specs.Store.{Key, Head, Store, State, find}
 use Rattle.send_model.specs.Receive.{start_of}
 use Rattle.send_model.specs.Order.{heads, lawful_of}
 use Rattle.send_model.specs.Outside.{part_uuids}
@@ -92,8 +92,30 @@ clone_commands store parts last state current (FileAttr path flags) = FileAttr p
 -- What stands for a command: nothing for a head or END.
 abbrev pub commands_for : Store ℕ → List (List ℕ) → Key → State Traced → Option (List ℕ) → Command → List Command
 commands_for store parts last state current End = []
-commands_for store parts last state current command =
-    elim (head_of command) [ Some head ↦ [] | None ↦ clone_commands store parts last state current command ]
+commands_for store parts last state current (Subvol uuid ctransid path) = []
+commands_for store parts last state current (Snapshot uuid ctransid path clone_uuid clone_ctransid) = []
+commands_for store parts last state current (Clone path offset clone_uuid clone_ctransid clone_path clone_offset clone_len) =
+    clone_commands store parts last state current (Clone path offset clone_uuid clone_ctransid clone_path clone_offset clone_len)
+commands_for store parts last state current (MkFile path) = MkFile path ∷ []
+commands_for store parts last state current (MkDir path) = MkDir path ∷ []
+commands_for store parts last state current (MkNod mode rdev path) = MkNod mode rdev path ∷ []
+commands_for store parts last state current (MkFifo path) = MkFifo path ∷ []
+commands_for store parts last state current (MkSock path) = MkSock path ∷ []
+commands_for store parts last state current (Symlink path path_link) = Symlink path path_link ∷ []
+commands_for store parts last state current (Rename path path_to) = Rename path path_to ∷ []
+commands_for store parts last state current (Link path path_link) = Link path path_link ∷ []
+commands_for store parts last state current (Unlink path) = Unlink path ∷ []
+commands_for store parts last state current (Rmdir path) = Rmdir path ∷ []
+commands_for store parts last state current (SetXattr name value path) = SetXattr name value path ∷ []
+commands_for store parts last state current (RemoveXattr name path) = RemoveXattr name path ∷ []
+commands_for store parts last state current (Write path offset bytes) = Write path offset bytes ∷ []
+commands_for store parts last state current (Truncate size path) = Truncate size path ∷ []
+commands_for store parts last state current (Chmod mode path) = Chmod mode path ∷ []
+commands_for store parts last state current (Chown uid gid path) = Chown uid gid path ∷ []
+commands_for store parts last state current (Utimes mtime atime path) = Utimes mtime atime path ∷ []
+commands_for store parts last state current (UpdateExtent size path offset) = UpdateExtent size path offset ∷ []
+commands_for store parts last state current (Fallocate size path offset mode) = Fallocate size path offset mode ∷ []
+commands_for store parts last state current (FileAttr path flags) = FileAttr path flags ∷ []
 
 unfoldable pub composed_from : Store ℕ → List (List ℕ) → Key → State Traced → Option (List ℕ) → List Item → List Command
 composed_from store parts last state current [] = []

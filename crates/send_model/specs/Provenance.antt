@@ -8,7 +8,7 @@ use Rattle.send_model.specs.Command.{Command, Subvol, Snapshot, MkFile, MkDir, M
 use Rattle.send_model.specs.Reading.{Item, input}
 use Rattle.send_model.specs.Subvolume.{Inode, Subvolume, is_file, is_nameable}
 use Rattle.send_model.specs.Clone.{block_len, cells_of, cloned}
-use Rattle.send_model.specs.Store.{Key, same_key, head_of, Entry, Store, State, Stepped, step, find, clone_source}
+use Rattle.send_model.specs.Store.{Key, same_key, Entry, Store, State, Stepped, step, find, clone_source}
 use Rattle.send_model.specs.Receive.{bytes_of, start_of}
 use Rattle.send_model.specs.Outside.{is_among, part_uuids}
 
@@ -78,7 +78,29 @@ fresh_cells item = map fresh (bytes_of item.command)
 -- The uuid of the part after a command.
 abbrev pub uuid_after : Option (List ℕ) → Command → Option (List ℕ)
 uuid_after current End = None
-uuid_after current command = elim (head_of command) [ None ↦ current | Some head ↦ Some head.key.uuid ]
+uuid_after current (Subvol uuid ctransid path) = Some uuid
+uuid_after current (Snapshot uuid ctransid path clone_uuid clone_ctransid) = Some uuid
+uuid_after current (MkFile path) = current
+uuid_after current (MkDir path) = current
+uuid_after current (MkNod mode rdev path) = current
+uuid_after current (MkFifo path) = current
+uuid_after current (MkSock path) = current
+uuid_after current (Symlink path path_link) = current
+uuid_after current (Rename path path_to) = current
+uuid_after current (Link path path_link) = current
+uuid_after current (Unlink path) = current
+uuid_after current (Rmdir path) = current
+uuid_after current (SetXattr name value path) = current
+uuid_after current (RemoveXattr name path) = current
+uuid_after current (Write path offset bytes) = current
+uuid_after current (Clone path offset clone_uuid clone_ctransid clone_path clone_offset clone_len) = current
+uuid_after current (Truncate size path) = current
+uuid_after current (Chmod mode path) = current
+uuid_after current (Chown uid gid path) = current
+uuid_after current (Utimes mtime atime path) = current
+uuid_after current (UpdateExtent size path offset) = current
+uuid_after current (Fallocate size path offset mode) = current
+uuid_after current (FileAttr path flags) = current
 
 abbrev pub is_own : Option (List ℕ) → List ℕ → Bool
 is_own None uuid = false
