@@ -1,5 +1,5 @@
 -- The whole audit: over cells of any kind, and with what it wrote.
-use Rattle.std.specs.Prelude.{◌≡◌, ℕ, ◌≤◌, List, [], ◌∷◌, length, take, Option, None, Some, Result, Ok, Err}
+use Rattle.std.specs.Prelude.{◌≡◌, ℕ, ◌≤◌, List, [], ◌∷◌, length, take, Option, None, Some, Result, Ok, Err, ◌<◌}
 use Rattle.std.proofs.Common.{refl, sym, ap, subst, ◌∙◌, arith}
 use Rattle.std.proofs.KnownBytes.{Appends-nil}
 use Rattle.send_model.specs.Refusal.{Refusal}
@@ -119,7 +119,7 @@ audit_accepts {C} told names core store guards start r totals old new before now
             done,
             record {
               count = part.0;
-              within = subst (λ (l : List ℕ). part.0 ≤ length l) line (omega (arith, part.1));
+              within = subst (λ (l : List ℕ). part.0 < length l) line part.1;
               written_is = ap (take part.0) line;
             },
           ),

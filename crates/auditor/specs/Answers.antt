@@ -6,7 +6,7 @@ use Rattle.send_model.specs.Reading.{Item, input}
 use Rattle.send_model.specs.Store.{Store, After}
 use Rattle.send_model.specs.Guards.{Guard}
 use Rattle.send_model.specs.Order.{heads}
-use Rattle.send_model.specs.Headline.{IsFrontOf}
+use Rattle.send_model.specs.Headline.{IsProperFrontOf}
 use Rattle.send_model.specs.Due.{Due, DoneWhole, RefusedAt, TooLong, limited_from, audit_due, accepted_line}
 use Rattle.send_model.specs.Words.{Audit, EndSays}
 use Rattle.sx_base.specs.Causes.{Rose}
@@ -114,8 +114,8 @@ WritesLine text old new before now (ended.InputChanged file place) = ⊥
 -- ---- the whole call
 
 -- The outcome is the answer that is due to an audit of the files over a store, under guards, and what was written stands with it:
--- the line where all is accepted, a front part of it where the output failed then, and else nothing.
+-- the line where all is accepted, a proper front part of it where the output failed then, and else nothing.
 abbrev pub AuditEnds : Store ℕ → List Guard → List (List ℕ) → Outcome → List ℕ → Type 0
 AuditEnds store guards files outcome written =
     EndsAs (audit_due store guards files) (EndSays (Audit [] 0 0) store files) (λ w. w ≡ [])
-    (λ w. (audit_due store guards files ≡ DoneWhole) × IsFrontOf (accepted_line files) w) outcome written
+    (λ w. (audit_due store guards files ≡ DoneWhole) × IsProperFrontOf (accepted_line files) w) outcome written

@@ -2,7 +2,7 @@
 -- names only the first stream's parent and subvolumes outside the list; every store holding these same subvolumes, and neither
 -- the last name nor uuid, accepts it and gets exactly the last stream's subvolume; and it writes literally only the streams' own
 -- bytes and cloned blocks that no outside subvolume carries. This program's own promise.
-use Rattle.std.specs.Prelude.{◌≡◌, ◌≢◌, ℕ, ◌+◌, ◌≤◌, List, [], ◌∷◌, ◌++◌, length, take, Option, None, Some, false, ◌⊎◌}
+use Rattle.std.specs.Prelude.{◌≡◌, ◌≢◌, ℕ, ◌+◌, ◌≤◌, List, [], ◌∷◌, ◌++◌, length, take, Option, None, Some, false, ◌⊎◌, ◌<◌}
 use Rattle.std.specs.List.{AllByRecursion}
 use Rattle.send_model.specs.Command.{Command}
 use Rattle.send_model.specs.Spelling.{stream_header, canonical_all}
@@ -118,6 +118,12 @@ whole_output base files = whole_output_of base (input files)
 pub record IsFrontOf (all written : List ℕ) : Type 0 where
   pub count : ℕ
   pub within : count ≤ length all
+  pub written_is : written ≡ take count all
+
+-- And not all of them.
+pub record IsProperFrontOf (all written : List ℕ) : Type 0 where
+  pub count : ℕ
+  pub within : count < length all
   pub written_is : written ≡ take count all
 
 -- What was written before compose stopped: no whole stream, and nothing but a front part of what was to be written.

@@ -7,7 +7,7 @@ use Rattle.send_model.specs.Guards.{GuardSpec, Guard, new_guard, number_word, gu
 use Rattle.send_model.specs.Lines.{dump_of}
 use Rattle.send_model.specs.Receivable.{exported}
 use Rattle.send_model.specs.Generated.{chain_of, trial_line}
-use Rattle.send_model.specs.Headline.{IsFrontOf, IsStopped, whole_output}
+use Rattle.send_model.specs.Headline.{IsFrontOf, IsStopped, whole_output, IsProperFrontOf}
 use Rattle.send_model.specs.Due.{Due, DoneWhole, RefusedAt, TooLong, TooMuch, compose_due, audit_due, accepted_line, file_due}
 
 -- A request. A store, a file and the first of some files are given by their places in the words, counted from 0.
@@ -130,10 +130,10 @@ StandsRefused (Export at) base files written = written ≡ exported (first_file 
 StandsRefused (Gen count seed) base files written = ⊥
 StandsRefused (Trial count seed) base files written = ⊥
 
--- What stands there where standard output itself failed. Audit writes where all is accepted, and only then.
+-- What stands there where standard output itself failed. Audit writes where all is accepted, and only then; its line was cut short.
 abbrev pub StandsCut : Request → Store ℕ → List (List ℕ) → List ℕ → Type 0
 StandsCut (Compose store at) base files written = IsStopped base files written
-StandsCut (Audit guards store at) base files written = (audit_due base (new_guards guards) files ≡ DoneWhole) × IsFrontOf (accepted_line files) written
+StandsCut (Audit guards store at) base files written = (audit_due base (new_guards guards) files ≡ DoneWhole) × IsProperFrontOf (accepted_line files) written
 StandsCut (Dump at) base files written = IsFrontOf (dump_of (first_file files)) written
 StandsCut (Export at) base files written = IsFrontOf (exported (first_file files)) written
 StandsCut (Gen count seed) base files written = IsFrontOf (chain_of seed count) written
