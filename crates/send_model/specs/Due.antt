@@ -59,8 +59,8 @@ reading_due base reading =
     or_due (due_from base (part_uuids reading.items) (start_of (traced_store base)) None None 0 reading.items)
     (refused_due (first_of (fault_of reading.end) (without_parts reading.items (heads reading.items))))
 
--- All files are read for their heads before a command is looked at, so the first that is too long, if there is one, comes before
--- all else.
+-- All files are read for their heads before a command is looked at, up to the first fault. So the first among these that is too
+-- long, if there is one, comes before all else; a file behind the fault is not looked at.
 abbrev pub compose_due_of : Option ℕ → Store ℕ → Reading → Due
 compose_due_of (Some file) base reading = TooLong file
 compose_due_of None base reading = reading_due base reading

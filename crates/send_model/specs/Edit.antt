@@ -187,7 +187,8 @@ change_contents path end change s = do
   require (nat_le end greatest_end) FileTooBig
   Ok (change_inode ino (set_cells change) s)
 
--- What FALLOCATE does, by the bits of its mode: 1 keeps the size, 2 punches a hole, 16 zeroes the range.
+-- What FALLOCATE does, by its whole mode: 0 fills the file up to the end of the range, 1 changes nothing, 3 punches a hole within the
+-- file, 16 zeroes the range and may lengthen the file, and 17 zeroes it within the file.
 pub data Allocation : Type 0 where
   Lengthen : Allocation
   KeepSize : Allocation

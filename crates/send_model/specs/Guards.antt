@@ -12,8 +12,8 @@ use Rattle.send_model.specs.Receive.{Ran, run_by, first_of, with_fault, byte_cel
 
 -- ---- what they are and what they look at
 
--- The four kinds: at most so many bytes in WRITE commands; at most so many commands; no devices; no file that is written,
--- cloned or cut to an end above a place.
+-- The four kinds: at most so many bytes in WRITE commands; at most so many commands; no MKNOD, whatever its mode; no WRITE of some
+-- bytes, CLONE or TRUNCATE whose end is above a place. A FALLOCATE is not looked at, though it may lengthen a file.
 pub data GuardSpec : Type 0 where
   MostBytes : (most : ℕ) → GuardSpec
   MostCommands : (most : ℕ) → GuardSpec

@@ -12,8 +12,9 @@ pub record Header : Type 0 where
   pub format : ℕ
   pub number : ℕ
 
--- There are two formats. Which bodies a group may have in which of them is the store's; groups of either kind stand in
--- images of either format. New images have format 2.
+-- There are two formats, and new images have format 2. Whether a group ends with a checksum of its body is said by the body's first
+-- byte: 1 to 3 have none, and stand in images of format 1 alone; 4 to 6 have one, and stand in images of both. That is a rule for
+-- bodies, which are the store's: nothing is asked of them here.
 pub record IsHeader (header : Header) : Type 0 where
   pub format : (header.format ≡ 1) ⊎ (header.format ≡ 2)
   pub number_fits : header.number < 2 ^ 64

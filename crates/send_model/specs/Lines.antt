@@ -1,5 +1,4 @@
--- What `dump` prints of a file: a line for each stream and one for each command, and `trial` of a chain. They are this program's
--- own.
+-- What `dump` prints of a file: a line for each stream that has a command, and one for each command. The lines are this program's own.
 use Rattle.std.specs.Prelude.{ℕ, ◌==◌, Bool, true, List, [], ◌∷◌, ◌++◌, length, codes, if◌then◌else◌}
 use Rattle.std.specs.Fmt.{decimal}
 use Rattle.std.specs.Ordering.{nat_cmp}

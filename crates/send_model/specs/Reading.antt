@@ -141,8 +141,8 @@ nanos_lawful NoForm bytes = true
 abbrev pub moment_lawful : List Attribute → ℕ → Bool
 moment_lawful attributes kind = nanos_lawful (form_of kind) (bytes_at attributes kind)
 
--- The command of a number with these attributes: no such number, the number of ENCODED_WRITE, an attribute missing or of a wrong
--- length, a bad time.
+-- The command of a number with these attributes. Its refusals in order: the number of ENCODED_WRITE, no such number, the first
+-- wanted attribute that is missing or has a wrong length, a bad time.
 unfoldable pub command_of : ℕ → ℕ → List Attribute → Result Command Refusal
 command_of version number attributes = do
   refuse_if (is_encoded version number) Encoded

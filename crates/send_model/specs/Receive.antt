@@ -6,7 +6,7 @@ use Rattle.send_model.specs.Command.{Command, Subvol, Snapshot, MkFile, MkDir, M
 use Rattle.send_model.specs.Reading.{Item, Verdict, Ending, Whole, Faulty, Reading, input}
 use Rattle.send_model.specs.Store.{Store, State, After, step}
 
--- What an item's WRITE puts into a file: its bytes, or cells that stand for them.
+-- The bytes that a WRITE carries; no other command carries any.
 abbrev pub bytes_of : Command → List ℕ
 bytes_of (Write path offset bytes) = bytes
 bytes_of (Subvol uuid ctransid path) = []
@@ -33,6 +33,7 @@ bytes_of (UpdateExtent size path offset) = []
 bytes_of (Fallocate size path offset mode) = []
 bytes_of (FileAttr path flags) = []
 
+-- What an item's WRITE puts into a file of bytes.
 abbrev pub byte_cells : Item → List ℕ
 byte_cells item = bytes_of item.command
 

@@ -57,7 +57,7 @@ pub record State (C : Type 0) : Type 0 where
   pub store : Store C
   pub part : Option (Part C)
 
--- The unfinished entry of a uuid gets its contents.
+-- The first entry of a uuid gets these contents, in place of any that it has.
 unfoldable pub with_contents : {S : Type 0} → List ℕ → S → List (Entry S) → List (Entry S)
 with_contents uuid s [] = []
 with_contents uuid s (e ∷ store) = if bytes_eq e.key.uuid uuid then record e { contents = Some s } ∷ store else e ∷ with_contents uuid s store
