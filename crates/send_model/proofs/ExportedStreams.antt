@@ -10,7 +10,7 @@ use Rattle.send_model.specs.Order.{heads_of, commands_of}
 use Rattle.send_model.specs.Outside.{IsAmong, outside, all_keys_named}
 use Rattle.send_model.specs.Counts.{literal, clones, streams}
 use Rattle.send_model.specs.Headline.{commands_in}
-use Rattle.send_model.specs.Receivable.{exported, said, ExportedIsComposed}
+use Rattle.send_model.specs.Receivable.{receivable_file, said, ReceivableFileIsComposed}
 use Rattle.send_model.proofs.Runs.{takes_run}
 use Rattle.send_model.proofs.Headlines.{first_none, received_run, received_one}
 use Rattle.send_model.proofs.Exporting.{exported_is_same}
@@ -20,10 +20,10 @@ commands_said : (items : List Item) → commands_of items ≡ map (λ s. s.1) (m
 commands_said [] = refl
 commands_said (item ∷ items) = ap (λ (cs : List Command). item.command ∷ cs) (commands_said items)
 
-pub exported_is_composed : ExportedIsComposed
+pub exported_is_composed : ReceivableFileIsComposed
 exported_is_composed base files written are k =
     let x = exported_is_same written are k.whole in
-    let again : List ℕ = exported written in
+    let again : List ℕ = receivable_file written in
     let same : commands_in again ≡ commands_in written = commands_said (reads 1 again).items ∙ ap (λ (ss : List (ℕ × Command)). map (λ s. s.1) ss) x.same ∙ sym (commands_said (reads 1 written).items) in
     let Named : List Key → Type 0 = λ ks. AllByRecursion (λ key. IsAmong key (outside files) ⊎ (key ≡ k.last.key)) ks in
     let received : (t : Store ℕ) → IsAccepted (receive t (written ∷ [])) → receive t (again ∷ []) ≡ record { state = (receive t (written ∷ [])).state; refused = None } =

@@ -19,7 +19,7 @@ use Rattle.send_model.proofs.Streams.{header_length, header_read, after_header}
 use Rattle.send_model.proofs.ReadSpelled.{read_was_spelled}
 use Rattle.send_model.proofs.ReadCommands.{DueIsRead, due_is_read, header_version}
 use Rattle.send_model.proofs.ElementLaws.{all_rest}
-use Rattle.send_model.specs.Receivable.{number_zero, receivable_attributes, receivable, exported_from, exported, said, ReceivableSpells, ReceivableRises, ExportedIsSame}
+use Rattle.send_model.specs.Receivable.{number_zero, receivable_attributes, receivable, exported_from, receivable_file, said, ReceivableSpells, ReceivableRises, ReceivableFileIsSame}
 
 pub receivable_rises : ReceivableRises
 unfolding receivable_attributes attributes_of row
@@ -298,9 +298,9 @@ again (suc n) file (CommandDue version) number offset bytes read are =
     one version item r rest v can more true e = λ whole. goes_last version item v can (ends_there version item.command rest e)
     one version item r rest v can more false e = λ whole. goes_on version item r.items (is_end item.command) v can refl (subst (λ (d : Due). Goes d r.items) (due_is version item.command) (more whole))
 
-pub exported_is_same : ExportedIsSame
-unfolding exported reads
+pub exported_is_same : ReceivableFileIsSame
+unfolding receivable_file reads
 exported_is_same bytes are whole =
     let g = again (suc (length bytes)) 1 HeaderDue 1 0 bytes tt are whole in
-    let s = g.back (suc (length (exported bytes))) 1 1 0 (omega arith) in
+    let s = g.back (suc (length (receivable_file bytes))) 1 1 0 (omega arith) in
     record { whole = s.whole; same = s.same }

@@ -91,7 +91,7 @@ pub name_has_no_slash : (name : List ℕ) → is_name name ≡ true → list_any
 unfolding is_name
 name_has_no_slash name good = not_true (list_any (λ b. b == slash) name) (third (nat_le 1 (length name)) (nat_le (length name) 255) (not (list_any (λ b. b == slash) name)) _ _ _ good)
 
-no_slash_alone : (name : List ℕ) → list_any (λ b. b == slash) name ≡ false → between_slashes name ≡ name ∷ []
+pub no_slash_alone : (name : List ℕ) → list_any (λ b. b == slash) name ≡ false → between_slashes name ≡ name ∷ []
 unfolding between_slashes
 no_slash_alone [] h = refl
 no_slash_alone (b ∷ name) h = let p = or_parts (b == slash) (list_any (λ c. c == slash) name) h in rw (p.0, no_slash_alone name p.1) refl

@@ -86,3 +86,9 @@ pub mod GeneratedChains
 pub mod TooLong
 mod LongFiles
 mod Audited
+pub mod Separators
+pub mod OpenFiles
+pub mod SeparatedRuns
+pub mod SeparatedCounts
+pub mod SeparatedStreams
+pub mod FreeNames

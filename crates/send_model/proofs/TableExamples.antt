@@ -307,7 +307,7 @@ two_streams : dump_of (first_stream ++ second_stream) ≡
 unfolding line_words
 two_streams = refl
 
-export_words : request_of (codes "export" ∷ codes "f" ∷ []) ≡ Some (Export 1)
+export_words : request_of (codes "export" ∷ codes "none" ∷ codes "f" ∷ []) ≡ Some (Export 1 2)
 unfolding request_of
 export_words = refl
 

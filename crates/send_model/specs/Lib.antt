@@ -33,3 +33,6 @@ pub mod Words
 pub mod Receivable
 pub mod Cells
 pub mod Laws
+pub mod Opened
+pub mod Separated
+pub mod Exported

@@ -48,7 +48,7 @@ receivable_attributes command = asked_for command ++ attributes_of command
 unfoldable pub receivable : ℕ → Command → List ℕ
 receivable version command = frame_of (row (kind_of command)).number (body_of version (receivable_attributes command))
 
--- ---- what `export` writes
+-- ---- files in this spelling
 
 abbrev pub header_before : Bool → ℕ → List ℕ
 header_before true version = stream_header version
@@ -59,9 +59,9 @@ unfoldable pub exported_from : Bool → List Item → List ℕ
 exported_from begins [] = []
 exported_from begins (item ∷ items) = header_before begins item.version ++ (receivable item.version item.command ++ exported_from (is_end item.command) items)
 
--- What is written of a file: all that is read of it.
-unfoldable pub exported : List ℕ → List ℕ
-exported bytes = exported_from true (reads 1 bytes).items
+-- A file in the receivable spelling: all that is read of it.
+unfoldable pub receivable_file : List ℕ → List ℕ
+receivable_file bytes = exported_from true (reads 1 bytes).items
 
 -- ---- laws
 
@@ -82,15 +82,15 @@ ReceivableRises = (c : Command) → rise (map (λ a. a.kind) (receivable_attribu
 abbrev pub said : Item → ℕ × Command
 said item = (item.version, item.command)
 
--- A whole file is exported as a whole file with the same commands in the same streams.
-pub record IsExported (bytes written : List ℕ) : Type 0 where
+-- A whole file is read again as a whole file with the same commands in the same streams.
+pub record IsReadAgain (bytes written : List ℕ) : Type 0 where
   pub whole : (reads 1 written).end ≡ Whole
   pub same : map said (reads 1 written).items ≡ map said (reads 1 bytes).items
 
-abbrev pub ExportedIsSame : Type 0
-ExportedIsSame = (bytes : List ℕ) → IsBytes bytes → (reads 1 bytes).end ≡ Whole → IsExported bytes (exported bytes)
+abbrev pub ReceivableFileIsSame : Type 0
+ReceivableFileIsSame = (bytes : List ℕ) → IsBytes bytes → (reads 1 bytes).end ≡ Whole → IsReadAgain bytes (receivable_file bytes)
 
--- So whatever compose promises of what it wrote, the exported stream keeps.
-abbrev pub ExportedIsComposed : Type 0
-ExportedIsComposed = (base : Store ℕ) (files : List (List ℕ)) (written : List ℕ) → IsBytes written
-    → IsComposed base files written → IsComposed base files (exported written)
+-- So whatever compose promises of what it wrote, it keeps.
+abbrev pub ReceivableFileIsComposed : Type 0
+ReceivableFileIsComposed = (base : Store ℕ) (files : List (List ℕ)) (written : List ℕ) → IsBytes written
+    → IsComposed base files written → IsComposed base files (receivable_file written)

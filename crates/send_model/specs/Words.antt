@@ -5,7 +5,7 @@ use Rattle.std.specs.Str.{bytes_eq}
 use Rattle.send_model.specs.Store.{Store}
 use Rattle.send_model.specs.Guards.{GuardSpec, Guard, new_guard, number_word, guard_of, is_guard_word}
 use Rattle.send_model.specs.Lines.{dump_of}
-use Rattle.send_model.specs.Receivable.{exported}
+use Rattle.send_model.specs.Exported.{exported}
 use Rattle.send_model.specs.Generated.{chain_of, trial_line}
 use Rattle.send_model.specs.Headline.{IsFrontOf, IsStopped, whole_output, IsProperFrontOf}
 use Rattle.send_model.specs.Due.{Due, DoneWhole, RefusedAt, TooLong, TooMuch, compose_due, audit_due, accepted_line, file_due}
@@ -15,7 +15,7 @@ pub data Request : Type 0 where
   Compose : (store : ℕ) (files : ℕ) → Request
   Audit : (guards : List GuardSpec) (store : ℕ) (files : ℕ) → Request
   Dump : (file : ℕ) → Request
-  Export : (file : ℕ) → Request
+  Export : (store : ℕ) (files : ℕ) → Request
   Gen : (count seed : ℕ) → Request
   Trial : (count seed : ℕ) → Request
 
@@ -34,7 +34,7 @@ abbrev pub with_guard : GuardSpec → Request → Request
 with_guard guard (Audit guards store files) = Audit (guard ∷ guards) store files
 with_guard guard (Compose store files) = Compose store files
 with_guard guard (Dump file) = Dump file
-with_guard guard (Export file) = Export file
+with_guard guard (Export store files) = Export store files
 with_guard guard (Gen count seed) = Gen count seed
 with_guard guard (Trial count seed) = Trial count seed
 
@@ -69,15 +69,15 @@ count_and_seed request (count ∷ seed ∷ more ∷ words) = None
 count_and_seed request (count ∷ []) = None
 count_and_seed request [] = None
 
--- `compose STORE FILE..`, `audit [GUARD..] STORE FILE..`, `dump FILE`, `export FILE`, `gen COUNT SEED` and `trial COUNT SEED`; no
--- other words mean anything.
+-- `compose STORE FILE..`, `audit [GUARD..] STORE FILE..`, `export STORE FILE..`, `dump FILE`, `gen COUNT SEED` and
+-- `trial COUNT SEED`; no other words mean anything.
 unfoldable pub request_of : List (List ℕ) → Option Request
 request_of [] = None
 request_of (word ∷ words) =
     if is_word (codes "compose") word then store_and_files Compose 1 words
     else (if is_word (codes "audit") word then guards_and_files 1 words
     else (if is_word (codes "dump") word then one_file Dump words
-    else (if is_word (codes "export") word then one_file Export words
+    else (if is_word (codes "export") word then store_and_files Export 1 words
     else (if is_word (codes "gen") word then count_and_seed Gen words
     else (if is_word (codes "trial") word then count_and_seed Trial words else None)))))
 
@@ -93,12 +93,12 @@ first_file [] = []
 first_file (bytes ∷ files) = bytes
 
 -- The answer that is due to a request, over a base, for the bytes of the files that it names. The base is the store without the
--- files' own parts for compose, and the store itself for audit.
+-- files' own parts for compose, and the store itself for audit and export. Export refuses what audit refuses.
 unfoldable pub due : Request → Store ℕ → List (List ℕ) → Due
 due (Compose store at) base files = compose_due base files
 due (Audit guards store at) base files = audit_due base (new_guards guards) files
 due (Dump at) base files = file_due (first_file files)
-due (Export at) base files = file_due (first_file files)
+due (Export store at) base files = audit_due base [] files
 due (Gen count seed) base files = DoneWhole
 due (Trial count seed) base files = DoneWhole
 
@@ -107,7 +107,7 @@ unfoldable pub whole_of : Request → Store ℕ → List (List ℕ) → List ℕ
 whole_of (Compose store at) base files = whole_output base files
 whole_of (Audit guards store at) base files = accepted_line files
 whole_of (Dump at) base files = dump_of (first_file files)
-whole_of (Export at) base files = exported (first_file files)
+whole_of (Export store at) base files = exported base files
 whole_of (Gen count seed) base files = chain_of seed count
 whole_of (Trial count seed) base files = trial_line seed count
 
@@ -117,16 +117,16 @@ abbrev pub StandsBefore : Request → Store ℕ → List (List ℕ) → List ℕ
 StandsBefore (Compose store at) base files written = IsStopped base files written
 StandsBefore (Audit guards store at) base files written = written ≡ []
 StandsBefore (Dump at) base files written = IsFrontOf (dump_of (first_file files)) written
-StandsBefore (Export at) base files written = IsFrontOf (exported (first_file files)) written
+StandsBefore (Export store at) base files written = IsFrontOf (exported base files) written
 StandsBefore (Gen count seed) base files written = IsFrontOf (chain_of seed count) written
 StandsBefore (Trial count seed) base files written = IsFrontOf (trial_line seed count) written
 
--- What stands there where a command is refused: of dump and export all that was read before the fault.
+-- What stands there where a command is refused: of dump and export all that stands before it.
 abbrev pub StandsRefused : Request → Store ℕ → List (List ℕ) → List ℕ → Type 0
 StandsRefused (Compose store at) base files written = IsStopped base files written
 StandsRefused (Audit guards store at) base files written = written ≡ []
 StandsRefused (Dump at) base files written = written ≡ dump_of (first_file files)
-StandsRefused (Export at) base files written = written ≡ exported (first_file files)
+StandsRefused (Export store at) base files written = written ≡ exported base files
 StandsRefused (Gen count seed) base files written = ⊥
 StandsRefused (Trial count seed) base files written = ⊥
 
@@ -135,7 +135,7 @@ abbrev pub StandsCut : Request → Store ℕ → List (List ℕ) → List ℕ �
 StandsCut (Compose store at) base files written = IsStopped base files written
 StandsCut (Audit guards store at) base files written = (audit_due base (new_guards guards) files ≡ DoneWhole) × IsProperFrontOf (accepted_line files) written
 StandsCut (Dump at) base files written = IsFrontOf (dump_of (first_file files)) written
-StandsCut (Export at) base files written = IsFrontOf (exported (first_file files)) written
+StandsCut (Export store at) base files written = IsFrontOf (exported base files) written
 StandsCut (Gen count seed) base files written = IsFrontOf (chain_of seed count) written
 StandsCut (Trial count seed) base files written = IsFrontOf (trial_line seed count) written
 

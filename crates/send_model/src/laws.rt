@@ -11,7 +11,8 @@ ghost use Rattle.send_model.specs.GuardLaws.{NoGuardsChangeNothing, AllowedIsAcc
 ghost use Rattle.send_model.specs.Due.{IsJudgedOf, IsJudged};
 ghost use Rattle.send_model.specs.LengthLaws.{FilesAreMeasured, NamedIsFirstLong, FirstLongIsNamed, UnnamedIsWithin, WithinIsUnnamed, NamedStopsReading, StoppedIsNamed, ReadToTheLimit};
 ghost use Rattle.send_model.specs.Lawful.{KeepsLawfulness, EditsKeepSayable, ReceivedIsLawful, FilesLeaveLawful, LawfulFindsSayable, LawfulStoresHold};
-ghost use Rattle.send_model.specs.Receivable.{ReceivableSpells, ReceivableRises, ExportedIsSame, ExportedIsComposed};
+ghost use Rattle.send_model.specs.Receivable.{ReceivableSpells, ReceivableRises, ReceivableFileIsSame, ReceivableFileIsComposed};
+ghost use Rattle.send_model.specs.Separated.{NeutralChangesNothing, TouchIsNeutral, DetourIsNeutral, FreeNameIsFree, SteadyIsPlain, SmallAreFit, SeparatedIsReceived, SeparatedCountsSame, StreamIsOne, SeparatedAreComposed, SeparatedAreReceived};
 ghost use Rattle.send_model.specs.Laws.{SpelledIsRead, SpelledIsFront, FrameHasOneReading, ReadWasSpelled, RulesWereSpelled, DataIsThere, CanonicalSpells, SpelledIsSpellable, SecondSaysMore, AreInner, StreamIsRead, CutIsUnfinished, EditLooksAtItsPart, StepKeepsCells, FirstPathsAreLeast, AreCounted, ItemsHold, ItemsSpelled, FrontsAreWritable, ReadingsHold, PlainReadingsHold, FilesAreWhole, FilesHold, PlainFilesHold, BaseCanReceive, BaseReceives, ChainIsLawful};
 
 /// Whatever spells a command is read as that command, whatever follows it, and spells no other; what is read was spelled. So it is
@@ -35,8 +36,25 @@ pub fn spelling_is_read_back()
 pub fn receivable_spelling_is_read_back()
     ensures spelled { ReceivableSpells }
     ensures rises { ReceivableRises }
-    ensures exported { ExportedIsSame }
-    ensures composed { ExportedIsComposed }
+    ensures exported { ReceivableFileIsSame }
+    ensures composed { ReceivableFileIsComposed }
+{}
+
+/// Commands with separators lead where the commands lead, and the real receiver makes of them what the plain run makes, though it keeps
+/// a file open by the spelling of its path. Separators have no bytes and no clones, name no subvolume, and are the same over every store
+/// that finds the same sources; so what the headline promises of composed commands it promises of them with separators.
+pub fn separators_change_nothing()
+    ensures neutral { NeutralChangesNothing }
+    ensures touch { TouchIsNeutral }
+    ensures detour { DetourIsNeutral }
+    ensures free { FreeNameIsFree }
+    ensures steady { SteadyIsPlain }
+    ensures separated { SeparatedIsReceived }
+    ensures fits { SmallAreFit }
+    ensures counts { SeparatedCountsSame }
+    ensures one { StreamIsOne }
+    ensures composed { SeparatedAreComposed }
+    ensures received { SeparatedAreReceived }
 {}
 
 /// A stream of a version that is read is read whole, with its commands; and one that is cut short is never read as whole.
