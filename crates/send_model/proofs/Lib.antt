@@ -92,3 +92,4 @@ pub mod SeparatedRuns
 pub mod SeparatedCounts
 pub mod SeparatedStreams
 pub mod FreeNames
+pub mod SeparatedCells
