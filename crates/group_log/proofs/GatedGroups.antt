@@ -8,7 +8,8 @@ use Rattle.sx_base.specs.Disk.{Pending, IsImage, written, settled}
 use Rattle.sx_base.specs.Bytes.{put_at}
 use Rattle.sx_base.specs.Crash.{IsStableFront}
 use Rattle.sx_base.proofs.DiskImages.{settled_front, image_front, image_byte, only_settled}
-use Rattle.send_model.specs.Image.{Header, HasGroups, header_of, front_of, group_of, IsShort}
+use Rattle.store_model.specs.Image.{Header, HasGroups, header_of, front_of, group_of, IsShort}
+use Rattle.store_model.proofs.OneJournal.{length-le}
 use Rattle.group_log.specs.State.{LogState}
 use Rattle.group_log.specs.Journal.{IsBehind, Rests, Grows, IsReady}
 
@@ -42,9 +43,6 @@ fits_push (b ∷ bodies) body fits short = (fits.0, fits_push bodies body fits.1
 
 pub length-bodies : (bodies : List (List ℕ)) (body : List ℕ) → length (bodies ++ body ∷ []) ≡ length bodies + 1
 length-bodies bodies body = length-append bodies (body ∷ [])
-
-pub length-le : (n : ℕ) → length (to_le_bytes w64 n) ≡ 8
-length-le n = refl
 
 pub length-group : (body : List ℕ) → length (group_of body) ≡ 9 + length body
 length-group body = omega (arith, length-append (1 ∷ to_le_bytes w64 (length body)) body, length-le (length body))

@@ -6,7 +6,7 @@ use Rattle.std.proofs.lemmas.List.{drop_at, drop-drop, length-take-le}
 use Rattle.sx_base.specs.Disk.{Pending, IsImage, settled}
 use Rattle.sx_base.specs.Crash.{IsStableFront}
 use Rattle.sx_base.proofs.DiskImages.{settled_front, only_settled}
-use Rattle.send_model.specs.Image.{Header, HasFault, IsCutShort, start_of, front_of, group_of}
+use Rattle.store_model.specs.Image.{Header, HasFault, IsCutShort, start_of, front_of, group_of}
 use Rattle.group_log.specs.State.{LogState}
 use Rattle.group_log.specs.declared.journal.GroupPlace.{GroupPlace}
 use Rattle.group_log.specs.declared.journal.Stage.TheVariants.{Reading}

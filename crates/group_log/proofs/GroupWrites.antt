@@ -7,10 +7,11 @@ use Rattle.sx_base.specs.Bytes.{put_at}
 use Rattle.sx_base.specs.Crash.{IsStableFront}
 use Rattle.sx_base.proofs.DiskImages.{written_behind, shortened_behind, settled_front, only_settled}
 use Rattle.send_model.specs.Checksum.{crc_of}
-use Rattle.send_model.specs.Image.{Header, HasGroups, front_of, sealed}
+use Rattle.store_model.specs.Image.{Header, HasGroups, front_of, sealed}
 use Rattle.group_log.specs.State.{LogState}
 use Rattle.group_log.specs.Journal.{IsBehind, Rests, Grows, IsReady}
-use Rattle.group_log.proofs.GatedGroups.{put_at_front, put_at_end, has_closed, length-le}
+use Rattle.group_log.proofs.GatedGroups.{put_at_front, put_at_end, has_closed}
+use Rattle.store_model.proofs.OneJournal.{length-le}
 
 pub behind_same : (header : Header) (bodies : List (List ℕ)) (log new : LogState) → new.gate ≡ log.gate → new.groups ≡ log.groups → new.format ≡ log.format → new.limit ≡ log.limit → IsBehind header bodies log → IsBehind header bodies new
 behind_same header bodies log new gate groups format limit behind = record {

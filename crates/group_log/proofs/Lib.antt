@@ -1,4 +1,3 @@
 pub mod GatedGroups
 mod GroupReads
 mod GroupWrites
-pub mod OneJournal

@@ -5,7 +5,7 @@ use Rattle.std.specs.Int.{w64, to_le_bytes}
 use Rattle.sx_base.specs.Disk.{Pending, settled}
 use Rattle.sx_base.specs.Crash.{IsStableFront}
 use Rattle.send_model.specs.Checksum.{crc_of}
-use Rattle.send_model.specs.Image.{Header, IsHeader, front_of, limit_of, reserve, IsShort}
+use Rattle.store_model.specs.Image.{Header, IsHeader, front_of, limit_of, reserve, IsShort}
 use Rattle.group_log.specs.State.{LogState, resting, past_group}
 use Rattle.group_log.specs.declared.journal.GroupPlace.{GroupPlace}
 use Rattle.group_log.specs.declared.journal.Stage.TheVariants.{Reading, AtRest, InProgress, Prepared}

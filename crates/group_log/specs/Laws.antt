@@ -1,6 +1,6 @@
 -- What the definitions of a journal's image and of its faults mean. This program's own.
 use Rattle.std.specs.Prelude.{◌≡◌, ℕ, List}
-use Rattle.send_model.specs.Image.{Header, HasGroups, HasFault}
+use Rattle.store_model.specs.Image.{Header, HasGroups, HasFault}
 
 -- Bytes are the image of one journal: there are not two headers, or two lists of groups, whose image they are.
 abbrev pub ImageIsOneJournal : Type 0

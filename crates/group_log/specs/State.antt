@@ -1,7 +1,7 @@
 -- What a log is seen as, and what becomes of that in each of its calls, whether or not the disk tells.
 use Rattle.std.specs.Prelude.{ℕ, ◌+◌, ◌-◌, List, length}
 use Rattle.send_model.specs.Checksum.{crc_of}
-use Rattle.send_model.specs.Image.{reserve}
+use Rattle.store_model.specs.Image.{reserve}
 use Rattle.group_log.specs.declared.journal.Stage.{Stage}
 use Rattle.group_log.specs.declared.journal.Stage.TheVariants.{Reading, AtRest, InProgress, Prepared}
 

@@ -2,7 +2,7 @@
 // anything is written behind it, and it is opened by a write of its own, after all that it guards is stable. The
 // format is this program's own.
 ghost use Rattle.std.specs.Prelude.{◌≡◌, ◌⊎◌, IfSome, IfNone};
-ghost use Rattle.send_model.specs.Image.{start_of};
+ghost use Rattle.store_model.specs.Image.{start_of};
 
 use crate::LogStop;
 use crate::filling::fill;
@@ -78,7 +78,7 @@ impl Log {
     ghost use Rattle.sx_base.specs.Causes.{Rose};
     ghost use Rattle.sx_base.specs.Disk.{Pending, IsAsBefore, IsImage, settled};
     ghost use Rattle.sx_base.specs.Crash.{LeavesOnly};
-    ghost use Rattle.send_model.specs.Image.{Header, HasGroups, HasFault, header_of, usual_header, sealed, reserve};
+    ghost use Rattle.store_model.specs.Image.{Header, HasGroups, HasFault, header_of, usual_header, sealed, reserve};
     ghost use Rattle.group_log.specs.declared.stops.LogStop.TheVariants.{NotStore, LogFull, StoreThere};
     ghost use Rattle.group_log.specs.declared.journal.Stage.TheVariants.{Reading, InProgress};
     ghost use Rattle.group_log.specs.Stopping.{IsFault, IsFaultOr};

@@ -8,7 +8,7 @@ use Rattle.std.proofs.lemmas.Grind.{flat_map-append}
 use Rattle.std.proofs.lemmas.List.{append-nil, take-append-le, take_at, drop_at, take_all}
 use Rattle.sx_base.specs.Disk.{Pending}
 use Rattle.send_model.specs.Checksum.{crc_of}
-use Rattle.send_model.specs.Image.{Header, HasGroups, header_of, front_of, group_of, sealed}
+use Rattle.store_model.specs.Image.{Header, HasGroups, header_of, front_of, group_of, sealed}
 use Rattle.group_log.specs.State.{LogState}
 use Rattle.group_log.specs.Journal.{Rests}
 use Rattle.log_tests.specs.Published.{joined, body_of, bodies_of, HasFirst}

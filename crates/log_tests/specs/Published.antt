@@ -1,7 +1,7 @@
 -- Groups whose bodies are made of pieces, and what a crash may leave while they are published one after the other.
 use Rattle.std.specs.Prelude.{ℕ, List, ◌++◌, take, map, flat_map, Vec}
 use Rattle.std.specs.declared.alloc.Global.{Global}
-use Rattle.send_model.specs.Image.{Header, HasGroups, sealed}
+use Rattle.store_model.specs.Image.{Header, HasGroups, sealed}
 
 -- the bytes of the pieces
 abbrev pub joined : List (Vec ℕ Global) → List ℕ

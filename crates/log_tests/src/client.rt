@@ -3,7 +3,7 @@
 ghost use Rattle.std.specs.Prelude.{◌≡◌, ◌⊎◌, ℕ, ◌+◌, ◌≤◌, List, [], ◌∷◌, ◌++◌, length, take, IfOk, OnOk};
 ghost use Rattle.sx_base.specs.Disk.{IsImage};
 ghost use Rattle.sx_base.specs.Crash.{LeavesOnly};
-ghost use Rattle.send_model.specs.Image.{Header, HasGroups, sealed, reserve};
+ghost use Rattle.store_model.specs.Image.{Header, HasGroups, sealed, reserve};
 ghost use Rattle.group_log.specs.Journal.{IsAtRest, IsInProgress, Rests, Grows};
 ghost use Rattle.log_tests.specs.Published.{joined, bodies_of, HasFirst};
 

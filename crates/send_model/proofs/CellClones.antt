@@ -113,7 +113,7 @@ module _ {C D : Type 0} (f : C → D) where
 
   -- ---- the step, clones included
 
-  any_edit : (x : C) (put : List C) (state : State C) (c : Command) → step_edit (f x) (map f put) (recelled_state f state) c ≡ recelled_step f (step_edit x put state c)
+  pub any_edit : (x : C) (put : List C) (state : State C) (c : Command) → step_edit (f x) (map f put) (recelled_state f state) c ≡ recelled_step f (step_edit x put state c)
   unfolding step_edit
   any_edit x put state c = one state.part
     where

@@ -79,7 +79,7 @@ module _ {C D : Type 0} (f : C → D) where
       ap at (sym (map-append (recelled_entry f) store (unfinished head ∷ [])))
   entered-cells store head (Err refusal) = refl
 
-  step_head-cells : (state : State C) (head : Head) → step_head (recelled_state f state) head ≡ recelled_step f (step_head state head)
+  pub step_head-cells : (state : State C) (head : Head) → step_head (recelled_state f state) head ≡ recelled_step f (step_head state head)
   unfolding step_head
   step_head-cells state head =
       ap (λ (st : Store D). entered st head (begun st head)) (completed-cells state)

@@ -13,11 +13,10 @@ use Rattle.send_model.proofs.Runs.{Takes, Takes-parts}
 abbrev pub EndsWithEnd : List Command → Type 0
 EndsWithEnd cs = (others : List Command) × (cs ≡ others ++ End ∷ [])
 
-EndsWhole : Reading → Type 0
+abbrev pub EndsWhole : Reading → Type 0
 EndsWhole r = r.end ≡ Whole → EndsWithEnd (commands_of r.items)
 
 faulty_ends : (file number offset : ℕ) (refusal : Refusal) → EndsWhole (faulty file number offset refusal)
-unfolding EndsWhole
 faulty_ends file number offset refusal e = cc
 
 only_end : (version : ℕ) (c : Command) (rest : List ℕ) → may_end (due_after version c) rest ≡ true → c ≡ End
@@ -25,11 +24,9 @@ only_end version End rest h = refl
 only_end version c rest h = absurd (false≢true h)
 
 one_more : (item : Item) (r : Reading) → EndsWhole r → EndsWhole (with_item item r)
-unfolding EndsWhole
 one_more item r ih w = let m = ih w in (item.command ∷ m.0, ap (λ (cs : List Command). item.command ∷ cs) m.1)
 
 item_then : (version : ℕ) (item : Item) (rest : List ℕ) (r : Reading) (b : Bool) → may_end (due_after version item.command) rest ≡ b → EndsWhole r → EndsWhole (with_item item (if b then ended else r))
-unfolding EndsWhole
 item_then version item rest r true e ih w = ([], ap (λ (c : Command). c ∷ []) (only_end version item.command rest e))
 item_then version item rest r false e ih w = one_more item r ih w
 
@@ -37,7 +34,7 @@ by_result : {A : Type 0} (more : A → Reading) (stop : Refusal → Reading) (r 
 by_result more stop (Ok x) m s = m x
 by_result more stop (Err refusal) m s = s refusal
 
-ends_from : (n file : ℕ) (due : Due) (number offset : ℕ) (bytes : List ℕ) → EndsWhole (reads_from n file due number offset bytes)
+pub ends_from : (n file : ℕ) (due : Due) (number offset : ℕ) (bytes : List ℕ) → EndsWhole (reads_from n file due number offset bytes)
 unfolding reads_from
 ends_from zero file due number offset bytes = faulty_ends file number offset _
 ends_from (suc n) file HeaderDue number offset bytes = by_result _ _ (stream_version bytes) (λ version. ends_from n file (CommandDue version) number (offset + header_len) (drop header_len bytes)) (faulty_ends file number offset)

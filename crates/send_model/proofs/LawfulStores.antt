@@ -90,22 +90,22 @@ distinct_last (e ∷ store) last h n u =
 
 -- ---- states
 
-abbrev PartSayable : Option (Part ℕ) → Type 0
+abbrev pub PartSayable : Option (Part ℕ) → Type 0
 PartSayable None = Unit {0}
 PartSayable (Some part) = IsSayable part.subvolume
 
-record IsLawfulState (state : State ℕ) : Type 0 where
-  store : IsLawfulStore state.store
-  part : PartSayable state.part
+pub record IsLawfulState (state : State ℕ) : Type 0 where
+  pub store : IsLawfulStore state.store
+  pub part : PartSayable state.part
 
-completed_lawful : (store : Store ℕ) (part : Option (Part ℕ)) → IsLawfulStore store → PartSayable part → IsLawfulStore (completed (record { store = store; part = part }))
+pub completed_lawful : (store : Store ℕ) (part : Option (Part ℕ)) → IsLawfulStore store → PartSayable part → IsLawfulStore (completed (record { store = store; part = part }))
 unfolding completed
 completed_lawful store None h p = h
 completed_lawful store (Some part) h p = record { distinct = distinct_contents part.key.uuid part.subvolume store h.distinct; entries = entries_contents part.key.uuid part.subvolume store p h.entries }
 
 -- ---- steps
 
-started : (store : Store ℕ) (parent : Option Key) (start : Subvolume ℕ) → IsLawfulStore store → start_from store parent ≡ Ok start → IsSayable start
+pub started : (store : Store ℕ) (parent : Option Key) (start : Subvolume ℕ) → IsLawfulStore store → start_from store parent ≡ Ok start → IsSayable start
 started store None start h e = subst (λ (s : Subvolume ℕ). IsSayable s) (ok_same e) root_alone_is_sayable
 started store (Some parent) start h e = one (find store parent) refl e
   where
@@ -114,7 +114,7 @@ started store (Some parent) start h e = one (find store parent) refl e
     one (Some s) f q = subst (λ (u : Subvolume ℕ). IsSayable u) (ok_same q) (find_sayable store parent s h.entries f)
 
 -- The uuid of a head that a version can say.
-head_uuid_fits : (version : ℕ) (c : Command) (head : Head) → head_of c ≡ Some head → IsSpellable version c → (length head.key.uuid ≡ 16) × IsBytes head.key.uuid
+pub head_uuid_fits : (version : ℕ) (c : Command) (head : Head) → head_of c ≡ Some head → IsSpellable version c → (length head.key.uuid ≡ 16) × IsBytes head.key.uuid
 unfolding row
 head_uuid_fits version (Subvol uuid ctransid path) head e s = let v = s.values in subst (λ (h : Head). (length h.key.uuid ≡ 16) × IsBytes h.key.uuid) (same_inside e) v.0
 head_uuid_fits version (Snapshot uuid ctransid path clone_uuid clone_ctransid) head e s = let v = s.values in subst (λ (h : Head). (length h.key.uuid ≡ 16) × IsBytes h.key.uuid) (same_inside e) v.0
@@ -144,7 +144,7 @@ source_sayable store part key u h own e = one (bytes_eq key.uuid part.key.uuid) 
     one true q = subst (λ (s : Subvolume ℕ). IsSayable s) (same_inside q) own
     one false q = find_sayable store key u h.entries q
 
-abbrev StepsLawfully : Command → Type 0
+abbrev pub StepsLawfully : Command → Type 0
 StepsLawfully c = (version : ℕ) (store : Store ℕ) (part : Option (Part ℕ)) → IsSpellable version c → IsLawfulStore store → PartSayable part → IsLawfulState (step 0 (bytes_of c) (record { store = store; part = part }) c).state
 
 end_lawful : StepsLawfully End
@@ -175,7 +175,7 @@ clone_lawful (Clone path offset uuid ctransid clone_path from len) e version sto
     (λ t made. clone_keeps_sayable part.subvolume (clone_source store part key) (bytes_eq uuid part.key.uuid) path offset clone_path from len t p (λ u is. source_sayable store part key u h p is) made)
 clone_lawful c e version store part s h p = absurd (true≢false (sym e))
 
-step_lawful : (c : Command) → StepsLawfully c
+pub step_lawful : (c : Command) → StepsLawfully c
 step_lawful c = by_sort {P = λ c. StepsLawfully c} head_lawful end_lawful clone_lawful plain_lawful c
 
 -- ---- runs
@@ -184,7 +184,7 @@ ran_lawful : (item : Item) (state : State ℕ) (o : Option Refusal) (rest : Ran 
 ran_lawful item state None rest h more = more
 ran_lawful item state (Some refusal) rest h more = h
 
-run_lawful : (items : List Item) (state : State ℕ) → AllByRecursion (λ item. IsSpellable item.version item.command) items → IsLawfulState state → IsLawfulState (run_items 0 byte_cells state items).state
+pub run_lawful : (items : List Item) (state : State ℕ) → AllByRecursion (λ item. IsSpellable item.version item.command) items → IsLawfulState state → IsLawfulState (run_items 0 byte_cells state items).state
 unfolding run_items run_by
 run_lawful [] state s h = h
 run_lawful (item ∷ items) state s h =

@@ -1,7 +1,7 @@
 pub mod ChecksumLaws
 pub mod ChecksumExamples
-mod ExampleWords
-mod ReadingExamples
+pub mod ExampleWords
+pub mod ReadingExamples
 mod VersionExamples
 mod EditExamples
 mod DueExamples
@@ -15,7 +15,7 @@ mod ProvenanceExamples
 pub mod ElementLaws
 pub mod Sorts
 pub mod Runs
-mod Guarding
+pub mod Guarding
 mod Guarded
 pub mod Stores
 pub mod Merging

@@ -63,7 +63,7 @@ pub due_is_read : (version : ℕ) (c : Command) → is_version version ≡ true 
 due_is_read version End e = tt
 due_is_read version c e = e
 
-reads_writable : (n file : ℕ) (due : Due) (number offset : ℕ) (bytes : List ℕ) → DueIsRead due → IsBytes bytes → AreWritable (reads_from n file due number offset bytes).items
+pub reads_writable : (n file : ℕ) (due : Due) (number offset : ℕ) (bytes : List ℕ) → DueIsRead due → IsBytes bytes → AreWritable (reads_from n file due number offset bytes).items
 unfolding reads_from
 reads_writable zero file due number offset bytes read are = tt
 reads_writable (suc n) file HeaderDue number offset bytes read are =

@@ -33,7 +33,7 @@ small32 bytes b =
     let a0 = byte_at bytes b 0 in let a1 = byte_at bytes b 1 in let a2 = byte_at bytes b 2 in let a3 = byte_at bytes b 3 in
     omega (arith, a0, a1, a2, a3)
 
-small64 : (bytes : List ℕ) → IsBytes bytes → from_le_bytes w64 bytes < 2 ^ 64
+pub small64 : (bytes : List ℕ) → IsBytes bytes → from_le_bytes w64 bytes < 2 ^ 64
 small64 bytes b =
     let a0 = byte_at bytes b 0 in let a1 = byte_at bytes b 1 in let a2 = byte_at bytes b 2 in let a3 = byte_at bytes b 3 in
     let a4 = byte_at bytes b 4 in let a5 = byte_at bytes b 5 in let a6 = byte_at bytes b 6 in let a7 = byte_at bytes b 7 in

@@ -1,5 +1,4 @@
 pub mod Checksum
-pub mod Image
 pub mod Refusal
 pub mod Chain
 pub mod Attribute

@@ -1,4 +1,4 @@
-use Rattle.group_log.proofs.OneJournal.{one_header, one_journal, no_fault, one_fault}
+use Rattle.store_model.proofs.OneJournal.{one_header, one_journal, no_fault, one_fault}
 use Rattle.group_log.proofs.laws.images_are_one_journal.Goals as goal
 
 pub returns : goal.returns

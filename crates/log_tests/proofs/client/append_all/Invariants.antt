@@ -1,7 +1,7 @@
 -- The pieces so far stand in the group in progress.
 use Rattle.std.proofs.Common.{◌≡◌, ℕ, ◌+◌, ◌++◌, List, length, take}
 use Rattle.sx_base.specs.Crash.{LeavesOnly}
-use Rattle.send_model.specs.Image.{Header, HasGroups}
+use Rattle.store_model.specs.Image.{Header, HasGroups}
 use Rattle.group_log.specs.Journal.{IsInProgress, Grows}
 use Rattle.log_tests.specs.Published.{joined}
 use Rattle.log_tests.proofs.client.append_all.Given as goal

@@ -1,7 +1,7 @@
 use Rattle.std.proofs.Common.{ℕ, ◌+◌, ◌++◌, List, ◌∷◌, [], take, sym, ◌∙◌, ap, subst, inl, inr, ⊎_elim, ◌≡◌}
 use Rattle.std.proofs.lemmas.List.{append-nil}
 use Rattle.sx_base.proofs.DiskMoments.{begins, joins, weakens, leaves_now}
-use Rattle.send_model.specs.Image.{HasGroups, sealed}
+use Rattle.store_model.specs.Image.{HasGroups, sealed}
 use Rattle.group_log.specs.Journal.{Rests}
 use Rattle.log_tests.specs.Published.{joined, body_of, bodies_of}
 use Rattle.group_log.proofs.GatedGroups.{rests_has}

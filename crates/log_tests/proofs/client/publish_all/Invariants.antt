@@ -1,7 +1,7 @@
 -- The groups so far are published.
 use Rattle.std.proofs.Common.{ℕ, ◌++◌, List, take}
 use Rattle.sx_base.specs.Crash.{LeavesOnly}
-use Rattle.send_model.specs.Image.{Header}
+use Rattle.store_model.specs.Image.{Header}
 use Rattle.group_log.specs.Journal.{IsAtRest, Rests}
 use Rattle.log_tests.specs.Published.{bodies_of, HasFirst}
 use Rattle.log_tests.proofs.client.publish_all.Given as goal

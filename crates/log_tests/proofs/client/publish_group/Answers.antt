@@ -1,6 +1,6 @@
 use Rattle.std.proofs.Common.{◌⊎◌, ℕ, List, ◌++◌, ◌∷◌, inl, []}
 use Rattle.sx_base.specs.Crash.{LeavesOnly}
-use Rattle.send_model.specs.Image.{Header, HasGroups, sealed}
+use Rattle.store_model.specs.Image.{Header, HasGroups, sealed}
 use Rattle.group_log.specs.Journal.{Rests}
 use Rattle.log_tests.specs.Published.{joined}
 use Rattle.sx_base.proofs.DiskMoments.{joins, weakens}

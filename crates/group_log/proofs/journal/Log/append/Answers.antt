@@ -2,7 +2,7 @@ use Rattle.std.proofs.Common.{◌≡◌, ℕ, ◌+◌, ◌≤◌, List, length, 
 use Rattle.sx_base.specs.Crash.{LeavesOnly}
 use Rattle.sx_base.proofs.DiskMoments.{begins, goes_on}
 use Rattle.send_model.specs.Checksum.{crc_of}
-use Rattle.send_model.specs.Image.{Header, HasGroups, front_of}
+use Rattle.store_model.specs.Image.{Header, HasGroups, front_of}
 use Rattle.send_model.proofs.ChecksumLaws.{crc_of-append}
 use Rattle.group_log.specs.State.{LogState}
 use Rattle.group_log.specs.Shown.{shown}

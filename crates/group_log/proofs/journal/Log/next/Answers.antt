@@ -1,5 +1,5 @@
 use Rattle.std.proofs.Common.{◌+◌, ◌<◌, ℕ, get_or, refl, sym, ◌∙◌, ap, subst, arith}
-use Rattle.send_model.specs.Image.{HasFault}
+use Rattle.store_model.specs.Image.{HasFault}
 use Rattle.group_log.specs.State.{LogState}
 use Rattle.group_log.specs.Shown.{shown}
 use Rattle.group_log.specs.Journal.{Reads}

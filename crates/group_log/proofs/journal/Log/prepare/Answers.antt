@@ -1,7 +1,7 @@
 use Rattle.std.proofs.Common.{◌≡◌, ℕ, ◌+◌, ◌-◌, ◌≤◌, [], ◌∷◌, ◌++◌, List, get_or, length, refl, sym, ◌∙◌, ap, subst, arith}
 use Rattle.sx_base.specs.Disk.{settled}
 use Rattle.sx_base.specs.Crash.{LeavesOnly, IsStableFront}
-use Rattle.send_model.specs.Image.{Header, HasGroups, front_of}
+use Rattle.store_model.specs.Image.{Header, HasGroups, front_of}
 use Rattle.sx_base.proofs.DiskMoments.{begins, goes_on}
 use Rattle.group_log.specs.State.{LogState}
 use Rattle.group_log.specs.Shown.{shown}

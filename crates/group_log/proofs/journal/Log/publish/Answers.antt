@@ -1,7 +1,7 @@
 use Rattle.std.proofs.Common.{ℕ, List, [], ◌∷◌, ◌++◌, ◌⊎◌, refl, sym, ◌∙◌, ap, subst, arith}
 use Rattle.sx_base.specs.Disk.{Pending, IsImage, settled}
 use Rattle.sx_base.specs.Crash.{LeavesOnly}
-use Rattle.send_model.specs.Image.{Header, HasGroups}
+use Rattle.store_model.specs.Image.{Header, HasGroups}
 use Rattle.sx_base.proofs.DiskMoments.{begins, goes_on}
 use Rattle.group_log.specs.State.{LogState}
 use Rattle.group_log.specs.Shown.{shown}

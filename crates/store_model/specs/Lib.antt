@@ -1,0 +1,10 @@
+pub mod Image
+pub mod Stored
+pub mod States
+pub mod StateLaws
+pub mod StoreLines
+pub mod Scrub
+pub mod Written
+pub mod StoreDue
+pub mod StoreWords
+pub mod StoreLaws

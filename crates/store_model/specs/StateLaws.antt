@@ -1,0 +1,47 @@
+-- What the states of a receive mean together. This program's own.
+use Rattle.std.specs.Prelude.{take, length, ◌^◌, ◌<◌, ◌≡◌, ℕ, false, List, [], ◌∷◌, ◌++◌, None}
+use Rattle.send_model.specs.Reading.{Item, input}
+use Rattle.send_model.specs.Store.{Store, completed}
+use Rattle.send_model.specs.Receive.{byte_cells}
+use Rattle.send_model.specs.Guards.{Guard, guarded}
+use Rattle.store_model.specs.Stored.{is_edit}
+use Rattle.std.specs.List.{AllByRecursion, flat_map}
+use Rattle.store_model.specs.States.{complete_line, lines_in, IsBetween, complete_behind, received, left_by}
+
+-- What receiving items passes through, receiving more items does.
+abbrev pub MoreItemsPassMore : Type 0 → Type 0
+MoreItemsPassMore C = (zero_cell : C) (cells : Item → List C) (least : ℕ) (store : Store C) (guards : List Guard) (items more : List Item) (now : Store C)
+    → IsBetween least store (received zero_cell cells store guards items).state.state.store now
+    → IsBetween least store (received zero_cell cells store guards (items ++ more)).state.state.store now
+
+-- It begins with the store itself.
+abbrev pub BeginsWithTheStore : Type 0 → Type 0
+BeginsWithTheStore C = (zero_cell : C) (cells : Item → List C) (store : Store C) (guards : List Guard) (items : List Item)
+    → IsBetween 0 store (received zero_cell cells store guards items).state.state.store store
+
+-- It passes through what it leaves, with all parts complete that are complete there.
+abbrev pub PassesWhatItLeaves : Type 0 → Type 0
+PassesWhatItLeaves C = (zero_cell : C) (cells : Item → List C) (store : Store C) (guards : List Guard) (items : List Item)
+    → let after = (received zero_cell cells store guards items).state.state.store in IsBetween (complete_behind store after) store after after
+
+-- And through what a head or END completes that no guard refuses, before this item does anything else.
+abbrev pub PassesWhatIsCompleted : Type 0 → Type 0
+PassesWhatIsCompleted C = (zero_cell : C) (cells : Item → List C) (store : Store C) (guards : List Guard) (items : List Item) (item : Item)
+    → let before = (received zero_cell cells store guards items).state in (received zero_cell cells store guards items).refused ≡ None
+    → guarded before.guards item.command ≡ None → is_edit item.command ≡ false
+    → IsBetween (complete_behind store (completed before.state)) store (received zero_cell cells store guards (items ++ item ∷ [])).state.state.store (completed before.state)
+
+-- So it is of files.
+abbrev pub FilesAreItems : Type 0
+FilesAreItems = (store : Store ℕ) (guards : List Guard) (files : List (List ℕ))
+    → left_by store guards files ≡ (received 0 byte_cells store guards (input files).items).state.state.store
+
+-- Lines end with a line end, and have none within: so many stand whole as there are line ends.
+abbrev pub LinesAreParts : Type 0 → Type 0
+LinesAreParts C = (parts : Store C) → AllByRecursion (λ e. e.key.ctransid < 2 ^ 64) parts → lines_in (flat_map complete_line parts) ≡ length parts
+
+-- Of what stands in front of all lines, the first ones stand whole, as many as there are line ends.
+abbrev pub FirstLinesStandWhole : Type 0 → Type 0
+FirstLinesStandWhole C = (parts : Store C) (written rest : List ℕ) → AllByRecursion (λ e. e.key.ctransid < 2 ^ 64) parts
+    → flat_map complete_line parts ≡ written ++ rest
+    → (part : List ℕ) × (written ≡ flat_map complete_line (take (lines_in written) parts) ++ part) × (lines_in part ≡ 0)

@@ -1,0 +1,60 @@
+// Laws that tie the definitions to what they mean. Each is the contract of a function that does nothing.
+ghost use Rattle.store_model.specs.StateLaws.{MoreItemsPassMore, BeginsWithTheStore, PassesWhatItLeaves, PassesWhatIsCompleted, FilesAreItems, LinesAreParts, FirstLinesStandWhole};
+ghost use Rattle.store_model.specs.Written.{WrittenIsReceived, WrittenIsLawful};
+ghost use Rattle.store_model.specs.StoreWords.{OneStoreDue, ReceiveIsAudit, LeftIsPassed, LeftIsReceived};
+ghost use Rattle.store_model.specs.StoreLaws.{BodyIsOneGroup, ImageIsOneStore, ImageIsNotBoth, OneGroupIsAtFault, EachImageIsDecided, StoredIsLawful, GroupsKeepCells, PlacesAreBytes, BytesHavePlaces, OneMoreIsMade, OneScrub, EachImageIsScrubbed, StoredIsWhole};
+
+/// An image of bytes stands for one store, which is lawful, or for none, where one group is at fault. Bytes are the body of one group
+/// at most. The places of bytes in the image are the cells of one store, and the bytes there are the cells of the other.
+pub fn images_stand_for_one_store()
+    ensures body { BodyIsOneGroup }
+    ensures not_both { ImageIsNotBoth }
+    ensures fault { OneGroupIsAtFault }
+    ensures decided { EachImageIsDecided }
+    ensures lawful { StoredIsLawful }
+    ensures places { PlacesAreBytes }
+    ensures bytes { BytesHavePlaces }
+{}
+
+/// An image stands for one store at most over any cells. Groups make the same store over all cells, and one group more makes of it
+/// what that group makes.
+pub fn groups_make_one_store<C, D>()
+    ensures one { ImageIsOneStore C }
+    ensures cells { GroupsKeepCells C D }
+    ensures more { OneMoreIsMade C }
+{}
+
+/// What receiving items passes through, receiving more items does: the store itself, what each item leaves, and each part once it is
+/// complete. So it is of files. As many lines of complete parts stand whole as there are line ends.
+pub fn receiving_passes_states<C>()
+    ensures more { MoreItemsPassMore C }
+    ensures first { BeginsWithTheStore C }
+    ensures own { PassesWhatItLeaves C }
+    ensures completed { PassesWhatIsCompleted C }
+    ensures files { FilesAreItems }
+    ensures lines { LinesAreParts C }
+    ensures whole { FirstLinesStandWhole C }
+{}
+
+/// Scrub has one answer for each image of bytes; and where an image stands for a store, it finds all groups whole.
+pub fn scrub_has_one_answer()
+    ensures one { OneScrub }
+    ensures each { EachImageIsScrubbed }
+    ensures stored { StoredIsWhole }
+{}
+
+/// One answer is due to a word over a store. What is due to receiving is what is due to an audit over the same store, unless there is
+/// no room for a group. The store that it leaves is one that receiving passes through and, where there was room, the one that it leaves.
+pub fn one_answer_is_due_over_a_store()
+    ensures one { OneStoreDue }
+    ensures receive { ReceiveIsAudit }
+    ensures passed { LeftIsPassed }
+    ensures left { LeftIsReceived }
+{}
+
+/// The groups that receiving writes behind those of a store, one Mark for each part that begins and one Body for each that is complete,
+/// make of it what receiving leaves. Those of files of bytes can stand in an image of either format.
+pub fn written_groups_make_what_is_received()
+    ensures received { WrittenIsReceived }
+    ensures lawful { WrittenIsLawful }
+{}
