@@ -17,3 +17,17 @@ pub mod WrittenGroups
 pub mod WrittenLawful
 pub mod ScrubDecided
 pub mod LeftStores
+pub mod Entries
+pub mod Replay
+pub mod TurnGroups
+pub mod Moves
+pub mod TurnOrder
+pub mod Origins
+pub mod PartFiles
+pub mod OneSession
+pub mod AllOver
+pub mod FilesInTurn
+pub mod TurnStates
+pub mod LawfulTurns
+pub mod NoneOpen
+mod TurnExamples

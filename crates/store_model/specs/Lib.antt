@@ -8,3 +8,5 @@ pub mod Written
 pub mod StoreDue
 pub mod StoreWords
 pub mod StoreLaws
+pub mod Turns
+pub mod TurnLaws

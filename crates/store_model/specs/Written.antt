@@ -19,6 +19,10 @@ pub record Begun : Type 0 where
   pub version : ℕ
   pub commands : List Command
 
+-- The groups that are written have a checksum: a Mark, and a Body.
+abbrev pub mark_of : Command → Group
+mark_of head = record { content = Mark head; is_sealed = true }
+
 abbrev pub body_of : Begun → Group
 body_of begun = record { content = Body begun.uuid begun.version begun.commands; is_sealed = true }
 
@@ -32,7 +36,7 @@ closed_by guards command begun = if is_edit command then [] else elim (guarded g
 
 -- A head begins a part.
 abbrev pub begun_by : Command → List Group
-begun_by command = elim (head_of command) [ None ↦ [] | Some head ↦ record { content = Mark command; is_sealed = true } ∷ [] ]
+begun_by command = elim (head_of command) [ None ↦ [] | Some head ↦ mark_of command ∷ [] ]
 
 abbrev pub and_command : Command → Begun → Begun
 and_command command begun = record { uuid = begun.uuid; version = begun.version; commands = begun.commands ++ command ∷ [] }

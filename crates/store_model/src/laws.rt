@@ -3,6 +3,7 @@ ghost use Rattle.store_model.specs.StateLaws.{MoreItemsPassMore, BeginsWithTheSt
 ghost use Rattle.store_model.specs.Written.{WrittenIsReceived, WrittenIsLawful};
 ghost use Rattle.store_model.specs.StoreWords.{OneStoreDue, ReceiveIsAudit, LeftIsPassed, LeftIsReceived};
 ghost use Rattle.store_model.specs.StoreLaws.{BodyIsOneGroup, ImageIsOneStore, ImageIsNotBoth, OneGroupIsAtFault, EachImageIsDecided, StoredIsLawful, GroupsKeepCells, PlacesAreBytes, BytesHavePlaces, OneMoreIsMade, OneScrub, EachImageIsScrubbed, StoredIsWhole};
+ghost use Rattle.store_model.specs.TurnLaws.{TurnsAreOneByOne, PartsAreRead, FilesAreOneByOne, FilesAreInTurn, OneIsReceiving, AllAreOver, NoneIsLeftOpen, FilesLeaveNoneOpen, GroupsAreLawful, GroupsStand, LinesAreComplete, FrontsAreStates, FrontStatesAreStates, FrontGroupsAreStates, StatesAreOneByOne};
 
 /// An image of bytes stands for one store, which is lawful, or for none, where one group is at fault. Bytes are the body of one group
 /// at most. The places of bytes in the image are the cells of one store, and the bytes there are the cells of the other.
@@ -57,4 +58,32 @@ pub fn one_answer_is_due_over_a_store()
 pub fn written_groups_make_what_is_received()
     ensures received { WrittenIsReceived }
     ensures lawful { WrittenIsLawful }
+{}
+
+/// After any turns of sessions the store has what receiving the completed parts one after the other, in the order of their completion,
+/// leaves, and the parts that began and did not complete; the completed parts are parts of what the sessions read; and the groups that
+/// are written are lawful and make it. So it is of files of bytes, by any schedule and under any guards. After the last turn each
+/// session is over, and where none was refused each part that began is complete; and one session alone is receiving under its guards.
+pub fn turns_have_an_order<C>()
+    ensures order { TurnsAreOneByOne C }
+    ensures parts { PartsAreRead C }
+    ensures one { OneIsReceiving C }
+    ensures over { AllAreOver C }
+    ensures complete { NoneIsLeftOpen C }
+    ensures left { FilesLeaveNoneOpen }
+    ensures streams { FilesAreOneByOne }
+    ensures files { FilesAreInTurn }
+    ensures groups { GroupsAreLawful }
+    ensures stand { GroupsStand }
+{}
+
+/// What a crash may leave during turns is a store that the first of the events made, so each part that completed until then is there
+/// as in the order of completion. The store after each number of turns is among these, and more turns only add to them. So is whatever
+/// the first of the groups that were written make of the store at entry, with as many parts complete as lines were due until then.
+pub fn crashes_leave_turns<C>()
+    ensures states { StatesAreOneByOne C }
+    ensures fronts { FrontsAreStates C }
+    ensures further { FrontStatesAreStates C }
+    ensures groups { FrontGroupsAreStates C }
+    ensures lines { LinesAreComplete C }
 {}
