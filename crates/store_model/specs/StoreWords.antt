@@ -43,7 +43,7 @@ as_receive None = None
 as_receive (Some (Audit guards store files)) = Some (ReceiveFiles guards store files)
 as_receive (Some (Compose store files)) = None
 as_receive (Some (Dump file)) = None
-as_receive (Some (Export file)) = None
+as_receive (Some (Export store files)) = None
 as_receive (Some (Gen count seed)) = None
 as_receive (Some (Trial count seed)) = None
 
