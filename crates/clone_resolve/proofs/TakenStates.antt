@@ -14,7 +14,7 @@ use Rattle.send_model.specs.Edit.{greatest_end}
 use Rattle.send_model.specs.Clone.{cells_of, Cloned, cloned}
 use Rattle.send_model.specs.Store.{Key, same_key, Head, head_of, Entry, Store, Part, State, Stepped, find, with_contents, completed, start_from, begun, unfinished, entered, step_head, clone_source, edit_part, edited, step_edit, step}
 use Rattle.send_model.specs.Provenance.{Traced, inode_with, uuid_after, is_own, clone_range}
-use Rattle.send_model.specs.Cells.{recelled, recelled_store, recelled_part, recelled_state}
+use Rattle.send_model.specs.Cells.{recelled, recelled_store, recelled_part, recelled_state, cell_of, Holds, AllCells}
 use Rattle.send_model.specs.Counts.{is_clone}
 use Rattle.send_model.proofs.MergingClones.{turned_false}
 use Rattle.send_model.proofs.Sorts.{by_sort, is_plain, head_step, plain_step_edit, plain_edit_part, same_inside}
@@ -24,14 +24,10 @@ use Rattle.send_model.proofs.ElementLaws.{all_both, all_take, all_drop}
 use Rattle.send_model.proofs.Merging.{begun_begins, edited_taken}
 use Rattle.send_model.proofs.CellSteps.{find-cells}
 use Rattle.send_model.proofs.CellClones.{recloned, cloned-cells}
-use Rattle.send_model.proofs.Held.{cell_of, Holds, cells_hold, edit_holds}
+use Rattle.send_model.proofs.Held.{cells_hold, edit_holds}
 use Rattle.send_model.proofs.Redirected.{cloned_facts, source_there, clone_ranged, clone_command_holds}
 use Rattle.extent_map.specs.Cells.{cells_between}
-
--- A property of all cells: of those of each complete subvolume, and of the part.
-pub record AllCells {C : Type 0} (P : C → Type 0) (state : State C) : Type 0 where
-  pub complete : AllByRecursion (λ e. IfSome e.contents (Holds P)) state.store
-  pub part : IfSome state.part (λ p. Holds P p.subvolume)
+use Rattle.clone_resolve.specs.Taken.{TakenFrom}
 
 -- ---- the part after a step
 
@@ -258,18 +254,6 @@ pub cells_weaker : {C : Type 0} (P Q : C → Type 0) (state : State C) → ((x :
 cells_weaker P Q state weaker all = record { complete = holds_store P Q weaker state.store all.complete; part = holds_part P Q weaker state.part all.part }
 
 -- ---- a clone from a complete subvolume
-
--- Where the cells come from that a clone puts: a range of a file of a complete subvolume of the store, which stays as it was.
-pub record TakenFrom {C : Type 0} (state after : State C) (path : List ℕ) (offset : ℕ) (key : Key) (clone_path : List ℕ) (from len : ℕ) : Type 0 where
-  pub source : Subvolume C
-  pub ino : ℕ
-  pub found : find state.store key ≡ Some source
-  pub walked : walk source clone_path ≡ Ok ino
-  pub file : is_file source ino ≡ true
-  pub some : 0 < len
-  pub within : from + len ≤ length (cells_of source ino)
-  pub fits : offset + len ≤ greatest_end
-  pub same_store : after.store ≡ state.store
 
 -- The part that such a clone writes to, its source, and its range.
 record Ranged {C : Type 0} (state : State C) (path : List ℕ) (offset : ℕ) (key : Key) (clone_path : List ℕ) (from len : ℕ) : Type 0 where

@@ -23,7 +23,9 @@ use Rattle.send_commands.specs.Meaning.{meaning_of}
 use Rattle.extent_map.specs.Cells.{cells_between}
 use Rattle.provenance.specs.declared.trace.Trace.{Trace}
 use Rattle.provenance.specs.Traces.{place_of, place_in}
-use Rattle.clone_resolve.proofs.TakenStates.{AllCells, TakenFrom, part_after_step, cells_found, cells_of_found, taken_from, range_taken}
+use Rattle.clone_resolve.specs.Taken.{TakenFrom}
+use Rattle.send_model.specs.Cells.{AllCells}
+use Rattle.clone_resolve.proofs.TakenStates.{part_after_step, cells_found, cells_of_found, taken_from, range_taken}
 use Rattle.clone_pieces.specs.Origins.{byte_of_trace}
 use Rattle.clone_pieces.specs.Seen.{seen}
 use Rattle.clone_pieces.specs.Sending.{PutEnd}

@@ -34,7 +34,7 @@ use Rattle.send_model.proofs.TooLong.{short_fits, long_is}
 use Rattle.clone_pieces.specs.Origins.{IsInInput}
 use Rattle.clone_pieces.specs.Sending.{AppendsFront}
 use Rattle.composer.specs.OverBase.{Plan, Composing, Halt, Refuses, Exceeds, advance, advance_all, unsent}
-use Rattle.clone_resolve.proofs.TakenStates.{AllCells}
+use Rattle.send_model.specs.Cells.{AllCells}
 use Rattle.composer.specs.Kept.{Kept, composing_of}
 use Rattle.composer.specs.Taking.{DataStand, ItemTaken, ItemWhy, ItemStops, ItemKept, ItemEnd, StopEnd}
 use Rattle.composer.specs.Files.{IsPlace, IsLastPlace, FileTaken, NextHalts, FileWhy, FileStops}

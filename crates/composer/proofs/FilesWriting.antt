@@ -13,7 +13,7 @@ use Rattle.send_model.specs.Spelling.{canonical}
 use Rattle.send_model.specs.Reading.{Item, Reading, Whole, ended, reads, input, is_version}
 use Rattle.send_model.specs.Store.{Head, Store}
 use Rattle.send_model.specs.Order.{heads, heads_of, commands_of, last_item}
-use Rattle.send_model.specs.Outside.{part_uuids, store_without, base_of, keys_outside, FindsSayable}
+use Rattle.send_model.specs.Outside.{part_uuids, store_without, base_of, keys_outside, FindsSayable, AllSayable}
 use Rattle.send_model.specs.Composed.{last_head, version_of}
 use Rattle.send_model.specs.Due.{RefusedAt, reading_due}
 use Rattle.send_model.specs.Receive.{first_of}
@@ -40,10 +40,10 @@ use Rattle.clone_pieces.specs.Origins.{IsInInput}
 use Rattle.clone_pieces.specs.declared.stops.SendStop.{SendStop}
 use Rattle.clone_pieces.specs.declared.stops.SendStop.TheVariants as stopped
 use Rattle.composer.specs.OverBase.{Plan, plan_for, Composing, at_start, Halt, Exceeds, halt_due, advance, advance_all, unsent, AreReady}
-use Rattle.clone_resolve.proofs.TakenStates.{AllCells}
+use Rattle.send_model.specs.Cells.{AllCells}
 use Rattle.composer.specs.Kept.{Kept, composing_of}
 use Rattle.composer.specs.Taking.{EndEnd, is_at_last}
-use Rattle.composer.specs.Files.{plan_with, AllSayable, IsLastPlace, FileTaken, NextHalts, NextAbove, FileWhy, FileStops, ComposeEnds, outcome_in}
+use Rattle.composer.specs.Files.{plan_with, IsLastPlace, FileTaken, NextHalts, NextAbove, FileWhy, FileStops, ComposeEnds, outcome_in}
 use Rattle.clone_pieces.proofs.Told.{all_map, all_two}
 use Rattle.composer.proofs.HandedOn.{answer_with}
 use Rattle.composer.proofs.LastHeads.{latest_none, latest_append, latest_alone}

@@ -4,9 +4,9 @@ use Rattle.std.proofs.Common.{refl, sym, ap, subst, arith}
 use Rattle.send_model.specs.Store.{Store, find}
 use Rattle.send_model.specs.Receive.{start_of}
 use Rattle.send_model.specs.Provenance.{Traced, traced_store}
-use Rattle.send_model.specs.Cells.{recelled_store}
+use Rattle.send_model.specs.Cells.{recelled_store, AllCells}
 use Rattle.sx_base.specs.Calls.{IfAllTold}
-use Rattle.clone_resolve.proofs.TakenStates.{AllCells, cells_weaker}
+use Rattle.clone_resolve.proofs.TakenStates.{cells_weaker}
 use Rattle.provenance.specs.declared.trace.Trace.{Trace}
 use Rattle.provenance.specs.declared.trace.Trace.TheVariants.{Fresh, Outside}
 use Rattle.provenance.specs.Traces.{place_of}
@@ -15,7 +15,8 @@ use Rattle.clone_pieces.specs.Origins.{IsHad, IsInInput, AreHeld, byte_of_trace}
 use Rattle.clone_pieces.specs.Seen.{seen}
 use Rattle.composer.specs.OverBase.{Composing, at_start}
 use Rattle.composer.specs.Kept.{Kept, kept_at_start, composing_of}
-use Rattle.composer.specs.Files.{plan_with, AllSayable}
+use Rattle.send_model.specs.Outside.{AllSayable}
+use Rattle.composer.specs.Files.{plan_with}
 use Rattle.clone_pieces.proofs.Told.{all_always}
 
 -- Each cell of the base's subvolumes is traced to its own place.

@@ -15,7 +15,7 @@ use Rattle.send_model.specs.Receive.{bytes_of, first_of, verdict_of}
 use Rattle.send_model.specs.Composed.{commands_for}
 use Rattle.send_model.specs.Order.{breaks_order, part_after}
 use Rattle.send_model.specs.Provenance.{Traced, traced_step, uuid_after, is_own, is_redirected}
-use Rattle.send_model.specs.Cells.{recelled_part}
+use Rattle.send_model.specs.Cells.{recelled_part, AllCells}
 use Rattle.send_model.specs.Due.{most_literal, uncarried_of}
 use Rattle.sx_base.specs.declared.stop.Stop.{Stop}
 use Rattle.sx_base.specs.declared.outcome.Verdict.{Verdict}
@@ -24,7 +24,7 @@ use Rattle.sx_base.specs.declared.outcome.Outcome.TheVariants as ended
 use Rattle.sx_base.specs.Refusals.{verdict_meant}
 use Rattle.extent_map.specs.Pieces.{run_cells}
 use Rattle.clone_resolve.specs.Steps.{data_len, cells_put, Answers}
-use Rattle.clone_resolve.proofs.TakenStates.{AllCells, part_after_step, cells_after_step}
+use Rattle.clone_resolve.proofs.TakenStates.{part_after_step, cells_after_step}
 use Rattle.provenance.specs.declared.trace.Trace.{Trace}
 use Rattle.provenance.specs.declared.trace.Trace.TheVariants.{Fresh}
 use Rattle.provenance.specs.Traces.{advanced_by, place_of}

@@ -19,7 +19,7 @@ use Rattle.send_model.specs.Words.{Compose}
 use Rattle.file_survey.specs.Findings.{Surveyed}
 use Rattle.file_survey.specs.Ahead.{then_reading}
 use Rattle.file_survey.specs.declared.places.Place.{Place}
-use Rattle.clone_resolve.proofs.TakenStates.{AllCells}
+use Rattle.send_model.specs.Cells.{AllCells}
 use Rattle.clone_pieces.specs.Origins.{IsInInput}
 use Rattle.clone_pieces.specs.Sending.{AppendsFront}
 use Rattle.composer.specs.OverBase.{Plan, Composing, Halt, Exceeds, halt_due, advance, advance_all, unsent}
@@ -28,10 +28,6 @@ use Rattle.composer.specs.Kept.{Kept, composing_of}
 -- The plan over a base, as the survey of the files has it.
 abbrev pub plan_with : Store ℕ → Surveyed → Plan
 plan_with base s = record { base = base; parts = s.parts; version = s.version; last = s.last }
-
--- Each complete subvolume of a store is one that the format can say.
-abbrev pub AllSayable : Store ℕ → Type 0
-AllSayable store = (key : Key) (s : Subvolume ℕ) → find store key ≡ Some s → IsSayable s
 
 -- ---- one file
 

@@ -13,7 +13,7 @@ use Rattle.sx_base.specs.Refusals.{verdict_meant}
 use Rattle.sx_base.specs.declared.outcome.Verdict.{Verdict}
 use Rattle.sx_base.specs.declared.outcome.Outcome.{Outcome}
 use Rattle.sx_base.specs.declared.outcome.Outcome.TheVariants as ended
-use Rattle.clone_resolve.proofs.TakenStates.{AllCells}
+use Rattle.send_model.specs.Cells.{AllCells}
 use Rattle.clone_pieces.specs.Origins.{IsInInput}
 use Rattle.clone_pieces.specs.Sending.{AppendsFront}
 use Rattle.clone_pieces.specs.declared.stops.SendStop.{SendStop}

@@ -1,20 +1,19 @@
 // Composing files: once over all of them for their heads, and once more to write.
 ghost use Rattle.std.specs.Prelude.{◌≡◌, ◌≢◌, ℕ, ◌+◌, ◌<◌, ◌≤◌, List, [], map, length, get_or, OnOk};
 ghost use Rattle.std.specs.String.{string_bytes};
-ghost use Rattle.send_model.specs.Outside.{store_without};
+ghost use Rattle.send_model.specs.Outside.{store_without, AllSayable};
 ghost use Rattle.send_model.specs.Provenance.{traced_store};
 ghost use Rattle.send_model.specs.Receive.{start_of};
-ghost use Rattle.send_model.specs.Cells.{recelled_store};
+ghost use Rattle.send_model.specs.Cells.{recelled_store, AllCells};
 ghost use Rattle.provenance.specs.Traces.{place_of};
 ghost use Rattle.clone_pieces.specs.Origins.{IsHad, IsInInput, AreHeld, byte_of_trace};
 ghost use Rattle.clone_pieces.specs.Seen.{seen};
 ghost use Rattle.file_survey.specs.Findings.{SurveyEnd};
 ghost use Rattle.sx_base.specs.Calls.{IfAllTold, CausedAgain, FoundChanged, ErrFoundChanged, Wrote};
-ghost use Rattle.clone_resolve.proofs.TakenStates.{AllCells};
 ghost use Rattle.composer.specs.OverBase.{at_start};
 ghost use Rattle.composer.specs.Kept.{composing_of};
 ghost use Rattle.composer.specs.Taking.{ErrCausedAgain};
-ghost use Rattle.composer.specs.Files.{AllSayable, plan_with, FileEnd, ComposeEnds, outcome_in};
+ghost use Rattle.composer.specs.Files.{plan_with, FileEnd, ComposeEnds, outcome_in};
 
 use crate::composing::Composer;
 use clone_pieces::{Known, NoBase, OutsideBytes};

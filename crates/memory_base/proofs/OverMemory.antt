@@ -4,8 +4,8 @@ use Rattle.std.proofs.Common.{sym, ap, ap₂, subst, ◌∙◌}
 use Rattle.send_model.specs.Store.{Store}
 use Rattle.send_model.specs.Receive.{start_of}
 use Rattle.send_model.specs.Provenance.{traced_store}
-use Rattle.send_model.specs.Cells.{recelled_store}
-use Rattle.send_model.specs.Outside.{store_without, base}
+use Rattle.send_model.specs.Cells.{recelled_store, AllCells}
+use Rattle.send_model.specs.Outside.{store_without, base, AllSayable}
 use Rattle.send_model.specs.Lawful.{IsLawfulStore}
 use Rattle.sx_base.specs.Calls.{contents, IfAllTold, Wrote}
 use Rattle.sx_base.specs.declared.outcome.Outcome.{Outcome}
@@ -13,11 +13,10 @@ use Rattle.sx_base.specs.declared.outcome.Outcome.TheVariants as ended_by
 use Rattle.provenance.specs.declared.trace.Trace.{Trace}
 use Rattle.provenance.specs.Traces.{place_of}
 use Rattle.file_survey.specs.Findings.{Surveyed, SurveyStop, SurveyEnd}
-use Rattle.clone_resolve.proofs.TakenStates.{AllCells}
 use Rattle.clone_pieces.specs.Origins.{IsHad, byte_of_trace}
 use Rattle.clone_pieces.specs.Seen.{seen}
 use Rattle.clone_pieces.proofs.Told.{all_always, all_two}
-use Rattle.composer.specs.Files.{AllSayable, ComposeEnds}
+use Rattle.composer.specs.Files.{ComposeEnds}
 use Rattle.composer.proofs.FilesWriting.{survey_stopped}
 use Rattle.memory_base.specs.declared.kept.Kept.{Kept}
 use Rattle.memory_base.specs.Bases.{with_bytes, traced_to_itself}

@@ -16,12 +16,11 @@ use Rattle.send_model.specs.Store.{Store, Part, State, Stepped, completed, step}
 use Rattle.send_model.specs.Receive.{bytes_of, byte_cells, verdict_of, Ran, then_run, run_by, run_items, first_of, fault_of, with_fault, receive_items, receive, start_of}
 use Rattle.send_model.specs.Order.{commands_of}
 use Rattle.send_model.specs.Lawful.{IsLawfulStore}
-use Rattle.send_model.specs.Cells.{recelled, recelled_store, recelled_part, recelled_state, recelled_step}
+use Rattle.send_model.specs.Cells.{recelled, recelled_store, recelled_part, recelled_state, recelled_step, cell_of, Holds, AllCells}
 use Rattle.send_model.proofs.Runs.{Takes, Takes-append, runs_taken}
 use Rattle.send_model.proofs.ElementLaws.{all_both}
 use Rattle.send_model.proofs.CellSteps.{completed-cells}
 use Rattle.send_model.proofs.CellClones.{all_steps-cells}
-use Rattle.send_model.proofs.Held.{cell_of, Holds}
 use Rattle.send_model.proofs.LawfulStores.{received_is_lawful}
 use Rattle.sx_base.specs.Refusals.{refusal_of, verdict_meant}
 use Rattle.sx_base.specs.declared.stop.Stop.{Stop}
@@ -45,7 +44,7 @@ use Rattle.cmd_reader.specs.Stopping.{outcome_at}
 use Rattle.file_survey.proofs.AheadSteps.{then_item, ahead_first}
 use Rattle.clone_resolve.specs.Steps.{cells_put, Fits, Answers}
 use Rattle.clone_resolve.specs.declared.done.Done.{Done}
-use Rattle.clone_resolve.proofs.TakenStates.{AllCells, cells_after_step, cells_weaker}
+use Rattle.clone_resolve.proofs.TakenStates.{cells_after_step, cells_weaker}
 use Rattle.memory_base.specs.declared.kept.Kept.{Kept}
 use Rattle.memory_base.specs.Keeping.{further}
 use Rattle.memory_base.specs.Bases.{byte_of, with_bytes}

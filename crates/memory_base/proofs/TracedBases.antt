@@ -13,10 +13,10 @@ use Rattle.send_model.specs.Clone.{cells_of}
 use Rattle.send_model.specs.Store.{Key, Store, find}
 use Rattle.send_model.specs.Receive.{start_of}
 use Rattle.send_model.specs.Provenance.{Traced, traced_from, inode_with, traced_subvolume, traced_entry, traced_store}
-use Rattle.send_model.specs.Cells.{recelled, recelled_store}
+use Rattle.send_model.specs.Cells.{recelled, recelled_store, cell_of, Holds, AllCells}
 use Rattle.send_model.specs.Lawful.{HasSayable, IsLawfulEntry, IsLawfulStore}
 use Rattle.send_model.proofs.MapLaws.{T_left, T_right, below_none}
-use Rattle.send_model.proofs.Held.{cell_of, Holds, goods}
+use Rattle.send_model.proofs.Held.{goods}
 use Rattle.extent_map.specs.Pieces.{run_cells}
 use Rattle.inode_tree.specs.Retraced.{retraced}
 use Rattle.subvol_catalog.specs.declared.key.Key as code
@@ -25,7 +25,6 @@ use Rattle.provenance.specs.declared.trace.Trace.{Trace}
 use Rattle.provenance.specs.Traces.{advanced_by, first_of, place_of}
 use Rattle.clone_pieces.specs.Origins.{outside_cells, byte_of_trace, IsHad}
 use Rattle.clone_pieces.specs.Seen.{seen}
-use Rattle.clone_resolve.proofs.TakenStates.{AllCells}
 use Rattle.memory_base.specs.declared.kept.Kept.{Kept}
 use Rattle.memory_base.specs.Bases.{byte_of, with_bytes, code_key, traced_to_itself}
 use Rattle.memory_base.proofs.Lawfulness.{IsFoundIn, all_found}

@@ -4,7 +4,7 @@ use Rattle.send_model.specs.Reading.{Whole, input}
 use Rattle.send_model.specs.Store.{Store, State, Stepped, completed}
 use Rattle.send_model.specs.Receive.{IsAccepted, start_of, receive}
 use Rattle.send_model.specs.Lengths.{limit}
-use Rattle.send_model.specs.Cells.{recelled_state}
+use Rattle.send_model.specs.Cells.{recelled_state, AllCells}
 use Rattle.send_model.specs.Lawful.{IsLawfulStore}
 use Rattle.sx_base.specs.Refusals.{refusal_of, verdict_meant}
 use Rattle.sx_base.specs.declared.stop.Stop.{Stop}
@@ -12,7 +12,6 @@ use Rattle.sx_base.specs.declared.stop.Stop.TheVariants as stop
 use Rattle.sx_base.specs.declared.outcome.Outcome.{Outcome}
 use Rattle.sx_base.specs.declared.outcome.Outcome.TheVariants as ended
 use Rattle.clone_resolve.specs.Steps.{Fits}
-use Rattle.clone_resolve.proofs.TakenStates.{AllCells}
 use Rattle.memory_base.specs.declared.kept.Kept.{Kept}
 use Rattle.memory_base.specs.Bases.{byte_of, with_bytes}
 

@@ -17,7 +17,7 @@ use Rattle.send_model.specs.Outside.{IsAmong, is_among, keys_named, all_keys_nam
 use Rattle.send_model.specs.Counts.{is_clone}
 use Rattle.send_model.specs.Provenance.{Traced, fresh, traced_store, uuid_after}
 use Rattle.send_model.specs.Composed.{head_command}
-use Rattle.send_model.specs.Cells.{recelled_result, recelled_state}
+use Rattle.send_model.specs.Cells.{recelled_result, recelled_state, Holds}
 use Rattle.send_model.proofs.Sorts.{by_sort, is_plain, plain_step_without, head_step, same_inside}
 use Rattle.send_model.proofs.Fuel.{ok_same}
 use Rattle.send_model.proofs.Runs.{Takes}
@@ -26,7 +26,6 @@ use Rattle.send_model.proofs.Merging.{FollowsFrom, last_key, Stands, stands_comp
 use Rattle.send_model.proofs.Composing.{follows_from, received_anywhere}
 use Rattle.send_model.proofs.CellSteps.{find-cells, completed-cells, start_cells}
 use Rattle.send_model.proofs.CellClones.{all_steps-cells}
-use Rattle.send_model.proofs.Held.{Holds}
 use Rattle.send_model.proofs.Carrying.{InPlace}
 use Rattle.send_model.proofs.Tracing.{byte_of, untraced_store, TTakes, takes_traced}
 use Rattle.send_model.proofs.TracedBase.{found_holds, found_untraced}

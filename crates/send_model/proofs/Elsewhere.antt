@@ -11,9 +11,8 @@ use Rattle.send_model.specs.Store.{Key, Store, State, find}
 use Rattle.send_model.specs.Outside.{IsAmong, FindsLawful}
 use Rattle.send_model.specs.Provenance.{Traced, fresh, pieces_of}
 use Rattle.send_model.specs.Composed.{piece_commands}
-use Rattle.send_model.specs.Cells.{recelled}
+use Rattle.send_model.specs.Cells.{recelled, Holds}
 use Rattle.send_model.proofs.Runs.{Takes}
-use Rattle.send_model.proofs.Held.{Holds}
 use Rattle.send_model.proofs.Carrying.{InPlace}
 use Rattle.send_model.proofs.Tracing.{byte_of}
 use Rattle.send_model.proofs.Redirected.{range_taken}

@@ -14,8 +14,8 @@ use Rattle.send_model.specs.Subvolume.{Subvolume}
 use Rattle.send_model.specs.Store.{Key, same_key, Head, head_of, Entry, Store, IsStore, has_name, has_uuid, find, Part, State, Stepped, with_contents, completed, unfinished, begun, start_from, entered, step_head, clone_source, edit_part, edited, step_edit, step}
 use Rattle.send_model.specs.Receive.{bytes_of, byte_cells, start_of, Ran, run_by, then_run, run_items, receive_items}
 use Rattle.send_model.specs.Counts.{is_clone}
-use Rattle.send_model.specs.Outside.{IsSayable, is_among, outside, base, part_uuids}
-use Rattle.send_model.specs.Lawful.{HasSayable, IsLawfulEntry, IsLawfulStore, ReceivedIsLawful, FilesLeaveLawful, LawfulFindsSayable, LawfulStoresHold}
+use Rattle.send_model.specs.Outside.{IsSayable, is_among, outside, base, part_uuids, store_without}
+use Rattle.send_model.specs.Lawful.{HasSayable, IsLawfulEntry, IsLawfulStore, ReceivedIsLawful, FilesLeaveLawful, LawfulFindsSayable, LawfulStoresHold, LawfulAllSayable}
 use Rattle.send_model.proofs.Sorts.{by_sort, is_plain, same_inside, head_step, plain_edit_part, plain_step_edit}
 use Rattle.send_model.proofs.Fuel.{ok_same}
 use Rattle.send_model.proofs.Stores.{or_parts}
@@ -208,6 +208,12 @@ files_leave_lawful store files h bytes = received_is_lawful store (input files).
 
 pub lawful_finds_sayable : LawfulFindsSayable
 lawful_finds_sayable store files keys h k s among f = find_sayable (base store files) k s (all_filtered IsLawfulEntry (λ e. not (is_among (part_uuids (input files).items) e.key.uuid)) store h.entries) f
+
+pub lawful_all_sayable : LawfulAllSayable
+lawful_all_sayable store h = (
+  λ key s f. find_sayable store key s h.entries f,
+  λ uuids key s f. find_sayable (store_without uuids store) key s (all_filtered IsLawfulEntry (λ e. not (is_among uuids e.key.uuid)) store h.entries) f,
+)
 
 pub lawful_stores_hold : LawfulStoresHold
 lawful_stores_hold store files h bytes whole consecutive accepted = files_hold store files bytes whole consecutive accepted (lawful_finds_sayable store files (outside files) h)

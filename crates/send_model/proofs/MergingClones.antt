@@ -22,7 +22,7 @@ use Rattle.send_model.specs.Outside.{IsAmong, is_among, keys_named, all_keys_nam
 use Rattle.send_model.specs.Counts.{is_clone}
 use Rattle.send_model.specs.Provenance.{Traced, fresh, traced_store, uuid_after, clone_range, pieces_of, traced_step}
 use Rattle.send_model.specs.Composed.{piece_commands, commands_for, composed_from}
-use Rattle.send_model.specs.Cells.{recelled_result}
+use Rattle.send_model.specs.Cells.{recelled_result, Holds}
 use Rattle.send_model.proofs.Sorts.{by_sort, is_plain, plain_step, plain_step_without, head_step, plain_is_no_head, plain_names_nothing}
 use Rattle.send_model.proofs.Runs.{Takes, Takes-append}
 use Rattle.send_model.proofs.Fuel.{bound, ok_same}
@@ -30,7 +30,7 @@ use Rattle.send_model.proofs.Stores.{bytes_eq_same, bytes_eq_true, key_with, key
 use Rattle.send_model.proofs.Merging.{FollowsFrom, last_key, Stands, stands_completed, begun_begins, entered_taken, edited_taken, from_parent, plain_taken}
 use Rattle.send_model.proofs.CellEdits.{edit-cells}
 use Rattle.send_model.proofs.CellClones.{clone-cells}
-use Rattle.send_model.proofs.Held.{Holds, edit_holds, clone_holds, cloned_holds}
+use Rattle.send_model.proofs.Held.{edit_holds, clone_holds, cloned_holds}
 use Rattle.send_model.proofs.Carrying.{InPlace, range_covered}
 use Rattle.send_model.proofs.Tracing.{byte_of, bytes_fresh, TTakes}
 use Rattle.send_model.proofs.TracedBase.{found_holds, found_untraced}

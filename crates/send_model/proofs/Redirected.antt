@@ -14,7 +14,7 @@ use Rattle.send_model.specs.Edit.{greatest_end, overwritten, change_inode, set_c
 use Rattle.send_model.specs.Clone.{cells_of, is_aligned, overlap, Cloned, cloned, clone}
 use Rattle.send_model.specs.Store.{Key, Store, Part, State, find, clone_source, edit_part, edited, step, step_edit}
 use Rattle.send_model.specs.Outside.{IsAmong, is_among, FindsLawful}
-use Rattle.send_model.specs.Cells.{recelled}
+use Rattle.send_model.specs.Cells.{recelled, Holds}
 use Rattle.send_model.specs.Provenance.{Place, Traced, fresh, inode_with, is_own, is_redirected, clone_range, pieces_of}
 use Rattle.send_model.specs.Composed.{piece_commands, path_of, clone_commands}
 use Rattle.send_model.proofs.ElementLaws.{all_take, all_drop}
@@ -23,7 +23,7 @@ use Rattle.send_model.proofs.Runs.{Takes}
 use Rattle.send_model.proofs.Sorts.{same_inside}
 use Rattle.send_model.proofs.Stores.{bytes_eq_same, bytes_eq_true}
 use Rattle.send_model.proofs.CellMaps.{walk-cells, is_file-cells, overwritten-cells, change_inode-cells}
-use Rattle.send_model.proofs.Held.{Holds, cells_hold, clone_holds}
+use Rattle.send_model.proofs.Held.{cells_hold, clone_holds}
 use Rattle.send_model.proofs.Tracing.{byte_of}
 use Rattle.send_model.proofs.Carrying.{InPlace, range_covered}
 use Rattle.send_model.proofs.PieceRuns.{put_bytes, IsPlace, Fits, fits_part, overwritten_put, pieces_run}

@@ -19,6 +19,7 @@ use Rattle.send_model.specs.Outside.{IsAmong, FindsSayable}
 use Rattle.send_model.specs.Counts.{is_end}
 use Rattle.send_model.specs.Provenance.{Place, Traced, fresh, Piece, Carried, Literal, is_redirected, pieces_of}
 use Rattle.send_model.specs.Composed.{write_len, writes_from, path_of, piece_commands, clone_commands}
+use Rattle.send_model.specs.Cells.{Holds}
 use Rattle.send_model.proofs.ElementLaws.{all_both, all_first, all_rest, all_take, all_drop}
 use Rattle.send_model.proofs.Keeping.{all_found}
 use Rattle.send_model.proofs.Sound.{bytes_take, bytes_drop}
@@ -26,7 +27,7 @@ use Rattle.send_model.proofs.Versions.{IsVersion, not_rest}
 use Rattle.send_model.proofs.Canonical.{spellable_first}
 use Rattle.send_model.proofs.PathLaws.{path_names_short}
 use Rattle.send_model.proofs.FirstPaths.{least_is}
-use Rattle.send_model.proofs.Held.{Holds, cells_hold}
+use Rattle.send_model.proofs.Held.{cells_hold}
 use Rattle.send_model.proofs.Tracing.{byte_of}
 use Rattle.send_model.proofs.Carrying.{InPlace, Serves, bytes_at, Covers, range_covered}
 use Rattle.send_model.proofs.LawfulPaths.{path_leads}

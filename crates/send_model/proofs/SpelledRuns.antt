@@ -22,6 +22,7 @@ use Rattle.send_model.specs.Provenance.{Traced, fresh, inode_with, traced_from, 
 use Rattle.send_model.specs.Counts.{is_clone, is_end}
 use Rattle.send_model.specs.Composed.{first_head, last_head, head_command, piece_commands, commands_for, composed_edits, composed_with, composed_from}
 use Rattle.send_model.specs.Laws.{CanWrite, AreInner}
+use Rattle.send_model.specs.Cells.{Holds}
 use Rattle.send_model.proofs.Sorts.{by_sort, is_plain, plain_step, plain_step_without, head_step, same_inside}
 use Rattle.send_model.proofs.Fuel.{ok_same}
 use Rattle.send_model.proofs.Runs.{Takes, takes_run}
@@ -29,7 +30,7 @@ use Rattle.send_model.proofs.Stores.{finds_one_of, finds_unfinished}
 use Rattle.send_model.proofs.Merging.{begun_begins, entered_taken, edited_taken}
 use Rattle.send_model.proofs.Headlines.{among_all, without_finds}
 use Rattle.send_model.proofs.CellClones.{all_steps-cells}
-use Rattle.send_model.proofs.Held.{Holds, edit_holds}
+use Rattle.send_model.proofs.Held.{edit_holds}
 use Rattle.send_model.proofs.Carrying.{InPlace}
 use Rattle.send_model.proofs.Tracing.{byte_of, untraced_store, find_traced, holds_from, TTakes, takes_traced}
 use Rattle.send_model.proofs.TracedBase.{traced_holds}

@@ -12,13 +12,12 @@ use Rattle.send_model.specs.Clone.{cells_of}
 use Rattle.send_model.specs.Store.{Key, Store, find}
 use Rattle.send_model.specs.Outside.{IsAmong}
 use Rattle.send_model.specs.Provenance.{Traced, traced_from, inode_with, traced_subvolume, traced_store}
-use Rattle.send_model.specs.Cells.{recelled}
+use Rattle.send_model.specs.Cells.{recelled, Holds}
 use Rattle.send_model.proofs.CellSteps.{find-cells}
 use Rattle.send_model.proofs.Sorts.{same_inside}
 use Rattle.send_model.proofs.LeastPaths.{each_found}
 use Rattle.send_model.proofs.Overwriting.{drop_twice}
 use Rattle.send_model.proofs.Carrying.{InPlace}
-use Rattle.send_model.proofs.Held.{Holds}
 use Rattle.send_model.proofs.Tracing.{byte_of, untraced_store, find_traced, holds_from}
 
 cells_there : (s : Subvolume ℕ) (ino : ℕ) (inode : Inode ℕ) → inode_at s ino ≡ Some inode → cells_of s ino ≡ inode.cells

@@ -9,8 +9,8 @@ use Rattle.send_model.specs.Store.{Key, same_key, Entry, Store, State, find, ste
 use Rattle.send_model.specs.Receive.{bytes_of}
 use Rattle.send_model.specs.Command.{Command}
 use Rattle.send_model.specs.Provenance.{Traced, fresh, traced_from, inode_with, traced_subvolume, traced_store}
-use Rattle.send_model.specs.Cells.{recelled, recelled_entry, recelled_store, recelled_state, recelled_step}
-use Rattle.send_model.proofs.Held.{Good, cell_of, Holds, goods}
+use Rattle.send_model.specs.Cells.{recelled, recelled_entry, recelled_store, recelled_state, recelled_step, Good, cell_of, Holds}
+use Rattle.send_model.proofs.Held.{goods}
 use Rattle.send_model.proofs.Stores.{same_key_true}
 use Rattle.send_model.proofs.Runs.{Takes, step_of}
 

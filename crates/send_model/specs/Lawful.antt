@@ -13,7 +13,7 @@ use Rattle.send_model.specs.Edit.{edit}
 use Rattle.send_model.specs.Store.{Key, Entry, Store, IsStore, completed}
 use Rattle.send_model.specs.Receive.{IsAccepted, bytes_of, byte_cells, start_of, run_items, receive}
 use Rattle.send_model.specs.Order.{IsConsecutive}
-use Rattle.send_model.specs.Outside.{IsSayable, FindsSayable, base}
+use Rattle.send_model.specs.Outside.{IsSayable, FindsSayable, base, AllSayable, store_without}
 use Rattle.send_model.specs.Headline.{IsComposed, output_for}
 
 -- The contents of an entry, if it is complete, can be said.
@@ -57,6 +57,11 @@ FilesLeaveLawful = (store : Store ℕ) (files : List (List ℕ)) → IsLawfulSto
 -- What a lawful store finds can be said, whatever entries are left out: it meets what the headline asks of a base.
 abbrev pub LawfulFindsSayable : Type 0
 LawfulFindsSayable = (store : Store ℕ) (files : List (List ℕ)) (keys : List Key) → IsLawfulStore store → FindsSayable (base store files) keys
+
+-- Each complete subvolume of a lawful store can be said, and so each of what is left of it without some uuids: it meets what
+-- composing over a base asks.
+abbrev pub LawfulAllSayable : Type 0
+LawfulAllSayable = (store : Store ℕ) → IsLawfulStore store → AllSayable store × ((uuids : List (List ℕ)) → AllSayable (store_without uuids store))
 
 -- The headline over a lawful store.
 abbrev pub LawfulStoresHold : Type 0

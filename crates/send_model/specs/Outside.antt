@@ -88,3 +88,7 @@ pub record IsSayable (s : Subvolume ℕ) : Type 0 where
 
 abbrev pub FindsSayable : Store ℕ → List Key → Type 0
 FindsSayable store keys = (key : Key) (s : Subvolume ℕ) → IsAmong key keys → find store key ≡ Some s → IsSayable s
+
+-- Each complete subvolume of a store is one that the format can say.
+abbrev pub AllSayable : Store ℕ → Type 0
+AllSayable store = (key : Key) (s : Subvolume ℕ) → find store key ≡ Some s → IsSayable s

@@ -10,7 +10,7 @@ ghost use Rattle.send_model.specs.Provenance.{Traced};
 ghost use Rattle.send_model.specs.GuardLaws.{NoGuardsChangeNothing, AllowedIsAccepted, AcceptedIsWithin, AuditIsReceiving, AuditStopsAtLimit};
 ghost use Rattle.send_model.specs.Due.{IsJudgedOf, IsJudged};
 ghost use Rattle.send_model.specs.LengthLaws.{FilesAreMeasured, NamedIsFirstLong, FirstLongIsNamed, UnnamedIsWithin, WithinIsUnnamed, NamedStopsReading, StoppedIsNamed, ReadToTheLimit};
-ghost use Rattle.send_model.specs.Lawful.{KeepsLawfulness, EditsKeepSayable, ReceivedIsLawful, FilesLeaveLawful, LawfulFindsSayable, LawfulStoresHold};
+ghost use Rattle.send_model.specs.Lawful.{KeepsLawfulness, EditsKeepSayable, ReceivedIsLawful, FilesLeaveLawful, LawfulFindsSayable, LawfulAllSayable, LawfulStoresHold};
 ghost use Rattle.send_model.specs.Receivable.{ReceivableSpells, ReceivableRises, ReceivableFileIsSame, ReceivableFileIsComposed};
 ghost use Rattle.send_model.specs.Separated.{NeutralChangesNothing, TouchIsNeutral, DetourIsNeutral, FreeNameIsFree, SteadyIsPlain, SmallAreFit, SeparatedIsReceived, SeparatedCountsSame, StreamIsOne, SeparatedAreComposed, SeparatedAreReceived};
 ghost use Rattle.send_model.specs.Laws.{SpelledIsRead, SpelledIsFront, FrameHasOneReading, ReadWasSpelled, RulesWereSpelled, DataIsThere, CanonicalSpells, SpelledIsSpellable, SecondSaysMore, AreInner, StreamIsRead, CutIsUnfinished, EditLooksAtItsPart, StepKeepsCells, FirstPathsAreLeast, AreCounted, ItemsHold, ItemsSpelled, FrontsAreWritable, ReadingsHold, PlainReadingsHold, FilesAreWhole, FilesHold, PlainFilesHold, BaseCanReceive, BaseReceives, ChainIsLawful};
@@ -90,6 +90,7 @@ pub fn stores_stay_lawful()
     ensures items { ReceivedIsLawful }
     ensures files { FilesLeaveLawful }
     ensures finds { LawfulFindsSayable }
+    ensures sayable { LawfulAllSayable }
     ensures composed { LawfulStoresHold }
 {}
 

@@ -6,7 +6,7 @@ use Rattle.cmd_reader.specs.Next.{item_of}
 use Rattle.cmd_reader.proofs.Aheads.{start_ahead, next_ahead}
 use Rattle.cmd_reader.proofs.Told.{told_moved}
 use Rattle.clone_pieces.specs.Origins.{IsInInput}
-use Rattle.clone_resolve.proofs.TakenStates.{AllCells}
+use Rattle.send_model.specs.Cells.{AllCells}
 use Rattle.composer.specs.Taking.{DataStand}
 use Rattle.composer.specs.Files.{plan_with}
 use Rattle.clone_pieces.proofs.Told as all

@@ -6,7 +6,7 @@ use Rattle.sx_base.specs.Calls.{IfAllTold}
 use Rattle.cmd_reader.specs.Places.{IfTold}
 use Rattle.cmd_reader.specs.Left.{HasAhead}
 use Rattle.clone_pieces.specs.Origins.{IsHad}
-use Rattle.clone_resolve.proofs.TakenStates.{AllCells}
+use Rattle.send_model.specs.Cells.{AllCells}
 use Rattle.composer.specs.Files.{plan_with}
 use Rattle.composer.proofs.FileWriting.{EndsAlike, Stands}
 use Rattle.composer.proofs.whole.write_file.Given as goal

@@ -2,7 +2,7 @@ use Rattle.std.specs.Prelude.{map}
 use Rattle.std.specs.String.{string_bytes}
 use Rattle.std.proofs.Common.{refl, sym, ◌∙◌, arith}
 use Rattle.clone_pieces.specs.Origins.{IsInInput}
-use Rattle.clone_resolve.proofs.TakenStates.{AllCells}
+use Rattle.send_model.specs.Cells.{AllCells}
 use Rattle.composer.specs.Files.{plan_with}
 use Rattle.clone_pieces.proofs.Told.{told_moved}
 use Rattle.composer.proofs.FilesWriting.{files_start, files_there, files_after, begun, files_stopped, files_empty, files_ended}

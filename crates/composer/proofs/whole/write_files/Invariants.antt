@@ -3,7 +3,7 @@ use Rattle.std.specs.String.{string_bytes}
 use Rattle.std.proofs.Common.{◌≡◌, ◌≤◌, ◌-◌, length}
 use Rattle.sx_base.specs.Calls.{IfAllTold}
 use Rattle.clone_pieces.specs.Origins.{IsHad}
-use Rattle.clone_resolve.proofs.TakenStates.{AllCells}
+use Rattle.send_model.specs.Cells.{AllCells}
 use Rattle.composer.specs.Files.{plan_with}
 use Rattle.composer.proofs.FilesWriting.{FilesStand}
 use Rattle.composer.proofs.whole.write_files.Given as goal

@@ -1,5 +1,5 @@
 use Rattle.send_model.proofs.LawfulEdits.{edits_keep_sayable}
-use Rattle.send_model.proofs.LawfulStores.{received_is_lawful, files_leave_lawful, lawful_finds_sayable, lawful_stores_hold}
+use Rattle.send_model.proofs.LawfulStores.{received_is_lawful, files_leave_lawful, lawful_finds_sayable, lawful_stores_hold, lawful_all_sayable}
 use Rattle.send_model.proofs.laws.stores_stay_lawful.Goals as goal
 
 pub returns-clause-edits : goal.returns-clause-edits
@@ -16,3 +16,6 @@ returns-clause-finds c = lawful_finds_sayable
 
 pub returns-clause-composed : goal.returns-clause-composed
 returns-clause-composed c = lawful_stores_hold
+
+pub returns-clause-sayable : goal.returns-clause-sayable
+returns-clause-sayable c = lawful_all_sayable

@@ -4,7 +4,7 @@ use Rattle.std.proofs.Common.{refl, ap, subst, ◌∙◌, arith}
 use Rattle.send_model.specs.Store.{find}
 use Rattle.subvol_catalog.specs.Entries.{key_of}
 use Rattle.extent_map.specs.Cells.{cells_between}
-use Rattle.clone_resolve.proofs.TakenStates.{AllCells}
+use Rattle.send_model.specs.Cells.{AllCells}
 use Rattle.clone_pieces.specs.Origins.{IsHad, IsInInput}
 use Rattle.clone_pieces.specs.Redirecting.{seen_cells, pieces_spelled, RedirectEnd}
 use Rattle.sx_base.specs.declared.outcome.Outcome.TheVariants as ended

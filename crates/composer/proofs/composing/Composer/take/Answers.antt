@@ -16,7 +16,7 @@ use Rattle.provenance.specs.Traces.{advanced_by}
 use Rattle.clone_resolve.specs.declared.done.Done.{Done}
 use Rattle.clone_resolve.specs.Heads.{head_meant}
 use Rattle.clone_resolve.specs.Steps.{cells_put, Answers}
-use Rattle.clone_resolve.proofs.TakenStates.{AllCells}
+use Rattle.send_model.specs.Cells.{AllCells}
 use Rattle.clone_pieces.specs.Origins.{IsHad, IsInInput}
 use Rattle.file_survey.specs.Findings.{KnowsParts}
 use Rattle.composer.specs.Kept.{Kept}
