@@ -12,7 +12,8 @@ use Rattle.store_model.specs.Image.{Header, HasGroups, header_of, front_of, grou
 use Rattle.group_log.specs.State.{LogState}
 use Rattle.group_log.specs.Journal.{Rests}
 use Rattle.log_tests.specs.Published.{joined, body_of, bodies_of, HasFirst}
-use Rattle.group_log.proofs.GatedGroups.{front_push, length-le}
+use Rattle.group_log.proofs.GatedGroups.{front_push}
+use Rattle.store_model.proofs.OneJournal.{length-le}
 
 -- one piece more, and one group more
 pub joined_next : (pieces : List (Vec ℕ Global)) (i : ℕ) (piece : Vec ℕ Global) → i < length pieces → piece ≡ slice_index_or pieces i piece → joined (take (i + 1) pieces) ≡ joined (take i pieces) ++ piece.items
