@@ -36,7 +36,8 @@ module _ (header : Header) (bodies : List (List ℕ)) (log : LogState) (seen : L
   length-rest : log.size ≡ log.gate + length reads.rest
   length-rest = omega (arith, size, ap length reads.bytes, length-append (front_of header bodies) reads.rest, reads.behind.place)
 
-  fault : IsCutShort reads.rest → HasFault seen (log.groups + 1)
+  -- a rest that is cut short is a fault of the next group
+  pub fault : IsCutShort reads.rest → HasFault seen (log.groups + 1)
   fault torn =
       let at : HasFault seen (suc log.groups) = record {
         header = header;
@@ -51,8 +52,8 @@ module _ (header : Header) (bodies : List (List ℕ)) (log : LogState) (seen : L
       subst (λ (n : ℕ). HasFault seen n) (let e : suc log.groups ≡ log.groups + 1 = omega arith in e) at
 
   -- no byte is left for a gate
-  pub no_gate : log.size - log.gate ≡ 0 → HasFault seen (log.groups + 1)
-  no_gate none = fault (subst IsCutShort (sym (empty_is reads.rest (omega (arith, none, length-rest)))) tt)
+  pub no_gate : log.size - log.gate ≡ 0 → IsCutShort (drop log.gate seen)
+  no_gate none = subst IsCutShort (sym (rest_is ∙ empty_is reads.rest (omega (arith, none, length-rest)))) tt
 
   module _ (some : log.size - log.gate ≢ 0) (buffer : List ℕ) (one : length buffer ≡ 1) (is : buffer ≡ take (length buffer) (drop log.gate seen)) where
     abbrev tail : List ℕ
@@ -79,12 +80,12 @@ module _ (header : Header) (bodies : List (List ℕ)) (log : LogState) (seen : L
     length-tail : log.size ≡ log.gate + 1 + length tail
     length-tail = omega (arith, length-rest, ap length gate_is)
 
-    cut_short : (length_of_body : ℕ) → get_or buffer 0 0 ≡ 1 → length tail < 8 + from_le_bytes w64 (take 8 tail) → HasFault seen (log.groups + 1)
-    cut_short n open_gate short = fault (subst IsCutShort (sym gate_is) (open_gate, short))
+    cut_short : get_or buffer 0 0 ≡ 1 → length tail < 8 + from_le_bytes w64 (take 8 tail) → IsCutShort (drop log.gate seen)
+    cut_short open_gate short = subst IsCutShort (sym (rest_is ∙ gate_is)) (open_gate, short)
 
     -- the length is cut short
-    pub no_length : get_or buffer 0 0 ≡ 1 → log.size - log.gate < 9 → HasFault seen (log.groups + 1)
-    no_length open_gate short = cut_short 0 open_gate (omega (arith, short, length-tail))
+    pub no_length : get_or buffer 0 0 ≡ 1 → log.size - log.gate < 9 → IsCutShort (drop log.gate seen)
+    no_length open_gate short = cut_short open_gate (omega (arith, short, length-tail))
 
     module _ (open_gate : get_or buffer 0 0 ≡ 1) (middle : List ℕ) (same : middle ≡ seen) (digits : List ℕ) (eight : length digits ≡ 8) (digits_is : digits ≡ take (length digits) (drop (log.gate + 1) middle)) (len : ℕ) (len_is : len ≡ from_le_bytes w64 digits) where
       tail_is : drop (log.gate + 1) middle ≡ tail
@@ -94,10 +95,10 @@ module _ (header : Header) (bodies : List (List ℕ)) (log : LogState) (seen : L
       first_eight = digits_is ∙ ap (λ (l : List ℕ). take (length digits) l) tail_is ∙ ap (λ (n : ℕ). take n tail) eight
 
       -- the body is cut short
-      pub no_body : log.size - log.gate - 9 < len → HasFault seen (log.groups + 1)
+      pub no_body : log.size - log.gate - 9 < len → IsCutShort (drop log.gate seen)
       no_body short =
           let same_len : len ≡ from_le_bytes w64 (take 8 tail) = len_is ∙ ap (λ (l : List ℕ). from_le_bytes w64 l) first_eight in
-          cut_short len open_gate (omega (arith, short, length-tail, same_len))
+          cut_short open_gate (omega (arith, short, length-tail, same_len))
 
       -- the group is whole
       pub whole_group : (are_bytes : (i : ℕ) → get_or digits i 0 < 256) → len < 2 ^ 64 → 9 ≤ log.size - log.gate → len ≤ log.size - log.gate - 9 → (new : LogState) (now : List ℕ) (known : Pending) (place : GroupPlace)
@@ -137,6 +138,11 @@ module _ (header : Header) (bodies : List (List ℕ)) (log : LogState) (seen : L
             at = omega (arith, p_at, reads.behind.place);
             len = p_len ∙ sym size_of;
           }
+
+-- what stands behind the groups, seen from the place of the gate
+pub cut_behind : (header : Header) (bodies : List (List ℕ)) (log : LogState) (seen : List ℕ) (pending : Pending) (reads : Reads header bodies log seen pending) (gate : ℕ) → gate ≡ log.gate → IsCutShort (drop gate seen) → IsCutShort reads.rest
+cut_behind header bodies log seen pending reads gate at torn =
+    subst IsCutShort (ap (λ (n : ℕ). drop n seen) at ∙ ap (λ (l : List ℕ). drop log.gate l) reads.bytes ∙ drop_at (front_of header bodies) reads.rest log.gate (sym reads.behind.place)) torn
 
 -- a header that was read
 pub header_opened : (log : LogState) (format : ℕ) (seen middle now : List ℕ) (known : Pending) (start digits : List ℕ) → (format ≡ 1) ⊎ (format ≡ 2) → start ≡ start_of format → start ≡ take (length start) (drop 0 seen) → length digits ≡ 8 → ((i : ℕ) → get_or digits i 0 < 256) → middle ≡ seen → digits ≡ take (length digits) (drop 12 middle)

@@ -1,5 +1,6 @@
--- When a disk fits what a log keeps of it. Of a disk that tells nothing only the size has to fit.
-use Rattle.std.specs.Prelude.{◌≡◌, ◌≢◌, ℕ, ◌+◌, ◌<◌, ◌≤◌, Option, Some, None, List, [], ◌∷◌, ◌++◌, length}
+-- When a disk fits what a log keeps of it. Of a disk that tells nothing only the size has to fit. The limit of a log is a size
+-- that a disk can have, and so is each place in a group.
+use Rattle.std.specs.Prelude.{◌≡◌, ◌≢◌, ℕ, ◌+◌, ◌^◌, ◌<◌, ◌≤◌, Option, Some, None, List, [], ◌∷◌, ◌++◌, length}
 use Rattle.std.specs.List.{AllByRecursion}
 use Rattle.std.specs.Int.{w64, to_le_bytes}
 use Rattle.sx_base.specs.Disk.{Pending, settled}
@@ -15,12 +16,14 @@ pub record IsReading (len : ℕ) (log : LogState) : Type 0 where
   pub size : len ≡ log.size
   pub stage : log.stage ≡ Reading
   pub whole : log.gate ≤ log.size
+  pub bounded : log.limit < 2 ^ 63
 
 -- All groups were read, and none is in progress.
 pub record IsAtRest (len : ℕ) (log : LogState) : Type 0 where
   pub size : len ≡ log.size
   pub stage : log.stage ≡ AtRest
   pub whole : log.gate < log.size
+  pub bounded : log.limit < 2 ^ 63
 
 -- A group is in progress and not prepared. The next append writes at the end of the disk, and there is room
 -- for the checksum and the next gate.
@@ -29,6 +32,7 @@ pub record IsInProgress (len : ℕ) (log : LogState) : Type 0 where
   pub stage : log.stage ≡ InProgress
   pub begun : log.gate + 9 ≤ log.size
   pub room : log.size + reserve ≤ log.limit
+  pub bounded : log.limit < 2 ^ 63
 
 -- A group is prepared: its checksum and the next gate stand behind it.
 pub record IsPrepared (len : ℕ) (log : LogState) : Type 0 where
@@ -36,6 +40,7 @@ pub record IsPrepared (len : ℕ) (log : LogState) : Type 0 where
   pub stage : log.stage ≡ Prepared
   pub begun : log.gate + 9 + reserve ≤ log.size
   pub room : log.size ≤ log.limit
+  pub bounded : log.limit < 2 ^ 63
 
 -- The log stands behind this header and these groups.
 pub record IsBehind (header : Header) (bodies : List (List ℕ)) (log : LogState) : Type 0 where

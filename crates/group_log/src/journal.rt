@@ -78,7 +78,7 @@ impl Log {
     ghost use Rattle.sx_base.specs.Causes.{Rose};
     ghost use Rattle.sx_base.specs.Disk.{Pending, IsAsBefore, IsImage, settled};
     ghost use Rattle.sx_base.specs.Crash.{LeavesOnly};
-    ghost use Rattle.store_model.specs.Image.{Header, HasGroups, HasFault, header_of, usual_header, sealed, reserve};
+    ghost use Rattle.store_model.specs.Image.{Header, HasGroups, HasFault, IsCutShort, header_of, usual_header, sealed, reserve};
     ghost use Rattle.group_log.specs.declared.stops.LogStop.TheVariants.{NotStore, LogFull, StoreThere};
     ghost use Rattle.group_log.specs.declared.journal.Stage.TheVariants.{Reading, InProgress};
     ghost use Rattle.group_log.specs.Stopping.{IsFault, IsFaultOr};
@@ -124,7 +124,6 @@ impl Log {
         ensures reading { IfOk result (IsReading (D.len disk.new)) }
         ensures first { IfOk result (λ log. (log.gate ≡ 20) × (log.groups ≡ 0)) }
         ensures format { IfOk result (λ log. (log.format ≡ 1) ⊎ (log.format ≡ 2)) }
-        ensures limit { IfOk result (λ log. log.limit < 2 ^ 63) }
         ensures opened { D.tells → IfOk result (IsOpened (D.seen disk.new) (D.pending disk.new)) }
         ensures durable { D.tells → OnOk result (D.pending disk.new ≡ settled (D.seen disk.new)) }
         ensures not_store { D.tells → IsErrOf result (NotStore 0) → HasFault (D.seen disk.old) 0 }
@@ -167,6 +166,13 @@ impl Log {
         self.format
     }
 
+    /// The size of the disk, as the log keeps it. Takes no memory.
+    pub fn size(&self) -> u64
+        ensures { result ≡ self.now.size }
+    {
+        self.size
+    }
+
     /// The place of the next group, or `None` at the closed gate and after it. `NotStore` exactly where a group is
     /// cut short; `DiskFault`.
     pub fn next<D: Disk>(&mut self, disk: &mut D) -> Result<Option<GroupPlace>, LogStop>
@@ -176,10 +182,12 @@ impl Log {
         ensures found { D.tells → (header : Header) (bodies : List (List ℕ)) →
             Reads header bodies self.old (D.seen disk.old) (D.pending disk.old) →
             IfOk result (Finds header bodies self.new (D.seen disk.new) (D.pending disk.new)) }
+
+        // What a read gives is the groups so far, and then a rest that is cut short.
         ensures not_store { D.tells → (header : Header) (bodies : List (List ℕ)) →
-            Reads header bodies self.old (D.seen disk.old) (D.pending disk.old) →
-            IsErrOf result (NotStore (self.old.groups + 1)) →
-            HasFault (D.seen disk.old) (self.old.groups + 1) }
+            (reads : Reads header bodies self.old (D.seen disk.old) (D.pending disk.old)) →
+            IsErrOf result (NotStore (self.old.groups + 1)) → IsCutShort reads.rest }
+
         ensures stops { IfErr result (IsFaultOr (Rose (D.faults disk.old) (D.faults disk.new))
             (NotStore (self.old.groups + 1))) }
         ensures kept { OnErr result (self.new ≡ self.old) }
