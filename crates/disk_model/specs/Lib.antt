@@ -1,3 +1,4 @@
+pub mod FlakyDisk
 pub mod FuseDisk
 pub mod History
 pub mod MemDisk

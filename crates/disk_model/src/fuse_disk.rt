@@ -38,6 +38,13 @@ impl<D> FuseDisk<D> {
         }
     }
 
+    // It passes so many calls from here on.
+    pub(crate) fn set_left(&mut self, calls: u64)
+        ensures { self.new ≡ record self.old { left = calls } }
+    {
+        self.left = calls;
+    }
+
     /// The disk inside.
     pub fn into_inner(self) -> D
         ensures { result ≡ self.disk }

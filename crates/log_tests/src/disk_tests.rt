@@ -1,5 +1,5 @@
 // What no clause says: that calls succeed, and examples of what a crash leaves.
-use disk_model::{FuseDisk, MemDisk};
+use disk_model::{FlakyDisk, FuseDisk, MemDisk};
 use std::process::Abort;
 use std::test::Fail;
 use sx_base::{Disk, Failed};
@@ -50,5 +50,25 @@ fn a_disk_that_stops_fails_every_call(rt: HostRuntime) -> Result<(), Fail> {
     let disk = fuse.into_inner();
     expect_bytes(&rt, &mut disk.crash(alloc, 0)?, b"XYc")?;
     expect_bytes(&rt, &mut disk.crash(alloc, 1)?, b"\0\0c")?;
+    Ok(())
+}
+
+#[test]
+fn a_flaky_disk_goes_on(rt: HostRuntime) -> Result<(), Fail> {
+    let alloc = rt.alloc();
+    let mut failing = vec![in alloc; 2; 1]?;
+    failing.push(5)?;
+    failing.push(6)?;
+    let mut flaky = FlakyDisk::new(MemDisk::new(alloc, b"abc")?, failing);
+    assert_eq!(rt; flaky.size(), Ok(3));
+    assert_eq!(rt; flaky.write_at(0, b"X"), Err(Failed));
+    assert_eq!(rt; flaky.sync(), Ok(()));
+    assert_eq!(rt; flaky.write_at(1, b"Y"), Ok(()));
+    assert_eq!(rt; flaky.cut(2), Err(Failed));
+    assert_eq!(rt; flaky.sync(), Err(Failed));
+    assert_eq!(rt; flaky.read(0, &mut [0; 3]), Ok(2));
+    let disk = flaky.into_inner();
+    expect_bytes(&rt, &mut disk.crash(alloc, 0)?, b"XY")?;
+    expect_bytes(&rt, &mut disk.crash(alloc, 1)?, b"X\0\0")?;
     Ok(())
 }

@@ -3,7 +3,7 @@ ghost use Rattle.std.specs.Prelude.{IfOk, IfSome, OnOk};
 ghost use Rattle.group_log.specs.Journal.{IsAtRest};
 
 use crate::client::{publish_all, publish_and_read};
-use disk_model::{FuseDisk, MemDisk};
+use disk_model::{FlakyDisk, FuseDisk, MemDisk};
 use group_log::{GroupPlace, Log, LogStop};
 use std::alloc::Global;
 use std::process::Abort;
@@ -62,6 +62,25 @@ fn publish_two<D: Disk>(disk: &mut D, begun: &mut u64, done: &mut u64) -> Result
     Ok(true)
 }
 
+// Each image that a crash may leave has so many groups.
+fn expect_groups(
+    rt: &impl Abort,
+    alloc: Global,
+    disk: &MemDisk,
+    least: u64,
+    most: u64,
+) -> Result<(), Fail> {
+    for choice in 0..16 {
+        let mut left = disk.crash(alloc, choice)?;
+        let found = at_end(&mut left)?.map_or(99, |end| end.1);
+        assert!(rt;
+            least <= found && found <= most,
+            "choice {choice}: {found} groups"
+        );
+    }
+    Ok(())
+}
+
 // Crashes at each call that publishing two groups makes, on a disk with these bytes and so many groups.
 fn crash_at_each_call(
     rt: &impl Abort,
@@ -76,15 +95,7 @@ fn crash_at_each_call(
         let mut done = groups;
         let outcome = publish_two(&mut fuse, &mut begun, &mut done);
         whole = matches!(outcome, Ok(true));
-        let disk = fuse.into_inner();
-        for choice in 0..16 {
-            let mut left = disk.crash(alloc, choice)?;
-            let found = at_end(&mut left)?.map_or(99, |end| end.1);
-            assert!(rt;
-                done <= found && found <= begun,
-                "{calls} calls, choice {choice}: {found} groups"
-            );
-        }
+        expect_groups(rt, alloc, &fuse.into_inner(), done, begun)?;
         if whole {
             assert_eq!(rt; done, groups.saturating_add(2));
             break;
@@ -99,6 +110,43 @@ fn a_crash_leaves_whole_groups(rt: HostRuntime) -> Result<(), Fail> {
     let alloc = rt.alloc();
     crash_at_each_call(&rt, alloc, &NEW, 0)?;
     crash_at_each_call(&rt, alloc, &FIRST, 1)
+}
+
+// Publishes two groups with each call alone that fails, and opens the log again on the disk that goes on.
+fn fault_at_each_call(
+    rt: &impl Abort,
+    alloc: Global,
+    image: &[u8],
+    groups: u64,
+) -> Result<(), Fail> {
+    let mut whole = false;
+    for call in 1..60 {
+        let failing = vec![in alloc; call; 1]?;
+        let mut flaky = FlakyDisk::new(MemDisk::new(alloc, image)?, failing);
+        let mut begun = groups;
+        let mut done = groups;
+        let outcome = publish_two(&mut flaky, &mut begun, &mut done);
+        whole = matches!(outcome, Ok(true));
+        if whole {
+            assert_eq!(rt; done, groups.saturating_add(2));
+            break;
+        }
+        let found = at_end(&mut flaky)?.map_or(99, |end| end.1);
+        assert!(rt;
+            done <= found && found <= begun,
+            "call {call}: {found} groups"
+        );
+        expect_groups(rt, alloc, &flaky.into_inner(), found, found)?;
+    }
+    assert!(rt; whole);
+    Ok(())
+}
+
+#[test]
+fn a_fault_leaves_whole_groups(rt: HostRuntime) -> Result<(), Fail> {
+    let alloc = rt.alloc();
+    fault_at_each_call(&rt, alloc, &NEW, 0)?;
+    fault_at_each_call(&rt, alloc, &FIRST, 1)
 }
 
 // The group at fault, or how many groups there are.
