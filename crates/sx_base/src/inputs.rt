@@ -1,7 +1,7 @@
 // The files that a run reads.
 ghost use Rattle.std.specs.Prelude.{◌≡◌, ℕ, ◌≤◌, List, length, IfOk, OnOk, Option};
 ghost use Rattle.sx_base.specs.Again.{LiesIn, FillsFrom, EndsKept, LostFor, EarlyEnd, MeetsEnd};
-ghost use Rattle.sx_base.specs.Causes.{HasCause};
+ghost use Rattle.sx_base.specs.Causes.{HasCause, Steady};
 ghost use Rattle.sx_base.specs.Outside.{GivesAt};
 
 use crate::failed::Failed;
@@ -27,7 +27,9 @@ pub trait Inputs {
         ensures bound { IfOk result (λ count. count ≤ length buf.new) }
         ensures bytes { IfOk result (λ count. GivesAt (told self.old) name.now at buf.new count) }
         ensures ends { EndsKept (told self.old) (ends self.old) (ends self.new) }
-        ensures cause { HasCause (faults self.old) (faults self.new) result };
+        ensures cause { HasCause (faults self.old) (faults self.new) result }
+        ensures steady { Steady (faults self.old) (faults self.new) result }
+        ensures ends_steady { Steady (ends self.old) (ends self.new) result };
 
     /// Fills the buffer with the bytes of the named file from the place `at` on, which were read before: where the
     /// files are told, the range lies in the file. `Failed` comes only where the count of faults rose, and `Ended`
@@ -40,5 +42,7 @@ pub trait Inputs {
         ensures ends { EndsKept (told self.old) (ends self.old) (ends self.new) }
         ensures cause { LostFor (told self.old) at (length buf.new)
             (faults self.old) (faults self.new) (ends self.old) (ends self.new) result }
-        ensures met { MeetsEnd name.now (last_end self.new) result };
+        ensures met { MeetsEnd name.now (last_end self.new) result }
+        ensures steady { Steady (faults self.old) (faults self.new) result }
+        ensures ends_steady { Steady (ends self.old) (ends self.new) result };
 }

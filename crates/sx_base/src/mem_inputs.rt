@@ -1,7 +1,7 @@
 // Files in memory, of which chosen reads fail.
 ghost use Rattle.std.specs.Prelude.{◌≡◌, ℕ, ◌-◌, ◌≤◌, List, [], ◌∷◌, ◌++◌, length, min, true, is_err, if◌then◌else◌, Some, IfOk, OnOk, OnErr};
 ghost use Rattle.sx_base.specs.Again.{LiesIn, FillsFrom, EndsKept, LostFor, MeetsEnd, no_end};
-ghost use Rattle.sx_base.specs.Causes.{Rose, HasCause};
+ghost use Rattle.sx_base.specs.Causes.{Rose, HasCause, Steady};
 ghost use Rattle.sx_base.specs.Memory.{next_count, is_listed};
 ghost use Rattle.sx_base.specs.Outside.{GivesAt, file_at};
 
@@ -106,6 +106,8 @@ impl Inputs for MemInputs {
             (λ count. GivesAt (Some self.old.files) name.now at buf.new count) }
         ensures ends { EndsKept (Some self.old.files) 0 0 }
         ensures cause { HasCause self.old.faults self.new.faults result }
+        ensures steady { Steady self.old.faults self.new.faults result }
+        ensures ends_steady { Steady 0 0 result }
         ensures fails { is_err result ≡ is_listed self.old.failing (next_count self.old.calls) }
         ensures fills { IfOk result
             (λ count. count ≡ min (length buf.new)
@@ -130,6 +132,8 @@ impl Inputs for MemInputs {
         ensures cause { LostFor (Some self.old.files) at (length buf.new)
             self.old.faults self.new.faults 0 0 result }
         ensures met { MeetsEnd name.now no_end result }
+        ensures steady { Steady self.old.faults self.new.faults result }
+        ensures ends_steady { Steady 0 0 result }
         ensures fails { is_err result ≡ is_listed self.old.failing (next_count self.old.calls) }
         ensures counts { self.new ≡ record self.old {
           calls = next_count self.old.calls;

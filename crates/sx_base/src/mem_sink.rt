@@ -1,7 +1,7 @@
 // A sink in memory, of which chosen writes fail.
 ghost use Rattle.std.specs.Prelude.{◌≡◌, ◌<◌, ◌≤◌, [], ◌∷◌, ◌++◌, length, not, ◌&&◌, is_err, if◌then◌else◌, Some, IfOk, OnOk, OnErr, IsErr, IsTrue};
 ghost use Rattle.std.specs.Io.KnownBytes.{WriteAppends};
-ghost use Rattle.sx_base.specs.Causes.{HasCause};
+ghost use Rattle.sx_base.specs.Causes.{HasCause, Steady};
 ghost use Rattle.sx_base.specs.Memory.{next_count, is_listed};
 
 use crate::failed::Failed;
@@ -89,6 +89,7 @@ impl Sink for MemSink {
         ensures progress { IfOk result (λ count. 0 < length piece.now → 0 < count) }
         ensures bytes { WriteAppends (Some self.old.bytes) (Some self.new.bytes) result piece.now }
         ensures cause { HasCause self.old.faults self.new.faults result }
+        ensures steady { Steady self.old.faults self.new.faults result }
         ensures whole { IfOk result (λ count. count ≡ length piece.now) }
         ensures listed { IsTrue (is_listed self.old.failing (next_count self.old.calls))
             → IsErr result }

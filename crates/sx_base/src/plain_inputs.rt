@@ -1,7 +1,7 @@
 // Files in memory that never fail.
 ghost use Rattle.std.specs.Prelude.{◌≡◌, ℕ, ◌-◌, ◌≤◌, List, [], ◌∷◌, ◌++◌, length, min, Some, Ok, IsOkAnd, IfOk, OnOk, OnErr};
 ghost use Rattle.sx_base.specs.Again.{LiesIn, FillsFrom, EndsKept, LostFor, MeetsEnd, no_end};
-ghost use Rattle.sx_base.specs.Causes.{HasCause};
+ghost use Rattle.sx_base.specs.Causes.{HasCause, Steady};
 ghost use Rattle.sx_base.specs.Outside.{GivesAt, file_at};
 
 use crate::failed::Failed;
@@ -64,6 +64,8 @@ impl Inputs for PlainInputs {
         ensures bytes { IfOk result (λ count. GivesAt (Some self.old) name.now at buf.new count) }
         ensures ends { EndsKept (Some self.old) 0 0 }
         ensures cause { HasCause 0 0 result }
+        ensures steady { Steady 0 0 result }
+        ensures ends_steady { Steady 0 0 result }
         ensures fills { IsOkAnd result
             (λ count. count ≡ min (length buf.new) (length (file_at self.old name.now) - at)) }
     {
@@ -78,6 +80,8 @@ impl Inputs for PlainInputs {
         ensures ends { EndsKept (Some self.old) 0 0 }
         ensures cause { LostFor (Some self.old) at (length buf.new) 0 0 0 0 result }
         ensures met { MeetsEnd name.now no_end result }
+        ensures steady { Steady 0 0 result }
+        ensures ends_steady { Steady 0 0 result }
         ensures fills { result ≡ Ok tt }
     {
         read_piece(find_file(self.files.as_slice(), name), at, buf);

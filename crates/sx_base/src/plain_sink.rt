@@ -1,7 +1,7 @@
 // A sink that drops what it takes.
 ghost use Rattle.std.specs.Prelude.{◌≡◌, ◌<◌, ◌≤◌, length, None, Ok, IfOk};
 ghost use Rattle.std.specs.Io.KnownBytes.{WriteAppends};
-ghost use Rattle.sx_base.specs.Causes.{HasCause};
+ghost use Rattle.sx_base.specs.Causes.{HasCause, Steady};
 
 use crate::failed::Failed;
 use crate::sink::Sink;
@@ -28,6 +28,7 @@ impl Sink for PlainSink {
         ensures progress { IfOk result (λ count. 0 < length piece.now → 0 < count) }
         ensures bytes { WriteAppends None None result piece.now }
         ensures cause { HasCause 0 0 result }
+        ensures steady { Steady 0 0 result }
     {
         Ok(piece.len())
     }

@@ -1,7 +1,7 @@
 // What a run writes to.
 ghost use Rattle.std.specs.Prelude.{◌≡◌, ℕ, ◌<◌, ◌≤◌, List, length, IfOk, Option};
 ghost use Rattle.std.specs.Io.KnownBytes.{WriteAppends};
-ghost use Rattle.sx_base.specs.Causes.{HasCause};
+ghost use Rattle.sx_base.specs.Causes.{HasCause, Steady};
 
 use crate::failed::Failed;
 
@@ -18,5 +18,6 @@ pub trait Sink {
         ensures bound { IfOk result (λ count. count ≤ length piece.now) }
         ensures progress { IfOk result (λ count. 0 < length piece.now → 0 < count) }
         ensures bytes { WriteAppends (taken self.old) (taken self.new) result piece.now }
-        ensures cause { HasCause (faults self.old) (faults self.new) result };
+        ensures cause { HasCause (faults self.old) (faults self.new) result }
+        ensures steady { Steady (faults self.old) (faults self.new) result };
 }

@@ -1,4 +1,4 @@
-use Rattle.std.proofs.Common.{◌≤◌, ◌-◌, length, arith}
+use Rattle.std.proofs.Common.{◌≤◌, ◌-◌, ◌∙◌, length, arith}
 use Rattle.sx_base.proofs.Pieces.{Appends-more}
 use Rattle.sx_base.proofs.whole.write_whole.Goals as goal
 
@@ -10,5 +10,5 @@ loop-done-preserved g c =
     record {
       within = omega (arith, c.in_ok-done.ensures.bound);
       taken = Appends-more _ _ _ c.args.piece.now done c.in_ok-done.field-0 room fits c.loop-done.invariant.taken c.in_ok-done.ensures.bytes;
-      later = omega (arith, c.in_ok-done.ensures.cause.later);
+      steady = c.in_ok-done.ensures.steady ∙ c.loop-done.invariant.steady;
     }
