@@ -1,6 +1,6 @@
 // A disk that stops.
 ghost use Rattle.std.specs.Prelude.{◌≡◌, ◌⊎◌, ◌+◌, ◌-◌, ◌^◌, ◌<◌, ◌≤◌, ◌↔◌, IsTrue, length, take, min, max, IfOk, OnOk, OnErr, IsErr, if◌then◌else◌};
-ghost use Rattle.sx_base.specs.Causes.{Rose};
+ghost use Rattle.sx_base.specs.Causes.{Rose, Steady};
 ghost use Rattle.sx_base.specs.Disk.{IsAsBefore, IsReadAt, Passes, written, shortened, settled};
 ghost use Rattle.sx_base.specs.Bytes.{put_at};
 ghost use Rattle.disk_model.specs.FuseDisk.{of_inner, left_inside, faults_of};
@@ -105,6 +105,7 @@ impl<D: Disk> Disk for FuseDisk<D> {
             IsAsBefore (of_inner D.seen) (of_inner D.pending) self.old self.new }
         ensures passes { Passes D.tells (of_inner D.moment) (left_inside D.left_since)
             (of_inner D.pending) (faults_of D.faults) self.old self.new result }
+        ensures steady { Steady (faults_of D.faults self.old) (faults_of D.faults self.new) result }
         ensures counts { self.new.left ≡ self.old.left - 1 }
         ensures stopped { self.old.left ≡ 0 → IsErr result }
         ensures passed { 0 < self.old.left →
@@ -128,6 +129,7 @@ impl<D: Disk> Disk for FuseDisk<D> {
             IsAsBefore (of_inner D.seen) (of_inner D.pending) self.old self.new }
         ensures passes { Passes D.tells (of_inner D.moment) (left_inside D.left_since)
             (of_inner D.pending) (faults_of D.faults) self.old self.new result }
+        ensures steady { Steady (faults_of D.faults self.old) (faults_of D.faults self.new) result }
         ensures counts { self.new.left ≡ self.old.left - 1 }
         ensures stopped { self.old.left ≡ 0 → IsErr result }
         ensures passed { 0 < self.old.left →
@@ -158,6 +160,7 @@ impl<D: Disk> Disk for FuseDisk<D> {
             ⊎ Rose (D.faults self.old.disk) (D.faults self.new.disk) }
         ensures passes { Passes D.tells (of_inner D.moment) (left_inside D.left_since)
             (of_inner D.pending) (faults_of D.faults) self.old self.new result }
+        ensures steady { Steady (faults_of D.faults self.old) (faults_of D.faults self.new) result }
         ensures counts { self.new.left ≡ self.old.left - 1 }
         ensures stopped { self.old.left ≡ 0 → IsErr result }
         ensures passed { 0 < self.old.left →
@@ -185,6 +188,7 @@ impl<D: Disk> Disk for FuseDisk<D> {
             ⊎ Rose (D.faults self.old.disk) (D.faults self.new.disk) }
         ensures passes { Passes D.tells (of_inner D.moment) (left_inside D.left_since)
             (of_inner D.pending) (faults_of D.faults) self.old self.new result }
+        ensures steady { Steady (faults_of D.faults self.old) (faults_of D.faults self.new) result }
         ensures counts { self.new.left ≡ self.old.left - 1 }
         ensures stopped { self.old.left ≡ 0 → IsErr result }
         ensures passed { 0 < self.old.left →
@@ -207,6 +211,7 @@ impl<D: Disk> Disk for FuseDisk<D> {
             OnErr result (D.pending self.new.disk ≡ D.pending self.old.disk) }
         ensures passes { Passes D.tells (of_inner D.moment) (left_inside D.left_since)
             (of_inner D.pending) (faults_of D.faults) self.old self.new result }
+        ensures steady { Steady (faults_of D.faults self.old) (faults_of D.faults self.new) result }
         ensures counts { self.new.left ≡ self.old.left - 1 }
         ensures stopped { self.old.left ≡ 0 → IsErr result }
         ensures passed { 0 < self.old.left →

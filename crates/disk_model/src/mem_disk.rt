@@ -1,6 +1,7 @@
 // A disk in memory that may crash.
 ghost use Rattle.std.specs.Prelude.{◌≡◌, ◌+◌, ◌-◌, ◌^◌, ◌<◌, ◌≤◌, ◌++◌, [], ◌∷◌, length, take, min, max, IfOk, OnOk, OnErr, IsOk, is_ok, if◌then◌else◌};
 ghost use Rattle.std.proofs.Common.{inr, refl};
+ghost use Rattle.sx_base.specs.Causes.{Steady};
 ghost use Rattle.sx_base.specs.Disk.{IsAsBefore, IsReadAt, Passes, written, shortened, settled};
 ghost use Rattle.sx_base.specs.Bytes.{put_at};
 ghost use Rattle.disk_model.specs.Stretch.{pending_in};
@@ -117,6 +118,7 @@ impl Disk for MemDisk {
         ensures same { IsAsBefore seen_of pending_of self.old self.new }
         ensures passes { Passes (Unit {0}) moment_of left_of pending_of refused_of
             self.old self.new result }
+        ensures steady { Steady (refused_of self.old) (refused_of self.new) result }
         ensures succeeds { IsOk result }
         ensures refused { refused_of self.new ≡ refused_of self.old }
     {
@@ -133,6 +135,7 @@ impl Disk for MemDisk {
         ensures same { IsAsBefore seen_of pending_of self.old self.new }
         ensures passes { Passes (Unit {0}) moment_of left_of pending_of refused_of
             self.old self.new result }
+        ensures steady { Steady (refused_of self.old) (refused_of self.new) result }
         ensures succeeds { IsOk result }
         ensures refused { refused_of self.new ≡ refused_of self.old }
     {
@@ -158,6 +161,7 @@ impl Disk for MemDisk {
             ≡ written at (length piece.now) (pending_of self.old) }
         ensures passes { Passes (Unit {0}) moment_of left_of pending_of refused_of
             self.old self.new result }
+        ensures steady { Steady (refused_of self.old) (refused_of self.new) result }
         ensures refused { refused_of self.new
             ≡ (if is_ok result then refused_of self.old else min (refused_of self.old + 1)
             (2 ^ 64 - 1)) }
@@ -182,6 +186,7 @@ impl Disk for MemDisk {
         ensures pending { pending_of self.new ≡ shortened size (pending_of self.old) }
         ensures passes { Passes (Unit {0}) moment_of left_of pending_of refused_of
             self.old self.new result }
+        ensures steady { Steady (refused_of self.old) (refused_of self.new) result }
         ensures succeeds { IsOk result }
         ensures refused { refused_of self.new ≡ refused_of self.old }
     {
@@ -197,6 +202,7 @@ impl Disk for MemDisk {
         ensures pending_err { OnErr result (pending_of self.new ≡ pending_of self.old) }
         ensures passes { Passes (Unit {0}) moment_of left_of pending_of refused_of
             self.old self.new result }
+        ensures steady { Steady (refused_of self.old) (refused_of self.new) result }
         ensures refused { refused_of self.new
             ≡ (if is_ok result then refused_of self.old else min (refused_of self.old + 1)
             (2 ^ 64 - 1)) }
