@@ -10,3 +10,4 @@ mod Goings
 mod Steps
 pub mod Aheads
 mod Standing
+mod Steady

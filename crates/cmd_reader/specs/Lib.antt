@@ -11,3 +11,4 @@ pub mod Frames
 pub mod Glances
 pub mod Items
 pub mod Stopping
+pub mod Steadiness

@@ -6,6 +6,7 @@ ghost use Rattle.cmd_reader.specs.Next.{NextSays, ItemFits, IfItem, EndsAfterEnd
 ghost use Rattle.cmd_reader.specs.Stands.{NextStands, GlanceStands};
 ghost use Rattle.cmd_reader.specs.Frames.{FrameFits, StepSays, FrameSays, Halts, StepHalts};
 ghost use Rattle.cmd_reader.specs.Glances.{GlanceFits, GlanceSays};
+ghost use Rattle.cmd_reader.specs.Steadiness.{UnlessFailed, UnlessStepFailed};
 
 use crate::fault::Fault;
 use crate::front::{FrameAt, body_in, glance_in, item_in, stop_at};
@@ -63,7 +64,9 @@ impl CmdReader {
         requires ahead { IfTold (I.told inputs.old) self.old.name (HasAhead self.old) }
         ensures same { I.told inputs.new ≡ I.told inputs.old }
         ensures later { I.faults inputs.old ≤ I.faults inputs.new }
+        ensures steady { UnlessFailed result (I.faults inputs.new ≡ I.faults inputs.old) }
         ensures ends_later { I.ends inputs.old ≤ I.ends inputs.new }
+        ensures ends_steady { UnlessFailed result (I.ends inputs.new ≡ I.ends inputs.old) }
         ensures file { self.new.file ≡ self.old.file }
         ensures name { self.new.name ≡ self.old.name }
         ensures fits { IfItem result (ItemFits self.old self.new) }
@@ -87,7 +90,9 @@ impl CmdReader {
         requires ahead { IfTold (I.told inputs.old) self.old.name (HasAhead self.old) }
         ensures same { I.told inputs.new ≡ I.told inputs.old }
         ensures later { I.faults inputs.old ≤ I.faults inputs.new }
+        ensures steady { UnlessFailed result (I.faults inputs.new ≡ I.faults inputs.old) }
         ensures ends_later { I.ends inputs.old ≤ I.ends inputs.new }
+        ensures ends_steady { UnlessFailed result (I.ends inputs.new ≡ I.ends inputs.old) }
         ensures file { self.new.file ≡ self.old.file }
         ensures name { self.new.name ≡ self.old.name }
         ensures fits { IfItem result (GlanceFits self.old self.new) }
@@ -123,7 +128,9 @@ impl CmdReader {
         requires ahead { IfTold (I.told inputs.old) self.old.name (HasAhead self.old) }
         ensures same { I.told inputs.new ≡ I.told inputs.old }
         ensures later { I.faults inputs.old ≤ I.faults inputs.new }
+        ensures steady { UnlessFailed result (I.faults inputs.new ≡ I.faults inputs.old) }
         ensures ends_later { I.ends inputs.old ≤ I.ends inputs.new }
+        ensures ends_steady { UnlessFailed result (I.ends inputs.new ≡ I.ends inputs.old) }
         ensures file { self.new.file ≡ self.old.file }
         ensures name { self.new.name ≡ self.old.name }
         ensures fits { IfItem result (FrameFits self.new) }
@@ -144,7 +151,9 @@ impl CmdReader {
         requires ahead { IfTold (I.told inputs.old) self.old.name (HasAhead self.old) }
         ensures same { I.told inputs.new ≡ I.told inputs.old }
         ensures later { I.faults inputs.old ≤ I.faults inputs.new }
+        ensures steady { UnlessStepFailed result (I.faults inputs.new ≡ I.faults inputs.old) }
         ensures ends_later { I.ends inputs.old ≤ I.ends inputs.new }
+        ensures ends_steady { UnlessStepFailed result (I.ends inputs.new ≡ I.ends inputs.old) }
         ensures file { self.new.file ≡ self.old.file }
         ensures name { self.new.name ≡ self.old.name }
         ensures says { StepSays (I.told inputs.old) self.old self.new

@@ -5,6 +5,7 @@ ghost use Rattle.tlv_frame.specs.Feeding.{unfed, next_of};
 ghost use Rattle.send_model.specs.Lengths.{limit};
 ghost use Rattle.sx_base.specs.Outside.{GivesAt};
 ghost use Rattle.cmd_reader.specs.Sources.{IsSource, SourceAhead, SourcePasses, MoreSays, unit_len, IsInputFault};
+ghost use Rattle.cmd_reader.specs.Steadiness.{UnlessErr};
 
 use crate::fault::Fault;
 use std::alloc::{AllocError, Global};
@@ -56,7 +57,9 @@ impl Source {
         requires ahead { SourceAhead (I.told inputs.old) self.old }
         ensures same { I.told inputs.new ≡ I.told inputs.old }
         ensures later { I.faults inputs.old ≤ I.faults inputs.new }
+        ensures steady { UnlessErr result (I.faults inputs.new ≡ I.faults inputs.old) }
         ensures ends_later { I.ends inputs.old ≤ I.ends inputs.new }
+        ensures ends_steady { UnlessErr result (I.ends inputs.new ≡ I.ends inputs.old) }
         ensures source { IsSource self.new }
         ensures name { self.new.name ≡ self.old.name }
         ensures says { SourcePasses (I.told inputs.old) self.old self.new
@@ -86,7 +89,9 @@ impl Source {
         requires ahead { SourceAhead (I.told inputs.old) self.old }
         ensures same { I.told inputs.new ≡ I.told inputs.old }
         ensures later { I.faults inputs.old ≤ I.faults inputs.new }
+        ensures steady { UnlessErr result (I.faults inputs.new ≡ I.faults inputs.old) }
         ensures ends_later { I.ends inputs.old ≤ I.ends inputs.new }
+        ensures ends_steady { UnlessErr result (I.ends inputs.new ≡ I.ends inputs.old) }
         ensures source { IsSource self.new }
         ensures name { self.new.name ≡ self.old.name }
         ensures place { self.new.at ≡ self.old.at }
@@ -122,7 +127,9 @@ fn read_piece<I: Inputs>(
     requires room { length piece.old ≡ 65_536 }
     ensures same { I.told inputs.new ≡ I.told inputs.old }
     ensures later { I.faults inputs.old ≤ I.faults inputs.new }
+    ensures steady { UnlessErr result (I.faults inputs.new ≡ I.faults inputs.old) }
     ensures ends_later { I.ends inputs.old ≤ I.ends inputs.new }
+    ensures ends_steady { UnlessErr result (I.ends inputs.new ≡ I.ends inputs.old) }
     ensures bound { IfOk result (λ count. count ≤ 65_536) }
     ensures place { IfOk result (λ count. at + count ≤ limit) }
     ensures bytes { IfOk result (λ count. GivesAt (I.told inputs.old) name.now at piece.new count) }

@@ -1,16 +1,16 @@
-use Rattle.std.proofs.Common.{◌≡◌, ◌≤◌, ◌-◌}
+use Rattle.std.proofs.Common.{◌≡◌, ◌-◌}
 use Rattle.send_model.specs.Lengths.{limit}
 use Rattle.cmd_reader.specs.Places.{IfTold}
 use Rattle.cmd_reader.specs.Left.{HasAhead}
 use Rattle.cmd_reader.specs.Next.{HasBegun, BeginsAt}
 use Rattle.cmd_reader.proofs.command_reader.CmdReader.frame.Given as goal
 
--- Headers were passed, and no frame.
+-- Headers were passed, and no frame, and no count rose.
 abbrev pub invariant-loop-answer : goal.invariant-loop-answer
 invariant-loop-answer g l = record {
   same : g.I.Inputs.told l.inputs ≡ g.I.Inputs.told l.fn.inputs;
-  later : g.I.Inputs.faults l.fn.inputs ≤ g.I.Inputs.faults l.inputs;
-  ends_later : g.I.Inputs.ends l.fn.inputs ≤ g.I.Inputs.ends l.inputs;
+  steady : g.I.Inputs.faults l.inputs ≡ g.I.Inputs.faults l.fn.inputs;
+  ends_steady : g.I.Inputs.ends l.inputs ≡ g.I.Inputs.ends l.fn.inputs;
   begun : HasBegun l.fn.self l.self × IfTold (g.I.Inputs.told l.fn.inputs) l.fn.self.name (BeginsAt l.fn.self l.self);
   ahead : IfTold (g.I.Inputs.told l.inputs) l.self.name (HasAhead l.self);
 }

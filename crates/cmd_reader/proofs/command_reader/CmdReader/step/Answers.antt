@@ -2,6 +2,7 @@ use Rattle.std.proofs.Common.{refl, ap, sym, ◌∙◌, arith}
 use Rattle.std.specs.String.{string_bytes}
 use Rattle.cmd_reader.proofs.Steps.{fault_said, head_said, frame_said, whole_said, cut_said}
 use Rattle.cmd_reader.proofs.Standing.{fault_halted, whole_halted, cut_halted}
+use Rattle.cmd_reader.proofs.Steady.{whatever_stop, seen_at_place}
 use Rattle.cmd_reader.proofs.command_reader.CmdReader.step.Goals as goal
 
 pub returns-then-whole-clause-says : goal.returns-then-whole-clause-says
@@ -37,3 +38,15 @@ pub returns-in-Frame-clause-says : goal.returns-in-Frame-clause-says
 returns-in-Frame-clause-says g c =
     let e = c.in-Ok-Some.ensures in
     frame_said _ _ _ _ 0 0 c.in-Frame.head c.in-Frame.version c.in-Ok-Some.unit c.in-Ok-Some.field-0 _ c.self.view_is c.in-Ok-Some.field-0-is c.in-Frame.is refl refl (ap string_bytes e.name) refl (omega (arith, e.source.up_to, e.source.within)) e.says
+
+pub returns-in-Ok-None-clause-steady : goal.returns-in-Ok-None-clause-steady
+returns-in-Ok-None-clause-steady g c = whatever_stop c.stop_at.result _ c.in-Ok-None.ensures.steady
+
+pub returns-in-Ok-None-clause-ends_steady : goal.returns-in-Ok-None-clause-ends_steady
+returns-in-Ok-None-clause-ends_steady g c = whatever_stop c.stop_at.result _ c.in-Ok-None.ensures.ends_steady
+
+pub returns-in-Err-clause-steady : goal.returns-in-Err-clause-steady
+returns-in-Err-clause-steady g c = seen_at_place _ _ _ c.in-Err.fault c.stop_at-in-Err.result _ c.stop_at-in-Err.ensures.stop c.in-Err.ensures.steady
+
+pub returns-in-Err-clause-ends_steady : goal.returns-in-Err-clause-ends_steady
+returns-in-Err-clause-ends_steady g c = seen_at_place _ _ _ c.in-Err.fault c.stop_at-in-Err.result _ c.stop_at-in-Err.ensures.stop c.in-Err.ensures.ends_steady

@@ -1,16 +1,16 @@
-use Rattle.std.proofs.Common.{◌≡◌, ◌≤◌, ◌-◌}
+use Rattle.std.proofs.Common.{◌≡◌, ◌-◌}
 use Rattle.std.specs.String.{string_bytes}
 use Rattle.send_model.specs.Lengths.{limit}
 use Rattle.cmd_reader.specs.Places.{IfTold}
 use Rattle.cmd_reader.specs.Sources.{IsSource, IsAhead}
 use Rattle.cmd_reader.proofs.source.Source.pass.Given as goal
 
--- Nothing was gone past; the feed has more bytes of the file and none besides.
+-- Nothing was gone past, and no count rose; the feed has more bytes of the file and none besides.
 abbrev pub invariant-loop-unit : goal.invariant-loop-unit
 invariant-loop-unit g l = record {
   same : g.I.Inputs.told l.inputs ≡ g.I.Inputs.told l.fn.inputs;
-  later : g.I.Inputs.faults l.fn.inputs ≤ g.I.Inputs.faults l.inputs;
-  ends_later : g.I.Inputs.ends l.fn.inputs ≤ g.I.Inputs.ends l.inputs;
+  steady : g.I.Inputs.faults l.inputs ≡ g.I.Inputs.faults l.fn.inputs;
+  ends_steady : g.I.Inputs.ends l.inputs ≡ g.I.Inputs.ends l.fn.inputs;
   source : IsSource l.self;
   name : l.self.name ≡ l.fn.self.name;
   place : l.self.at ≡ l.fn.self.at;
