@@ -4,6 +4,7 @@ ghost use Rattle.std.specs.List.{AllByRecursion};
 ghost use Rattle.std.specs.String.{string_bytes};
 ghost use Rattle.sx_base.specs.Again.{LiesIn, FillsFrom};
 ghost use Rattle.sx_base.specs.Calls.{IfAllTold};
+ghost use Rattle.sx_base.specs.Causes.{Steady};
 ghost use Rattle.extent_map.specs.Cells.{cells_between};
 ghost use Rattle.extent_map.specs.Pieces.{piece_cells};
 ghost use Rattle.provenance.specs.Traces.{advanced_by};
@@ -35,8 +36,11 @@ pub(crate) fn fill_cells<I: Inputs, B: OutsideBytes>(
     ensures same { I.told inputs.new ≡ I.told inputs.old }
     ensures held { B.held bytes.new ≡ B.held bytes.old }
     ensures later { I.faults inputs.old ≤ I.faults inputs.new }
+    ensures steady { Steady (I.faults inputs.old) (I.faults inputs.new) result }
     ensures ends_later { I.ends inputs.old ≤ I.ends inputs.new }
+    ensures ends_steady { Steady (I.ends inputs.old) (I.ends inputs.new) result }
     ensures bytes_later { B.faults bytes.old ≤ B.faults bytes.new }
+    ensures bytes_steady { Steady (B.faults bytes.old) (B.faults bytes.new) result }
     ensures cause { RedirectCaused (I.ends inputs.old) (I.ends inputs.new)
         (I.faults inputs.old + B.faults bytes.old) (I.faults inputs.new + B.faults bytes.new) 0 0
         result }
@@ -70,8 +74,11 @@ fn fill_piece<I: Inputs, B: OutsideBytes>(
     ensures same { I.told inputs.new ≡ I.told inputs.old }
     ensures held { B.held bytes.new ≡ B.held bytes.old }
     ensures later { I.faults inputs.old ≤ I.faults inputs.new }
+    ensures steady { Steady (I.faults inputs.old) (I.faults inputs.new) result }
     ensures ends_later { I.ends inputs.old ≤ I.ends inputs.new }
+    ensures ends_steady { Steady (I.ends inputs.old) (I.ends inputs.new) result }
     ensures bytes_later { B.faults bytes.old ≤ B.faults bytes.new }
+    ensures bytes_steady { Steady (B.faults bytes.old) (B.faults bytes.new) result }
     ensures cause { RedirectCaused (I.ends inputs.old) (I.ends inputs.new)
         (I.faults inputs.old + B.faults bytes.old) (I.faults inputs.new + B.faults bytes.new) 0 0
         result }
@@ -109,7 +116,9 @@ fn read_part<I: Inputs>(
     requires number { file + 1 < 2 ^ 64 }
     ensures same { I.told inputs.new ≡ I.told inputs.old }
     ensures later { I.faults inputs.old ≤ I.faults inputs.new }
+    ensures steady { Steady (I.faults inputs.old) (I.faults inputs.new) result }
     ensures ends_later { I.ends inputs.old ≤ I.ends inputs.new }
+    ensures ends_steady { Steady (I.ends inputs.old) (I.ends inputs.new) result }
     ensures cause { RedirectCaused (I.ends inputs.old) (I.ends inputs.new)
         (I.faults inputs.old) (I.faults inputs.new) 0 0 result }
     ensures changed { (names : List (List ℕ)) → file < length names

@@ -6,6 +6,7 @@ ghost use Rattle.send_model.specs.Command.{Write};
 ghost use Rattle.send_model.specs.Spelling.{canonical, canonical_all};
 ghost use Rattle.send_model.specs.Composed.{writes_from};
 ghost use Rattle.sx_base.specs.Calls.{IfAllTold};
+ghost use Rattle.sx_base.specs.Causes.{Steady};
 ghost use Rattle.extent_map.specs.Cells.{cells_between};
 ghost use Rattle.clone_pieces.specs.Origins.{IsInInput};
 ghost use Rattle.clone_pieces.specs.Filling.{byte_in, IsHadIn};
@@ -51,9 +52,13 @@ pub(crate) fn write_cells<I: Inputs, B: OutsideBytes, O: Sink>(
     ensures same { I.told inputs.new ≡ I.told inputs.old }
     ensures held { B.held bytes.new ≡ B.held bytes.old }
     ensures later { I.faults inputs.old ≤ I.faults inputs.new }
+    ensures steady { Steady (I.faults inputs.old) (I.faults inputs.new) result }
     ensures ends_later { I.ends inputs.old ≤ I.ends inputs.new }
+    ensures ends_steady { Steady (I.ends inputs.old) (I.ends inputs.new) result }
     ensures bytes_later { B.faults bytes.old ≤ B.faults bytes.new }
+    ensures bytes_steady { Steady (B.faults bytes.old) (B.faults bytes.new) result }
     ensures out_later { O.faults out.old ≤ O.faults out.new }
+    ensures out_steady { Steady (O.faults out.old) (O.faults out.new) result }
     ensures cause { RedirectCaused (I.ends inputs.old) (I.ends inputs.new)
         (I.faults inputs.old + B.faults bytes.old) (I.faults inputs.new + B.faults bytes.new)
         (O.faults out.old) (O.faults out.new) result }
@@ -116,9 +121,13 @@ fn write_some<I: Inputs, B: OutsideBytes, O: Sink>(
     ensures same { I.told inputs.new ≡ I.told inputs.old }
     ensures held { B.held bytes.new ≡ B.held bytes.old }
     ensures later { I.faults inputs.old ≤ I.faults inputs.new }
+    ensures steady { Steady (I.faults inputs.old) (I.faults inputs.new) result }
     ensures ends_later { I.ends inputs.old ≤ I.ends inputs.new }
+    ensures ends_steady { Steady (I.ends inputs.old) (I.ends inputs.new) result }
     ensures bytes_later { B.faults bytes.old ≤ B.faults bytes.new }
+    ensures bytes_steady { Steady (B.faults bytes.old) (B.faults bytes.new) result }
     ensures out_later { O.faults out.old ≤ O.faults out.new }
+    ensures out_steady { Steady (O.faults out.old) (O.faults out.new) result }
     ensures cause { RedirectCaused (I.ends inputs.old) (I.ends inputs.new)
         (I.faults inputs.old + B.faults bytes.old) (I.faults inputs.new + B.faults bytes.new)
         (O.faults out.old) (O.faults out.new) result }
@@ -152,6 +161,7 @@ fn put_write<O: Sink>(
     requires path { length path.now < 2 ^ 16 }
     requires most { length row.items ≤ 49_152 }
     ensures out_later { O.faults out.old ≤ O.faults out.new }
+    ensures out_steady { Steady (O.faults out.old) (O.faults out.new) result }
     ensures put { PutEnd (O.taken out.old) (O.taken out.new) pending.old pending.new
         (canonical version (Write path.now offset row.items)) (O.faults out.old) (O.faults out.new)
         result }

@@ -5,7 +5,7 @@ ghost use Rattle.send_model.specs.Store.{Store};
 ghost use Rattle.send_model.specs.Composed.{path_of};
 ghost use Rattle.subvol_catalog.specs.Entries.{key_of};
 ghost use Rattle.provenance.specs.Cuts.{AreEndsOf};
-ghost use Rattle.sx_base.specs.Causes.{HasCause};
+ghost use Rattle.sx_base.specs.Causes.{HasCause, Steady};
 
 use provenance::Ends;
 use std::alloc::{AllocError, Global};
@@ -44,5 +44,6 @@ pub trait OutsideBytes {
         ensures same { held self.new ≡ held self.old }
         ensures bytes { OnOk result
             (buf.new ≡ take (length buf.new) (drop at (held self.old (key_of key) ino))) }
-        ensures cause { HasCause (faults self.old) (faults self.new) result };
+        ensures cause { HasCause (faults self.old) (faults self.new) result }
+        ensures steady { Steady (faults self.old) (faults self.new) result };
 }

@@ -7,6 +7,7 @@ ghost use Rattle.send_model.specs.Spelling.{canonical, canonical_all};
 ghost use Rattle.send_model.specs.Provenance.{Traced, literal_len, pieces_of};
 ghost use Rattle.send_model.specs.Composed.{path_of};
 ghost use Rattle.sx_base.specs.Calls.{IfAllTold};
+ghost use Rattle.sx_base.specs.Causes.{Steady};
 ghost use Rattle.subvol_catalog.specs.Entries.{key_of};
 ghost use Rattle.extent_map.specs.Cells.{cells_between};
 ghost use Rattle.provenance.specs.Traces.{place_in};
@@ -95,9 +96,13 @@ pub fn redirect<'a, I: Inputs, E: Known, B: OutsideBytes, O: Sink>(
     ensures same { I.told inputs.new ≡ I.told inputs.old }
     ensures held { B.held bytes.new ≡ B.held bytes.old }
     ensures later { I.faults inputs.old ≤ I.faults inputs.new }
+    ensures steady { Steady (I.faults inputs.old) (I.faults inputs.new) result }
     ensures ends_later { I.ends inputs.old ≤ I.ends inputs.new }
+    ensures ends_steady { Steady (I.ends inputs.old) (I.ends inputs.new) result }
     ensures bytes_later { B.faults bytes.old ≤ B.faults bytes.new }
+    ensures bytes_steady { Steady (B.faults bytes.old) (B.faults bytes.new) result }
     ensures out_later { O.faults out.old ≤ O.faults out.new }
+    ensures out_steady { Steady (O.faults out.old) (O.faults out.new) result }
     ensures cause { RedirectCaused (I.ends inputs.old) (I.ends inputs.new)
         (I.faults inputs.old + B.faults bytes.old) (I.faults inputs.new + B.faults bytes.new)
         (O.faults out.old) (O.faults out.new) result }
@@ -158,9 +163,13 @@ fn write_plan<I: Inputs, E: Known, B: OutsideBytes, O: Sink>(
     ensures same { I.told inputs.new ≡ I.told inputs.old }
     ensures held { B.held bytes.new ≡ B.held bytes.old }
     ensures later { I.faults inputs.old ≤ I.faults inputs.new }
+    ensures steady { Steady (I.faults inputs.old) (I.faults inputs.new) result }
     ensures ends_later { I.ends inputs.old ≤ I.ends inputs.new }
+    ensures ends_steady { Steady (I.ends inputs.old) (I.ends inputs.new) result }
     ensures bytes_later { B.faults bytes.old ≤ B.faults bytes.new }
+    ensures bytes_steady { Steady (B.faults bytes.old) (B.faults bytes.new) result }
     ensures out_later { O.faults out.old ≤ O.faults out.new }
+    ensures out_steady { Steady (O.faults out.old) (O.faults out.new) result }
     ensures cause { RedirectCaused (I.ends inputs.old) (I.ends inputs.new)
         (I.faults inputs.old + B.faults bytes.old) (I.faults inputs.new + B.faults bytes.new)
         (O.faults out.old) (O.faults out.new) result }
@@ -204,6 +213,7 @@ fn clone_run<E: Known, O: Sink>(
     requires path { length path.now < 2 ^ 16 }
     requires named { IsTrue (is_some (E.Ends.ends known.now (key_of key) ino)) }
     ensures out_later { O.faults out.old ≤ O.faults out.new }
+    ensures out_steady { Steady (O.faults out.old) (O.faults out.new) result }
     ensures put { PutEnd (O.taken out.old) (O.taken out.new) pending.old pending.new
         (canonical version
         (Clone path.now offset key.uuid key.ctransid

@@ -3,6 +3,7 @@ ghost use Rattle.std.specs.Prelude.{◌≤◌};
 ghost use Rattle.send_model.specs.Spelling.{canonical};
 ghost use Rattle.send_commands.specs.Meaning.{meaning_of};
 ghost use Rattle.send_commands.specs.Writing.{IsWritable, IsShortEnough};
+ghost use Rattle.sx_base.specs.Causes.{Steady};
 ghost use Rattle.clone_pieces.specs.Sending.{PutEnd, SendEnd};
 
 use crate::stops::SendStop;
@@ -22,6 +23,7 @@ pub fn put<O: Sink>(
     requires writable { IsWritable version (meaning_of c.now) }
     requires short { IsShortEnough version (meaning_of c.now) }
     ensures later { O.faults out.old ≤ O.faults out.new }
+    ensures steady { Steady (O.faults out.old) (O.faults out.new) result }
     ensures put { PutEnd (O.taken out.old) (O.taken out.new) pending.old pending.new
         (canonical version (meaning_of c.now)) (O.faults out.old) (O.faults out.new) result }
 {
@@ -40,6 +42,7 @@ pub fn put<O: Sink>(
 /// Adds bytes to what is pending, and writes what is pending where it is 65,536 bytes or more.
 pub fn put_bytes<O: Sink>(bytes: &[u8], pending: &mut Blob, out: &mut O) -> Result<(), SendStop>
     ensures later { O.faults out.old ≤ O.faults out.new }
+    ensures steady { Steady (O.faults out.old) (O.faults out.new) result }
     ensures put { PutEnd (O.taken out.old) (O.taken out.new) pending.old pending.new bytes.now
         (O.faults out.old) (O.faults out.new) result }
 {
@@ -58,6 +61,7 @@ pub fn put_bytes<O: Sink>(bytes: &[u8], pending: &mut Blob, out: &mut O) -> Resu
 /// Writes what is pending.
 pub fn send<O: Sink>(pending: &mut Blob, out: &mut O) -> Result<(), Failed>
     ensures later { O.faults out.old ≤ O.faults out.new }
+    ensures steady { Steady (O.faults out.old) (O.faults out.new) result }
     ensures sent { SendEnd (O.taken out.old) (O.taken out.new) pending.old pending.new
         (O.faults out.old) (O.faults out.new) result }
 {

@@ -63,9 +63,9 @@ loop-origin-preserved g c =
       left = left_after advanced_by whole c.loop-origin.have c.in-Some.len c.in-Some.origin c.next.new.self (i.left ∙ s.2);
       same = e.same ∙ i.same;
       held = e.held ∙ i.held;
-      later = omega (arith, e.later, i.later);
-      ends_later = omega (arith, e.ends_later, i.ends_later);
-      bytes_later = omega (arith, e.bytes_later, i.bytes_later);
+      steady = e.steady ∙ i.steady;
+      ends_steady = e.ends_steady ∙ i.ends_steady;
+      bytes_steady = e.bytes_steady ∙ i.bytes_steady;
       filled = turn_filled (g.I.Inputs.told c.args.inputs.now) (g.I.Inputs.told c.loop-origin.inputs) (map string_bytes c.args.files.now) (g.B.OutsideBytes.held c.args.bytes.now) (g.B.OutsideBytes.held c.loop-origin.bytes) i.same i.held
           whole c.loop-origin.have c.in-Some.len c.in-Some.origin c.next.new.self (i.left ∙ s.2) s.0 _ mid (c.loop-origin.have + c.in-Some.len - c.loop-origin.have) (omega arith) c.loop-origin.buf c.fill_piece.new.buf
           (omega (arith, i.within, i.size)) i.filled e.filled;

@@ -5,7 +5,7 @@ use Rattle.extent_map.specs.Cells.{cells_between}
 use Rattle.clone_pieces.proofs.Fills.{FilledTo}
 use Rattle.clone_pieces.proofs.filling.fill_cells.Given as goal
 
--- The front of the buffer has the bytes of the cells before those that are left, and no count fell.
+-- The front of the buffer has the bytes of the cells before those that are left, and no count rose.
 abbrev pub invariant-loop-origin : goal.invariant-loop-origin
 invariant-loop-origin g l = record {
   can : (goal.iterator-loop-origin g).can_next l.origin-iterator;
@@ -15,9 +15,9 @@ invariant-loop-origin g l = record {
   left : drop l.have (cells_between l.from (length l.fn.buf) l.contents) ≡ l.origin-iterator;
   same : g.I.Inputs.told l.inputs ≡ g.I.Inputs.told l.fn.inputs;
   held : g.B.OutsideBytes.held l.bytes ≡ g.B.OutsideBytes.held l.fn.bytes;
-  later : g.I.Inputs.faults l.fn.inputs ≤ g.I.Inputs.faults l.inputs;
-  ends_later : g.I.Inputs.ends l.fn.inputs ≤ g.I.Inputs.ends l.inputs;
-  bytes_later : g.B.OutsideBytes.faults l.fn.bytes ≤ g.B.OutsideBytes.faults l.bytes;
+  steady : g.I.Inputs.faults l.inputs ≡ g.I.Inputs.faults l.fn.inputs;
+  ends_steady : g.I.Inputs.ends l.inputs ≡ g.I.Inputs.ends l.fn.inputs;
+  bytes_steady : g.B.OutsideBytes.faults l.bytes ≡ g.B.OutsideBytes.faults l.fn.bytes;
   filled : IfAllTold (g.I.Inputs.told l.fn.inputs) (map string_bytes l.fn.files)
       (FilledTo (g.B.OutsideBytes.held l.fn.bytes) (cells_between l.from (length l.fn.buf) l.contents) l.have l.buf);
 }

@@ -9,10 +9,10 @@ loop-done-init g c = record {
   within = omega arith;
   same = refl;
   held = refl;
-  later = omega arith;
-  ends_later = omega arith;
-  bytes_later = omega arith;
-  out_later = omega arith;
+  steady = refl;
+  ends_steady = refl;
+  bytes_steady = refl;
+  out_steady = refl;
   written = stand_start (g.I.Inputs.told c.args.inputs.now) (map string_bytes c.args.files.now) (g.B.OutsideBytes.held c.args.bytes.now) c.args.contents.now c.args.from c.args.len c.requires.within c.args.version c.args.path.now c.args.offset
       (g.O.Sink.taken c.args.out.now) c.args.pending.now;
 }
@@ -40,10 +40,10 @@ loop-done-preserved g c =
       within = omega (arith, c.loop-done-test.true);
       same = e.same ∙ i.same;
       held = e.held ∙ i.held;
-      later = omega (arith, e.later, i.later);
-      ends_later = omega (arith, e.ends_later, i.ends_later);
-      bytes_later = omega (arith, e.bytes_later, i.bytes_later);
-      out_later = omega (arith, e.out_later, i.out_later);
+      steady = e.steady ∙ i.steady;
+      ends_steady = e.ends_steady ∙ i.ends_steady;
+      bytes_steady = e.bytes_steady ∙ i.bytes_steady;
+      out_steady = e.out_steady ∙ i.out_steady;
       written = stand_more (g.I.Inputs.told c.args.inputs.now) (map string_bytes c.args.files.now) (g.B.OutsideBytes.held c.args.bytes.now) c.args.contents.now c.args.from c.args.len c.requires.within c.args.version c.args.path.now c.args.offset
           (g.I.Inputs.told c.loop-done.inputs) (g.B.OutsideBytes.held c.loop-done.bytes) i.same i.held c.loop-done.done c.min-count.result c.loop-done-test.true is
           (g.O.Sink.taken c.args.out.now) (g.O.Sink.taken c.loop-done.out) (g.O.Sink.taken c.write_some.new.out) c.args.pending.now c.loop-done.pending c.write_some.new.pending i.written e.written;

@@ -6,16 +6,16 @@ use Rattle.clone_pieces.specs.Filling.{byte_in}
 use Rattle.clone_pieces.proofs.Chunks.{Written}
 use Rattle.clone_pieces.proofs.literal.write_cells.Given as goal
 
--- The bytes of the first cells have gone out as commands, and no count fell.
+-- The bytes of the first cells have gone out as commands, and no count rose.
 abbrev pub invariant-loop-done : goal.invariant-loop-done
 invariant-loop-done g l = record {
   within : l.done ≤ l.len;
   same : g.I.Inputs.told l.inputs ≡ g.I.Inputs.told l.fn.inputs;
   held : g.B.OutsideBytes.held l.bytes ≡ g.B.OutsideBytes.held l.fn.bytes;
-  later : g.I.Inputs.faults l.fn.inputs ≤ g.I.Inputs.faults l.inputs;
-  ends_later : g.I.Inputs.ends l.fn.inputs ≤ g.I.Inputs.ends l.inputs;
-  bytes_later : g.B.OutsideBytes.faults l.fn.bytes ≤ g.B.OutsideBytes.faults l.bytes;
-  out_later : g.O.Sink.faults l.fn.out ≤ g.O.Sink.faults l.out;
+  steady : g.I.Inputs.faults l.inputs ≡ g.I.Inputs.faults l.fn.inputs;
+  ends_steady : g.I.Inputs.ends l.inputs ≡ g.I.Inputs.ends l.fn.inputs;
+  bytes_steady : g.B.OutsideBytes.faults l.bytes ≡ g.B.OutsideBytes.faults l.fn.bytes;
+  out_steady : g.O.Sink.faults l.out ≡ g.O.Sink.faults l.fn.out;
   written : IfAllTold (g.I.Inputs.told l.fn.inputs) (map string_bytes l.fn.files)
       (λ files. Written l.version l.path l.offset (map (byte_in (g.B.OutsideBytes.held l.fn.bytes) files) (cells_between l.from l.len l.contents)) l.done (g.O.Sink.taken l.fn.out) (g.O.Sink.taken l.out) l.fn.pending l.pending);
 }

@@ -35,10 +35,10 @@ loop-plan-init g c =
       named = subst (λ (cs : List Cut). AllByRecursion (IsNamed E) cs) (sym (is ∙ said.cuts)) (cuts_named E c.args.from (map place_in cells));
       same = refl;
       held = refl;
-      later = omega arith;
-      ends_later = omega arith;
-      bytes_later = omega arith;
-      out_later = omega arith;
+      steady = refl;
+      ends_steady = refl;
+      bytes_steady = refl;
+      out_steady = refl;
       stands = subst (λ (cs : List Cut). IfAllTold told names (Stands told names base held c.args.contents.now c.args.from c.args.len c.args.version c.args.path.now c.args.offset 0 cs out out c.args.pending.now c.args.pending.now)) (sym is)
           (stands_start told names base held c.args.contents.now c.args.from c.args.len c.args.version c.args.path.now c.args.offset E right c.requires.held cuts c.requires.within said.pieces out c.args.pending.now);
     }
@@ -98,10 +98,10 @@ loop-plan-preserved g c =
       named = (subst (λ (cs : List Cut). AllByRecursion (IsNamed E) cs) step i.named).1;
       same = e.same ∙ i.same;
       held = e.held ∙ i.held;
-      later = omega (arith, e.later, i.later);
-      ends_later = omega (arith, e.ends_later, i.ends_later);
-      bytes_later = omega (arith, e.bytes_later, i.bytes_later);
-      out_later = omega (arith, e.out_later, i.out_later);
+      steady = e.steady ∙ i.steady;
+      ends_steady = e.ends_steady ∙ i.ends_steady;
+      bytes_steady = e.bytes_steady ∙ i.bytes_steady;
+      out_steady = e.out_steady ∙ i.out_steady;
       stands = subst (λ (n : ℕ). IfAllTold told names (Stands told names base held c.args.contents.now c.args.from c.args.len c.args.version c.args.path.now c.args.offset (c.loop-plan.done + n) c.next.new.self out next_out c.args.pending.now c.write_plan.new.pending)) long
           (stands_more told names base held c.args.contents.now c.args.from c.args.len c.args.version c.args.path.now c.args.offset (g.I.Inputs.told c.loop-plan.inputs) (g.B.OutsideBytes.held c.loop-plan.bytes) i.same i.held
           c.loop-plan.done c.loop-plan.plan-iterator (planned c.in-Some.plan) c.next.new.self step out (g.O.Sink.taken c.loop-plan.out) next_out c.args.pending.now c.loop-plan.pending c.write_plan.new.pending i.stands e.written);

@@ -1,6 +1,6 @@
 use Rattle.std.specs.List.{AllByRecursion}
 use Rattle.std.specs.String.{string_bytes}
-use Rattle.std.proofs.Common.{◌≡◌, ◌+◌, ◌≤◌, map}
+use Rattle.std.proofs.Common.{◌≡◌, ◌+◌, map}
 use Rattle.sx_base.specs.Calls.{IfAllTold}
 use Rattle.extent_map.specs.Cells.{cells_between}
 use Rattle.clone_pieces.specs.Filling.{byte_in}
@@ -10,7 +10,7 @@ use Rattle.clone_pieces.proofs.Rows.{CutRow}
 use Rattle.clone_pieces.proofs.Redirects.{Redirected}
 use Rattle.clone_pieces.proofs.redirecting.redirect.Given as goal
 
--- What stands for the first pieces has gone out, the others stand one behind the other, and no count fell.
+-- What stands for the first pieces has gone out, the others stand one behind the other, and no count rose.
 abbrev pub invariant-loop-plan : goal.invariant-loop-plan
 invariant-loop-plan g l = record {
   can : (goal.iterator-loop-plan g).can_next l.plan-iterator;
@@ -19,10 +19,10 @@ invariant-loop-plan g l = record {
   named : AllByRecursion (IsNamed (g.E.Ends.ends l.known)) l.plan-iterator;
   same : g.I.Inputs.told l.inputs ≡ g.I.Inputs.told l.fn.inputs;
   held : g.B.OutsideBytes.held l.bytes ≡ g.B.OutsideBytes.held l.fn.bytes;
-  later : g.I.Inputs.faults l.fn.inputs ≤ g.I.Inputs.faults l.inputs;
-  ends_later : g.I.Inputs.ends l.fn.inputs ≤ g.I.Inputs.ends l.inputs;
-  bytes_later : g.B.OutsideBytes.faults l.fn.bytes ≤ g.B.OutsideBytes.faults l.bytes;
-  out_later : g.O.Sink.faults l.fn.out ≤ g.O.Sink.faults l.out;
+  steady : g.I.Inputs.faults l.inputs ≡ g.I.Inputs.faults l.fn.inputs;
+  ends_steady : g.I.Inputs.ends l.inputs ≡ g.I.Inputs.ends l.fn.inputs;
+  bytes_steady : g.B.OutsideBytes.faults l.bytes ≡ g.B.OutsideBytes.faults l.fn.bytes;
+  out_steady : g.O.Sink.faults l.out ≡ g.O.Sink.faults l.fn.out;
   stands : IfAllTold (g.I.Inputs.told l.fn.inputs) (map string_bytes l.fn.files)
       (λ files. Redirected (pieces_spelled l.version (g.E.Known.base l.known) l.path l.offset (seen_cells files (g.E.Known.base l.known) (cells_between l.from l.len l.contents))) l.version (g.E.Known.base l.known)
       (byte_in (g.B.OutsideBytes.held l.fn.bytes) files) l.contents l.path (l.offset + l.done) l.plan-iterator (g.O.Sink.taken l.fn.out) (g.O.Sink.taken l.out) l.fn.pending l.pending);
