@@ -1,5 +1,5 @@
 -- What a taken step says of a state: whose part it is afterwards, which cells it has, and where the cells of a clone come from.
-use Rattle.std.specs.Prelude.{◌≡◌, ℕ, ◌+◌, ◌<◌, ◌≤◌, Bool, true, false, List, [], ◌∷◌, map, length, take, drop, Option, None, Some, Result, Ok, Err, IfSome, if◌then◌else◌}
+use Rattle.std.specs.Prelude.{◌≡◌, ℕ, ◌+◌, Bool, true, false, List, [], ◌∷◌, map, take, drop, Option, None, Some, Result, Ok, Err, IfSome, if◌then◌else◌}
 use Rattle.std.specs.Option.{option_map}
 use Rattle.std.specs.List.{AllByRecursion}
 use Rattle.std.specs.Str.{bytes_eq}
@@ -9,7 +9,7 @@ use Rattle.send_model.specs.Refusal.{Refusal, NoSubvolume, NoParent}
 use Rattle.send_model.specs.Chain.{found}
 use Rattle.send_model.specs.Map.{Map}
 use Rattle.send_model.specs.Command.{Command, Subvol, Snapshot, Clone, End}
-use Rattle.send_model.specs.Subvolume.{Inode, Subvolume, root_alone, is_file, walk}
+use Rattle.send_model.specs.Subvolume.{Inode, Subvolume, root_alone, walk}
 use Rattle.send_model.specs.Edit.{greatest_end}
 use Rattle.send_model.specs.Clone.{cells_of, Cloned, cloned}
 use Rattle.send_model.specs.Store.{Key, same_key, Head, head_of, Entry, Store, Part, State, Stepped, find, with_contents, completed, start_from, begun, unfinished, entered, step_head, clone_source, edit_part, edited, step_edit, step}

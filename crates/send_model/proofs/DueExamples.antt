@@ -1,5 +1,5 @@
 -- Worked examples of the answer that is due: files as another program takes and refuses them.
-use Rattle.std.specs.Prelude.{◌≡◌, ℕ, List, [], ◌∷◌, ◌++◌, None, Some, codes, refl, true}
+use Rattle.std.specs.Prelude.{◌≡◌, ℕ, List, [], ◌∷◌, ◌++◌, None, Some, codes, refl, true, ◌<◌, length, min}
 use Rattle.std.specs.Fmt.{digits}
 use Rattle.send_model.specs.Refusal.{Refusal, BadVersion, Truncated, BadChecksum, NameThere, NoParent, NotConsecutive, Guarded}
 use Rattle.send_model.specs.Lengths.{limit, is_too_long, too_long, too_long_from}
@@ -9,9 +9,11 @@ use Rattle.send_model.specs.Due.{Due, DoneWhole, RefusedAt, due_from, compose_du
 use Rattle.send_model.specs.Words.{Compose, Audit, Dump, Gen, guards_and_files, request_of, StandsRefused}
 use Rattle.send_model.specs.Reading.{Reading}
 use Rattle.send_model.specs.Store.{Store}
+use Rattle.send_model.specs.Headline.{IsProperFrontOf}
 use Rattle.send_model.proofs.ExampleWords.{hexadecimal, reading_words, composing_words}
 use Rattle.send_model.proofs.ReadingExamples.{first_stream, second_stream}
-use Rattle.std.proofs.Common.{sym, ◌∙◌}
+use Rattle.std.proofs.Common.{sym, ◌∙◌, ap, arith}
+use Rattle.std.proofs.lemmas.List.{length-take}
 
 unfoldable due_words : Unit {0}
 unfolding digits reading_words composing_words run_by guard_refuses guard_after refused_from looked is_too_long too_long too_long_from due_from limited_from audit_due accepted_line file_due first_stream second_stream
@@ -127,6 +129,13 @@ long_not_dumped bytes e = rw e refl
 -- What stands on standard output where a dump is refused is one text, and no front part of it will do.
 one_text : (base : Store ℕ) (files : List (List ℕ)) (a b : List ℕ) → StandsRefused (Dump 1) base files a → StandsRefused (Dump 1) base files b → a ≡ b
 one_text base files a b e f = e ∙ sym f
+
+-- Where the output fails at an audit's line, some of the line is missing.
+not_all : (all : List ℕ) → IsProperFrontOf all all → ⊥
+not_all all front =
+    let same : length all ≡ min front.count (length all) = ap length front.written_is ∙ length-take front.count all in
+    let some : front.count < length all = front.within in
+    omega (arith, some, same)
 
 -- ---- words
 
