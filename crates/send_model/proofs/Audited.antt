@@ -12,15 +12,15 @@ use Rattle.send_model.specs.Due.{Due, RefusedAt, TooLong, refused_due, or_due, S
 use Rattle.send_model.proofs.Guarding.{does_step}
 use Rattle.send_model.proofs.LongFiles.{limited_by, first_long_is_named, named_stops_reading, read_to_the_limit}
 
-abbrev stop_of : Ending → Stop
+abbrev pub stop_of : Ending → Stop
 stop_of Whole = AtEnd
 stop_of (Faulty verdict) = AtFault verdict
 
-abbrev as_limited : Reading → Limited
+abbrev pub as_limited : Reading → Limited
 as_limited reading = record { items = reading.items; stop = stop_of reading.end }
 
 -- Where no file is too long, files are read up to the limit as they are read.
-limited_is : (number : ℕ) (files : List (List ℕ)) → too_long_from number files ≡ None → limited_from number files ≡ as_limited (input_from number files)
+pub limited_is : (number : ℕ) (files : List (List ℕ)) → too_long_from number files ≡ None → limited_from number files ≡ as_limited (input_from number files)
 unfolding too_long_from limited_from input_from
 limited_is number [] e = refl
 limited_is number (bytes ∷ files) e = one (is_too_long number bytes) (reads number bytes).items (reads number bytes).end e (λ q. limited_is (number + 1) files q)

@@ -1,5 +1,5 @@
 -- The receivable spelling spells its command, and an exported file is read as the same commands in the same streams.
-use Rattle.std.specs.Prelude.{◌≡◌, ℕ, zero, suc, ◌+◌, ◌-◌, ◌==◌, ◌<◌, ◌≤◌, Bool, true, false, List, [], ◌∷◌, ◌++◌, map, length, drop, None, Some, Result, Ok, Err, if◌then◌else◌}
+use Rattle.std.specs.Prelude.{◌≡◌, ◌≢◌, ℕ, zero, suc, ◌+◌, ◌-◌, ◌==◌, ◌<◌, ◌≤◌, Bool, true, false, List, [], ◌∷◌, ◌++◌, map, length, drop, None, Some, Result, Ok, Err, if◌then◌else◌}
 use Rattle.std.specs.List.{AllByRecursion}
 use Rattle.std.specs.Int.{w32, w64, to_le_bytes}
 use Rattle.std.proofs.Common.{refl, sym, ap, subst, ◌∙◌, arith, length-append, lit<, lit≤, le_trans}
@@ -8,7 +8,7 @@ use Rattle.send_model.specs.Refusal.{Refusal}
 use Rattle.send_model.specs.Attribute.{INO, CTIME, Moment, field_bytes, IsBytes, DATA, is_one_of, last_attribute}
 use Rattle.send_model.specs.Command.{Command, Subvol, Snapshot, MkFile, MkDir, MkNod, MkFifo, MkSock, Symlink, Rename, Link, Unlink, Rmdir, SetXattr, RemoveXattr, Write, Clone, Truncate, Chmod, Chown, Utimes, End, UpdateExtent, Fallocate, FileAttr, row, kind_of, fields_of}
 use Rattle.send_model.specs.Spelling.{Attribute, value_of, attribute_bytes, body_of, greatest_body, stream_header, attributes_of, IsSpellable, Spells, frame_of, canonical}
-use Rattle.send_model.specs.Reading.{Item, Reading, Whole, Due, HeaderDue, CommandDue, due_after, may_end, with_item, go_on, ended, is_version, front_of, data_place, stream_version, header_len, reads_from, reads}
+use Rattle.send_model.specs.Reading.{Item, Reading, Ending, Whole, Faulty, Due, HeaderDue, CommandDue, due_after, may_end, with_item, go_on, ended, is_version, front_of, data_place, stream_version, header_len, reads_from, reads, joined, input_from, input}
 use Rattle.send_model.specs.Counts.{is_end}
 use Rattle.send_model.specs.Laws.{CanWrite}
 use Rattle.send_model.proofs.Attributes.{differ_back}
@@ -17,9 +17,9 @@ use Rattle.send_model.proofs.Canonical.{wanted_there, bytes_append, le4_bytes, l
 use Rattle.send_model.proofs.Sound.{bytes_drop}
 use Rattle.send_model.proofs.Streams.{header_length, header_read, after_header}
 use Rattle.send_model.proofs.ReadSpelled.{read_was_spelled}
-use Rattle.send_model.proofs.ReadCommands.{DueIsRead, due_is_read, header_version}
+use Rattle.send_model.proofs.ReadCommands.{IsReadable, DueIsRead, due_is_read, header_version}
 use Rattle.send_model.proofs.ElementLaws.{all_rest}
-use Rattle.send_model.specs.Receivable.{number_zero, receivable_attributes, receivable, exported_from, receivable_file, said, ReceivableSpells, ReceivableRises, ReceivableFileIsSame}
+use Rattle.send_model.specs.Receivable.{number_zero, receivable_attributes, receivable, exported_from, said, ReceivableSpells, ReceivableRises}
 
 pub receivable_rises : ReceivableRises
 unfolding receivable_attributes attributes_of row
@@ -126,7 +126,7 @@ begins HeaderDue = true
 begins (CommandDue version) = false
 
 -- What is due after a command, by whether it is END.
-abbrev due_by : ℕ → Bool → Due
+abbrev pub due_by : ℕ → Bool → Due
 due_by version end = if end then HeaderDue else CommandDue version
 
 due_is : (version : ℕ) (c : Command) → due_after version c ≡ due_by version (is_end c)
@@ -134,12 +134,12 @@ due_is version End = refl
 due_is version c = refl
 
 -- What is read has the same commands in the same streams.
-record Same (r : Reading) (items : List Item) : Type 0 where
-  whole : r.end ≡ Whole
-  same : map said r.items ≡ map said items
+pub record Same (r : Reading) (items : List Item) : Type 0 where
+  pub whole : r.end ≡ Whole
+  pub same : map said r.items ≡ map said items
 
 -- The first item is of the version that is due.
-abbrev IsDue : Due → Item → Type 0
+abbrev pub IsDue : Due → Item → Type 0
 IsDue HeaderDue item = Unit {0}
 IsDue (CommandDue version) item = item.version ≡ version
 
@@ -260,12 +260,39 @@ goes_under version items read g = record {
     back : (m file number offset : ℕ) → length (exported_from true items) < m → Same (reads_from m file HeaderDue number offset (exported_from true items)) items
     back m file number offset long = subst (λ (bs : List ℕ). length bs < m → Same (reads_from m file HeaderDue number offset bs) items) (sym header_first) (under m file number offset) long
 
--- ---- a whole file
+-- ---- whole streams
 
-abbrev GoesBack : Due → Reading → Type 0
-GoesBack due r = r.end ≡ Whole → Goes due r.items
+-- Items that stand as whole streams of what can be written, one after the other, from what is due on.
+abbrev pub StandsIn : Due → List Item → Type 0
+StandsIn HeaderDue [] = Unit {0}
+StandsIn (CommandDue version) [] = ⊥
+StandsIn due (item ∷ items) = IsDue due item × IsReadable item × StandsIn (due_by item.version (is_end item.command)) items
 
-by_answer : {A : Type 0} (due : Due) (more : A → Reading) (stop : Refusal → Reading) (r : Result A Refusal) → ((x : A) → r ≡ Ok x → GoesBack due (more x)) → ((refusal : Refusal) → GoesBack due (stop refusal)) → GoesBack due (go_on more stop r)
+placed : (due : Due) (item : Item) (items : List Item) → IsDue due item → is_version item.version ≡ true → Goes (CommandDue item.version) items → Goes due items
+placed HeaderDue item items d read g = goes_under item.version items read g
+placed (CommandDue version) item items d read g = subst (λ (v : ℕ). Goes (CommandDue v) items) d g
+
+last_ends : (version : ℕ) (end : Bool) → StandsIn (due_by version end) [] → end ≡ true
+last_ends version true s = refl
+last_ends version false s = absurd s
+
+goes : (due : Due) (item : Item) (items : List Item) → StandsIn due (item ∷ items) → Goes due (item ∷ items)
+goes due item [] (d, r, s) = placed due item (item ∷ []) d r.1 (goes_last item.version item refl r.0 (last_ends item.version (is_end item.command) s))
+goes due item (next ∷ items) (d, r, s) =
+    placed due item (item ∷ next ∷ items) d r.1 (goes_on item.version item (next ∷ items) (is_end item.command) refl r.0 refl (goes (due_by item.version (is_end item.command)) next items s))
+
+-- What is exported of such items is read as the same commands in the same streams.
+pub exported_back : (items : List Item) → items ≢ [] → StandsIn HeaderDue items → Same (reads 1 (exported_from true items)) items
+unfolding reads
+exported_back [] some s = absurd (some refl)
+exported_back (item ∷ items) some s = let g = goes HeaderDue item items s in g.back (suc (length (exported_from true (item ∷ items)))) 1 1 0 (omega arith)
+
+-- ---- what is read stands so
+
+abbrev Stood : Due → Reading → Type 0
+Stood due r = r.end ≡ Whole → StandsIn due r.items × (r.items ≢ [])
+
+by_answer : {A : Type 0} (due : Due) (more : A → Reading) (stop : Refusal → Reading) (r : Result A Refusal) → ((x : A) → r ≡ Ok x → Stood due (more x)) → ((refusal : Refusal) → Stood due (stop refusal)) → Stood due (go_on more stop r)
 by_answer due more stop (Ok x) m s = m x refl
 by_answer due more stop (Err refusal) m s = s refusal
 
@@ -274,33 +301,74 @@ ends_there : (version : ℕ) (c : Command) (rest : List ℕ) → may_end (due_af
 ends_there version End rest e = refl
 ends_there version c rest e = cc
 
-again : (n file : ℕ) (due : Due) (number offset : ℕ) (bytes : List ℕ) → DueIsRead due → IsBytes bytes → GoesBack due (reads_from n file due number offset bytes)
+under_header : (version : ℕ) (items : List Item) → StandsIn (CommandDue version) items → StandsIn HeaderDue items
+under_header version [] s = absurd s
+under_header version (item ∷ items) (d, r, s) = (tt, r, s)
+
+stood : (n file : ℕ) (due : Due) (number offset : ℕ) (bytes : List ℕ) → DueIsRead due → IsBytes bytes → Stood due (reads_from n file due number offset bytes)
 unfolding reads_from
-again zero file due number offset bytes read are = λ whole. cc
-again (suc n) file HeaderDue number offset bytes read are =
+stood zero file due number offset bytes read are = λ whole. cc
+stood (suc n) file HeaderDue number offset bytes read are =
     by_answer HeaderDue _ _ (stream_version bytes) (λ version e whole.
     let v = header_version bytes version e in
-    goes_under version _ v (again n file (CommandDue version) number (offset + header_len) (drop header_len bytes) v (bytes_drop header_len bytes are) whole)) (λ refusal whole. cc)
-again (suc n) file (CommandDue version) number offset bytes read are =
+    let s = stood n file (CommandDue version) number (offset + header_len) (drop header_len bytes) v (bytes_drop header_len bytes are) whole in
+    (under_header version _ s.0, s.1)) (λ refusal whole. cc)
+stood (suc n) file (CommandDue version) number offset bytes read are =
     by_answer (CommandDue version) _ _ (front_of file version number offset bytes) (λ front e.
     let w = read_was_spelled file version number offset bytes front are e in
     let c : Command = front.item.command in
     let v : front.item.version ≡ version = ap (λ (i : Item). i.version) w.item_is in
-    let can : CanWrite version c = record { spellable = spelled_spellable version w.frame c w.spells } in
+    let can : CanWrite front.item.version c = subst (λ (x : ℕ). CanWrite x c) (sym v) (record { spellable = spelled_spellable version w.frame c w.spells }) in
     let left : IsBytes front.rest = all_rest (λ (b : ℕ). b < 256) w.frame front.rest (subst (λ (bs : List ℕ). IsBytes bs) w.whole are) in
-    let next : Due = due_after version c in
-    let r : Reading = reads_from n file next (number + 1) (offset + (length bytes - length front.rest)) front.rest in
-    let more = again n file next (number + 1) (offset + (length bytes - length front.rest)) front.rest (due_is_read version c read) left in
-    one version front.item r front.rest v can more (may_end next front.rest) refl) (λ refusal whole. cc)
+    let r : Reading = reads_from n file (due_after version c) (number + 1) (offset + (length bytes - length front.rest)) front.rest in
+    let more = stood n file (due_after version c) (number + 1) (offset + (length bytes - length front.rest)) front.rest (due_is_read version c read) left in
+    one version front.item r front.rest v (can, ap is_version v ∙ read) more (may_end (due_after version c) front.rest) refl) (λ refusal whole. cc)
   where
-    one : (version : ℕ) (item : Item) (r : Reading) (rest : List ℕ) → item.version ≡ version → CanWrite version item.command → GoesBack (due_after version item.command) r → (b : Bool) → may_end (due_after version item.command) rest ≡ b
-        → GoesBack (CommandDue version) (with_item item (if b then ended else r))
-    one version item r rest v can more true e = λ whole. goes_last version item v can (ends_there version item.command rest e)
-    one version item r rest v can more false e = λ whole. goes_on version item r.items (is_end item.command) v can refl (subst (λ (d : Due). Goes d r.items) (due_is version item.command) (more whole))
+    one : (version : ℕ) (item : Item) (r : Reading) (rest : List ℕ) → item.version ≡ version → IsReadable item → Stood (due_after version item.command) r → (b : Bool) → may_end (due_after version item.command) rest ≡ b
+        → Stood (CommandDue version) (with_item item (if b then ended else r))
+    one version item r rest v can more true e = λ whole.
+        ((v, can, subst (λ (end : Bool). StandsIn (due_by item.version end) []) (sym (ends_there version item.command rest e)) tt), λ none. cc)
+    one version item r rest v can more false e = λ whole.
+        ((v, can, subst (λ (x : ℕ). StandsIn (due_by x (is_end item.command)) r.items) (sym v) (subst (λ (d : Due). StandsIn d r.items) (due_is version item.command) (more whole).0)), λ none. cc)
 
-pub exported_is_same : ReceivableFileIsSame
-unfolding receivable_file reads
-exported_is_same bytes are whole =
-    let g = again (suc (length bytes)) 1 HeaderDue 1 0 bytes tt are whole in
-    let s = g.back (suc (length (receivable_file bytes))) 1 1 0 (omega arith) in
-    record { whole = s.whole; same = s.same }
+pub stand_append : (due : Due) (items more : List Item) → StandsIn due items → StandsIn HeaderDue more → StandsIn due (items ++ more)
+stand_append HeaderDue [] more s m = m
+stand_append (CommandDue version) [] more s m = absurd s
+stand_append due (item ∷ items) more (d, r, s) m = (d, r, stand_append (due_by item.version (is_end item.command)) items more s m)
+
+-- So do the items of files that are read whole.
+files_stand : (number : ℕ) (files : List (List ℕ)) → AllByRecursion IsBytes files → (input_from number files).end ≡ Whole → StandsIn HeaderDue (input_from number files).items
+unfolding input_from reads
+files_stand number [] are whole = tt
+files_stand number (bytes ∷ files) are whole =
+    one (reads number bytes) (stood (suc (length bytes)) number HeaderDue 1 0 bytes tt are.0) (files_stand (number + 1) files are.1) whole
+  where
+    one : (r : Reading) → Stood HeaderDue r → ((input_from (number + 1) files).end ≡ Whole → StandsIn HeaderDue (input_from (number + 1) files).items)
+        → (joined r (input_from (number + 1) files)).end ≡ Whole → StandsIn HeaderDue (joined r (input_from (number + 1) files)).items
+    one r s more whole = two r.items r.end (λ e. s e) more whole
+      where
+        two : (items : List Item) (end : Ending) → (end ≡ Whole → StandsIn HeaderDue items × (items ≢ [])) → ((input_from (number + 1) files).end ≡ Whole → StandsIn HeaderDue (input_from (number + 1) files).items)
+            → (joined (record { items = items; end = end }) (input_from (number + 1) files)).end ≡ Whole → StandsIn HeaderDue (joined (record { items = items; end = end }) (input_from (number + 1) files)).items
+        two items Whole s more w = stand_append HeaderDue items (input_from (number + 1) files).items (s refl).0 (more w)
+        two items (Faulty verdict) s more w = cc
+
+pub input_stands : (files : List (List ℕ)) → AllByRecursion IsBytes files → (input files).end ≡ Whole → StandsIn HeaderDue (input files).items
+unfolding input
+input_stands files are whole = files_stand 1 files are whole
+
+-- Where there is a file, there is an item.
+pub input_some : (files : List (List ℕ)) → files ≢ [] → AllByRecursion IsBytes files → (input files).end ≡ Whole → (input files).items ≢ []
+unfolding input input_from reads
+input_some [] some are whole = absurd (some refl)
+input_some (bytes ∷ files) some are whole =
+    let r : Reading = reads_from (suc (length bytes)) 1 HeaderDue 1 0 bytes in
+    one r.items r.end (stood (suc (length bytes)) 1 HeaderDue 1 0 bytes tt are.0) whole
+  where
+    three : (items : List Item) (more : List Item) → items ≢ [] → items ++ more ≢ []
+    three [] more n = absurd (n refl)
+    three (item ∷ items) more n = λ e. cc
+
+    one : (items : List Item) (end : Ending) → (end ≡ Whole → StandsIn HeaderDue items × (items ≢ [])) → (joined (record { items = items; end = end }) (input_from 2 files)).end ≡ Whole
+        → (joined (record { items = items; end = end }) (input_from 2 files)).items ≢ []
+    one items Whole s w = three items (input_from 2 files).items (s refl).1
+    one items (Faulty verdict) s w = cc

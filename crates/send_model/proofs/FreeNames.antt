@@ -1,31 +1,19 @@
 -- The root has not the name that a detour takes.
-use Rattle.std.specs.Prelude.{◌≡◌, ℕ, zero, suc, ◌+◌, ◌-◌, ◌<◌, ◌≤◌, ◌^◌, ◌%◌, ◌==◌, nat_le, Bool, true, false, not, cond, List, [], ◌∷◌, ◌++◌, length, drop, Option, None, Some, Result, Ok, Err, is_some, if◌then◌else◌, codes}
+use Rattle.std.specs.Prelude.{◌≡◌, ℕ, zero, suc, ◌+◌, ◌<◌, ◌≤◌, ◌^◌, ◌%◌, ◌==◌, nat_le, Bool, true, false, cond, List, [], ◌∷◌, length, drop, Option, None, Some, is_some, if◌then◌else◌, codes}
 use Rattle.std.specs.Fmt.{decimal}
-use Rattle.std.specs.Ordering.{eq_by_cmp}
 use Rattle.std.specs.FinMap.Entries.{length_without}
-use Rattle.std.proofs.Common.{refl, sym, ap, subst, ◌∙◌, arith}
+use Rattle.std.proofs.Common.{refl, sym, ap, subst, ◌∙◌, arith, lit<}
 use Rattle.std.specs.List.{AllByRecursion, list_any, list_all}
 use Rattle.std.proofs.lemmas.Fmt.{decimal_injective, decimal_by_steps, length-decimal-le}
 use Rattle.std.proofs.Common.{le-leb, eqb-true}
 use Rattle.send_model.specs.Path.{slash, is_name, path_names}
-use Rattle.send_model.specs.Refusal.{Refusal}
-use Rattle.send_model.specs.Command.{Command, Clone, End}
-use Rattle.send_model.specs.Store.{Key, Store, Part, Stepped, step, edited, edit_part, head_of}
-use Rattle.send_model.specs.Receive.{bytes_of}
-use Rattle.send_model.specs.Counts.{is_end}
+use Rattle.send_model.specs.Attribute.{IsBytes}
 use Rattle.send_model.proofs.ElementLaws.{all_both}
 use Rattle.send_model.proofs.LeastPaths.{no_slash_alone}
 use Rattle.send_model.proofs.PathLaws.{path_by_pieces}
-use Rattle.send_model.specs.Store.{clone_source, key_of}
-use Rattle.std.specs.Str.{bytes_eq}
-use Rattle.send_model.proofs.SoundEdits.{clone_keeps_sound}
-use Rattle.send_model.proofs.SoundRenames.{edit_keeps_sound}
-use Rattle.send_model.proofs.Separators.{here}
-use Rattle.send_model.proofs.SeparatedCounts.{inner_step}
 use Rattle.send_model.specs.Map.{Map, IsMap, named_cmp, value_at, without}
-use Rattle.send_model.specs.Subvolume.{Subvolume, Spot, IsSound, root, named}
-use Rattle.send_model.specs.Edit.{remove_name}
-use Rattle.send_model.specs.Separated.{own_name, free_from, free_name, FreeNameIsFree, SoundCanSeparate, SmallAreFit, AreFit, AreSmall}
+use Rattle.send_model.specs.Subvolume.{Subvolume, root, named}
+use Rattle.send_model.specs.Separated.{own_name, free_from, free_name, FreeNameIsFree, SoundCanSeparate}
 use Rattle.send_model.proofs.MapLaws.{named_cmp_total, named_cmp_exact, without-other, without-order}
 
 own_apart : (m n : ℕ) → m < 2 ^ 64 → n < 2 ^ 64 → own_name m ≡ own_name n → m ≡ n
@@ -134,32 +122,19 @@ sound_can_separate s sound short =
       free = free_name_is_free s sound short;
     }
 
--- ---- along a run
-
-part_keeps_sound : (put : List ℕ) (store : Store ℕ) (part : Part ℕ) (c : Command) (t : Subvolume ℕ) → IsSound part.subvolume → edit_part 0 put store part c ≡ Ok t → IsSound t
-unfolding edit_part
-part_keeps_sound put store part (Clone path offset clone_uuid clone_ctransid clone_path from len) t h e =
-    clone_keeps_sound 0 part.subvolume (clone_source store part (key_of clone_uuid clone_ctransid)) (bytes_eq clone_uuid part.key.uuid) path offset clone_path from len t h e
-part_keeps_sound put store part c t h e = edit_keeps_sound 0 put c part.subvolume t h e
-
-small_fit : (store : Store ℕ) (key : Key) (cs : List Command) → AllByRecursion (λ c. (is_end c ≡ false) × (head_of c ≡ None)) cs → (s : Subvolume ℕ) → IsSound s
-    → AreSmall (here store key s) (cs ++ End ∷ []) → AreFit (here store key s) (cs ++ End ∷ [])
-unfolding AreFit AreSmall
-small_fit store key [] a s h (m, ms) = (sound_can_separate s h m, tt)
-small_fit store key (c ∷ cs) ((e, n), more) s h (m, ms) =
-    let part : Part ℕ = record { key = key; subvolume = s } in
-    let x = inner_step (bytes_of c) store part c e n in
-    let r : Result (Subvolume ℕ) Refusal = edit_part 0 (bytes_of c) store part c in (
-      sound_can_separate s h m,
-      subst (λ (z : Stepped ℕ). AreFit z.state (cs ++ End ∷ [])) (sym x)
-          (one (λ t. small_fit store key cs more t) r refl (subst (λ (z : Stepped ℕ). AreSmall z.state (cs ++ End ∷ [])) x ms)),
-    )
+-- It can be said as a path: it is short, and of bytes.
+pub free_name_fits : (s : Subvolume ℕ) → length s.names < 2 ^ 64 → (length (free_name s) < 2 ^ 16) × IsBytes (free_name s)
+unfolding free_name
+free_name_fits s short =
+    let w = tried (length s.names) 0 s in
+    let to = w.to in
+    subst (λ (name : List ℕ). (length name < 2 ^ 16) × IsBytes name) (sym w.is) (own_fits w.number (omega (arith, to, short)))
   where
-    one : ((t : Subvolume ℕ) → IsSound t → AreSmall (here store key t) (cs ++ End ∷ []) → AreFit (here store key t) (cs ++ End ∷ []))
-        → (r : Result (Subvolume ℕ) Refusal) → edit_part 0 (bytes_of c) store (record { key = key; subvolume = s }) c ≡ r
-        → AreSmall (edited store (record { key = key; subvolume = s }) r).state (cs ++ End ∷ []) → AreFit (edited store (record { key = key; subvolume = s }) r).state (cs ++ End ∷ [])
-    one ih (Ok t) q g = ih t (part_keeps_sound (bytes_of c) store (record { key = key; subvolume = s }) c t h q) g
-    one ih (Err refusal) q g = ih s h g
+    digits_bytes : (ds : List ℕ) → AreDigits ds → IsBytes ds
+    digits_bytes [] all = tt
+    digits_bytes (d ∷ ds) all = let high = all.0.1 in (omega (arith, high), digits_bytes ds all.1)
 
-pub small_are_fit : SmallAreFit
-small_are_fit store key s cs h a m = small_fit store key cs a s h m
+    own_fits : (n : ℕ) → n < 2 ^ 64 → (length (own_name n) < 2 ^ 16) × IsBytes (own_name n)
+    own_fits n low =
+        let len : length (decimal n) ≤ 20 = length-decimal-le 20 n (omega arith) (omega (arith, low)) (omega (arith, low)) in
+        (omega (arith, len), all_both (λ b. b < 256) (codes "btrsend.") (decimal n) (lit< tt, (lit< tt, (lit< tt, (lit< tt, (lit< tt, (lit< tt, (lit< tt, (lit< tt, tt)))))))) (digits_bytes (decimal n) (decimal_digits n low)))

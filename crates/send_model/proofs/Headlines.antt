@@ -198,7 +198,7 @@ joined_whole : (items : List Item) (ending : Ending) → ending ≡ Whole → jo
 joined_whole items Whole h = refl
 joined_whole items (Faulty verdict) h = cc
 
-one_input : (bytes : List ℕ) → (reads 1 bytes).end ≡ Whole → input (bytes ∷ []) ≡ record { items = (reads 1 bytes).items; end = Whole }
+pub one_input : (bytes : List ℕ) → (reads 1 bytes).end ≡ Whole → input (bytes ∷ []) ≡ record { items = (reads 1 bytes).items; end = Whole }
 unfolding input input_from
 one_input bytes h = joined_whole (reads 1 bytes).items (reads 1 bytes).end h ∙ (let f : List Item → Reading = λ is. record { items = is; end = Whole } in ap f (append-nil (reads 1 bytes).items))
 

@@ -80,8 +80,8 @@ module _ {C : Type 0} (N : List ℕ → Type 0) (X : Inode C → Type 0) where
     pub names : AllByRecursion (λ e. N e.0.1) s.names
     pub inodes : AllByRecursion (λ e. X e.1) s.inodes
 
-  -- What is kept by each new inode and each change that an edit makes, where a WRITE puts the given cells.
-  pub record KeepsInodes (zero_cell : C) (put : List C) : Type 0 where
+  -- What is kept by each new inode and each change that an edit makes, where a WRITE puts the given cells and UTIMES sets its times.
+  pub record KeepsInodes (zero_cell : C) (put : List C) (c : Command) : Type 0 where
     pub made : (kind : NodeKind) (mode rdev : ℕ) (target : List ℕ) → X (new_inode kind mode rdev target)
     pub xattr_set : (name value : List ℕ) (inode : Inode C) → X inode → X (record inode { xattrs = with_value bytes_cmp name value inode.xattrs })
     pub xattr_removed : (name : List ℕ) (inode : Inode C) → X inode → X (record inode { xattrs = without bytes_cmp name inode.xattrs })
@@ -90,7 +90,7 @@ module _ {C : Type 0} (N : List ℕ → Type 0) (X : Inode C → Type 0) where
     pub allocated : (allocation : Allocation) (offset size : ℕ) (inode : Inode C) → nat_le (offset + size) greatest_end ≡ true → X inode → X (set_cells (fallocated zero_cell allocation offset size) inode)
     pub mode_set : (mode : ℕ) (inode : Inode C) → X inode → X (record inode { mode = mode % 0o10_000 })
     pub owner_set : (uid gid : ℕ) (inode : Inode C) → X inode → X (record inode { uid = uid; gid = gid })
-    pub times_set : (atime mtime : Time) (inode : Inode C) → X inode → X (record inode { atime = atime; mtime = mtime })
+    pub times_set : (mtime atime : Time) (path : List ℕ) → c ≡ Utimes mtime atime path → (inode : Inode C) → X inode → X (record inode { atime = atime; mtime = mtime })
     pub flags_set : (flags : ℕ) (inode : Inode C) → X inode → X (record inode { flags = flags })
 
   -- ---- changes
@@ -245,7 +245,7 @@ module _ {C : Type 0} (N : List ℕ → Type 0) (X : Inode C → Type 0) where
       subst (λ (u : Subvolume C). Has u) (ok_same d.1) (changed a.0 (set_cells (fallocated zero_cell c.0 offset size)) s (keeps c.0 d.0) h)
 
   -- What an edit makes of a subvolume has what the subvolume has.
-  pub edit_keeps : (zero_cell : C) (put : List C) (c : Command) (s t : Subvolume C) → KeepsInodes zero_cell put → NamesAre N (new_path c) → Has s → edit zero_cell put c s ≡ Ok t → Has t
+  pub edit_keeps : (zero_cell : C) (put : List C) (c : Command) (s t : Subvolume C) → KeepsInodes zero_cell put c → NamesAre N (new_path c) → Has s → edit zero_cell put c s ≡ Ok t → Has t
   unfolding edit
   edit_keeps zero_cell put (MkFile path) s t k are h e = made_keeps _ path s t are (k.made _ _ _ _) h e
   edit_keeps zero_cell put (MkDir path) s t k are h e = made_keeps _ path s t are (k.made _ _ _ _) h e
@@ -263,7 +263,7 @@ module _ {C : Type 0} (N : List ℕ → Type 0) (X : Inode C → Type 0) where
   edit_keeps zero_cell put (Truncate size path) s t k are h e = contents_keep path _ _ s t (λ fits inode. k.cut size inode fits) h e
   edit_keeps zero_cell put (Chmod mode path) s t k are h e = changed_at path _ s t (k.mode_set mode) h e
   edit_keeps zero_cell put (Chown uid gid path) s t k are h e = changed_at path _ s t (k.owner_set uid gid) h e
-  edit_keeps zero_cell put (Utimes mtime atime path) s t k are h e = changed_at path _ s t (k.times_set atime mtime) h e
+  edit_keeps zero_cell put (Utimes mtime atime path) s t k are h e = changed_at path _ s t (k.times_set mtime atime path refl) h e
   edit_keeps zero_cell put (Fallocate size path offset mode) s t k are h e = fallocate_keeps zero_cell path offset size mode s t (λ allocation fits inode. k.allocated allocation offset size inode fits) h e
   edit_keeps zero_cell put (FileAttr path flags) s t k are h e = changed_at path _ s t (k.flags_set flags) h e
   edit_keeps zero_cell put c s t k are h e = subst (λ (u : Subvolume C). Has u) (ok_same e) h

@@ -45,8 +45,8 @@ module _ {C : Type 0} where
   abbrev IsOrdered : Inode C → Type 0
   IsOrdered inode = IsMap bytes_cmp inode.xattrs
 
-  ordered_kept : (zero_cell : C) (put : List C) → KeepsInodes IsName IsOrdered zero_cell put
-  ordered_kept zero_cell put = record {
+  ordered_kept : (zero_cell : C) (put : List C) (c : Command) → KeepsInodes IsName IsOrdered zero_cell put c
+  ordered_kept zero_cell put c = record {
     made = λ kind mode rdev target. tt;
     xattr_set = λ name value inode h. is_sorted-put bytes_cmp nat_list_cmp_total name value inode.xattrs h;
     xattr_removed = λ name inode h. is_sorted-where_key bytes_cmp _ inode.xattrs h;
@@ -55,13 +55,13 @@ module _ {C : Type 0} where
     allocated = λ allocation offset size inode fits h. h;
     mode_set = λ mode inode h. h;
     owner_set = λ uid gid inode h. h;
-    times_set = λ atime mtime inode h. h;
+    times_set = λ mtime atime path is inode h. h;
     flags_set = λ flags inode h. h;
   }
 
   pub edit_keeps_lawful : (zero_cell : C) (put : List C) (c : Command) → KeepsLawfulness (edit zero_cell put c)
   edit_keeps_lawful zero_cell put c s t h e =
-      let k = edit_keeps IsName IsOrdered zero_cell put c s t (ordered_kept zero_cell put) (lawful_names (new_path c)) (record { names = h.lawful_names; inodes = h.ordered_attributes }) e in
+      let k = edit_keeps IsName IsOrdered zero_cell put c s t (ordered_kept zero_cell put c) (lawful_names (new_path c)) (record { names = h.lawful_names; inodes = h.ordered_attributes }) e in
       record { sound = edit_keeps_sound zero_cell put c s t h.sound e; lawful_names = k.names; ordered_attributes = k.inodes }
 
   pub clone_keeps_lawful : (zero_cell : C) (source : Option (Subvolume C)) (is_own : Bool) (path : List ℕ) (offset : ℕ) (clone_path : List ℕ) (from len : ℕ) → KeepsLawfulness (λ part. clone zero_cell part source is_own path offset clone_path from len)
@@ -175,8 +175,8 @@ IsByte b = b < 256
 abbrev IsSayableInode : Inode ℕ → Type 0
 IsSayableInode inode = IsBytes inode.cells × (length inode.cells ≤ greatest_end)
 
-sayable_kept : (put : List ℕ) → IsBytes put → KeepsInodes IsByteName IsSayableInode 0 put
-sayable_kept put are = record {
+sayable_kept : (put : List ℕ) (c : Command) → IsBytes put → KeepsInodes IsByteName IsSayableInode 0 put c
+sayable_kept put c are = record {
   made = λ kind mode rdev target. (tt, zero-le);
   xattr_set = λ name value inode h. h;
   xattr_removed = λ name inode h. h;
@@ -185,7 +185,7 @@ sayable_kept put are = record {
   allocated = λ allocation offset size inode fits h. (all_fallocated IsByte 0 (omega arith) allocation offset size inode.cells h.0, fallocated_len 0 greatest_end allocation offset size inode.cells (leb-true (offset + size) greatest_end fits) h.1);
   mode_set = λ mode inode h. h;
   owner_set = λ uid gid inode h. h;
-  times_set = λ atime mtime inode h. h;
+  times_set = λ mtime atime path is inode h. h;
   flags_set = λ flags inode h. h;
 }
 
@@ -253,7 +253,7 @@ sayable_from s lawful h = record {
 pub edits_keep_sayable : EditsKeepSayable
 edits_keep_sayable version c s t spelled h e =
     sayable_from t (edit_keeps_lawful 0 (bytes_of c) c s t h.lawful e)
-    (edit_keeps IsByteName IsSayableInode 0 (bytes_of c) c s t (sayable_kept (bytes_of c) (written_bytes version c spelled)) (byte_names (new_path c) (new_bytes version c spelled)) (has_sayable s h) e)
+    (edit_keeps IsByteName IsSayableInode 0 (bytes_of c) c s t (sayable_kept (bytes_of c) c (written_bytes version c spelled)) (byte_names (new_path c) (new_bytes version c spelled)) (has_sayable s h) e)
 
 -- A clone that is taken has a source.
 source_there : {C : Type 0} (part : Subvolume C) (own : Bool) (path : List ℕ) (offset : ℕ) (clone_path : List ℕ) (from len : ℕ) (range : Cloned C) → cloned part None own path offset clone_path from len ≡ Ok range → ⊥

@@ -198,7 +198,7 @@ received_is_lawful store items h s =
     let state : State ℕ = (run_items 0 byte_cells (start_of store) items).state in
     (completed_lawful state.store state.part end.store end.part, end.store)
 
-items_spelled_as : (items : List Item) → AreWritable items → AllByRecursion (λ item. IsSpellable item.version item.command) items
+pub items_spelled_as : (items : List Item) → AreWritable items → AllByRecursion (λ item. IsSpellable item.version item.command) items
 items_spelled_as [] w = tt
 items_spelled_as (item ∷ items) w = (w.0.0.spellable, items_spelled_as items w.1)
 

@@ -79,7 +79,6 @@ mod BaseReceives
 pub mod Dues
 mod HeadlineExample
 pub mod Exporting
-pub mod ExportedStreams
 mod ReceivableExamples
 pub mod EightFiles
 pub mod GeneratedChains
@@ -90,6 +89,9 @@ pub mod Separators
 pub mod OpenFiles
 pub mod SeparatedRuns
 pub mod SeparatedCounts
-pub mod SeparatedStreams
 pub mod FreeNames
 pub mod SeparatedCells
+pub mod SameStores
+pub mod Moments
+pub mod ExportedItems
+pub mod ExportedStreams

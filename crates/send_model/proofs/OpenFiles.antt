@@ -1,19 +1,18 @@
 -- The real receiver does what the plain run does, where no command goes astray.
-use Rattle.std.specs.Prelude.{◌≡◌, ◌≢◌, ℕ, ◌+◌, ◌==◌, Bool, true, false, not, ◌&&◌, ◌||◌, List, [], ◌∷◌, ◌++◌, length, take, drop, Option, None, Some, Result, Ok, Err, is_some, nat_le, nat_lt, if◌then◌else◌}
+use Rattle.std.specs.Prelude.{◌≡◌, ℕ, ◌+◌, ◌==◌, Bool, true, false, not, ◌&&◌, ◌||◌, List, [], ◌∷◌, length, take, drop, Option, None, Some, Result, Ok, Err, is_some, nat_le, nat_lt}
 use Rattle.std.specs.Str.{bytes_eq}
 use Rattle.std.proofs.Common.{refl, sym, ap, subst, ◌∙◌, eqb-true}
-use Rattle.std.proofs.lemmas.Bool.{true≢false, false≢true}
 use Rattle.send_model.specs.Refusal.{Refusal, NoSubvolume, NoSource, NotFile, BadPath, BadRange, Unaligned, FileTooBig, Overlap, BadFallocate}
 use Rattle.send_model.specs.Chain.{◌>>=◌, ◌>>◌, require, refuse_if, found}
 use Rattle.send_model.specs.Command.{Command, Write, Clone, Fallocate}
 use Rattle.send_model.specs.Path.{path_names}
 use Rattle.send_model.specs.Subvolume.{Subvolume, is_file, walk}
-use Rattle.send_model.specs.Edit.{Allocation, edit, change_contents, fallocate, greatest_end, allocation_of, fallocated, written_at, overwritten, change_inode, set_cells}
+use Rattle.send_model.specs.Edit.{edit, change_contents, fallocate, greatest_end, allocation_of, fallocated, written_at, overwritten, change_inode, set_cells}
 use Rattle.send_model.specs.Clone.{Cloned, cloned, clone, cells_of, is_aligned, overlap}
 use Rattle.send_model.specs.Store.{Store, Part, State, After, Stepped, step, step_edit, edit_part, edited, clone_source, key_of}
 use Rattle.send_model.specs.Receive.{bytes_of}
-use Rattle.send_model.specs.Opened.{Opened, Receiver, written_path, kept_at, kept_for, opened_after, edit_open, step_open, stepped_by, receiver_step, leads_elsewhere, is_astray_at, is_astray, AreSteady}
-use Rattle.send_model.specs.Separated.{LeadTo, ReceiverTakes, SteadyIsPlain}
+use Rattle.send_model.specs.Opened.{Opened, Receiver, written_path, kept_at, opened_after, edit_open, step_open, stepped_by, receiver_step, leads_elsewhere, is_astray_at, is_astray, AreSteady}
+use Rattle.send_model.specs.Separated.{ReceiverTakes, SteadyIsPlain}
 use Rattle.send_model.proofs.Fuel.{required, not_refused, bound, ok_same}
 use Rattle.send_model.proofs.Sound.{found_is}
 use Rattle.send_model.proofs.Sorts.{same_inside}

@@ -1,14 +1,15 @@
 -- Worked examples of the receivable spelling, as an assembler independent of this program makes the frames; and of a stream in it.
-use Rattle.std.specs.Prelude.{◌≡◌, ℕ, List, ◌++◌, codes, refl, [], ◌∷◌, map, replicate, take}
+use Rattle.std.specs.Prelude.{◌≡◌, ℕ, true, List, ◌++◌, codes, refl, [], ◌∷◌, map, replicate, take}
 use Rattle.send_model.specs.Command.{MkFile, MkNod, Symlink, Write, Utimes, MkDir, MkFifo, MkSock}
-use Rattle.send_model.specs.Receivable.{receivable_attributes, receivable, exported_from, receivable_file}
+use Rattle.send_model.specs.Reading.{reads}
+use Rattle.send_model.specs.Receivable.{receivable_attributes, receivable, exported_from}
 use Rattle.send_model.specs.Attribute.{INO}
 use Rattle.send_model.specs.Spelling.{Attribute}
 use Rattle.send_model.proofs.ExampleWords.{hexadecimal, reading_words}
 use Rattle.send_model.proofs.ReadingExamples.{first_stream}
 
 unfoldable receivable_words : Unit {0}
-unfolding reading_words receivable_attributes receivable exported_from receivable_file
+unfolding reading_words receivable_attributes receivable exported_from
 receivable_words = tt
 
 -- What is made has the inode number 0.
@@ -52,6 +53,6 @@ first_exported =
     ++ hexadecimal (codes "170000000f00437eee5f0f00010078120008000000000000000000130002006869")
     ++ hexadecimal (codes "000000001500506cc99d")
 
-stream_exported : receivable_file first_stream ≡ first_exported
+stream_exported : exported_from true (reads 1 first_stream).items ≡ first_exported
 unfolding first_stream first_exported receivable_words
 stream_exported = refl

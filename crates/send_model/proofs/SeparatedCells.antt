@@ -1,13 +1,13 @@
 -- Separators do not look at cells: over other cells the same items are separated alike.
-use Rattle.std.specs.Prelude.{◌≡◌, ℕ, zero, suc, ◌+◌, ◌==◌, Bool, true, false, not, ◌&&◌, List, [], ◌∷◌, ◌++◌, map, Option, None, Some, Result, Ok, Err, is_some, length, if◌then◌else◌}
+use Rattle.std.specs.Prelude.{◌≡◌, ℕ, zero, suc, ◌+◌, ◌==◌, Bool, false, not, ◌&&◌, List, [], ◌∷◌, ◌++◌, map, Option, None, Some, Result, Ok, Err, is_some, length, if◌then◌else◌}
 use Rattle.std.specs.Option.{option_map}
 use Rattle.std.specs.Str.{bytes_eq}
-use Rattle.std.proofs.Common.{refl, sym, ap, ap₂, subst, ◌∙◌}
+use Rattle.std.proofs.Common.{refl, ap, ap₂, subst, ◌∙◌}
 use Rattle.send_model.specs.Refusal.{Refusal}
 use Rattle.send_model.specs.Attribute.{Time}
 use Rattle.send_model.specs.Command.{Command, Link, Unlink, Utimes, End}
-use Rattle.send_model.specs.Subvolume.{Inode, Subvolume, root, epoch, inode_at, named, is_file, walk}
-use Rattle.send_model.specs.Store.{Store, Part, State, After, Stepped, head_of, step}
+use Rattle.send_model.specs.Subvolume.{Inode, Subvolume, root, epoch, inode_at, named}
+use Rattle.send_model.specs.Store.{Store, Part, State, After, head_of, step}
 use Rattle.send_model.specs.Receive.{byte_cells, start_of}
 use Rattle.send_model.specs.Reading.{Item}
 use Rattle.send_model.specs.Cells.{recelled, recelled_store, recelled_part, recelled_state, recelled_step}

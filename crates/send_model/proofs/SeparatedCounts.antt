@@ -1,23 +1,19 @@
--- Separators count nothing, and are the same over every store that finds the same.
-use Rattle.std.specs.Prelude.{◌≡◌, ◌⊎◌, ℕ, ◌+◌, Bool, true, false, not, is_some, ◌&&◌, List, [], ◌∷◌, ◌++◌, length, Option, None, Some, Result, Ok, Err, if◌then◌else◌}
-use Rattle.std.specs.List.{AllByRecursion, sum_by, count_by, flat_map}
+-- Separators count nothing; and an edit does the same over every store that finds the same sources.
+use Rattle.std.specs.Prelude.{◌≡◌, ◌⊎◌, ℕ, ◌+◌, Bool, true, false, not, ◌&&◌, List, [], ◌∷◌, ◌++◌, length, Option, None, Some, if◌then◌else◌}
+use Rattle.std.specs.List.{AllByRecursion, sum_by}
 use Rattle.std.specs.Str.{bytes_eq}
-use Rattle.std.proofs.Common.{refl, sym, ap, subst, ◌∙◌, inl, inr, arith}
+use Rattle.std.proofs.Common.{refl, sym, ap, ◌∙◌, inl, inr, arith}
 use Rattle.std.proofs.lemmas.List.Sums.{sum_by-cons}
-use Rattle.send_model.specs.Refusal.{Refusal}
 use Rattle.send_model.specs.Command.{Command, Subvol, Snapshot, Clone, End}
 use Rattle.send_model.specs.Subvolume.{Subvolume}
 use Rattle.send_model.specs.Clone.{clone}
-use Rattle.send_model.specs.Store.{Key, Head, head_of, Store, Part, State, Stepped, step, step_edit, edit_part, edited, clone_source, find, key_of}
+use Rattle.send_model.specs.Store.{Key, Head, head_of, Store, Part, State, step, step_edit, edit_part, edited, clone_source, find, key_of}
 use Rattle.send_model.specs.Receive.{bytes_of}
 use Rattle.send_model.specs.Order.{onto_heads, heads_of}
 use Rattle.send_model.specs.Outside.{keys_named, all_keys_named}
 use Rattle.send_model.specs.Counts.{literal, clones, streams, is_clone, is_end}
-use Rattle.send_model.specs.Opened.{Opened, written_path, is_astray, is_astray_at}
-use Rattle.send_model.specs.Separated.{Led, with_all, led_from, separated, separator, separator_for, separator_in, open_anew, other_path, touch, detour, free_name, names_file, CountsSame, SeparatedCountsSame, IsAlike, SeparatedIsOne, IsFit, AreFit, IsOneStream, StreamIsOne}
-use Rattle.send_model.proofs.Sorts.{by_sort, is_plain, plain_step, plain_edit_part}
-use Rattle.send_model.proofs.Stores.{bytes_eq_same}
-use Rattle.send_model.proofs.Separators.{here}
+use Rattle.send_model.specs.Opened.{Opened, written_path, is_astray}
+use Rattle.send_model.specs.Separated.{with_all, led_from, separated, separator, separator_for, separator_in, open_anew, other_path, touch, detour, free_name, names_file, SeparatedCountsSame}
 
 -- ---- counts
 
@@ -118,6 +114,12 @@ separated_counts_same state cs = let a = all_same cs None [] state in record { l
 
 -- ---- over two stores
 
+-- A command of a part, whose source two stores find alike, or which is the part itself.
+pub record IsAlike (store other : Store ℕ) (key : Key) (c : Command) : Type 0 where
+  pub no_end : is_end c ≡ false
+  pub no_head : head_of c ≡ None
+  pub sources : AllByRecursion (λ k. (bytes_eq k.uuid key.uuid ≡ true) ⊎ (find store k ≡ find other k)) (keys_named c)
+
 pub inner_step : (put : List ℕ) (store : Store ℕ) (part : Part ℕ) (c : Command) → is_end c ≡ false → head_of c ≡ None → step 0 put (record { store = store; part = Some part }) c ≡ edited store part (edit_part 0 put store part c)
 unfolding step step_edit
 inner_step put store part (Subvol uuid ctransid path) e h = cc
@@ -129,72 +131,8 @@ same_source : (store other : Store ℕ) (part : Part ℕ) (k : Key) → (bytes_e
 same_source store other part k (inl own) = ap (λ (b : Bool). if b then Some part.subvolume else find store k) own ∙ sym (ap (λ (b : Bool). if b then Some part.subvolume else find other k) own)
 same_source store other part k (inr found) = ap (λ (o : Option (Subvolume ℕ)). if bytes_eq k.uuid part.key.uuid then Some part.subvolume else o) found
 
-same_edit : (put : List ℕ) (store other : Store ℕ) (part : Part ℕ) (c : Command) → IsAlike store other part.key c → edit_part 0 put store part c ≡ edit_part 0 put other part c
+pub same_edit : (put : List ℕ) (store other : Store ℕ) (part : Part ℕ) (c : Command) → IsAlike store other part.key c → edit_part 0 put store part c ≡ edit_part 0 put other part c
 unfolding edit_part
 same_edit put store other part (Clone path offset clone_uuid clone_ctransid clone_path from len) a =
     ap (λ (o : Option (Subvolume ℕ)). clone 0 part.subvolume o (bytes_eq clone_uuid part.key.uuid) path offset clone_path from len) (same_source store other part (key_of clone_uuid clone_ctransid) a.sources.0)
 same_edit put store other part c a = refl
-
-same_led : (store other : Store ℕ) (key : Key) (cs : List Command) → AllByRecursion (IsAlike store other key) cs → (s : Subvolume ℕ) (o : Option Opened) (path : List ℕ)
-    → led_from o path (here store key s) (cs ++ End ∷ []) ≡ led_from o path (here other key s) (cs ++ End ∷ [])
-unfolding led_from separator is_astray
-same_led store other key [] a s o path = refl
-same_led store other key (c ∷ cs) (a, more) s o path =
-    let part : Part ℕ = record { key = key; subvolume = s } in
-    let put : List ℕ = bytes_of c in
-    let p : Option Opened = open_anew o (here store key s) c in
-    let q : List ℕ = other_path path o (written_path c) in
-    let first : Led = record { before = separator o path (here store key s) c; command = c } in
-    let x = inner_step put store part c a.no_end a.no_head in
-    let y = inner_step put other part c a.no_end a.no_head in
-    ap (λ (z : Stepped ℕ). first ∷ led_from p q z.state (cs ++ End ∷ [])) x
-    ∙ ap (λ (ls : List Led). first ∷ ls) (one p q (λ t. same_led store other key cs more t p q) (edit_part 0 put store part c))
-    ∙ ap (λ (r : Result (Subvolume ℕ) Refusal). first ∷ led_from p q (edited other part r).state (cs ++ End ∷ [])) (same_edit put store other part c a)
-    ∙ ap (λ (z : Stepped ℕ). first ∷ led_from p q z.state (cs ++ End ∷ [])) (sym y)
-  where
-    one : (p : Option Opened) (q : List ℕ) → ((t : Subvolume ℕ) → led_from p q (here store key t) (cs ++ End ∷ []) ≡ led_from p q (here other key t) (cs ++ End ∷ [])) → (r : Result (Subvolume ℕ) Refusal) → led_from p q (edited store (record { key = key; subvolume = s }) r).state (cs ++ End ∷ []) ≡ led_from p q (edited other (record { key = key; subvolume = s }) r).state (cs ++ End ∷ [])
-    one p q ih (Ok next) = ih next
-    one p q ih (Err refusal) = ih s
-
-pub separated_is_one : SeparatedIsOne
-unfolding separated
-separated_is_one store other key s cs a = ap with_all (same_led store other key cs a s None [])
-
-same_fit : (store other : Store ℕ) (key : Key) (cs : List Command) → AllByRecursion (IsAlike store other key) cs → (s : Subvolume ℕ)
-    → AreFit (here other key s) (cs ++ End ∷ []) → AreFit (here store key s) (cs ++ End ∷ [])
-unfolding AreFit
-same_fit store other key [] a s f = f
-same_fit store other key (c ∷ cs) (a, more) s (f, fs) =
-    let part : Part ℕ = record { key = key; subvolume = s } in
-    let put : List ℕ = bytes_of c in
-    let x = inner_step put store part c a.no_end a.no_head in
-    let y = inner_step put other part c a.no_end a.no_head in
-    let g : AreFit (edited other part (edit_part 0 put other part c)).state (cs ++ End ∷ []) = subst (λ (z : Stepped ℕ). AreFit z.state (cs ++ End ∷ [])) y fs in
-    let h : AreFit (edited other part (edit_part 0 put store part c)).state (cs ++ End ∷ []) = subst (λ (r : Result (Subvolume ℕ) Refusal). AreFit (edited other part r).state (cs ++ End ∷ [])) (sym (same_edit put store other part c a)) g in
-    (f, subst (λ (z : Stepped ℕ). AreFit z.state (cs ++ End ∷ [])) (sym x) (one (λ t. same_fit store other key cs more t) (edit_part 0 put store part c) h))
-  where
-    one : ((t : Subvolume ℕ) → AreFit (here other key t) (cs ++ End ∷ []) → AreFit (here store key t) (cs ++ End ∷ [])) → (r : Result (Subvolume ℕ) Refusal)
-        → AreFit (edited other (record { key = key; subvolume = s }) r).state (cs ++ End ∷ []) → AreFit (edited store (record { key = key; subvolume = s }) r).state (cs ++ End ∷ [])
-    one ih (Ok next) = ih next
-    one ih (Err refusal) = ih s
-
-head_led : (store after : Store ℕ) (key : Key) (s : Subvolume ℕ) (head : Command) (cs : List Command) → is_some (head_of head) ≡ true
-    → step 0 (bytes_of head) (record { store = store; part = None }) head ≡ record { state = here after key s; refusal = None }
-    → led_from None [] (record { store = store; part = None }) (head ∷ cs) ≡ record { before = []; command = head } ∷ led_from None [] (here after key s) cs
-unfolding led_from separator is_astray
-head_led store after key s (Subvol uuid ctransid path) cs h e = ap (λ (z : Stepped ℕ). record { before = []; command = Subvol uuid ctransid path } ∷ led_from None [] z.state cs) e
-head_led store after key s (Snapshot uuid ctransid path clone_uuid clone_ctransid) cs h e = ap (λ (z : Stepped ℕ). record { before = []; command = Snapshot uuid ctransid path clone_uuid clone_ctransid } ∷ led_from None [] z.state cs) e
-head_led store after key s c cs h e = cc
-
-pub stream_is_one : StreamIsOne
-unfolding separated AreFit
-stream_is_one store after other other_after key s head cs h e f a = record {
-  one = ap with_all (head_led store after key s head (cs ++ End ∷ []) h e
-      ∙ ap (λ (ls : List Led). record { before = []; command = head } ∷ ls) (same_led after other_after key cs a s None [])
-      ∙ sym (head_led other other_after key s head (cs ++ End ∷ []) h f));
-  fit = λ g. (
-    tt,
-    subst (λ (z : Stepped ℕ). AreFit z.state (cs ++ End ∷ [])) (sym e)
-        (same_fit after other_after key cs a s (subst (λ (z : Stepped ℕ). AreFit z.state (cs ++ End ∷ [])) f g.1)),
-  );
-}

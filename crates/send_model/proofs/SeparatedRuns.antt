@@ -1,20 +1,18 @@
 -- Separated commands, in a plain run and in the real receiver.
-use Rattle.std.specs.Prelude.{◌≡◌, ℕ, ◌+◌, Bool, true, false, not, ◌&&◌, List, [], ◌∷◌, ◌++◌, Option, None, Some, Result, Ok, Err, is_some, if◌then◌else◌}
+use Rattle.std.specs.Prelude.{◌≡◌, ℕ, Bool, true, false, not, ◌&&◌, List, [], ◌∷◌, ◌++◌, Option, None, Some, Result, Ok, Err, if◌then◌else◌}
 use Rattle.std.specs.Str.{bytes_eq}
 use Rattle.std.proofs.Common.{refl, sym, ap, subst, ◌∙◌}
-use Rattle.std.proofs.lemmas.Bool.{true≢false, false≢true, and_parts}
 use Rattle.send_model.specs.Refusal.{Refusal, NoSubvolume, NoEntry}
-use Rattle.send_model.specs.Chain.{◌>>=◌, ◌>>◌, require, found}
-use Rattle.send_model.specs.Command.{Command, Write, Clone, Fallocate, Link, Unlink, Utimes}
+use Rattle.send_model.specs.Command.{Command, Write, Clone, Fallocate, Unlink, Utimes}
 use Rattle.send_model.specs.Path.{path_names}
-use Rattle.send_model.specs.Subvolume.{Subvolume, IsSound, root, named, is_file, is_directory, walk, walk_names}
+use Rattle.send_model.specs.Subvolume.{Subvolume, IsSound, root, named, is_directory, walk, walk_names}
 use Rattle.send_model.specs.Edit.{edit, add_name}
 use Rattle.send_model.specs.Store.{Key, Store, Part, State, After, Stepped, step, step_edit, edit_part, edited}
 use Rattle.send_model.specs.Receive.{bytes_of}
 use Rattle.send_model.specs.Opened.{Opened, Receiver, written_path, kept_at, kept_for, opened_at, open_after, opened_after, stepped_by, receiver_step, leads_elsewhere, is_astray_at, is_astray}
-use Rattle.send_model.specs.Separated.{LeadTo, ReceiverTakes, Led, with_all, led_from, separated, separator, separator_for, separator_in, open_anew, other_path, touch, detour, free_name, names_file, mtime_of_root, atime_of_root, CanSeparate, IsFit, AreFit, IsSeparated, SeparatedIsReceived}
-use Rattle.send_model.proofs.Sorts.{is_plain, same_inside}
-use Rattle.send_model.proofs.Stores.{bytes_eq_true, bytes_eq_same}
+use Rattle.send_model.specs.Separated.{LeadTo, ReceiverTakes, with_all, led_from, separated, separator, separator_for, separator_in, open_anew, other_path, touch, detour, free_name, names_file, mtime_of_root, atime_of_root, CanSeparate, IsFit, AreFit, SeparatedIsReceived}
+use Rattle.send_model.proofs.Sorts.{is_plain}
+use Rattle.send_model.proofs.Stores.{bytes_eq_true}
 use Rattle.send_model.proofs.Merging.{edited_taken}
 use Rattle.send_model.proofs.MergingClones.{turned_false}
 use Rattle.send_model.proofs.Separators.{here, state_here, plain_taken, lead-append, NamesFile, names_some, touch_edit, place, linked, linked_walk, linked_file, unlinked, timed}

@@ -1,23 +1,22 @@
 -- Separators leave the state as it is; neutral commands in between change nothing; and the real receiver, where nothing goes astray.
-use Rattle.std.specs.Prelude.{◌≡◌, ◌≢◌, ℕ, ◌+◌, ◌≤◌, ◌==◌, Bool, true, false, cond, not, T, List, [], ◌∷◌, ◌++◌, Option, None, Some, Result, Ok, Err, IsTrue, is_some, is_none, nat_le, if◌then◌else◌}
+use Rattle.std.specs.Prelude.{◌≡◌, ◌≢◌, ℕ, ◌≤◌, ◌==◌, Bool, true, false, cond, List, [], ◌∷◌, ◌++◌, Option, None, Some, Result, Ok, Err, is_some, nat_le}
 use Rattle.std.specs.declared.cmp.Ordering.{Ordering}
-use Rattle.std.specs.Ordering.{nat_cmp, eq_by_cmp}
+use Rattle.std.specs.Ordering.{nat_cmp}
 use Rattle.std.specs.Cmp.{IsTotalOrder, nat_cmp_total}
-use Rattle.std.specs.FinMap.Entries.{find-put, find-where_key, same_entries, is_sorted-put, is_sorted-where_key}
+use Rattle.std.specs.FinMap.Entries.{same_entries}
 use Rattle.std.proofs.Common.{refl, sym, ap, subst, ◌∙◌, arith, inl, inr, leb-true}
 use Rattle.std.proofs.lemmas.Bool.{eq-eqb}
 use Rattle.std.proofs.lemmas.Map.Lookups.{CmpEqualImpliesEq, exact_unsigned}
-use Rattle.send_model.specs.Refusal.{Refusal, BadPath, NoEntry, NotDirectory, IsDirectory, IsRoot, EntryThere}
-use Rattle.send_model.specs.Chain.{◌>>=◌, ◌>>◌, require, refuse_if, found}
+use Rattle.send_model.specs.Refusal.{Refusal}
 use Rattle.send_model.specs.Path.{path_names}
 use Rattle.send_model.specs.Map.{Map, IsMap, named_cmp, value_at, with_value, without}
-use Rattle.send_model.specs.Command.{Command, Write, Link, Unlink, Utimes}
-use Rattle.send_model.specs.Subvolume.{NodeKind, File, Directory, Inode, Subvolume, Spot, IsSound, root, epoch, passes_inode, is_file_kind, is_directory_kind, inode_at, named, is_file, is_directory, walk, walk_names, spot, name_count}
-use Rattle.send_model.specs.Edit.{edit, change_contents, change_inode, change_at, written_at, set_cells, set_inode, add_name, remove_name, remove_inode, take_name, at_spot, link, unlink}
+use Rattle.send_model.specs.Command.{Command, Link, Unlink, Utimes}
+use Rattle.send_model.specs.Subvolume.{NodeKind, File, Inode, Subvolume, Spot, IsSound, root, epoch, passes_inode, is_file_kind, is_directory_kind, inode_at, named, is_file, is_directory, walk, walk_names, spot, name_count}
+use Rattle.send_model.specs.Edit.{edit, change_contents, change_inode, change_at, written_at, set_cells, set_inode, add_name, take_name, link, unlink}
 use Rattle.send_model.specs.Store.{Key, Store, Part, State, Stepped, step, edited}
 use Rattle.send_model.specs.Receive.{bytes_of}
-use Rattle.send_model.specs.Separated.{LeadTo, Led, commands_led, with_all, AreNeutral, NeutralChangesNothing, TouchIsNeutral, DetourIsNeutral, touch, detour, names_file, mtime_of_root, atime_of_root}
-use Rattle.send_model.proofs.Sorts.{is_plain, plain_step, same_inside}
+use Rattle.send_model.specs.Separated.{LeadTo, with_all, NeutralChangesNothing, TouchIsNeutral, DetourIsNeutral, touch, detour, names_file, mtime_of_root, atime_of_root}
+use Rattle.send_model.proofs.Sorts.{is_plain, plain_step}
 use Rattle.send_model.proofs.MapLaws.{counts_one, cases_key, with_value-here, with_value-other, without-here, without-other, with_value-order, without-order, count-with_value, named_cmp_total, named_cmp_exact}
 
 pub lead-append : (cs ds : List Command) (state middle end : State ℕ) → LeadTo state cs middle → LeadTo middle ds end → LeadTo state (cs ++ ds) end

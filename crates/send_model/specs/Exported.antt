@@ -1,6 +1,6 @@
 -- What `export` writes of files over a store, for the real `btrfs receive`: all commands that are taken, in the receivable spelling,
 -- each stream with its own version, and separators between them. This program's own.
-use Rattle.std.specs.Prelude.{◌≡◌, ◌<◌, ◌^◌, ℕ, true, List, [], ◌∷◌, ◌++◌, map, Option, None, Some}
+use Rattle.std.specs.Prelude.{◌≡◌, ◌≢◌, ◌<◌, ◌^◌, ℕ, true, List, [], ◌∷◌, ◌++◌, map, Option, None, Some}
 use Rattle.std.specs.List.{AllByRecursion}
 use Rattle.send_model.specs.Refusal.{Refusal}
 use Rattle.send_model.specs.Attribute.{Time, second, IsBytes}
@@ -15,7 +15,7 @@ use Rattle.send_model.specs.Headline.{commands_in, IsComposed}
 use Rattle.send_model.specs.Due.{DoneWhole, limited_from, audit_due}
 use Rattle.send_model.specs.Lawful.{IsLawfulStore}
 use Rattle.send_model.specs.Opened.{Opened, written_path}
-use Rattle.send_model.specs.Separated.{separator, open_anew, other_path, separated, mtime_of_root, atime_of_root, IsSmall, ReceiverTakes}
+use Rattle.send_model.specs.Separated.{separator, open_anew, other_path, separated, IsSmall, ReceiverTakes}
 use Rattle.send_model.specs.Receivable.{said, exported_from}
 
 -- What is known between two commands: the state, the file that the receiver has open, and the path that it had open before.
@@ -86,21 +86,21 @@ pub record IsExported (base : Store ℕ) (files : List (List ℕ)) (written : Li
 abbrev pub IsMoment : Time → Type 0
 IsMoment time = (time.secs < 2 ^ 64) × (time.nanos < second)
 
--- The times of the root can be said.
-abbrev pub HasRootTimes : Subvolume ℕ → Type 0
-HasRootTimes s = IsMoment (mtime_of_root s) × IsMoment (atime_of_root s)
+-- The times of its inodes can be said.
+abbrev pub HasTimes : Subvolume ℕ → Type 0
+HasTimes s = AllByRecursion (λ e. IsMoment e.1.mtime × IsMoment e.1.atime) s.inodes
 
--- A store over which files can be exported: a lawful one, in which the times of each root can be said.
+-- A store over which files can be exported: a lawful one, in which the times of each inode can be said.
 pub record CanExportOver (store : Store ℕ) : Type 0 where
   pub lawful : IsLawfulStore store
-  pub times : (key : Key) (s : Subvolume ℕ) → find store key ≡ Some s → HasRootTimes s
+  pub times : (key : Key) (s : Subvolume ℕ) → find store key ≡ Some s → HasTimes s
 
 -- Before each item, as long as all are taken, the part has fewer than 2^64 names.
 unfoldable pub AreSmallBy : {C : Type 0} → (State C → Item → After (State C)) → State C → List Item → Type 0
 AreSmallBy does state [] = Unit {0}
 AreSmallBy does state (item ∷ items) = IsSmall state.part × AreSmallBy does (does state item).state items
 
--- So it is of files of bytes that are taken over such a store.
+-- So it is of one file of bytes or more that are taken over such a store.
 abbrev pub ExportedIsSame : Type 0
-ExportedIsSame = (base : Store ℕ) (files : List (List ℕ)) → CanExportOver base → AllByRecursion IsBytes files → audit_due base [] files ≡ DoneWhole
-    → AreSmallBy byte_step (start_of base) (input files).items → IsExported base files (exported base files)
+ExportedIsSame = (base : Store ℕ) (files : List (List ℕ)) → files ≢ [] → CanExportOver base → AllByRecursion IsBytes files
+    → audit_due base [] files ≡ DoneWhole → AreSmallBy byte_step (start_of base) (input files).items → IsExported base files (exported base files)

@@ -3,13 +3,11 @@
 -- in UTIMES. Source: process_.. in send-stream.c of btrfs-progs. What stands there is this program's own: number 0, and the time
 -- of the last change of the contents.
 use Rattle.std.specs.Prelude.{◌≡◌, ℕ, Bool, true, false, ◌&&◌, List, [], ◌∷◌, ◌++◌, map, nat_lt}
-use Rattle.send_model.specs.Attribute.{INO, CTIME, Number, Moment, field_bytes, IsBytes}
+use Rattle.send_model.specs.Attribute.{INO, CTIME, Number, Moment, field_bytes}
 use Rattle.send_model.specs.Command.{Command, Subvol, Snapshot, MkFile, MkDir, MkNod, MkFifo, MkSock, Symlink, Rename, Link, Unlink, Rmdir, SetXattr, RemoveXattr, Write, Clone, Truncate, Chmod, Chown, Utimes, End, UpdateExtent, Fallocate, FileAttr, row, kind_of}
 use Rattle.send_model.specs.Spelling.{Attribute, stream_header, body_of, frame_of, attributes_of, Spells, IsSpellable}
-use Rattle.send_model.specs.Reading.{Item, Whole, reads}
-use Rattle.send_model.specs.Store.{Store}
+use Rattle.send_model.specs.Reading.{Item}
 use Rattle.send_model.specs.Counts.{is_end}
-use Rattle.send_model.specs.Headline.{IsComposed}
 
 abbrev pub number_zero : Attribute
 number_zero = record { kind = INO; bytes = field_bytes (Number 0) }
@@ -59,10 +57,6 @@ unfoldable pub exported_from : Bool → List Item → List ℕ
 exported_from begins [] = []
 exported_from begins (item ∷ items) = header_before begins item.version ++ (receivable item.version item.command ++ exported_from (is_end item.command) items)
 
--- A file in the receivable spelling: all that is read of it.
-unfoldable pub receivable_file : List ℕ → List ℕ
-receivable_file bytes = exported_from true (reads 1 bytes).items
-
 -- ---- laws
 
 -- The receivable spelling spells its command.
@@ -81,16 +75,3 @@ ReceivableRises = (c : Command) → rise (map (λ a. a.kind) (receivable_attribu
 -- What an item says, wherever it stands: its command, in a stream of a version.
 abbrev pub said : Item → ℕ × Command
 said item = (item.version, item.command)
-
--- A whole file is read again as a whole file with the same commands in the same streams.
-pub record IsReadAgain (bytes written : List ℕ) : Type 0 where
-  pub whole : (reads 1 written).end ≡ Whole
-  pub same : map said (reads 1 written).items ≡ map said (reads 1 bytes).items
-
-abbrev pub ReceivableFileIsSame : Type 0
-ReceivableFileIsSame = (bytes : List ℕ) → IsBytes bytes → (reads 1 bytes).end ≡ Whole → IsReadAgain bytes (receivable_file bytes)
-
--- So whatever compose promises of what it wrote, it keeps.
-abbrev pub ReceivableFileIsComposed : Type 0
-ReceivableFileIsComposed = (base : Store ℕ) (files : List (List ℕ)) (written : List ℕ) → IsBytes written
-    → IsComposed base files written → IsComposed base files (receivable_file written)

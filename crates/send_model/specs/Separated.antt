@@ -1,21 +1,18 @@
 -- Commands with separators: where the real `btrfs receive` would write to a file that the path does not name any more, commands go
 -- before that leave the subvolume as it is and make the receiver open another path. This program's own.
-use Rattle.std.specs.Prelude.{◌≡◌, ◌⊎◌, ℕ, zero, suc, ◌+◌, ◌<◌, ◌^◌, Bool, true, false, not, ◌&&◌, List, [], ◌∷◌, ◌++◌, length, Option, None, Some, Result, Ok, Err, is_some, if◌then◌else◌, codes}
-use Rattle.std.specs.List.{AllByRecursion}
+use Rattle.std.specs.Prelude.{◌≡◌, ℕ, zero, suc, ◌+◌, ◌<◌, ◌^◌, Bool, true, false, not, ◌&&◌, List, [], ◌∷◌, ◌++◌, length, Option, None, Some, Ok, Err, is_some, if◌then◌else◌, codes}
 use Rattle.std.specs.Fmt.{decimal}
 use Rattle.std.specs.Str.{bytes_eq}
 use Rattle.send_model.specs.Attribute.{Time}
 use Rattle.send_model.specs.Path.{path_names}
-use Rattle.send_model.specs.Command.{Command, Write, Link, Unlink, Utimes, End}
+use Rattle.send_model.specs.Command.{Command, Write, Link, Unlink, Utimes}
 use Rattle.send_model.specs.Subvolume.{Subvolume, IsSound, root, epoch, inode_at, named, is_file, walk}
-use Rattle.send_model.specs.Store.{Key, Head, head_of, Store, Part, State, find, step, has_name, has_uuid}
-use Rattle.send_model.specs.Receive.{bytes_of, start_of}
-use Rattle.send_model.specs.Counts.{literal, clones, streams, is_end}
-use Rattle.send_model.specs.Reading.{Item}
+use Rattle.send_model.specs.Store.{Part, State, step}
+use Rattle.send_model.specs.Receive.{bytes_of}
+use Rattle.send_model.specs.Counts.{literal, clones, streams}
 use Rattle.send_model.specs.Order.{heads_of}
-use Rattle.send_model.specs.Outside.{keys_named, all_keys_named, keys_outside, SameOn}
-use Rattle.send_model.specs.Headline.{AreComposed, last_entry}
-use Rattle.send_model.specs.Opened.{Opened, written_path, kept_at, opened_after, is_astray, AreSteady, Receiver, receiver_step}
+use Rattle.send_model.specs.Outside.{all_keys_named}
+use Rattle.send_model.specs.Opened.{Opened, written_path, opened_after, is_astray, AreSteady, Receiver, receiver_step}
 
 -- ---- a name that the root does not have
 
@@ -163,23 +160,10 @@ unfoldable pub AreFit : State ℕ → List Command → Type 0
 AreFit state [] = Unit {0}
 AreFit state (c ∷ cs) = IsFit state.part × AreFit (step 0 (bytes_of c) state c).state cs
 
-abbrev pub in_part : Store ℕ → Key → Subvolume ℕ → State ℕ
-in_part store key s = record { store = store; part = Some (record { key = key; subvolume = s }) }
-
 -- A part has fewer than 2^64 names.
 abbrev pub IsSmall : {C : Type 0} → Option (Part C) → Type 0
 IsSmall None = Unit {0}
 IsSmall (Some part) = length part.subvolume.names < 2 ^ 64
-
--- So it is before each command of a plain run.
-unfoldable pub AreSmall : State ℕ → List Command → Type 0
-AreSmall state [] = Unit {0}
-AreSmall state (c ∷ cs) = IsSmall state.part × AreSmall (step 0 (bytes_of c) state c).state cs
-
--- So separators can go wherever a part comes to that begins sound.
-abbrev pub SmallAreFit : Type 0
-SmallAreFit = (store : Store ℕ) (key : Key) (s : Subvolume ℕ) (commands : List Command) → IsSound s → AllByRecursion (λ c. (is_end c ≡ false) × (head_of c ≡ None)) commands
-    → AreSmall (in_part store key s) (commands ++ End ∷ []) → AreFit (in_part store key s) (commands ++ End ∷ [])
 
 -- What a plain run of commands leads to, separated commands lead to, in a plain run and in the real receiver, which has no file open.
 pub record IsSeparated (state end : State ℕ) (commands : List Command) : Type 0 where
@@ -199,56 +183,3 @@ pub record CountsSame (state : State ℕ) (commands : List Command) : Type 0 whe
 
 abbrev pub SeparatedCountsSame : Type 0
 SeparatedCountsSame = (state : State ℕ) (commands : List Command) → CountsSame state commands
-
--- A command of a part, whose source two stores find alike, or which is the part itself.
-pub record IsAlike (store other : Store ℕ) (key : Key) (c : Command) : Type 0 where
-  pub no_end : is_end c ≡ false
-  pub no_head : head_of c ≡ None
-  pub sources : AllByRecursion (λ k. (bytes_eq k.uuid key.uuid ≡ true) ⊎ (find store k ≡ find other k)) (keys_named c)
-
--- Over stores that find the same sources, the same commands are separated alike: there is one exported stream for all stores.
-abbrev pub SeparatedIsOne : Type 0
-SeparatedIsOne = (store other : Store ℕ) (key : Key) (s : Subvolume ℕ) (commands : List Command) → AllByRecursion (IsAlike store other key) commands
-    → separated (in_part store key s) (commands ++ End ∷ []) ≡ separated (in_part other key s) (commands ++ End ∷ [])
-
--- So it is of a whole stream that two stores begin alike: separators, and where they can go.
-pub record IsOneStream (store other : Store ℕ) (commands : List Command) : Type 0 where
-  pub one : separated (record { store = store; part = None }) commands ≡ separated (record { store = other; part = None }) commands
-  pub fit : AreFit (record { store = other; part = None }) commands → AreFit (record { store = store; part = None }) commands
-
-abbrev pub StreamIsOne : Type 0
-StreamIsOne = (store after other other_after : Store ℕ) (key : Key) (s : Subvolume ℕ) (head : Command) (commands : List Command)
-    → is_some (head_of head) ≡ true
-    → step 0 (bytes_of head) (record { store = store; part = None }) head ≡ record { state = in_part after key s; refusal = None }
-    → step 0 (bytes_of head) (record { store = other; part = None }) head ≡ record { state = in_part other_after key s; refusal = None }
-    → AllByRecursion (IsAlike after other_after key) commands
-    → IsOneStream store other (head ∷ (commands ++ End ∷ []))
-
--- Every store that finds the same outside subvolumes as the base, and has neither the last name nor uuid, begins the part with the same
--- subvolume, and its edits find the same sources; and separators can go wherever the base comes to.
-pub record StartsAlike (base : Store ℕ) (items : List Item) (last : Head) (head : Command) (edits : List Command) : Type 0 where
-  pub key : Key
-  pub start : Subvolume ℕ
-  pub base_after : Store ℕ
-  pub is_head : is_some (head_of head) ≡ true
-  pub begins : step 0 (bytes_of head) (start_of base) head ≡ record { state = in_part base_after key start; refusal = None }
-  pub after : (store : Store ℕ) → SameOn base store (keys_outside items) → has_name last.name store ≡ false → has_uuid last.key.uuid store ≡ false → Store ℕ
-  pub begins_there : (store : Store ℕ) (same : SameOn base store (keys_outside items)) (n : has_name last.name store ≡ false) (u : has_uuid last.key.uuid store ≡ false)
-      → step 0 (bytes_of head) (start_of store) head ≡ record { state = in_part (after store same n u) key start; refusal = None }
-  pub alike : (store : Store ℕ) (same : SameOn base store (keys_outside items)) (n : has_name last.name store ≡ false) (u : has_uuid last.key.uuid store ≡ false)
-      → AllByRecursion (IsAlike (after store same n u) base_after key) edits
-  pub fit : AreFit (start_of base) (head ∷ (edits ++ End ∷ []))
-
--- What the headline promises of composed commands, it promises of them with separators; and the real receiver makes the same of them.
-abbrev pub SeparatedAreComposed : Type 0
-SeparatedAreComposed = (base : Store ℕ) (items : List Item) (head : Command) (edits : List Command)
-    → (composed : AreComposed base items (head ∷ (edits ++ End ∷ []))) → StartsAlike base items composed.last head edits
-    → AreComposed base items (separated (start_of base) (head ∷ (edits ++ End ∷ [])))
-
--- The real receiver takes the one exported list of commands in each such store, and makes what the plain run makes.
-abbrev pub SeparatedAreReceived : Type 0
-SeparatedAreReceived = (base : Store ℕ) (items : List Item) (head : Command) (edits : List Command)
-    → (composed : AreComposed base items (head ∷ (edits ++ End ∷ []))) → StartsAlike base items composed.last head edits
-    → (store : Store ℕ) → SameOn base store (keys_outside items) → has_name composed.last.name store ≡ false → has_uuid composed.last.key.uuid store ≡ false
-    → ReceiverTakes (record { state = start_of store; opened = None }) (separated (start_of base) (head ∷ (edits ++ End ∷ [])))
-    (start_of (store ++ last_entry composed.first composed.last composed.subvolume ∷ []))

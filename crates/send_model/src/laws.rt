@@ -11,8 +11,9 @@ ghost use Rattle.send_model.specs.GuardLaws.{NoGuardsChangeNothing, AllowedIsAcc
 ghost use Rattle.send_model.specs.Due.{IsJudgedOf, IsJudged};
 ghost use Rattle.send_model.specs.LengthLaws.{FilesAreMeasured, NamedIsFirstLong, FirstLongIsNamed, UnnamedIsWithin, WithinIsUnnamed, NamedStopsReading, StoppedIsNamed, ReadToTheLimit};
 ghost use Rattle.send_model.specs.Lawful.{KeepsLawfulness, EditsKeepSayable, ReceivedIsLawful, FilesLeaveLawful, LawfulFindsSayable, LawfulAllSayable, LawfulStoresHold};
-ghost use Rattle.send_model.specs.Receivable.{ReceivableSpells, ReceivableRises, ReceivableFileIsSame, ReceivableFileIsComposed};
-ghost use Rattle.send_model.specs.Separated.{NeutralChangesNothing, TouchIsNeutral, DetourIsNeutral, FreeNameIsFree, SteadyIsPlain, SmallAreFit, SeparatedIsReceived, SeparatedCountsSame, StreamIsOne, SeparatedAreComposed, SeparatedAreReceived};
+ghost use Rattle.send_model.specs.Receivable.{ReceivableSpells, ReceivableRises};
+ghost use Rattle.send_model.specs.Exported.{ExportedIsSame};
+ghost use Rattle.send_model.specs.Separated.{NeutralChangesNothing, TouchIsNeutral, DetourIsNeutral, FreeNameIsFree, SteadyIsPlain, SeparatedIsReceived, SeparatedCountsSame};
 ghost use Rattle.send_model.specs.Laws.{SpelledIsRead, SpelledIsFront, FrameHasOneReading, ReadWasSpelled, RulesWereSpelled, DataIsThere, CanonicalSpells, SpelledIsSpellable, SecondSaysMore, AreInner, StreamIsRead, CutIsUnfinished, EditLooksAtItsPart, StepKeepsCells, FirstPathsAreLeast, AreCounted, ItemsHold, ItemsSpelled, FrontsAreWritable, ReadingsHold, PlainReadingsHold, FilesAreWhole, FilesHold, PlainFilesHold, BaseCanReceive, BaseReceives, ChainIsLawful};
 
 /// Whatever spells a command is read as that command, whatever follows it, and spells no other; what is read was spelled. So it is
@@ -30,19 +31,16 @@ pub fn spelling_is_read_back()
     ensures second { SecondSaysMore }
 {}
 
-/// The receivable spelling of a command, which the real `btrfs receive` takes, spells it, with its attributes in rising order. A
-/// file that is exported in it is read as the same commands in the same streams; and what compose promises of a stream that it
-/// wrote holds of that stream exported.
+/// The receivable spelling of a command, which the real `btrfs receive` takes, spells it, with its attributes in rising order.
 pub fn receivable_spelling_is_read_back()
     ensures spelled { ReceivableSpells }
     ensures rises { ReceivableRises }
-    ensures exported { ReceivableFileIsSame }
-    ensures composed { ReceivableFileIsComposed }
 {}
 
 /// Commands with separators lead where the commands lead, and the real receiver makes of them what the plain run makes, though it keeps
-/// a file open by the spelling of its path. Separators have no bytes and no clones, name no subvolume, and are the same over every store
-/// that finds the same sources; so what the headline promises of composed commands it promises of them with separators.
+/// a file open by the spelling of its path. Separators have no bytes and no clones, and name no subvolume. So what is exported of files
+/// over a store is read as their commands with separators, and every store that finds the same subvolumes outside, and takes the files,
+/// takes it and comes to the same state; and what the headline promises of a stream that was composed, it promises of it exported.
 pub fn separators_change_nothing()
     ensures neutral { NeutralChangesNothing }
     ensures touch { TouchIsNeutral }
@@ -50,11 +48,8 @@ pub fn separators_change_nothing()
     ensures free { FreeNameIsFree }
     ensures steady { SteadyIsPlain }
     ensures separated { SeparatedIsReceived }
-    ensures fits { SmallAreFit }
     ensures counts { SeparatedCountsSame }
-    ensures one { StreamIsOne }
-    ensures composed { SeparatedAreComposed }
-    ensures received { SeparatedAreReceived }
+    ensures exported { ExportedIsSame }
 {}
 
 /// A stream of a version that is read is read whole, with its commands; and one that is cut short is never read as whole.

@@ -1,9 +1,9 @@
 use Rattle.send_model.proofs.Separators.{neutral_changes_nothing, touch_is_neutral, detour_is_neutral}
-use Rattle.send_model.proofs.FreeNames.{free_name_is_free, small_are_fit}
+use Rattle.send_model.proofs.FreeNames.{free_name_is_free}
 use Rattle.send_model.proofs.OpenFiles.{steady_is_plain}
 use Rattle.send_model.proofs.SeparatedRuns.{separated_is_received}
-use Rattle.send_model.proofs.SeparatedCounts.{separated_counts_same, stream_is_one}
-use Rattle.send_model.proofs.SeparatedStreams.{separated_are_composed, separated_are_received}
+use Rattle.send_model.proofs.SeparatedCounts.{separated_counts_same}
+use Rattle.send_model.proofs.ExportedStreams.{exported_is_same}
 use Rattle.send_model.proofs.laws.separators_change_nothing.Goals as goal
 
 pub returns-clause-neutral : goal.returns-clause-neutral
@@ -27,14 +27,5 @@ returns-clause-separated c = separated_is_received
 pub returns-clause-counts : goal.returns-clause-counts
 returns-clause-counts c = separated_counts_same
 
-pub returns-clause-one : goal.returns-clause-one
-returns-clause-one c = stream_is_one
-
-pub returns-clause-composed : goal.returns-clause-composed
-returns-clause-composed c = separated_are_composed
-
-pub returns-clause-received : goal.returns-clause-received
-returns-clause-received c = separated_are_received
-
-pub returns-clause-fits : goal.returns-clause-fits
-returns-clause-fits c = small_are_fit
+pub returns-clause-exported : goal.returns-clause-exported
+returns-clause-exported c = exported_is_same
