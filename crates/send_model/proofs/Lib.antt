@@ -95,3 +95,4 @@ pub mod SameStores
 pub mod Moments
 pub mod ExportedItems
 pub mod ExportedStreams
+mod SeparatedExamples
