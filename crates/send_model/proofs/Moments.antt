@@ -14,15 +14,18 @@ use Rattle.send_model.specs.Subvolume.{Inode, Subvolume, root, epoch, inode_at, 
 use Rattle.send_model.specs.Edit.{edit}
 use Rattle.send_model.specs.Clone.{clone}
 use Rattle.send_model.specs.Store.{Key, Head, head_of, Store, Part, State, Stepped, find, completed, begun, start_from, entered, step_head, clone_source, edit_part, edited, step_edit, step}
-use Rattle.send_model.specs.Receive.{bytes_of}
+use Rattle.send_model.specs.Reading.{Item, input}
+use Rattle.send_model.specs.Receive.{bytes_of, byte_cells, start_of, Ran, run_by, then_run, run_items, receive_items}
 use Rattle.send_model.specs.Counts.{is_clone}
 use Rattle.send_model.specs.Separated.{mtime_of_root, atime_of_root}
-use Rattle.send_model.specs.Exported.{IsMoment, HasTimes}
+use Rattle.send_model.specs.Exported.{IsMoment, HasTimes, ReceivedCanExport}
 use Rattle.send_model.proofs.Sorts.{by_sort, is_plain, head_step, plain_edit_part, plain_step_edit}
 use Rattle.send_model.proofs.Fuel.{ok_same}
 use Rattle.send_model.proofs.Stores.{finds_one_of, finds_unfinished}
 use Rattle.send_model.proofs.Runs.{step_of}
 use Rattle.send_model.proofs.Merging.{begun_begins}
+use Rattle.send_model.proofs.ReadCommands.{input_writable}
+use Rattle.send_model.proofs.LawfulStores.{items_spelled_as, files_leave_lawful}
 use Rattle.send_model.proofs.Keeping.{all_found, KeepsInodes, edit_keeps, clone_keeps}
 use Rattle.send_model.proofs.SameStores.{state_of}
 
@@ -153,3 +156,25 @@ clone_timed c e version store part s h p = absurd (true≢false (sym e))
 
 pub step_timed : (version : ℕ) (c : Command) (state : State ℕ) → IsSpellable version c → IsTimed state → IsTimed (step_of state c).state
 step_timed version c state s t = by_sort {P = λ x. StepsTimely x} head_timed end_timed clone_timed plain_timed c version state.store state.part s t.store t.part
+
+-- ---- runs
+
+ran_timed : (item : Item) (state : State ℕ) (o : Option Refusal) (rest : Ran (State ℕ)) → IsTimed state → IsTimed rest.state → IsTimed (then_run item (record { state = state; refusal = o }) rest).state
+ran_timed item state None rest t more = more
+ran_timed item state (Some refusal) rest t more = t
+
+run_timed : (items : List Item) (state : State ℕ) → AllByRecursion (λ item. IsSpellable item.version item.command) items → IsTimed state → IsTimed (run_items 0 byte_cells state items).state
+unfolding run_items run_by
+run_timed [] state s t = t
+run_timed (item ∷ items) state s t =
+    let after : Stepped ℕ = step_of state item.command in
+    let next = step_timed item.version item.command state s.0 t in
+    ran_timed item after.state after.refusal (run_items 0 byte_cells after.state items) next (run_timed items after.state s.1 next)
+
+pub received_can_export : ReceivedCanExport
+unfolding receive_items
+received_can_export store files can bytes =
+    let items : List Item = (input files).items in
+    let state : State ℕ = (run_items 0 byte_cells (start_of store) items).state in
+    let end = run_timed items (start_of store) (items_spelled_as items (input_writable files bytes)) (record { store = can.times; part = tt }) in
+    record { lawful = (files_leave_lawful store files can.lawful bytes).0; times = completed_timed state.store state.part end.store end.part }

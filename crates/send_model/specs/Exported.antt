@@ -7,7 +7,7 @@ use Rattle.send_model.specs.Attribute.{Time, second, IsBytes}
 use Rattle.send_model.specs.Command.{Command}
 use Rattle.send_model.specs.Reading.{Item, Whole, reads, input}
 use Rattle.send_model.specs.Subvolume.{Subvolume}
-use Rattle.send_model.specs.Store.{Key, Store, State, After, IsStore, find, step}
+use Rattle.send_model.specs.Store.{Key, Store, State, After, IsStore, find, completed, step}
 use Rattle.send_model.specs.Receive.{byte_cells, start_of, IsAccepted, receive}
 use Rattle.send_model.specs.Order.{commands_of}
 use Rattle.send_model.specs.Outside.{outside, SameOn}
@@ -104,3 +104,8 @@ AreSmallBy does state (item ∷ items) = IsSmall state.part × AreSmallBy does (
 abbrev pub ExportedIsSame : Type 0
 ExportedIsSame = (base : Store ℕ) (files : List (List ℕ)) → files ≢ [] → CanExportOver base → AllByRecursion IsBytes files
     → audit_due base [] files ≡ DoneWhole → AreSmallBy byte_step (start_of base) (input files).items → IsExported base files (exported base files)
+
+-- Over no store files can be exported, and over whatever is received into a store over which they can.
+abbrev pub ReceivedCanExport : Type 0
+ReceivedCanExport = (store : Store ℕ) (files : List (List ℕ)) → CanExportOver store → AllByRecursion IsBytes files
+    → CanExportOver (completed (receive store files).state)

@@ -1,5 +1,5 @@
 // Laws that tie the definitions to what they mean. Each is the contract of a function that does nothing.
-ghost use Rattle.std.specs.Prelude.{◌≡◌, ℕ, Bool, true, List, Option};
+ghost use Rattle.std.specs.Prelude.{◌≡◌, ℕ, Bool, true, List, [], Option};
 ghost use Rattle.send_model.specs.Command.{Command};
 ghost use Rattle.send_model.specs.Reading.{Item, Reading, is_version};
 ghost use Rattle.send_model.specs.Subvolume.{Subvolume, IsLawful, root_alone};
@@ -12,7 +12,7 @@ ghost use Rattle.send_model.specs.Due.{IsJudgedOf, IsJudged};
 ghost use Rattle.send_model.specs.LengthLaws.{FilesAreMeasured, NamedIsFirstLong, FirstLongIsNamed, UnnamedIsWithin, WithinIsUnnamed, NamedStopsReading, StoppedIsNamed, ReadToTheLimit};
 ghost use Rattle.send_model.specs.Lawful.{KeepsLawfulness, EditsKeepSayable, ReceivedIsLawful, FilesLeaveLawful, LawfulFindsSayable, LawfulAllSayable, LawfulStoresHold};
 ghost use Rattle.send_model.specs.Receivable.{ReceivableSpells, ReceivableRises};
-ghost use Rattle.send_model.specs.Exported.{ExportedIsSame};
+ghost use Rattle.send_model.specs.Exported.{CanExportOver, ExportedIsSame, ReceivedCanExport};
 ghost use Rattle.send_model.specs.Separated.{NeutralChangesNothing, TouchIsNeutral, DetourIsNeutral, FreeNameIsFree, SteadyIsPlain, SeparatedIsReceived, SeparatedCountsSame};
 ghost use Rattle.send_model.specs.Laws.{SpelledIsRead, SpelledIsFront, FrameHasOneReading, ReadWasSpelled, RulesWereSpelled, DataIsThere, CanonicalSpells, SpelledIsSpellable, SecondSaysMore, AreInner, StreamIsRead, CutIsUnfinished, EditLooksAtItsPart, StepKeepsCells, FirstPathsAreLeast, AreCounted, ItemsHold, ItemsSpelled, FrontsAreWritable, ReadingsHold, PlainReadingsHold, FilesAreWhole, FilesHold, PlainFilesHold, BaseCanReceive, BaseReceives, ChainIsLawful};
 
@@ -40,7 +40,8 @@ pub fn receivable_spelling_is_read_back()
 /// Commands with separators lead where the commands lead, and the real receiver makes of them what the plain run makes, though it keeps
 /// a file open by the spelling of its path. Separators have no bytes and no clones, and name no subvolume. So what is exported of files
 /// over a store is read as their commands with separators, and every store that finds the same subvolumes outside, and takes the files,
-/// takes it and comes to the same state; and what the headline promises of a stream that was composed, it promises of it exported.
+/// takes it and comes to the same state; and what the headline promises of a stream that was composed, it promises of it exported. Files
+/// can be exported over no store, and over whatever was received into one over which they can.
 pub fn separators_change_nothing()
     ensures neutral { NeutralChangesNothing }
     ensures touch { TouchIsNeutral }
@@ -50,6 +51,8 @@ pub fn separators_change_nothing()
     ensures separated { SeparatedIsReceived }
     ensures counts { SeparatedCountsSame }
     ensures exported { ExportedIsSame }
+    ensures over_none { CanExportOver [] }
+    ensures over_received { ReceivedCanExport }
 {}
 
 /// A stream of a version that is read is read whole, with its commands; and one that is cut short is never read as whole.

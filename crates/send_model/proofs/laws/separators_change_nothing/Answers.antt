@@ -3,7 +3,8 @@ use Rattle.send_model.proofs.FreeNames.{free_name_is_free}
 use Rattle.send_model.proofs.OpenFiles.{steady_is_plain}
 use Rattle.send_model.proofs.SeparatedRuns.{separated_is_received}
 use Rattle.send_model.proofs.SeparatedCounts.{separated_counts_same}
-use Rattle.send_model.proofs.ExportedStreams.{exported_is_same}
+use Rattle.send_model.proofs.ExportedStreams.{exported_is_same, none_can}
+use Rattle.send_model.proofs.Moments.{received_can_export}
 use Rattle.send_model.proofs.laws.separators_change_nothing.Goals as goal
 
 pub returns-clause-neutral : goal.returns-clause-neutral
@@ -29,3 +30,9 @@ returns-clause-counts c = separated_counts_same
 
 pub returns-clause-exported : goal.returns-clause-exported
 returns-clause-exported c = exported_is_same
+
+pub returns-clause-over_none : goal.returns-clause-over_none
+returns-clause-over_none c = none_can
+
+pub returns-clause-over_received : goal.returns-clause-over_received
+returns-clause-over_received c = received_can_export
