@@ -53,11 +53,13 @@ module _ (version : ℕ) (is : IsVersion version) where
   unfolding kind_of_number row
   utimes_ahead s (m, a) = (record { spellable = spellable_first version (Utimes (mtime_of_root s) (atime_of_root s) []) (known_in UTIMES refl refl version is) (m, (a, ((λ e. lit< tt, tt), tt))) }, refl)
 
-  detour_ahead : (s : Subvolume ℕ) (name path : List ℕ) → PathFits name → PathFits path → IsMoment (mtime_of_root s) × IsMoment (atime_of_root s) → AllByRecursion (IsAhead version) (detour s name path)
+  detour_ahead : (s : Subvolume ℕ) (name path : List ℕ) → PathFits name → PathFits path → IsMoment (mtime_of_root s) × IsMoment (atime_of_root s)
+      → AllByRecursion (IsAhead version) (detour s name path)
   unfolding detour
   detour_ahead s name path a b m = (link_ahead name path a b, (touch_ahead name a, (unlink_ahead name a, (utimes_ahead s m, tt))))
 
-  separator_ahead : (s : Subvolume ℕ) (other path : List ℕ) → length s.names < 2 ^ 64 → PathFits other → PathFits path → IsMoment (mtime_of_root s) × IsMoment (atime_of_root s)
+  separator_ahead : (s : Subvolume ℕ) (other path : List ℕ) → length s.names < 2 ^ 64 → PathFits other → PathFits path
+      → IsMoment (mtime_of_root s) × IsMoment (atime_of_root s)
       → AllByRecursion (IsAhead version) (separator_in s other path)
   unfolding separator_in
   separator_ahead s other path small a b m = one (names_file s other && not (bytes_eq other path))
@@ -103,7 +105,8 @@ at_fits (Some part) path a = one (walk part.subvolume path)
     one (Ok ino) = a
     one (Err refusal) = tt
 
-after_fits : (opened : Option Opened) (part : Option (Part ℕ)) (path : Option (List ℕ)) → OpenedFits opened → ((p : List ℕ) → path ≡ Some p → PathFits p) → OpenedFits (open_after opened part path)
+after_fits : (opened : Option Opened) (part : Option (Part ℕ)) (path : Option (List ℕ)) → OpenedFits opened → ((p : List ℕ) → path ≡ Some p → PathFits p)
+    → OpenedFits (open_after opened part path)
 after_fits opened part None a f = a
 after_fits opened part (Some path) a f = one (kept_at opened (Some path))
   where
@@ -111,7 +114,8 @@ after_fits opened part (Some path) a f = one (kept_at opened (Some path))
     one None = at_fits part path (f path refl)
     one (Some ino) = a
 
-opened_fits : (opened : Option Opened) (part : Option (Part ℕ)) (c : Command) → OpenedFits opened → ((p : List ℕ) → written_path c ≡ Some p → PathFits p) → OpenedFits (opened_after opened part c)
+opened_fits : (opened : Option Opened) (part : Option (Part ℕ)) (c : Command) → OpenedFits opened → ((p : List ℕ) → written_path c ≡ Some p → PathFits p)
+    → OpenedFits (opened_after opened part c)
 opened_fits opened part End a f = tt
 opened_fits opened part c a f = one (head_of c)
   where
@@ -123,7 +127,8 @@ unless_astray : (b : Bool) (opened : Option Opened) → OpenedFits opened → Op
 unless_astray true opened a = tt
 unless_astray false opened a = a
 
-ready_after : (now : Exporting ℕ) (item : Item) → IsReady now → IsSpellable item.version item.command → IsReady (exporting_after now item.command (byte_step now.state item).state)
+ready_after : (now : Exporting ℕ) (item : Item) → IsReady now → IsSpellable item.version item.command
+    → IsReady (exporting_after now item.command (byte_step now.state item).state)
 ready_after now item r s =
     let c : Command = item.command in
     record {
@@ -142,7 +147,8 @@ before_ahead now item r small s = one (is_astray now.opened now.state item.comma
     version : IsVersion item.version
     version = known_version item.version (row (kind_of item.command)).number (kind_of item.command) s.known
 
-    two : (p : Option (Part ℕ)) (w : Option (List ℕ)) → now.state.part ≡ p → written_path item.command ≡ w → AllByRecursion (IsAhead item.version) (separator_for now.other p w)
+    two : (p : Option (Part ℕ)) (w : Option (List ℕ)) → now.state.part ≡ p → written_path item.command ≡ w
+        → AllByRecursion (IsAhead item.version) (separator_for now.other p w)
     two None w e h = tt
     two (Some part) None e h = tt
     two (Some part) (Some path) e h =
@@ -177,7 +183,8 @@ taken_rest : (o : Option Refusal) (rest : List Item) → o ≡ None → then_sep
 taken_rest None rest e = refl
 taken_rest (Some refusal) rest e = cc
 
-pub separated_stands : (items : List Item) (now : Exporting ℕ) (due : Due) (end : State ℕ) → IsReady now → StandsIn due items → AreSmallBy byte_step now.state items → Takes now.state (commands_of items) end
+pub separated_stands : (items : List Item) (now : Exporting ℕ) (due : Due) (end : State ℕ) → IsReady now → StandsIn due items
+    → AreSmallBy byte_step now.state items → Takes now.state (commands_of items) end
     → StandsIn due (separated_by byte_step now items)
 unfolding separated_by AreSmallBy
 separated_stands [] now due end r s m t = s
@@ -206,7 +213,8 @@ separated_commands (item ∷ items) now end (ok, t) =
     ∙ ap (λ (cs : List Command). sep ++ item.command ∷ cs) (separated_commands items next end t)
 
 -- Separators can go wherever items lead.
-pub items_fit : (items : List Item) (state : State ℕ) → IsLawfulState state → AllByRecursion (λ item. IsSpellable item.version item.command) items → AreSmallBy byte_step state items → AreFit state (commands_of items)
+pub items_fit : (items : List Item) (state : State ℕ) → IsLawfulState state → AllByRecursion (λ item. IsSpellable item.version item.command) items
+    → AreSmallBy byte_step state items → AreFit state (commands_of items)
 unfolding AreFit AreSmallBy
 items_fit [] state h s m = tt
 items_fit (item ∷ items) state h (s, ss) (m, ms) =
@@ -217,7 +225,8 @@ items_fit (item ∷ items) state h (s, ss) (m, ms) =
     one (Some part) a b = sound_can_separate part.subvolume a.lawful.sound b
 
 -- Nor is one lost: where there are items, there are items with separators.
-pub separated_some : (items : List Item) (now : Exporting ℕ) (end : State ℕ) → Takes now.state (commands_of items) end → items ≢ [] → separated_by byte_step now items ≢ []
+pub separated_some : (items : List Item) (now : Exporting ℕ) (end : State ℕ) → Takes now.state (commands_of items) end → items ≢ []
+    → separated_by byte_step now items ≢ []
 unfolding separated_by
 separated_some [] now end t n = absurd (n refl)
 separated_some (item ∷ items) now end (ok, t) n =

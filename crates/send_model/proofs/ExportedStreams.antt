@@ -55,7 +55,8 @@ never_done None n e = cc
 never_done (Some verdict) n e = cc
 
 -- Files that are accepted are whole, and their commands are all taken.
-accepted_whole : (store : Store ℕ) (files : List (List ℕ)) → IsAccepted (receive store files) → (IsAccepted (run_items 0 byte_cells (start_of store) (input files).items)) × ((input files).end ≡ Whole)
+accepted_whole : (store : Store ℕ) (files : List (List ℕ)) → IsAccepted (receive store files)
+    → (IsAccepted (run_items 0 byte_cells (start_of store) (input files).items)) × ((input files).end ≡ Whole)
 unfolding receive_items
 accepted_whole store files e =
     let parts = no_fault (run_items 0 byte_cells (start_of store) (input files).items).refused (fault_of (input files).end) e in
@@ -150,7 +151,8 @@ module _ (base : Store ℕ) (files : List (List ℕ)) (some : files ≢ []) (can
       let took = takes_run items (start_of store) parts.0 in
       record { last = last; took = took; is = received_all store (input files) last parts.1 took }
 
-  alike : (store : Store ℕ) → SameOn base store (outside files) → (last : State ℕ) → Takes (start_of store) cs last → AreAlike (all_keys_named cs) (start_of base) (start_of store)
+  alike : (store : Store ℕ) → SameOn base store (outside files) → (last : State ℕ) → Takes (start_of store) cs last
+      → AreAlike (all_keys_named cs) (start_of base) (start_of store)
   alike store same last took = record { store = base; other = store; part = None; first = refl; second = refl; finds = finds; owns = tt; owns_there = tt }
     where
       finds : (k : Key) → IsAmong k (all_keys_named cs) → find base k ≡ find store k
@@ -199,7 +201,8 @@ module _ (base : Store ℕ) (files : List (List ℕ)) (some : files ≢ []) (can
     stream_commands = ap commands_of items_are
 
     -- The one part of the stream is the last one.
-    last_among : (store : Store ℕ) → CanReceiveOf other (input parts).items k.last store → IsAccepted (receive store files) → is_among (part_uuids items) k.last.key.uuid ≡ true
+    last_among : (store : Store ℕ) → CanReceiveOf other (input parts).items k.last store → IsAccepted (receive store files)
+        → is_among (part_uuids items) k.last.key.uuid ≡ true
     last_among store c accepted = by_heads (heads_of cs) refl (ap (λ (ds : List Command). length (heads_of ds)) stream_commands ∙ k.one_part)
       where
         by_heads : (hs : List Head) → heads_of cs ≡ hs → length hs ≡ 1 → is_among (part_uuids items) k.last.key.uuid ≡ true

@@ -67,7 +67,8 @@ edit_times version c s t spelled h e =
     let k = edit_keeps AnyName HasMoments 0 (bytes_of c) c s t (times_kept version (bytes_of c) c spelled) (λ names q. all_any names) (record { names = all_any s.names; inodes = h }) e in
     k.inodes
 
-clone_times : (s : Subvolume ℕ) (source : Option (Subvolume ℕ)) (is_own : Bool) (path : List ℕ) (offset : ℕ) (clone_path : List ℕ) (from len : ℕ) (t : Subvolume ℕ) → HasTimes s
+clone_times : (s : Subvolume ℕ) (source : Option (Subvolume ℕ)) (is_own : Bool) (path : List ℕ) (offset : ℕ) (clone_path : List ℕ) (from len : ℕ) (t : Subvolume ℕ)
+    → HasTimes s
     → clone 0 s source is_own path offset clone_path from len ≡ Ok t → HasTimes t
 clone_times s source is_own path offset clone_path from len t h e =
     let k = clone_keeps AnyName HasMoments 0 s source is_own path offset clone_path from len t (λ range is inode own. own) (record { names = all_any s.names; inodes = h }) e in
@@ -113,13 +114,15 @@ started_timed store (Some parent) start h e = one (find store parent) refl e
     one None f q = cc
     one (Some s) f q = subst (λ (u : Subvolume ℕ). HasTimes u) (ok_same q) (h parent s f)
 
-entered_timed : (store : Store ℕ) (head : Head) (r : Result (Subvolume ℕ) Refusal) → begun store head ≡ r → FindsTimes store → IsTimed (entered store head r).state
+entered_timed : (store : Store ℕ) (head : Head) (r : Result (Subvolume ℕ) Refusal) → begun store head ≡ r → FindsTimes store
+    → IsTimed (entered store head r).state
 entered_timed store head (Err refusal) e h = record { store = h; part = tt }
 entered_timed store head (Ok start) e h =
     let b = begun_begins store head start e in
     record { store = λ key t f. h key t (sym (finds_unfinished head store key) ∙ f); part = started_timed store head.parent start h b.from }
 
-edited_timed : (store : Store ℕ) (part : Part ℕ) (r : Result (Subvolume ℕ) Refusal) → FindsTimes store → HasTimes part.subvolume → ((s : Subvolume ℕ) → r ≡ Ok s → HasTimes s) → IsTimed (edited store part r).state
+edited_timed : (store : Store ℕ) (part : Part ℕ) (r : Result (Subvolume ℕ) Refusal) → FindsTimes store → HasTimes part.subvolume
+    → ((s : Subvolume ℕ) → r ≡ Ok s → HasTimes s) → IsTimed (edited store part r).state
 edited_timed store part (Err refusal) h own f = record { store = h; part = own }
 edited_timed store part (Ok s) h own f = record { store = h; part = f s refl }
 
@@ -159,11 +162,13 @@ step_timed version c state s t = by_sort {P = λ x. StepsTimely x} head_timed en
 
 -- ---- runs
 
-ran_timed : (item : Item) (state : State ℕ) (o : Option Refusal) (rest : Ran (State ℕ)) → IsTimed state → IsTimed rest.state → IsTimed (then_run item (record { state = state; refusal = o }) rest).state
+ran_timed : (item : Item) (state : State ℕ) (o : Option Refusal) (rest : Ran (State ℕ)) → IsTimed state → IsTimed rest.state
+    → IsTimed (then_run item (record { state = state; refusal = o }) rest).state
 ran_timed item state None rest t more = more
 ran_timed item state (Some refusal) rest t more = t
 
-run_timed : (items : List Item) (state : State ℕ) → AllByRecursion (λ item. IsSpellable item.version item.command) items → IsTimed state → IsTimed (run_items 0 byte_cells state items).state
+run_timed : (items : List Item) (state : State ℕ) → AllByRecursion (λ item. IsSpellable item.version item.command) items → IsTimed state
+    → IsTimed (run_items 0 byte_cells state items).state
 unfolding run_items run_by
 run_timed [] state s t = t
 run_timed (item ∷ items) state s t =

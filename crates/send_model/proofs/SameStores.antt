@@ -40,7 +40,8 @@ finds_complete key s (e ∷ store) k own = one (bytes_eq e.key.uuid key.uuid) re
     mine true = refl
     mine false = refl
 
-    other : (b : Bool) → same_key e.key k ≡ b → bytes_eq e.key.uuid key.uuid ≡ false → find (with_contents key.uuid s store) k ≡ (if same_key key k then Some s else find store k)
+    other : (b : Bool) → same_key e.key k ≡ b → bytes_eq e.key.uuid key.uuid ≡ false
+        → find (with_contents key.uuid s store) k ≡ (if same_key key k then Some s else find store k)
         → under b e.contents (find (with_contents key.uuid s store) k) ≡ (if same_key key k then Some s else under b e.contents (find store k))
     other true h differ more =
         let apart : same_key key k ≡ false = ap (λ (t : Bool). t && (key.ctransid == k.ctransid)) (turned_false k.uuid key.uuid (ap (λ (q : Key). bytes_eq q.uuid key.uuid) (sym (same_key_true e.key k h)) ∙ differ)) in
@@ -88,7 +89,8 @@ pub record AreAlike (keys : List Key) (a b : State ℕ) : Type 0 where
   pub owns : Owns store part
   pub owns_there : Owns other part
 
-completed_finds : (keys : List Key) (store other : Store ℕ) (part : Option (Part ℕ)) → Finds keys store other → Owns store part → Owns other part → Finds keys (completed (state_of store part)) (completed (state_of other part))
+completed_finds : (keys : List Key) (store other : Store ℕ) (part : Option (Part ℕ)) → Finds keys store other → Owns store part → Owns other part
+    → Finds keys (completed (state_of store part)) (completed (state_of other part))
 unfolding completed
 completed_finds keys store other None f o p k m = f k m
 completed_finds keys store other (Some part) f o p k m =
@@ -97,7 +99,8 @@ completed_finds keys store other (Some part) f o p k m =
 
 -- ---- one command
 
-same_start : (keys : List Key) (store other : Store ℕ) (parent : Option Key) → Finds keys store other → ((k : Key) → parent ≡ Some k → IsAmong k keys) → start_from store parent ≡ start_from other parent
+same_start : (keys : List Key) (store other : Store ℕ) (parent : Option Key) → Finds keys store other → ((k : Key) → parent ≡ Some k → IsAmong k keys)
+    → start_from store parent ≡ start_from other parent
 same_start keys store other None f n = refl
 same_start keys store other (Some k) f n = ap (λ (o : Option (Subvolume ℕ)). found o NoParent) (f k (n k refl))
 
@@ -134,7 +137,8 @@ all_found keys (k ∷ ks) uuid store other f n = (inr (f k (n k (inl refl))), al
 
 Steps : List Key → Command → Type 0
 Steps keys c = (store other : Store ℕ) (part : Option (Part ℕ)) → Finds keys store other → Owns store part → Owns other part → ((k : Key) → IsAmong k (keys_named c) → IsAmong k keys)
-    → (step_of (state_of store part) c).refusal ≡ None → (step_of (state_of other part) c).refusal ≡ None → AreAlike keys (step_of (state_of store part) c).state (step_of (state_of other part) c).state
+    → (step_of (state_of store part) c).refusal ≡ None → (step_of (state_of other part) c).refusal ≡ None
+    → AreAlike keys (step_of (state_of store part) c).state (step_of (state_of other part) c).state
 
 inner_refused : (c : Command) (store : Store ℕ) → is_end c ≡ false → head_of c ≡ None → (step_of (state_of store None) c).refusal ≡ Some NoSubvolume
 unfolding step step_edit
@@ -214,15 +218,18 @@ rest_among k c cs m = one (keys_named c)
     one (q ∷ ks) = inr (one ks)
 
 -- What goes before a command looks at the part alone.
-part_leads : (store other : Store ℕ) (part : Option (Part ℕ)) (o : Option Opened) (path : List ℕ) (c : Command) → separator o path (state_of store part) c ≡ separator o path (state_of other part) c
+part_leads : (store other : Store ℕ) (part : Option (Part ℕ)) (o : Option Opened) (path : List ℕ) (c : Command)
+    → separator o path (state_of store part) c ≡ separator o path (state_of other part) c
 unfolding separator is_astray
 part_leads store other part o path c = refl
 
-part_opens : (store other : Store ℕ) (part : Option (Part ℕ)) (o : Option Opened) (c : Command) → open_anew o (state_of store part) c ≡ open_anew o (state_of other part) c
+part_opens : (store other : Store ℕ) (part : Option (Part ℕ)) (o : Option Opened) (c : Command)
+    → open_anew o (state_of store part) c ≡ open_anew o (state_of other part) c
 unfolding is_astray
 part_opens store other part o c = refl
 
-pub same_led : (keys : List Key) (cs : List Command) (a b end end' : State ℕ) → AreAlike keys a b → ((k : Key) → IsAmong k (all_keys_named cs) → IsAmong k keys) → Takes a cs end → Takes b cs end'
+pub same_led : (keys : List Key) (cs : List Command) (a b end end' : State ℕ) → AreAlike keys a b
+    → ((k : Key) → IsAmong k (all_keys_named cs) → IsAmong k keys) → Takes a cs end → Takes b cs end'
     → (o : Option Opened) (path : List ℕ) → led_from o path a cs ≡ led_from o path b cs
 unfolding led_from Steps
 same_led keys [] a b end end' s n t u o path = refl
@@ -243,7 +250,8 @@ same_led keys (c ∷ cs) a b end end' s n (r, t) (q, u) o path =
     ap₂ (λ (before : List Command) (w : Option Opened). put before ∷ led_from w p (step_of a c).state cs) lead opens
     ∙ ap (λ (ls : List Led). put (separator o path b c) ∷ ls) (same_led keys cs (step_of a c).state (step_of b c).state end end' next (λ k m. n k (rest_among k c cs m)) t u (open_anew o b c) p)
 
-pub same_fit : (keys : List Key) (cs : List Command) (a b end end' : State ℕ) → AreAlike keys a b → ((k : Key) → IsAmong k (all_keys_named cs) → IsAmong k keys) → Takes a cs end → Takes b cs end'
+pub same_fit : (keys : List Key) (cs : List Command) (a b end end' : State ℕ) → AreAlike keys a b
+    → ((k : Key) → IsAmong k (all_keys_named cs) → IsAmong k keys) → Takes a cs end → Takes b cs end'
     → AreFit a cs → AreFit b cs
 unfolding AreFit Steps
 same_fit keys [] a b end end' s n t u f = tt
@@ -264,7 +272,8 @@ unfolding with_contents
 same_uuids uuid own s [] = refl
 same_uuids uuid own s (e ∷ store) = one (bytes_eq e.key.uuid own) (same_uuids uuid own s store)
   where
-    one : (b : Bool) → has_uuid uuid (with_contents own s store) ≡ has_uuid uuid store → has_uuid uuid (if b then record e { contents = Some s } ∷ store else e ∷ with_contents own s store) ≡ has_uuid uuid (e ∷ store)
+    one : (b : Bool) → has_uuid uuid (with_contents own s store) ≡ has_uuid uuid store
+        → has_uuid uuid (if b then record e { contents = Some s } ∷ store else e ∷ with_contents own s store) ≡ has_uuid uuid (e ∷ store)
     one true more = refl
     one false more = ap (λ (b : Bool). bytes_eq e.key.uuid uuid || b) more
 
@@ -277,11 +286,13 @@ first_uuids : (uuid : List ℕ) (store more : Store ℕ) → has_uuid uuid store
 first_uuids uuid [] more h = cc
 first_uuids uuid (e ∷ store) more h = one (bytes_eq e.key.uuid uuid) h (first_uuids uuid store more)
   where
-    one : (b : Bool) → b || has_uuid uuid store ≡ true → (has_uuid uuid store ≡ true → has_uuid uuid (store ++ more) ≡ true) → b || has_uuid uuid (store ++ more) ≡ true
+    one : (b : Bool) → b || has_uuid uuid store ≡ true → (has_uuid uuid store ≡ true → has_uuid uuid (store ++ more) ≡ true)
+        → b || has_uuid uuid (store ++ more) ≡ true
     one true h more = refl
     one false h more = more h
 
-pub last_uuid : (uuid : List ℕ) (store : Store ℕ) (e : Entry (Subvolume ℕ)) → has_uuid uuid store ≡ false → has_uuid uuid (store ++ e ∷ []) ≡ true → bytes_eq e.key.uuid uuid ≡ true
+pub last_uuid : (uuid : List ℕ) (store : Store ℕ) (e : Entry (Subvolume ℕ)) → has_uuid uuid store ≡ false → has_uuid uuid (store ++ e ∷ []) ≡ true
+    → bytes_eq e.key.uuid uuid ≡ true
 last_uuid uuid [] e h t = one (bytes_eq e.key.uuid uuid) t
   where
     one : (b : Bool) → b || false ≡ true → b ≡ true
@@ -291,7 +302,8 @@ last_uuid uuid (x ∷ store) e h t =
     let p = or_parts (bytes_eq x.key.uuid uuid) (has_uuid uuid store) h in
     last_uuid uuid store e p.1 (subst (λ (b : Bool). b || has_uuid uuid (store ++ e ∷ []) ≡ true) p.0 t)
 
-entered_uuids : (uuid : List ℕ) (store : Store ℕ) (head : Head) (r : Result (Subvolume ℕ) Refusal) → has_uuid uuid store ≡ true → has_uuid uuid (entered store head r).state.store ≡ true
+entered_uuids : (uuid : List ℕ) (store : Store ℕ) (head : Head) (r : Result (Subvolume ℕ) Refusal) → has_uuid uuid store ≡ true
+    → has_uuid uuid (entered store head r).state.store ≡ true
 entered_uuids uuid store head (Ok s) h = first_uuids uuid store (unfinished head ∷ []) h
 entered_uuids uuid store head (Err refusal) h = h
 
@@ -305,11 +317,13 @@ inner_keeps (Snapshot uuid ctransid path clone_uuid clone_ctransid) e h = cc
 inner_keeps End e h = cc
 inner_keeps c e h = λ uuid store part there. one c uuid store part there
   where
-    two : (uuid : List ℕ) (store : Store ℕ) (part : Part ℕ) (r : Result (Subvolume ℕ) Refusal) → has_uuid uuid store ≡ true → has_uuid uuid (edited store part r).state.store ≡ true
+    two : (uuid : List ℕ) (store : Store ℕ) (part : Part ℕ) (r : Result (Subvolume ℕ) Refusal) → has_uuid uuid store ≡ true
+        → has_uuid uuid (edited store part r).state.store ≡ true
     two uuid store part (Ok s) t = t
     two uuid store part (Err refusal) t = t
 
-    one : (c : Command) (uuid : List ℕ) (store : Store ℕ) (part : Option (Part ℕ)) → has_uuid uuid store ≡ true → has_uuid uuid (step_edit 0 (bytes_of c) (state_of store part) c).state.store ≡ true
+    one : (c : Command) (uuid : List ℕ) (store : Store ℕ) (part : Option (Part ℕ)) → has_uuid uuid store ≡ true
+        → has_uuid uuid (step_edit 0 (bytes_of c) (state_of store part) c).state.store ≡ true
     one c uuid store None t = t
     one c uuid store (Some part) t = two uuid store part (edit_part 0 (bytes_of c) store part c) t
 
@@ -362,7 +376,8 @@ new_there head (e ∷ store) = one (bytes_eq e.key.uuid head.key.uuid) (new_ther
     one true more = refl
     one false more = more
 
-head_came : (c : Command) (head : Head) → head_of c ≡ Some head → (cs : List Command) (a end : State ℕ) → (step_of a c).refusal ≡ None → Takes (step_of a c).state cs end → Came head.key.uuid a end
+head_came : (c : Command) (head : Head) → head_of c ≡ Some head → (cs : List Command) (a end : State ℕ) → (step_of a c).refusal ≡ None
+    → Takes (step_of a c).state cs end → Came head.key.uuid a end
 unfolding step_head
 head_came c head h cs a end r t =
     let x = head_step 0 (bytes_of c) a c head h in
@@ -380,10 +395,12 @@ came uuid [] a end t m = cc
 came uuid (c ∷ cs) a end (r, t) m =
     one (head_of c) refl m (λ q. let w = came uuid cs (step_of a c).state end t q in record { before = was_not uuid c a w.before; after = w.after })
   where
-    two : (head : Head) → head_of c ≡ Some head → (b : Bool) → bytes_eq head.key.uuid uuid ≡ b → b || is_among (uuids_of cs) uuid ≡ true → (is_among (uuids_of cs) uuid ≡ true → Came uuid a end) → Came uuid a end
+    two : (head : Head) → head_of c ≡ Some head → (b : Bool) → bytes_eq head.key.uuid uuid ≡ b → b || is_among (uuids_of cs) uuid ≡ true
+        → (is_among (uuids_of cs) uuid ≡ true → Came uuid a end) → Came uuid a end
     two head h true e q later = subst (λ (u : List ℕ). Came u a end) (bytes_eq_true head.key.uuid uuid e) (head_came c head h cs a end r t)
     two head h false e q later = later q
 
-    one : (o : Option Head) → head_of c ≡ o → is_among (map (λ head. head.key.uuid) (onto_heads o (heads_of cs))) uuid ≡ true → (is_among (uuids_of cs) uuid ≡ true → Came uuid a end) → Came uuid a end
+    one : (o : Option Head) → head_of c ≡ o → is_among (map (λ head. head.key.uuid) (onto_heads o (heads_of cs))) uuid ≡ true
+        → (is_among (uuids_of cs) uuid ≡ true → Came uuid a end) → Came uuid a end
     one None h q later = later q
     one (Some head) h q later = two head h (bytes_eq head.key.uuid uuid) refl q later

@@ -27,14 +27,16 @@ module _ {C D : Type 0} (f : C → D) where
   mtime-cells : (s : Subvolume C) → mtime_of_root (recelled f s) ≡ mtime_of_root s
   mtime-cells s = ap (λ (o : Option (Inode D)). elim o as (λ x. Time) [ None ↦ epoch | Some inode ↦ inode.mtime ]) (inode_at-cells f s root) ∙ one (inode_at s root)
     where
-      one : (o : Option (Inode C)) → (elim (option_map (reinode f) o) as (λ x. Time) [ None ↦ epoch | Some inode ↦ inode.mtime ]) ≡ (elim o as (λ x. Time) [ None ↦ epoch | Some inode ↦ inode.mtime ])
+      one : (o : Option (Inode C))
+          → (elim (option_map (reinode f) o) as (λ x. Time) [ None ↦ epoch | Some inode ↦ inode.mtime ]) ≡ (elim o as (λ x. Time) [ None ↦ epoch | Some inode ↦ inode.mtime ])
       one None = refl
       one (Some inode) = refl
 
   atime-cells : (s : Subvolume C) → atime_of_root (recelled f s) ≡ atime_of_root s
   atime-cells s = ap (λ (o : Option (Inode D)). elim o as (λ x. Time) [ None ↦ epoch | Some inode ↦ inode.atime ]) (inode_at-cells f s root) ∙ one (inode_at s root)
     where
-      one : (o : Option (Inode C)) → (elim (option_map (reinode f) o) as (λ x. Time) [ None ↦ epoch | Some inode ↦ inode.atime ]) ≡ (elim o as (λ x. Time) [ None ↦ epoch | Some inode ↦ inode.atime ])
+      one : (o : Option (Inode C))
+          → (elim (option_map (reinode f) o) as (λ x. Time) [ None ↦ epoch | Some inode ↦ inode.atime ]) ≡ (elim o as (λ x. Time) [ None ↦ epoch | Some inode ↦ inode.atime ])
       one None = refl
       one (Some inode) = refl
 
@@ -57,15 +59,18 @@ module _ {C D : Type 0} (f : C → D) where
       ap₂ (λ (b : Bool) (round : List Command). if b && not (bytes_eq other path) then touch other ∷ [] else round) (names_file-cells s other)
       (detour-cells s (free_name (recelled f s)) path ∙ ap (λ (name : List ℕ). detour s name path) (free_name-cells s))
 
-  elsewhere-cells : (part : Option (Part C)) (ino : ℕ) (path : List ℕ) → leads_elsewhere (option_map (recelled_part f) part) ino path ≡ leads_elsewhere part ino path
+  elsewhere-cells : (part : Option (Part C)) (ino : ℕ) (path : List ℕ)
+      → leads_elsewhere (option_map (recelled_part f) part) ino path ≡ leads_elsewhere part ino path
   elsewhere-cells None ino path = refl
   elsewhere-cells (Some part) ino path = ap (λ (walked : Result ℕ Refusal). elim walked as (λ x. Bool) [ Err refusal ↦ false | Ok now ↦ not (now == ino) ]) (walk-cells f part.subvolume path)
 
-  astray_at-cells : (opened : Option Opened) (part : Option (Part C)) (path : Option (List ℕ)) → is_astray_at opened (option_map (recelled_part f) part) path ≡ is_astray_at opened part path
+  astray_at-cells : (opened : Option Opened) (part : Option (Part C)) (path : Option (List ℕ))
+      → is_astray_at opened (option_map (recelled_part f) part) path ≡ is_astray_at opened part path
   astray_at-cells opened part None = refl
   astray_at-cells opened part (Some path) = one (kept_at opened (Some path))
     where
-      one : (o : Option ℕ) → (elim o as (λ x. Bool) [ None ↦ false | Some ino ↦ leads_elsewhere (option_map (recelled_part f) part) ino path ]) ≡ (elim o as (λ x. Bool) [ None ↦ false | Some ino ↦ leads_elsewhere part ino path ])
+      one : (o : Option ℕ)
+          → (elim o as (λ x. Bool) [ None ↦ false | Some ino ↦ leads_elsewhere (option_map (recelled_part f) part) ino path ]) ≡ (elim o as (λ x. Bool) [ None ↦ false | Some ino ↦ leads_elsewhere part ino path ])
       one None = refl
       one (Some ino) = elsewhere-cells part ino path
 
@@ -73,13 +78,15 @@ module _ {C D : Type 0} (f : C → D) where
   unfolding is_astray
   astray-cells opened state c = astray_at-cells opened state.part (written_path c)
 
-  separator_for-cells : (other : List ℕ) (part : Option (Part C)) (path : Option (List ℕ)) → separator_for other (option_map (recelled_part f) part) path ≡ separator_for other part path
+  separator_for-cells : (other : List ℕ) (part : Option (Part C)) (path : Option (List ℕ))
+      → separator_for other (option_map (recelled_part f) part) path ≡ separator_for other part path
   separator_for-cells other None path = refl
   separator_for-cells other (Some part) None = refl
   separator_for-cells other (Some part) (Some path) = separator_in-cells part.subvolume other path
 
   -- What goes before a command.
-  pub separator-cells : (opened : Option Opened) (other : List ℕ) (state : State C) (c : Command) → separator opened other (recelled_state f state) c ≡ separator opened other state c
+  pub separator-cells : (opened : Option Opened) (other : List ℕ) (state : State C) (c : Command)
+      → separator opened other (recelled_state f state) c ≡ separator opened other state c
   unfolding separator
   separator-cells opened other state c =
       ap₂ (λ (b : Bool) (cs : List Command). if b then cs else []) (astray-cells opened state c) (separator_for-cells other state.part (written_path c))
@@ -89,11 +96,13 @@ module _ {C D : Type 0} (f : C → D) where
   opened_at-cells (Some part) path =
       ap (λ (walked : Result ℕ Refusal). elim walked as (λ x. Option Opened) [ Err refusal ↦ None | Ok ino ↦ Some (record { path = path; ino = ino }) ]) (walk-cells f part.subvolume path)
 
-  open_after-cells : (opened : Option Opened) (part : Option (Part C)) (path : Option (List ℕ)) → open_after opened (option_map (recelled_part f) part) path ≡ open_after opened part path
+  open_after-cells : (opened : Option Opened) (part : Option (Part C)) (path : Option (List ℕ))
+      → open_after opened (option_map (recelled_part f) part) path ≡ open_after opened part path
   open_after-cells opened part None = refl
   open_after-cells opened part (Some path) = ap (λ (o : Option Opened). elim (kept_at opened (Some path)) as (λ x. Option Opened) [ Some ino ↦ opened | None ↦ o ]) (opened_at-cells part path)
 
-  opened_after-cells : (opened : Option Opened) (part : Option (Part C)) (c : Command) → opened_after opened (option_map (recelled_part f) part) c ≡ opened_after opened part c
+  opened_after-cells : (opened : Option Opened) (part : Option (Part C)) (c : Command)
+      → opened_after opened (option_map (recelled_part f) part) c ≡ opened_after opened part c
   opened_after-cells opened part End = refl
   opened_after-cells opened part c = ap (λ (o : Option Opened). elim (head_of c) as (λ x. Option Opened) [ Some head ↦ None | None ↦ o ]) (open_after-cells opened part (written_path c))
 
@@ -112,7 +121,8 @@ module _ {C D : Type 0} (f : C → D) where
   pub items_before-cells : (now : Exporting C) (item : Item) → items_before (recelled_exporting now) item ≡ items_before now item
   items_before-cells now item = ap (map (λ command. record item { command = command })) (separator-cells now.opened now.other now.state item.command)
 
-  exporting_after-cells : (now : Exporting C) (c : Command) (state : State C) → exporting_after (recelled_exporting now) c (recelled_state f state) ≡ recelled_exporting (exporting_after now c state)
+  exporting_after-cells : (now : Exporting C) (c : Command) (state : State C)
+      → exporting_after (recelled_exporting now) c (recelled_state f state) ≡ recelled_exporting (exporting_after now c state)
   exporting_after-cells now c state =
       let at : Option Opened → Exporting D = λ opened. record { state = recelled_state f state; opened = opened; other = other_path now.other now.opened (written_path c) } in
       ap at (open_anew-cells now.opened now.state c)
@@ -164,5 +174,6 @@ pub blank_separated : (store : Store ℕ) (items : List Item)
 blank_separated store items = separated_by-cells blank_cell 0 byte_cells items (exporting store)
 
 pub blank_small : (store : Store ℕ) (items : List Item)
-    → AreSmallBy (λ s item. step {C = Unit {0}} tt (map blank_cell (byte_cells item)) s item.command) (start_of (recelled_store blank_cell store)) items → AreSmallBy byte_step (start_of store) items
+    → AreSmallBy (λ s item. step {C = Unit {0}} tt (map blank_cell (byte_cells item)) s item.command) (start_of (recelled_store blank_cell store)) items
+    → AreSmallBy byte_step (start_of store) items
 blank_small store items = small_by-cells blank_cell 0 byte_cells items (start_of store)
