@@ -1,21 +1,27 @@
 -- Worked examples of separators: the smallest merged streams that the real `btrfs receive` gets wrong, what it makes of them, what is
 -- exported of them, and what it makes of that. What is expected was written down by hand from cmds/receive.c of btrfs-progs.
-use Rattle.std.specs.Prelude.{◌≡◌, ℕ, List, [], ◌∷◌, ◌++◌, length, None, Some, codes, refl}
+use Rattle.std.specs.Prelude.{◌≡◌, ℕ, true, nat_le, List, [], ◌∷◌, ◌++◌, length, None, Some, codes, refl}
+use Rattle.std.specs.List.{list_all}
 use Rattle.std.specs.Fmt.{digits}
-use Rattle.send_model.specs.Attribute.{Time}
+use Rattle.std.proofs.Common.{arith, lit<}
+use Rattle.std.proofs.lemmas.Bool.{and_parts, leb-true}
+use Rattle.send_model.specs.Attribute.{Time, IsBytes}
 use Rattle.send_model.specs.Command.{Command, Subvol, Snapshot, MkFile, MkDir, Rename, Link, Unlink, Write, Clone, Truncate, Utimes, Fallocate, End}
 use Rattle.send_model.specs.Spelling.{stream_header, canonical_all}
+use Rattle.send_model.specs.Reading.{input}
 use Rattle.send_model.specs.Lengths.{is_too_long}
 use Rattle.send_model.specs.Subvolume.{Subvolume}
 use Rattle.send_model.specs.Store.{Store}
-use Rattle.send_model.specs.Receive.{bytes_of, start_of}
+use Rattle.send_model.specs.Receive.{bytes_of, start_of, run_by}
 use Rattle.send_model.specs.Order.{commands_of}
 use Rattle.send_model.specs.Composed.{composed_of}
-use Rattle.send_model.specs.Due.{limited_from}
+use Rattle.send_model.specs.Guards.{refused_from, looked}
+use Rattle.send_model.specs.Due.{DoneWhole, limited_from, audit_due}
 use Rattle.send_model.specs.Opened.{Receiver, edit_open, receiver_step, is_astray}
 use Rattle.send_model.specs.Separated.{separator, separator_in, detour, free_name, free_from}
 use Rattle.send_model.specs.Receivable.{receivable_attributes, receivable, exported_from}
-use Rattle.send_model.specs.Exported.{separated_by, separated_items, exported}
+use Rattle.send_model.specs.Exported.{separated_by, byte_step, separated_items, exported, IsExported, AreSmallBy}
+use Rattle.send_model.proofs.ExportedStreams.{exported_is_same, none_can}
 use Rattle.send_model.proofs.ExampleWords.{uuid, key, directory, file, items, reading_words, composing_words}
 
 unfoldable separating_words : Unit {0}
@@ -87,6 +93,29 @@ stream = stream_header 1 ++ canonical_all 1 merged
 bytes_exported : length (exported [] (stream ∷ [])) ≡ 364
 unfolding stream exported exported_from receivable receivable_attributes limited_from is_too_long reading_words separating_words
 bytes_exported = refl
+
+by_test : (bytes : List ℕ) → list_all (λ b. nat_le b 255) bytes ≡ true → IsBytes bytes
+by_test [] all = tt
+by_test (b ∷ bytes) all =
+    let parts = and_parts (nat_le b 255) (list_all (λ x. nat_le x 255) bytes) all in
+    let low = leb-true b 255 parts.0 in
+    (omega (arith, low), by_test bytes parts.1)
+
+-- So the premises of what is promised can be met.
+stream_is_bytes : IsBytes stream
+unfolding stream reading_words
+stream_is_bytes = by_test stream refl
+
+stream_is_taken : audit_due [] [] (stream ∷ []) ≡ DoneWhole
+unfolding stream audit_due limited_from is_too_long run_by refused_from looked reading_words separating_words
+stream_is_taken = refl
+
+stream_is_small : AreSmallBy byte_step (start_of []) (input (stream ∷ [])).items
+unfolding stream AreSmallBy reading_words separating_words
+stream_is_small = (tt, (lit< tt, (lit< tt, (lit< tt, (lit< tt, (lit< tt, (lit< tt, tt)))))))
+
+stream_is_exported : IsExported [] (stream ∷ []) (exported [] (stream ∷ []))
+stream_is_exported = exported_is_same [] (stream ∷ []) (λ e. cc) none_can (stream_is_bytes, tt) stream_is_taken stream_is_small
 
 -- ---- a file that has moved away, and a new one under its path
 
