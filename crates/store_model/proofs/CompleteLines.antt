@@ -10,7 +10,7 @@ use Rattle.std.proofs.lemmas.List.Sums.{length-filter, sum_by-append}
 use Rattle.std.proofs.lemmas.Fmt.{decimal_by_steps}
 use Rattle.send_model.specs.Store.{Entry}
 use Rattle.send_model.specs.Printed.{is_plain, hex_digit, hex_byte, hex_bytes, escaped_byte, escaped, uuid_text}
-use Rattle.store_model.specs.States.{complete_line, lines_in}
+use Rattle.store_model.specs.States.{complete_line, HasNumbers, lines_in}
 use Rattle.send_model.proofs.ElementLaws.{all_both}
 
 -- ---- bytes that end no line
@@ -111,7 +111,7 @@ text_none e small =
 one_line : {S : Type 0} (e : Entry S) → e.key.ctransid < 2 ^ 64 → lines_in (complete_line e) ≡ 1
 one_line e small = ap (λ (l : List ℕ). lines_in l) (line_is e) ∙ lines_both (text_of e) (10 ∷ []) ∙ omega (arith, none_counted (text_of e) (text_none e small), line_end)
 
-pub lines_are_counted : {S : Type 0} (es : List (Entry S)) → AllByRecursion (λ e. e.key.ctransid < 2 ^ 64) es → lines_in (flat_map complete_line es) ≡ length es
+pub lines_are_counted : {S : Type 0} (es : List (Entry S)) → HasNumbers es → lines_in (flat_map complete_line es) ≡ length es
 lines_are_counted [] small = refl
 lines_are_counted (e ∷ es) small = lines_both (complete_line e) (flat_map complete_line es) ∙ ap₂ (λ (a b : ℕ). a + b) (one_line e small.0) (lines_are_counted es small.1) ∙ omega arith
 
@@ -123,7 +123,7 @@ front_none (suc n) [] h = tt
 front_none (suc n) (b ∷ bytes) h = (h.0, front_none n bytes h.1)
 
 -- The first lines stand whole, as many as there are line ends, and what follows them has no line end.
-pub first_lines : {S : Type 0} (es : List (Entry S)) (written rest : List ℕ) → AllByRecursion (λ e. e.key.ctransid < 2 ^ 64) es → flat_map complete_line es ≡ written ++ rest
+pub first_lines : {S : Type 0} (es : List (Entry S)) (written rest : List ℕ) → HasNumbers es → flat_map complete_line es ≡ written ++ rest
     → (part : List ℕ) × (written ≡ flat_map complete_line (take (lines_in written) es) ++ part) × (lines_in part ≡ 0)
 first_lines [] [] rest small is = ([], refl, refl)
 first_lines [] (b ∷ written) rest small is = absurd (omega (arith, ap length is))

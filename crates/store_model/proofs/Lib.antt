@@ -17,6 +17,8 @@ pub mod WrittenGroups
 pub mod WrittenLawful
 pub mod ScrubDecided
 pub mod LeftStores
+pub mod Numbers
+pub mod Betweens
 pub mod Entries
 pub mod Replay
 pub mod TurnGroups

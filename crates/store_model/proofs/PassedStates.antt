@@ -225,15 +225,15 @@ module _ {C : Type 0} where
   -- ---- what is between
 
   -- how many entries behind those of a store are complete
-  filtered_all : (xs : Store C) → AllByRecursion (λ e. is_complete e ≡ true) xs → filter is_complete xs ≡ xs
+  pub filtered_all : (xs : Store C) → AllByRecursion (λ e. is_complete e ≡ true) xs → filter is_complete xs ≡ xs
   filtered_all [] are = refl
   filtered_all (e ∷ xs) are = rw are.0 (ap (λ (l : Store C). e ∷ l) (filtered_all xs are.1))
 
-  filtered_last : (xs : Store C) (last : Entry (Subvolume C)) → AllByRecursion (λ e. is_complete e ≡ true) xs → is_complete last ≡ false → filter is_complete (xs ++ last ∷ []) ≡ xs
+  pub filtered_last : (xs : Store C) (last : Entry (Subvolume C)) → AllByRecursion (λ e. is_complete e ≡ true) xs → is_complete last ≡ false → filter is_complete (xs ++ last ∷ []) ≡ xs
   filtered_last [] last are unended = rw unended refl
   filtered_last (e ∷ xs) last are unended = rw are.0 (ap (λ (l : Store C). e ∷ l) (filtered_last xs last are.1 unended))
 
-  drop_start : (start store rest : Store C) → store ≡ start ++ rest → drop (length start) store ≡ rest
+  pub drop_start : (start store rest : Store C) → store ≡ start ++ rest → drop (length start) store ≡ rest
   drop_start start store rest is = ap (λ (l : Store C). drop (length start) l) is ∙ drop_at start rest (length start) refl
 
   -- a store with its last entry unfinished is on the way to itself

@@ -369,9 +369,21 @@ parent_gone : (made 0 as_bytes 29 (whole_a ++ b_begun) (Body (uuid 0x22) 1 []) �
 unfolding drop_of_a stored_words a_with
 parent_gone = (refl, refl)
 
+-- the edits of a snapshot whose parent is not complete
+parent_unfinished : made 0 as_bytes 29 (a_with None ∷ b_begun) (Body (uuid 0x22) 1 []) ≡ None
+unfolding stored_words a_with
+parent_unfinished = refl
+
 -- neither a head nor END stands among edits
 not_edits : (is_edit End ≡ false) × (is_edit (Subvol (uuid 0x11) 1 (codes "a")) ≡ false) × (is_edit (Unlink (codes "x")) ≡ true)
 not_edits = (refl, refl, refl)
+
+-- a Drop takes the entry of its name alone, complete or not
+drops_one : (made 0 as_bytes 29 (whole_a ++ b_complete ∷ []) (Drop (codes "a")) ≡ Some (b_complete ∷ []))
+    × (made 0 as_bytes 29 (whole_a ++ b_begun) (Drop (codes "b")) ≡ Some whole_a)
+    × (made 0 as_bytes 29 (whole_a ++ b_begun) (Drop (codes "a")) ≡ Some b_begun)
+unfolding stored_words a_with b_complete
+drops_one = (refl, refl, refl)
 
 -- a name that is no entry's
 no_drop : made 0 as_bytes 29 whole_a (Drop (codes "zz")) ≡ None

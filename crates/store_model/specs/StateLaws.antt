@@ -1,12 +1,13 @@
 -- What the states of a receive mean together. This program's own.
-use Rattle.std.specs.Prelude.{take, length, ◌^◌, ◌<◌, ◌≡◌, ℕ, false, List, [], ◌∷◌, ◌++◌, None}
+use Rattle.std.specs.Prelude.{◌≡◌, ℕ, ◌≤◌, false, List, [], ◌∷◌, ◌++◌, length, take, drop, None}
+use Rattle.std.specs.List.{AllByRecursion, filter, flat_map}
+use Rattle.send_model.specs.Attribute.{IsBytes}
 use Rattle.send_model.specs.Reading.{Item, input}
 use Rattle.send_model.specs.Store.{Store, completed}
 use Rattle.send_model.specs.Receive.{byte_cells}
 use Rattle.send_model.specs.Guards.{Guard, guarded}
 use Rattle.store_model.specs.Stored.{is_edit}
-use Rattle.std.specs.List.{AllByRecursion, flat_map}
-use Rattle.store_model.specs.States.{complete_line, lines_in, IsBetween, complete_behind, received, left_by}
+use Rattle.store_model.specs.States.{IsBetween, is_complete, complete_behind, received, left_by, complete_line, HasNumbers, received_lines, lines_in}
 
 -- What receiving items passes through, receiving more items does.
 abbrev pub MoreItemsPassMore : Type 0 → Type 0
@@ -36,12 +37,29 @@ abbrev pub FilesAreItems : Type 0
 FilesAreItems = (store : Store ℕ) (guards : List Guard) (files : List (List ℕ))
     → left_by store guards files ≡ (received 0 byte_cells store guards (input files).items).state.state.store
 
+-- Of a store on the way: it begins with the entries at the start, as they were; so many of those behind them are complete; and these are
+-- the first of those that are complete at the end, as they are there.
+abbrev pub BetweenHasThem : Type 0 → Type 0
+BetweenHasThem C = (least : ℕ) (start end now : Store C) → IsBetween least start end now
+    → (now ≡ start ++ drop (length start) now) × (least ≤ complete_behind start now)
+    × ((more : Store C) × (filter is_complete (drop (length start) end) ≡ filter is_complete (drop (length start) now) ++ more))
+
 -- Lines end with a line end, and have none within: so many stand whole as there are line ends.
 abbrev pub LinesAreParts : Type 0 → Type 0
-LinesAreParts C = (parts : Store C) → AllByRecursion (λ e. e.key.ctransid < 2 ^ 64) parts → lines_in (flat_map complete_line parts) ≡ length parts
+LinesAreParts C = (parts : Store C) → HasNumbers parts → lines_in (flat_map complete_line parts) ≡ length parts
 
 -- Of what stands in front of all lines, the first ones stand whole, as many as there are line ends.
 abbrev pub FirstLinesStandWhole : Type 0 → Type 0
-FirstLinesStandWhole C = (parts : Store C) (written rest : List ℕ) → AllByRecursion (λ e. e.key.ctransid < 2 ^ 64) parts
+FirstLinesStandWhole C = (parts : Store C) (written rest : List ℕ) → HasNumbers parts
     → flat_map complete_line parts ≡ written ++ rest
     → (part : List ℕ) × (written ≡ flat_map complete_line (take (lines_in written) parts) ++ part) × (lines_in part ≡ 0)
+
+-- What files of bytes leave has numbers of eight bytes, if the store has.
+abbrev pub ReceivedHasNumbers : Type 0
+ReceivedHasNumbers = (store : Store ℕ) (guards : List Guard) (files : List (List ℕ)) → HasNumbers store → AllByRecursion IsBytes files
+    → HasNumbers (left_by store guards files)
+
+-- So what receiving them prints has one line for each part that is complete.
+abbrev pub PrintedAreParts : Type 0
+PrintedAreParts = (store : Store ℕ) (guards : List Guard) (files : List (List ℕ)) → HasNumbers store → AllByRecursion IsBytes files
+    → lines_in (received_lines store guards files) ≡ complete_behind store (left_by store guards files)

@@ -1,6 +1,6 @@
 -- The stores that receiving files passes through, any of which a crash may leave; and the lines that say which parts are complete. They
 -- are this program's own.
-use Rattle.std.specs.Prelude.{◌≡◌, ◌⊎◌, ℕ, ◌==◌, ◌≤◌, Bool, true, List, [], ◌∷◌, ◌++◌, length, drop, None, codes, is_some}
+use Rattle.std.specs.Prelude.{◌≡◌, ◌⊎◌, ℕ, ◌==◌, ◌≤◌, ◌<◌, ◌^◌, Bool, true, List, [], ◌∷◌, ◌++◌, length, drop, None, codes, is_some}
 use Rattle.std.specs.List.{AllByRecursion, filter, flat_map, count_by}
 use Rattle.send_model.specs.Reading.{Item}
 use Rattle.send_model.specs.Store.{Entry, Store, State, step}
@@ -57,6 +57,10 @@ IsStateOf least store guards files now = IsBetween least store (left_by store gu
 -- What is printed once a part is complete.
 unfoldable pub complete_line : {S : Type 0} → Entry S → List ℕ
 complete_line e = line (codes "complete" ++ and_field (escaped e.name) ++ and_field (uuid_text e.key.uuid) ++ and_number e.key.ctransid)
+
+-- Each ctransid is a number of eight bytes, as the format has it.
+abbrev pub HasNumbers : {S : Type 0} → List (Entry S) → Type 0
+HasNumbers store = AllByRecursion (λ e. e.key.ctransid < 2 ^ 64) store
 
 -- The lines of the complete entries that a store has behind those of another.
 unfoldable pub lines_behind : {S : Type 0} → List (Entry S) → List (Entry S) → List ℕ

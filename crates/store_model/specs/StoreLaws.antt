@@ -5,6 +5,7 @@ use Rattle.send_model.specs.Attribute.{IsBytes}
 use Rattle.send_model.specs.Store.{Store}
 use Rattle.send_model.specs.Cells.{recelled_store}
 use Rattle.send_model.specs.Lawful.{IsLawfulStore}
+use Rattle.store_model.specs.States.{HasNumbers}
 use Rattle.store_model.specs.Scrub.{IsScrubbed}
 use Rattle.store_model.specs.StoreDue.{StoreDue, IsScrubDue}
 use Rattle.store_model.specs.Image.{Header, front_of}
@@ -33,6 +34,10 @@ EachImageIsDecided = (image : List ℕ) → IsBytes image → ((store : Store �
 -- What it stands for is lawful.
 abbrev pub StoredIsLawful : Type 0
 StoredIsLawful = (image : List ℕ) (store : Store ℕ) → StandsFor image store → IsLawfulStore store
+
+-- And each ctransid in it is a number of eight bytes.
+abbrev pub StoredHasNumbers : Type 0 → Type 0
+StoredHasNumbers C = (zero_cell : C) (put : Putting C) (image : List ℕ) (store : Store C) → Stands zero_cell put image store → HasNumbers store
 
 -- Groups do not look at cells: over others, of whatever type, they make the same store.
 abbrev pub GroupsKeepCells : Type 0 → Type 0 → Type 0

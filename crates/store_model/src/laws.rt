@@ -1,8 +1,8 @@
 // Laws that tie the definitions to what they mean. Each is the contract of a function that does nothing.
-ghost use Rattle.store_model.specs.StateLaws.{MoreItemsPassMore, BeginsWithTheStore, PassesWhatItLeaves, PassesWhatIsCompleted, FilesAreItems, LinesAreParts, FirstLinesStandWhole};
+ghost use Rattle.store_model.specs.StateLaws.{MoreItemsPassMore, BeginsWithTheStore, PassesWhatItLeaves, PassesWhatIsCompleted, FilesAreItems, BetweenHasThem, LinesAreParts, FirstLinesStandWhole, ReceivedHasNumbers, PrintedAreParts};
 ghost use Rattle.store_model.specs.Written.{WrittenIsReceived, WrittenIsLawful};
 ghost use Rattle.store_model.specs.StoreWords.{OneStoreDue, ReceiveIsAudit, LeftIsPassed, LeftIsReceived};
-ghost use Rattle.store_model.specs.StoreLaws.{BodyIsOneGroup, ImageIsOneStore, ImageIsNotBoth, OneGroupIsAtFault, EachImageIsDecided, StoredIsLawful, GroupsKeepCells, PlacesAreBytes, BytesHavePlaces, OneMoreIsMade, OneScrub, EachImageIsScrubbed, StoredIsWhole};
+ghost use Rattle.store_model.specs.StoreLaws.{BodyIsOneGroup, ImageIsOneStore, ImageIsNotBoth, OneGroupIsAtFault, EachImageIsDecided, StoredIsLawful, GroupsKeepCells, PlacesAreBytes, BytesHavePlaces, OneMoreIsMade, StoredHasNumbers, OneScrub, EachImageIsScrubbed, StoredIsWhole};
 ghost use Rattle.store_model.specs.TurnLaws.{TurnsAreOneByOne, PartsAreRead, FilesAreOneByOne, FilesAreInTurn, OneIsReceiving, AllAreOver, NoneIsLeftOpen, FilesLeaveNoneOpen, GroupsAreLawful, GroupsStand, LinesAreComplete, FrontsAreStates, FrontStatesAreStates, FrontGroupsAreStates, StatesAreOneByOne};
 
 /// An image of bytes stands for one store, which is lawful, or for none, where one group is at fault. Bytes are the body of one group
@@ -23,6 +23,7 @@ pub fn groups_make_one_store<C, D>()
     ensures one { ImageIsOneStore C }
     ensures cells { GroupsKeepCells C D }
     ensures more { OneMoreIsMade C }
+    ensures numbers { StoredHasNumbers C }
 {}
 
 /// What receiving items passes through, receiving more items does: the store itself, what each item leaves, and each part once it is
@@ -32,9 +33,12 @@ pub fn receiving_passes_states<C>()
     ensures first { BeginsWithTheStore C }
     ensures own { PassesWhatItLeaves C }
     ensures completed { PassesWhatIsCompleted C }
+    ensures between { BetweenHasThem C }
     ensures files { FilesAreItems }
     ensures lines { LinesAreParts C }
     ensures whole { FirstLinesStandWhole C }
+    ensures numbers { ReceivedHasNumbers }
+    ensures printed { PrintedAreParts }
 {}
 
 /// Scrub has one answer for each image of bytes; and where an image stands for a store, it finds all groups whole.
