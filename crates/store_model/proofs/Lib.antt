@@ -19,6 +19,7 @@ pub mod ScrubDecided
 pub mod LeftStores
 pub mod Numbers
 pub mod Betweens
+pub mod ReadFronts
 pub mod Entries
 pub mod Replay
 pub mod TurnGroups

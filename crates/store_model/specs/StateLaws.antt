@@ -6,6 +6,7 @@ use Rattle.send_model.specs.Reading.{Item, input}
 use Rattle.send_model.specs.Store.{Store, completed}
 use Rattle.send_model.specs.Receive.{byte_cells}
 use Rattle.send_model.specs.Guards.{Guard, guarded}
+use Rattle.send_model.specs.Due.{limited_from}
 use Rattle.store_model.specs.Stored.{is_edit}
 use Rattle.store_model.specs.States.{IsBetween, is_complete, complete_behind, received, left_by, complete_line, HasNumbers, received_lines, lines_in}
 
@@ -36,6 +37,10 @@ PassesWhatIsCompleted C = (zero_cell : C) (cells : Item → List C) (store : Sto
 abbrev pub FilesAreItems : Type 0
 FilesAreItems = (store : Store ℕ) (guards : List Guard) (files : List (List ℕ))
     → left_by store guards files ≡ (received 0 byte_cells store guards (input files).items).state.state.store
+
+-- What is read of files up to the limit of their lengths are the first items of all that stand in them.
+abbrev pub LimitedIsFront : Type 0
+LimitedIsFront = (files : List (List ℕ)) → AllByRecursion IsBytes files → (rest : List Item) × ((input files).items ≡ (limited_from 1 files).items ++ rest)
 
 -- Of a store on the way: it begins with the entries at the start, as they were; so many of those behind them are complete; and these are
 -- the first of those that are complete at the end, as they are there.

@@ -1,5 +1,5 @@
 // Laws that tie the definitions to what they mean. Each is the contract of a function that does nothing.
-ghost use Rattle.store_model.specs.StateLaws.{MoreItemsPassMore, BeginsWithTheStore, PassesWhatItLeaves, PassesWhatIsCompleted, FilesAreItems, BetweenHasThem, LinesAreParts, FirstLinesStandWhole, ReceivedHasNumbers, PrintedAreParts};
+ghost use Rattle.store_model.specs.StateLaws.{MoreItemsPassMore, BeginsWithTheStore, PassesWhatItLeaves, PassesWhatIsCompleted, FilesAreItems, BetweenHasThem, LimitedIsFront, LinesAreParts, FirstLinesStandWhole, ReceivedHasNumbers, PrintedAreParts};
 ghost use Rattle.store_model.specs.Written.{WrittenIsReceived, WrittenIsLawful};
 ghost use Rattle.store_model.specs.StoreWords.{OneStoreDue, ReceiveIsAudit, LeftIsPassed, LeftIsReceived};
 ghost use Rattle.store_model.specs.StoreLaws.{BodyIsOneGroup, ImageIsOneStore, ImageIsNotBoth, OneGroupIsAtFault, EachImageIsDecided, StoredIsLawful, GroupsKeepCells, PlacesAreBytes, BytesHavePlaces, OneMoreIsMade, StoredHasNumbers, OneScrub, EachImageIsScrubbed, StoredIsWhole};
@@ -35,6 +35,7 @@ pub fn receiving_passes_states<C>()
     ensures completed { PassesWhatIsCompleted C }
     ensures between { BetweenHasThem C }
     ensures files { FilesAreItems }
+    ensures limited { LimitedIsFront }
     ensures lines { LinesAreParts C }
     ensures whole { FirstLinesStandWhole C }
     ensures numbers { ReceivedHasNumbers }

@@ -6,6 +6,7 @@ use Rattle.store_model.proofs.PassedStates.{more_states, first_state, own_state,
 use Rattle.store_model.proofs.CompleteLines.{lines_are_counted, first_lines}
 use Rattle.store_model.proofs.Numbers.{received_has_numbers, printed_are_parts}
 use Rattle.store_model.proofs.Betweens.{between_has_them}
+use Rattle.store_model.proofs.ReadFronts.{limited_is_front}
 use Rattle.store_model.proofs.laws.receiving_passes_states.Goals as goal
 
 files : FilesAreItems
@@ -20,6 +21,7 @@ returns c s = record {
   completed = λ zero_cell cells store guards items item taken free ends. completed_state zero_cell cells store guards items item taken free ends;
   between = λ least start end now b. between_has_them least start end now b;
   files = files;
+  limited = limited_is_front;
   lines = λ parts small. lines_are_counted parts small;
   numbers = received_has_numbers;
   printed = printed_are_parts;
