@@ -6,16 +6,17 @@ use Rattle.send_model.specs.Spelling.{canonical}
 use Rattle.send_model.specs.Reading.{Item}
 use Rattle.send_model.specs.Store.{Head, Store, State, After, head_of, completed, step}
 use Rattle.send_model.specs.Receive.{Ran, run_by, then_run, verdict_of, byte_cells, start_of}
-use Rattle.send_model.specs.Guards.{Watched, guarded, looked, watched_step}
+use Rattle.send_model.specs.Guards.{Watched, guarded, looked, watched_step, receive_watched, receive_under}
 use Rattle.send_model.specs.Due.{RefusedAt, limited_from, stop_due}
 use Rattle.store_model.specs.States.{IsBetween, complete_behind, received}
 use Rattle.store_model.specs.StoreDue.{StoreDue, Ends, LogFull, first_full, pieces_from, end_behind, item_pieces, place_after, left_full, left_from, receive_from, or_store_due, receive_due, receive_left}
-use Rattle.store_model.specs.StoreWords.{LeftIsPassed, LeftIsReceived}
+use Rattle.store_model.specs.StoreWords.{LeftIsPassed, LeftIsState, LeftIsReceived}
 use Rattle.send_model.proofs.Sorts.{same_inside}
 use Rattle.send_model.proofs.Guarding.{after_looks, looks_are}
 use Rattle.store_model.proofs.WrittenGroups.{head_fact}
 use Rattle.store_model.proofs.StoreAnswers.{full_is}
-use Rattle.store_model.proofs.PassedStates.{Goes, IsOn, goes_twice, between_goes, own_between, completed_on, completes, step_on, run_on, start_closed}
+use Rattle.store_model.proofs.PassedStates.{Goes, IsOn, goes_twice, between_goes, own_between, completed_on, completes, step_on, run_on, start_closed, more_states}
+use Rattle.store_model.proofs.ReadFronts.{limited_is_front}
 
 abbrev does : State ℕ → Item → After (State ℕ)
 does s item = step 0 (byte_cells item) s item.command
@@ -149,3 +150,13 @@ left_is_received limit gate store guards files due is =
       where
         not_both : LogFull end wanted limit ≡ Ends due → ⊥
         not_both p = cc
+
+-- What is read up to the limit of lengths stands in front of all, so receiving all passes through what it leaves.
+pub left_is_state : LeftIsState
+unfolding receive_under receive_watched received
+left_is_state limit gate store guards files are =
+    let left : Store ℕ = receive_left limit gate store guards files in
+    let front = limited_is_front files are in
+    let read : List Item = (limited_from 1 files).items in
+    subst (λ (l : List Item). IsBetween (complete_behind store left) store (received 0 byte_cells store guards l).state.state.store left) (sym front.1)
+    (more_states 0 byte_cells (complete_behind store left) store guards read front.0 left (left_is_passed limit gate store guards files))

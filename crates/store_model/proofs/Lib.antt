@@ -20,6 +20,7 @@ pub mod LeftStores
 pub mod Numbers
 pub mod Betweens
 pub mod ReadFronts
+pub mod OnTheWay
 pub mod Entries
 pub mod Replay
 pub mod TurnGroups

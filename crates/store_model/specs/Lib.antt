@@ -5,6 +5,7 @@ pub mod StateLaws
 pub mod StoreLines
 pub mod Scrub
 pub mod Written
+pub mod Stops
 pub mod StoreDue
 pub mod StoreWords
 pub mod StoreLaws

@@ -1,10 +1,11 @@
 -- What words over a store ask for, and what is due to them: by the words, the image of the store, and the files. The words are this
 -- program's own.
 use Rattle.std.specs.Prelude.{◌<◌, ◌+◌, ◌⊎◌, ◌≡◌, ℕ, List, [], ◌∷◌, ◌++◌, Option, None, Some, codes, slice_index_or, if◌then◌else◌}
+use Rattle.std.specs.List.{AllByRecursion}
 use Rattle.send_model.specs.Store.{Store}
 use Rattle.send_model.specs.Attribute.{IsBytes}
 use Rattle.send_model.specs.Receive.{byte_cells}
-use Rattle.store_model.specs.States.{IsBetween, complete_behind, received}
+use Rattle.store_model.specs.States.{IsBetween, complete_behind, received, IsStateOf}
 use Rattle.send_model.specs.Due.{Due, limited_from, audit_due}
 use Rattle.send_model.specs.Guards.{Guard, GuardSpec}
 use Rattle.send_model.specs.Words.{Request, Compose, Audit, Dump, Export, Gen, Trial, is_word, guards_and_files, new_guards}
@@ -136,6 +137,11 @@ abbrev pub LeftIsPassed : Type 0
 LeftIsPassed = (limit gate : ℕ) (store : Store ℕ) (guards : List Guard) (files : List (List ℕ))
     → let left = receive_left limit gate store guards files in
     IsBetween (complete_behind store left) store (received 0 byte_cells store guards (limited_from 1 files).items).state.state.store left
+
+-- So it is of files of bytes.
+abbrev pub LeftIsState : Type 0
+LeftIsState = (limit gate : ℕ) (store : Store ℕ) (guards : List Guard) (files : List (List ℕ)) → AllByRecursion IsBytes files
+    → let left = receive_left limit gate store guards files in IsStateOf (complete_behind store left) store guards files left
 
 -- Where there was room, it is what receiving leaves.
 abbrev pub LeftIsReceived : Type 0
