@@ -5,13 +5,13 @@ ghost use Rattle.std.specs.Str.{bytes_eq};
 ghost use Rattle.send_model.specs.Refusal.{NoParent};
 ghost use Rattle.send_model.specs.Chain.{found};
 ghost use Rattle.send_model.specs.Clone.{clone};
-ghost use Rattle.send_model.specs.Store.{has_name, with_contents, start_from, head_of, clone_source, edit_part, completed, step_head, step_edit, step};
+ghost use Rattle.send_model.specs.Store.{IsStore, has_name, with_contents, start_from, head_of, clone_source, edit_part, completed, step_head, step_edit, step};
 ghost use Rattle.send_commands.specs.Meaning.{meaning_of};
 ghost use Rattle.sx_base.specs.Answers.{MayChange};
-ghost use Rattle.subvol_catalog.specs.Entries.{key_of, entry_of};
+ghost use Rattle.subvol_catalog.specs.Entries.{key_of, entry_of, AreNamed};
 ghost use Rattle.subvol_catalog.specs.Admission.{is_new, Adds, without_name, without_uuid};
 ghost use Rattle.clone_resolve.specs.declared.done.Done.TheVariants as did;
-ghost use Rattle.clone_resolve.specs.Heads.{head_meant, Begins, is_unfinished, unfinished_at, Resumes};
+ghost use Rattle.clone_resolve.specs.Heads.{head_meant, Begins, unfinished_at, Resumes};
 ghost use Rattle.clone_resolve.specs.Steps.{data_len, cells_put, done_by, Fits, Answers};
 
 use crate::done::Done;
@@ -65,10 +65,14 @@ impl<O: Origin> EditCore<O> {
         }
     }
 
-    /// The subvolumes by name and by key. Takes no memory.
+    /// The subvolumes by name and by key. No name and no UUID stands twice among them, and their names are lawful. Takes no
+    /// memory.
     pub fn catalog(&self) -> &Catalog<Subvol<O>>
-        ensures { result.now ≡ self.now }
+        ensures core { result.now ≡ self.now }
+        ensures apart { IsStore self.now }
+        ensures named { AreNamed self.now }
     {
+        let _count = self.catalog.len();
         &self.catalog
     }
 
@@ -267,17 +271,15 @@ impl<O: Origin> EditCore<O> {
         })
     }
 
-    // The first unfinished entry of a UUID.
-    fn unfinished_at(&self, uuid: Uuid) -> Option<&Entry<Subvol<O>>>
+    /// The unfinished entry of a UUID; `None` exactly where there is none. Takes no memory.
+    pub fn unfinished_at(&self, uuid: Uuid) -> Option<&Entry<Subvol<O>>>
         ensures { option_map (λ e. entry_of e.now) result ≡ unfinished_at uuid self.now }
     {
-        for i in 0..self.catalog.len() {
-            let entry = self.catalog.at(i)?;
-            if is_unfinished(entry, uuid) {
-                return Some(entry);
-            }
+        let entry = self.catalog().by_uuid(uuid)?;
+        if entry.value.is_some() {
+            return None;
         }
-        None
+        Some(entry)
     }
 
     /// One command on the core and the part, if there is one; a WRITE puts a run from the origin. A head completes the part before
@@ -345,11 +347,4 @@ impl<O: Origin> EditCore<O> {
         self.edit(open, c, origin)?;
         Ok(Done::Edited)
     }
-}
-
-// Whether an entry of a UUID is unfinished.
-fn is_unfinished<O: Origin>(entry: &Entry<Subvol<O>>, uuid: Uuid) -> bool
-    ensures { result ≡ is_unfinished uuid (entry_of entry.now) }
-{
-    entry.key.uuid == uuid && entry.value.is_none()
 }

@@ -5,10 +5,11 @@ use Rattle.std.specs.Str.{bytes_eq}
 use Rattle.std.specs.Map.{lookup, remove_entry, set_value}
 use Rattle.send_model.specs.Path.{is_name}
 use Rattle.send_model.specs.Store as meant
-use Rattle.send_model.specs.Store.{has_name, has_uuid, find, with_contents}
+use Rattle.std.specs.Option.{option_map}
+use Rattle.send_model.specs.Store.{IsStore, has_name, has_uuid, find, with_contents}
 use Rattle.send_model.proofs.Stores.{bytes_eq_same, bytes_eq_true}
 use Rattle.subvol_catalog.specs.declared.entry.Entry.{Entry}
-use Rattle.subvol_catalog.specs.Entries.{entry_of, listed}
+use Rattle.subvol_catalog.specs.Entries.{entry_of, listed, of_uuid, AreNamed}
 use Rattle.subvol_catalog.specs.Admission.{uuid_named, without_name, without_uuid}
 use Rattle.subvol_catalog.specs.Indexes.{led_to, IsListed, AreListed}
 
@@ -104,6 +105,17 @@ module _ {A V : Type 0} (names : List (Vec ℕ A × List ℕ)) where
       one None e = refl
       one (Some x) e = absurd (false≢true (sym e))
 
+  -- What a UUID finds.
+  pub of_uuid_in : (u : List ℕ) (ps : List (List ℕ × Entry V)) → AreListed names ps → of_uuid u (listed ps) ≡ option_map entry_of (lookup (bytes_eq u) ps)
+  of_uuid_in u [] l = refl
+  of_uuid_in u (p ∷ ps) l =
+      ap (λ (b : Bool). cond b (Some (entry_of p.1)) (of_uuid u (listed ps))) (matched u p l.0)
+      ∙ one (bytes_eq u p.0) (of_uuid_in u ps l.2)
+    where
+      one : (b : Bool) → of_uuid u (listed ps) ≡ option_map entry_of (lookup (bytes_eq u) ps) → cond b (Some (entry_of p.1)) (of_uuid u (listed ps)) ≡ option_map entry_of (cond b (Some p.1) (lookup (bytes_eq u) ps))
+      one true more = refl
+      one false more = more
+
   pub found_in : (key : meant.Key) (ps : List (List ℕ × Entry V)) → AreListed names ps → find (listed ps) key ≡ in_entry key (lookup (bytes_eq key.uuid) ps)
   unfolding find
   found_in key [] l = refl
@@ -192,6 +204,15 @@ module _ {A V : Type 0} (names : List (Vec ℕ A × List ℕ)) where
           let same : p.0 ≡ u = cc in
           absurd (false≢true (sym (or_false_left (bytes_eq p.1.key.uuid u) (has_uuid u (listed ps)) f) ∙ ap (λ (x : List ℕ). bytes_eq x u) (l.0.keyed ∙ same) ∙ bytes_eq_same u))
       one false t more = more
+
+  -- No name and no UUID stands twice.
+  pub is_store : (ps : List (List ℕ × Entry V)) → AreListed names ps → IsStore (listed ps)
+  is_store [] l = tt
+  is_store (p ∷ ps) l = (no_name p.1.name p.0 ps l.2 l.0.named l.1, ap (λ (u : List ℕ). has_uuid u (listed ps)) l.0.keyed ∙ l.1, is_store ps l.2)
+
+  pub are_named : (ps : List (List ℕ × Entry V)) → AreListed names ps → AreNamed (listed ps)
+  are_named [] l = tt
+  are_named (p ∷ ps) l = (l.0.lawful, are_named ps l.2)
 
   -- An entry that is found stands under its UUID.
   pub at_uuid : (u : List ℕ) (ps : List (List ℕ × Entry V)) (e : Entry V) → AreListed names ps → lookup (bytes_eq u) ps ≡ Some e → IsListed names u e

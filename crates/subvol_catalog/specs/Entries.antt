@@ -1,5 +1,8 @@
 -- The code's entries as those of the definitions.
-use Rattle.std.specs.Prelude.{ℕ, List, Option, map}
+use Rattle.std.specs.Prelude.{ℕ, List, [], ◌∷◌, Option, Some, None, IsTrue, map, if◌then◌else◌}
+use Rattle.std.specs.List.{AllByRecursion}
+use Rattle.std.specs.Str.{bytes_eq}
+use Rattle.send_model.specs.Path.{is_name}
 use Rattle.std.specs.Option.{option_map}
 use Rattle.send_model.specs.Store as meant
 use Rattle.subvol_catalog.specs.declared.key.Key.{Key}
@@ -17,3 +20,12 @@ listed pairs = map (λ p. entry_of p.1) pairs
 
 abbrev pub head_with : List ℕ → Key → Option Key → meant.Head
 head_with name key parent = record { name = name; key = key_of key; parent = option_map key_of parent }
+
+-- The first entry of a UUID; in a store there is one at most.
+abbrev pub of_uuid : {S : Type 0} → List ℕ → List (meant.Entry S) → Option (meant.Entry S)
+of_uuid uuid [] = None
+of_uuid uuid (e ∷ entries) = if bytes_eq e.key.uuid uuid then Some e else of_uuid uuid entries
+
+-- Each entry has a lawful name, so one of at most 255 bytes.
+abbrev pub AreNamed : {S : Type 0} → List (meant.Entry S) → Type 0
+AreNamed entries = AllByRecursion (λ e. IsTrue (is_name e.name)) entries

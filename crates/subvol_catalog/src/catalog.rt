@@ -2,8 +2,8 @@
 ghost use Rattle.std.specs.Prelude.{◌≡◌, [], length, IsTrue, IfSome, slice_get, None, Ok};
 ghost use Rattle.std.specs.Option.{option_map, option_copied};
 ghost use Rattle.send_model.specs.Path.{is_name};
-ghost use Rattle.send_model.specs.Store.{has_name, has_uuid, find, with_contents, unfinished};
-ghost use Rattle.subvol_catalog.specs.Entries.{key_of, entry_of, head_with};
+ghost use Rattle.send_model.specs.Store.{IsStore, has_name, has_uuid, find, with_contents, unfinished};
+ghost use Rattle.subvol_catalog.specs.Entries.{key_of, entry_of, head_with, of_uuid, AreNamed};
 ghost use Rattle.subvol_catalog.specs.Admission.{uuid_named, is_new, has_parent, admitted, IsRefusedBy, Adds, without_name, without_uuid};
 
 use crate::entry::Entry;
@@ -51,9 +51,12 @@ impl<V> Catalog<V> {
         }
     }
 
-    /// How many entries there are. Takes no memory.
+    /// How many entries there are. No name and no UUID stands twice among them, and their names are lawful. Takes no
+    /// memory.
     pub fn len(&self) -> usize
-        ensures { result ≡ length self.now }
+        ensures count { result ≡ length self.now }
+        ensures apart { IsStore self.now }
+        ensures named { AreNamed self.now }
     {
         self.entries.len()
     }
@@ -65,6 +68,14 @@ impl<V> Catalog<V> {
         ensures named { IfSome result (λ e. IsTrue (is_name e.now.name)) }
     {
         let (_, entry) = self.entries.get_index(i)?;
+        Some(entry)
+    }
+
+    /// The entry of a UUID; `None` exactly where there is none. Takes no memory.
+    pub fn by_uuid(&self, uuid: Uuid) -> Option<&Entry<V>>
+        ensures entry { option_map (λ e. entry_of e.now) result ≡ of_uuid uuid self.now }
+    {
+        let entry = self.entries.get(&uuid)?;
         Some(entry)
     }
 
