@@ -2,7 +2,7 @@ pub mod Told
 mod Uncut
 mod Lefts
 mod Alone
-mod LastFrames
+pub mod LastFrames
 pub mod CommandFacts
 mod HeadFacts
 mod Sourcing

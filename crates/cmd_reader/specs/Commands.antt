@@ -1,5 +1,5 @@
 -- The command of a frame whose body is known.
-use Rattle.std.specs.Prelude.{◌≡◌, ℕ, true, false, List, Result, Ok, Err}
+use Rattle.std.specs.Prelude.{◌≡◌, ℕ, true, false, List, Option, Some, None, Result, Ok, Err}
 use Rattle.send_model.specs.Refusal.{Refusal}
 use Rattle.send_model.specs.Chain.{◌>>=◌}
 use Rattle.send_model.specs.Command as meant
@@ -9,6 +9,7 @@ use Rattle.send_model.specs.Laws.{CanWrite}
 use Rattle.sx_base.specs.Refusals.{refusal_of}
 use Rattle.send_commands.specs.Meaning.{meaning_of}
 use Rattle.send_commands.specs.Writing.{IsWritable}
+use Rattle.send_commands.specs.declared.command.Command.{Command}
 use Rattle.cmd_reader.specs.declared.front.Front.{Front}
 use Rattle.cmd_reader.specs.declared.fault.Fault.{Fault}
 use Rattle.cmd_reader.specs.declared.fault.Fault.TheVariants.{Refused, NoMemory, InputFault, InputTooLong}
@@ -41,3 +42,14 @@ pub record CommandFits (version : ℕ) (body : List ℕ) (front : Front) : Type 
   pub can_write : CanWrite version (meaning_of front.command)
   pub alone : front.canonical ≡ true → HasAlone version body (meaning_of front.command)
   pub others : front.canonical ≡ false → HasAlone version body (meaning_of front.command) → ⊥
+
+-- A body has the attributes of a command alone, in rising order of their numbers, and under this number they are read as that
+-- command: the frame is the command's canonical spelling.
+pub record IsCanonicalOf (version number : ℕ) (body : List ℕ) (c : meant.Command) : Type 0 where
+  pub read : attributes_at version body ≡ Ok (attributes_of c)
+  pub command_is : command_of version number (attributes_of c) ≡ Ok c
+
+-- The command whose canonical spelling a frame is, or none where there is none.
+abbrev pub FindsCanonical : ℕ → ℕ → List ℕ → Option Command → Type 0
+FindsCanonical version number body (Some command) = CanWrite version (meaning_of command) × IsCanonicalOf version number body (meaning_of command)
+FindsCanonical version number body None = (c : meant.Command) → IsCanonicalOf version number body c → ⊥

@@ -6,7 +6,7 @@ ghost use Rattle.send_model.specs.Reading.{is_version};
 ghost use Rattle.send_model.specs.Lengths.{limit};
 ghost use Rattle.send_commands.specs.Meaning.{meaning_of, kind_meant};
 ghost use Rattle.send_commands.specs.Writing.{IsWritable};
-ghost use Rattle.cmd_reader.specs.Commands.{ReadsCommand, CommandFits};
+ghost use Rattle.cmd_reader.specs.Commands.{ReadsCommand, CommandFits, FindsCanonical};
 ghost use Rattle.cmd_reader.specs.Heads.{ReadsHead, is_head};
 ghost use Rattle.cmd_reader.specs.Items.{ItemSays, HeadSays, StopAt};
 
@@ -14,7 +14,7 @@ use crate::fault::Fault;
 use crate::item::{Glance, Item, ReadStop};
 use crate::spelled::is_canonical;
 use send_commands::{Command, Kind, decode, lawful_kind};
-use std::alloc::Global;
+use std::alloc::{AllocError, Global};
 use sx_base::{Stop, Verdict};
 use tlv_frame::attribute_numbers::DATA;
 use tlv_frame::{FRAME_HEAD_LEN, attrs};
@@ -133,6 +133,33 @@ fn command_in(alloc: Global, at: u64, version: u32, cmd: u16, body: &[u8]) -> Re
         }),
         Err(Stop::Refused(refusal)) => Err(Fault::Refused(refusal)),
         Err(Stop::NoMemory) => Err(Fault::NoMemory),
+    }
+}
+
+/// The command whose canonical spelling a frame with this number and body is; `None` exactly where there is none. The command
+/// is not spelled again. Fails for want of memory alone.
+pub fn canonical_command(
+    alloc: Global,
+    version: u32,
+    cmd: u16,
+    body: &[u8],
+) -> Result<Option<Command>, AllocError>
+    requires short { length body.now ≤ greatest_body }
+    requires version { is_version version ≡ true }
+    ensures found { IfOk result (FindsCanonical version cmd body.now) }
+{
+    match command_in(alloc, 0, version, cmd, body) {
+        Ok(front) => {
+            if front.canonical {
+                Ok(Some(front.command))
+            } else {
+                Ok(None)
+            }
+        }
+        Err(fault) => match fault {
+            Fault::Refused(_) => Ok(None),
+            _ => Err(AllocError),
+        },
     }
 }
 

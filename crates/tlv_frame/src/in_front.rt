@@ -26,8 +26,9 @@ pub(crate) fn head_in(left: &[u8]) -> Result<Option<StreamHead>, Refusal>
     }
 }
 
-// The header of the frame in front, whose checksum is right. None where the frame is cut short, and its header shows no fault.
-pub(crate) fn frame_in(left: &[u8]) -> Result<Option<FrameHead>, Refusal>
+/// The header of the frame in front, whose checksum is right. `None` where the frame is cut short, and its header shows no
+/// fault. Takes no memory.
+pub fn frame_in(left: &[u8]) -> Result<Option<FrameHead>, Refusal>
     ensures exact { FindsFrame left.now result }
 {
     if left.len() < FRAME_HEAD_LEN {

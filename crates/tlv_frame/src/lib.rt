@@ -14,6 +14,6 @@ pub use attribute_table::{AttrTable, attr_head_len, attrs};
 pub use feed::{Feed, Passed, Unit};
 pub use frame_head::FrameHead;
 pub use frame_writer::FrameWriter;
-pub use in_front::{FRAME_HEAD_LEN, HEADER_LEN};
+pub use in_front::{FRAME_HEAD_LEN, HEADER_LEN, frame_in};
 pub use laws::cuts_are_one_reading;
 pub use stream_head::StreamHead;
