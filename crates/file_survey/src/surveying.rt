@@ -1,9 +1,10 @@
 // Once over all files, for their heads and versions.
-ghost use Rattle.std.specs.Prelude.{◌≡◌, ◌≤◌, map};
+ghost use Rattle.std.specs.Prelude.{◌≡◌, ◌≤◌, map, IfErr};
 ghost use Rattle.std.specs.String.{string_bytes};
 ghost use Rattle.cmd_reader.specs.Places.{IfTold};
 ghost use Rattle.file_survey.specs.Findings.{FileEnd, SurveyEnd};
-ghost use Rattle.sx_base.specs.Calls.{IfAllTold, ErrCaused};
+ghost use Rattle.sx_base.specs.Calls.{IfAllTold, ErrCaused, IsStop};
+ghost use Rattle.sx_base.specs.Causes.{Steady};
 
 use crate::summary::Survey;
 use cmd_reader::{CmdReader, ReadStop, outcome_of};
@@ -15,8 +16,11 @@ use sx_base::{Inputs, Outcome};
 pub fn survey<I: Inputs>(alloc: Global, inputs: &mut I, files: &[String]) -> Result<Survey, Outcome>
     ensures same { I.told inputs.new ≡ I.told inputs.old }
     ensures later { I.faults inputs.old ≤ I.faults inputs.new }
+    ensures steady { Steady (I.faults inputs.old) (I.faults inputs.new) result }
     ensures ends_later { I.ends inputs.old ≤ I.ends inputs.new }
+    ensures ends_steady { Steady (I.ends inputs.old) (I.ends inputs.new) result }
     ensures cause { ErrCaused (I.faults inputs.old) (I.faults inputs.new) 0 0 result }
+    ensures stops { IfErr result IsStop }
     ensures surveyed { IfAllTold (I.told inputs.old) (map string_bytes files.now)
         (SurveyEnd result) }
 {
@@ -44,8 +48,11 @@ fn survey_file<I: Inputs>(
 ) -> Result<bool, Outcome>
     ensures same { I.told inputs.new ≡ I.told inputs.old }
     ensures later { I.faults inputs.old ≤ I.faults inputs.new }
+    ensures steady { Steady (I.faults inputs.old) (I.faults inputs.new) result }
     ensures ends_later { I.ends inputs.old ≤ I.ends inputs.new }
+    ensures ends_steady { Steady (I.ends inputs.old) (I.ends inputs.new) result }
     ensures cause { ErrCaused (I.faults inputs.old) (I.faults inputs.new) 0 0 result }
+    ensures stops { IfErr result IsStop }
     ensures seen { IfTold (I.told inputs.old) name.now (FileEnd file seen.old seen.new result) }
 {
     let Ok(mut reader) = CmdReader::new(alloc, file, name) else {

@@ -7,3 +7,4 @@ pub mod DiskMoments
 pub mod FilledBuffers
 pub mod NamedFiles
 pub mod KeptFronts
+pub mod Ended

@@ -56,6 +56,30 @@ abbrev pub ErrCaused : {T : Type 0} → (inputs_before inputs_now out_before out
 ErrCaused inputs_before inputs_now out_before out_now (Ok x) = ⊤
 ErrCaused inputs_before inputs_now out_before out_now (Err outcome) = Caused inputs_before inputs_now out_before out_now outcome
 
+-- ---- where all was done
+
+-- A call that ends so has not done all.
+abbrev pub IsStop : Outcome → Type 0
+IsStop ended.Done = ⊥
+IsStop (ended.Refused verdict) = ⊤
+IsStop ended.InputFault = ⊤
+IsStop ended.OutputFault = ⊤
+IsStop ended.NoMemory = ⊤
+IsStop (ended.InputTooLong file) = ⊤
+IsStop (ended.TooMuch sum) = ⊤
+IsStop (ended.InputChanged file place) = ⊤
+
+-- Where all was done, a count is as it was.
+abbrev pub SteadyIfDone : (before now : ℕ) → Outcome → Type 0
+SteadyIfDone before now ended.Done = now ≡ before
+SteadyIfDone before now (ended.Refused verdict) = ⊤
+SteadyIfDone before now ended.InputFault = ⊤
+SteadyIfDone before now ended.OutputFault = ⊤
+SteadyIfDone before now ended.NoMemory = ⊤
+SteadyIfDone before now (ended.InputTooLong file) = ⊤
+SteadyIfDone before now (ended.TooMuch sum) = ⊤
+SteadyIfDone before now (ended.InputChanged file place) = ⊤
+
 -- ---- files that were changed
 
 -- The end that the inputs answered last is that of the file with this number among these names, counted from 1, at this place.

@@ -1,4 +1,4 @@
-use Rattle.std.proofs.Common.{◌≡◌, refl, map, arith, ◌∙◌, true, false, Ok}
+use Rattle.std.proofs.Common.{◌≡◌, refl, map, ◌∙◌, true, false, Ok}
 use Rattle.std.specs.String.{string_bytes}
 use Rattle.file_survey.proofs.Surveys.{files_start, files_next, files_fault, files_stop, files_end}
 use Rattle.file_survey.proofs.surveying.survey.Goals as goal
@@ -6,8 +6,8 @@ use Rattle.file_survey.proofs.surveying.survey.Goals as goal
 pub loop-file-init : goal.loop-file-init
 loop-file-init g c = record {
   same = refl;
-  later = omega arith;
-  ends_later = omega arith;
+  steady = refl;
+  ends_steady = refl;
   seen = files_start _ (map string_bytes c.args.files.now) c.new-seen.result c.new-seen.ensures.empty;
 }
 
@@ -17,8 +17,8 @@ loop-file-preserved g c =
     let whole : c.survey_file.result ≡ Ok true = cc in
     record {
       same = c.survey_file.ensures.same ∙ kept.same;
-      later = omega (arith, kept.later, c.survey_file.ensures.later);
-      ends_later = omega (arith, kept.ends_later, c.survey_file.ensures.ends_later);
+      steady = c.in-Ok-true.ensures.steady ∙ kept.steady;
+      ends_steady = c.in-Ok-true.ensures.ends_steady ∙ kept.ends_steady;
       seen = files_next _ _ c.args.files.now c.loop-file.file c.index-files-file.result c.as_str-name.result.now c.loop-file.seen c.survey_file.new.seen c.survey_file.result
           (record { same = kept.same; less = c.loop-file-test.true; is = c.index-files-file.is; spelling = c.as_str-name.ensures.value }) whole kept.seen c.survey_file.ensures.seen;
     }

@@ -1,4 +1,4 @@
-use Rattle.std.proofs.Common.{◌≡◌, ◌≤◌, length, map, ◌-◌}
+use Rattle.std.proofs.Common.{◌≡◌, length, map, ◌-◌}
 use Rattle.std.specs.String.{string_bytes}
 use Rattle.sx_base.specs.Calls.{IfAllTold}
 use Rattle.file_survey.proofs.Surveys.{FilesSoFar}
@@ -7,11 +7,11 @@ use Rattle.file_survey.proofs.surveying.survey.Given as goal
 abbrev pub decreases-loop-file : goal.decreases-loop-file
 decreases-loop-file g l = length l.files - l.file
 
--- What is known is what the files so far say.
+-- What is known is what the files so far say, and no count rose.
 abbrev pub invariant-loop-file : goal.invariant-loop-file
 invariant-loop-file g l = record {
   same : g.I.Inputs.told l.inputs ≡ g.I.Inputs.told l.fn.inputs;
-  later : g.I.Inputs.faults l.fn.inputs ≤ g.I.Inputs.faults l.inputs;
-  ends_later : g.I.Inputs.ends l.fn.inputs ≤ g.I.Inputs.ends l.inputs;
+  steady : g.I.Inputs.faults l.inputs ≡ g.I.Inputs.faults l.fn.inputs;
+  ends_steady : g.I.Inputs.ends l.inputs ≡ g.I.Inputs.ends l.fn.inputs;
   seen : IfAllTold (g.I.Inputs.told l.fn.inputs) (map string_bytes l.files) (FilesSoFar l.file l.seen);
 }

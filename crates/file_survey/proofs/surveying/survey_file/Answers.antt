@@ -1,4 +1,4 @@
-use Rattle.std.proofs.Common.{refl, ap, arith, ◌∙◌}
+use Rattle.std.proofs.Common.{refl, ap, ◌∙◌}
 use Rattle.cmd_reader.specs.Left.{Reader}
 use Rattle.cmd_reader.proofs.Aheads.{start_ahead, glance_ahead}
 use Rattle.file_survey.proofs.Surveys.{file_start, file_next, file_whole, file_fault, file_stop}
@@ -8,8 +8,8 @@ use Rattle.file_survey.proofs.surveying.survey_file.Goals as goal
 pub loop-glance-init : goal.loop-glance-init
 loop-glance-init g c = record {
   same = refl;
-  later = omega arith;
-  ends_later = omega arith;
+  steady = refl;
+  ends_steady = refl;
   name = ap (λ (r : Reader). r.name) c.in-Ok.ensures.start;
   seen = file_start _ c.args.file c.args.name.now c.in-Ok.reader c.args.seen.now c.in-Ok.ensures.start;
   ahead = start_ahead _ c.args.file c.args.name.now c.in-Ok.reader c.in-Ok.ensures.start;
@@ -20,8 +20,8 @@ loop-glance-preserved g c =
     let kept = c.loop-glance.invariant in
     record {
       same = c.glance.ensures.same ∙ kept.same;
-      later = omega (arith, kept.later, c.glance.ensures.later);
-      ends_later = omega (arith, kept.ends_later, c.glance.ensures.ends_later);
+      steady = c.in-Ok-Some.ensures.steady ∙ kept.steady;
+      ends_steady = c.in-Ok-Some.ensures.ends_steady ∙ kept.ends_steady;
       name = c.glance.ensures.name ∙ kept.name;
       seen = file_next _ _ c.args.file c.args.name.now c.loop-glance.reader c.glance.new.self c.in-Ok-Some.field-0 c.in-Ok-Some.glance c.args.seen.now c.loop-glance.seen c.keep.new.self 0 0
           kept.same kept.name c.in-Ok-Some.field-0-is c.in-Ok-keep.ensures.kept kept.seen c.in-Ok-Some.ensures.read;

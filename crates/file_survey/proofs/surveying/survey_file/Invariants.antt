@@ -1,4 +1,4 @@
-use Rattle.std.proofs.Common.{◌≡◌, ◌≤◌, ◌-◌}
+use Rattle.std.proofs.Common.{◌≡◌, ◌-◌}
 use Rattle.send_model.specs.Lengths.{limit}
 use Rattle.cmd_reader.specs.Places.{IfTold}
 use Rattle.cmd_reader.specs.Left.{HasAhead}
@@ -9,12 +9,12 @@ use Rattle.file_survey.proofs.surveying.survey_file.Given as goal
 abbrev pub decreases-loop-glance : goal.decreases-loop-glance
 decreases-loop-glance g l = limit - l.reader.offset
 
--- What is known is what the commands so far say, after what was known before the file; what is left to read is left to the reader.
+-- What is known is what the commands so far say, after what was known before the file; what is left to read is left to the reader, and no count rose.
 abbrev pub invariant-loop-glance : goal.invariant-loop-glance
 invariant-loop-glance g l = record {
   same : g.I.Inputs.told l.inputs ≡ g.I.Inputs.told l.fn.inputs;
-  later : g.I.Inputs.faults l.fn.inputs ≤ g.I.Inputs.faults l.inputs;
-  ends_later : g.I.Inputs.ends l.fn.inputs ≤ g.I.Inputs.ends l.inputs;
+  steady : g.I.Inputs.faults l.inputs ≡ g.I.Inputs.faults l.fn.inputs;
+  ends_steady : g.I.Inputs.ends l.inputs ≡ g.I.Inputs.ends l.fn.inputs;
   name : l.reader.name ≡ l.name;
   seen : IfTold (g.I.Inputs.told l.fn.inputs) l.name (FileSoFar l.file l.reader l.fn.seen l.seen);
   ahead : IfTold (g.I.Inputs.told l.inputs) l.reader.name (HasAhead l.reader);
