@@ -1,7 +1,7 @@
 // Parts of chains, and whole chains.
 ghost use Rattle.std.specs.Prelude.{◌≡◌, ◌≤◌, ◌++◌, [], OnOk, Ok, Err};
 ghost use Rattle.send_model.specs.Words.{Gen};
-ghost use Rattle.sx_base.specs.Calls.{Caused, Wrote, Ends};
+ghost use Rattle.sx_base.specs.Calls.{Caused, Wrote, Ends, SteadyIfDone};
 ghost use Rattle.sx_base.specs.Outside.{AppendsPart};
 ghost use Rattle.stream_gen.specs.Parts.{part_bytes};
 ghost use Rattle.sx_base.specs.Bytes.{IsFront};
@@ -37,6 +37,7 @@ pub fn write_chain<O: Sink>(alloc: Global, count: u64, seed: u64, out: &mut O) -
     requires few { count ≤ 4_096 }
     ensures later { O.faults out.old ≤ O.faults out.new }
     ensures cause { Caused 0 0 (O.faults out.old) (O.faults out.new) result }
+    ensures steady { SteadyIfDone (O.faults out.old) (O.faults out.new) result }
     ensures written { Wrote (O.taken out.old) (O.taken out.new)
         (λ written. Ends (Gen count seed) [] [] result written) }
 {

@@ -1,4 +1,4 @@
-use Rattle.std.proofs.Common.{◌≡◌, ◌≤◌, ◌+◌, ◌++◌, ℕ, List, ap, ◌∙◌, arith}
+use Rattle.std.proofs.Common.{◌≡◌, ◌≤◌, ◌+◌, ◌++◌, ℕ, List, refl, ap, ◌∙◌, arith}
 use Rattle.stream_gen.specs.Parts.{Made, part_bytes}
 use Rattle.stream_gen.proofs.ChainParts.{none_written, part_written, all_written, unmade, unwritten}
 use Rattle.stream_gen.proofs.generating.write_chain.Goals as goal
@@ -7,7 +7,7 @@ pub loop-init : goal.loop-init
 loop-init g c = record {
   seed = ap (λ (m : Made). m.seed) c.new-chain.ensures.start;
   parts = ap (λ (m : Made). m.parts) c.new-chain.ensures.start;
-  later = omega arith;
+  steady = refl;
   written = none_written c.args.seed (g.O.Sink.taken c.args.out.now);
 }
 
@@ -28,7 +28,7 @@ pub loop-preserved : goal.loop-preserved
 loop-preserved g c = record {
   seed = ap (λ (m : Made). m.seed) c.in-Ok.ensures.next ∙ c.loop.invariant.seed;
   parts = ap (λ (m : Made). m.parts) c.in-Ok.ensures.next ∙ ap (λ (n : ℕ). n + 1) c.loop.invariant.parts;
-  later = omega (arith, c.loop.invariant.later, c.write_whole.ensures.cause.later);
+  steady = c.in-Ok-write_whole.ensures.steady ∙ c.loop.invariant.steady;
   written = part_written c.args.seed c.loop.counter (g.O.Sink.taken c.args.out.now) (g.O.Sink.taken c.loop.out) (g.O.Sink.taken c.write_whole.new.sink) c.as_slice.result.now
       c.loop.invariant.written
       (c.as_slice.ensures.bytes ∙ c.in-Ok.ensures.appended ∙ ap (λ (l : List ℕ). l ++ part_bytes c.loop.chain.seed (c.loop.chain.parts + 1)) c.clear.ensures.empty
