@@ -1,7 +1,7 @@
 // Dumping a file.
 ghost use Rattle.std.specs.Prelude.{◌≡◌, ◌≤◌, [], ◌∷◌};
 ghost use Rattle.send_model.specs.Words.{Dump};
-ghost use Rattle.sx_base.specs.Calls.{Caused, IfAllTold, Wrote, Ends};
+ghost use Rattle.sx_base.specs.Calls.{Caused, IfAllTold, Wrote, Ends, SteadyIfDone};
 
 use crate::file_writing::write_file;
 use crate::lines::DumpLines;
@@ -16,6 +16,9 @@ pub fn dump<I: Inputs, O: Sink>(alloc: Global, inputs: &mut I, file: &str, out: 
     ensures same { I.told inputs.new ≡ I.told inputs.old }
     ensures later { I.faults inputs.old ≤ I.faults inputs.new }
     ensures out_later { O.faults out.old ≤ O.faults out.new }
+    ensures steady { SteadyIfDone (I.faults inputs.old) (I.faults inputs.new) result }
+    ensures ends_steady { SteadyIfDone (I.ends inputs.old) (I.ends inputs.new) result }
+    ensures out_steady { SteadyIfDone (O.faults out.old) (O.faults out.new) result }
     ensures cause { Caused (I.faults inputs.old) (I.faults inputs.new)
         (O.faults out.old) (O.faults out.new) result }
     ensures dumped { IfAllTold (I.told inputs.old) (file.now ∷ [])

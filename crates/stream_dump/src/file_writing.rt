@@ -1,8 +1,9 @@
 // Writing all commands of a file in some form.
-ghost use Rattle.std.specs.Prelude.{◌≡◌, ◌≤◌, [], ◌∷◌, true, Ok, Err};
+ghost use Rattle.std.specs.Prelude.{◌≡◌, ◌≤◌, [], ◌∷◌, true, Ok, Err, IfErr};
 ghost use Rattle.send_model.specs.Laws.{CanWrite};
 ghost use Rattle.send_model.specs.Words.{first_file};
-ghost use Rattle.sx_base.specs.Calls.{Caused, IfAllTold, Wrote};
+ghost use Rattle.sx_base.specs.Calls.{Caused, IfAllTold, Wrote, IsStop, SteadyIfDone};
+ghost use Rattle.sx_base.specs.Causes.{Steady};
 ghost use Rattle.send_commands.specs.Meaning.{meaning_of};
 ghost use Rattle.send_commands.specs.Writing.{IsWritable};
 ghost use Rattle.cmd_reader.specs.Next.{item_of};
@@ -31,6 +32,9 @@ pub fn write_file<F: ItemForm, I: Inputs, O: Sink>(
     ensures same { I.told inputs.new ≡ I.told inputs.old }
     ensures later { I.faults inputs.old ≤ I.faults inputs.new }
     ensures out_later { O.faults out.old ≤ O.faults out.new }
+    ensures steady { SteadyIfDone (I.faults inputs.old) (I.faults inputs.new) result }
+    ensures ends_steady { SteadyIfDone (I.ends inputs.old) (I.ends inputs.new) result }
+    ensures out_steady { SteadyIfDone (O.faults out.old) (O.faults out.new) result }
     ensures cause { Caused (I.faults inputs.old) (I.faults inputs.new)
         (O.faults out.old) (O.faults out.new) result }
     ensures written { IfAllTold (I.told inputs.old) (file.now ∷ [])
@@ -65,6 +69,8 @@ fn write_item<F: ItemForm, O: Sink>(
     requires writable { IsWritable item.version (meaning_of item.command) }
     requires sayable { CanWrite item.version (meaning_of item.command) }
     ensures later { O.faults out.old ≤ O.faults out.new }
+    ensures steady { Steady (O.faults out.old) (O.faults out.new) result }
+    ensures stops { IfErr result IsStop }
     ensures ends { ItemEnds F.piece gathered.old gathered.new (item_of 1 item)
         (O.taken out.old) (O.taken out.new) (O.faults out.old) (O.faults out.new) result }
 {
@@ -80,6 +86,8 @@ fn write_item<F: ItemForm, O: Sink>(
 // Writes what was gathered.
 fn send<O: Sink>(gathered: &mut Gathered, out: &mut O) -> Result<(), Outcome>
     ensures later { O.faults out.old ≤ O.faults out.new }
+    ensures steady { Steady (O.faults out.old) (O.faults out.new) result }
+    ensures stops { IfErr result IsStop }
     ensures sent { Sends gathered.old gathered.new (O.taken out.old) (O.taken out.new)
         (O.faults out.old) (O.faults out.new) result }
 {
@@ -93,6 +101,8 @@ fn send<O: Sink>(gathered: &mut Gathered, out: &mut O) -> Result<(), Outcome>
 // The outcome of a file that ends here. What was gathered is written first, but not where the inputs failed or there is no memory.
 fn finish<O: Sink>(gathered: &mut Gathered, out: &mut O, outcome: Outcome) -> Outcome
     ensures later { O.faults out.old ≤ O.faults out.new }
+    ensures steady { SteadyIfDone (O.faults out.old) (O.faults out.new) result }
+    ensures stops { IsStop outcome → IsStop result }
     ensures ends { EndsWith gathered.old.bytes outcome (O.taken out.old) (O.taken out.new)
         (O.faults out.old) (O.faults out.new) result }
 {

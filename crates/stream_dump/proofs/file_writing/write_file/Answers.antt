@@ -1,7 +1,9 @@
-use Rattle.std.proofs.Common.{refl, ap, ◌∙◌, arith}
+use Rattle.std.proofs.Common.{ℕ, refl, ap, subst, ◌∙◌, arith}
+use Rattle.sx_base.specs.Calls.{SteadyIfDone}
 use Rattle.sx_base.specs.declared.outcome.Outcome.TheVariants as ended
 use Rattle.cmd_reader.specs.Left.{Reader}
 use Rattle.cmd_reader.proofs.Aheads.{start_ahead, next_ahead}
+use Rattle.sx_base.proofs.Ended.{stopped_steady, steady_anyway}
 use Rattle.stream_dump.proofs.Standing.{unopened, stands_first, stands_next, ends_whole, ends_early, item_stops, caused_end, caused_item}
 use Rattle.stream_dump.proofs.file_writing.write_file.Goals as goal
 
@@ -13,8 +15,9 @@ loop-item-init g c =
     let fresh = c.in-Ok.ensures.start in
     record {
       same = refl;
-      later = omega arith;
-      out_later = omega arith;
+      steady = refl;
+      ends_steady = refl;
+      out_steady = refl;
       file = ap (λ (r : Reader). r.file) fresh;
       name = ap (λ (r : Reader). r.name) fresh;
       stands = stands_first g.F.ItemForm.piece (g.I.Inputs.told c.args.inputs.now) c.args.file.now c.in-Ok.reader c.new-gathered.result (g.O.Sink.taken c.args.out.now) fresh c.new-gathered.ensures.empty;
@@ -27,8 +30,9 @@ loop-item-preserved g c =
     let e = c.in-Ok-Some.ensures in
     record {
       same = e.same ∙ i.same;
-      later = omega (arith, i.later, e.later);
-      out_later = omega (arith, i.out_later, c.in_default-written.ensures.later);
+      steady = e.steady ∙ i.steady;
+      ends_steady = e.ends_steady ∙ i.ends_steady;
+      out_steady = c.in_default-written.ensures.steady ∙ i.out_steady;
       file = e.file ∙ i.file;
       name = e.name ∙ i.name;
       stands = stands_next g.F.ItemForm.piece _ _ c.args.file.now c.loop-item.reader c.next.new.self c.in-Ok-Some.field-0 c.in-Ok-Some.item c.loop-item.gathered c.write_item-written.new.gathered _ _ _ 0 0
@@ -46,7 +50,7 @@ returns-in-Err-written-clause-written g c =
 
 pub returns-in-Err-written-clause-cause : goal.returns-in-Err-written-clause-cause
 returns-in-Err-written-clause-cause g c =
-    caused_item _ _ _ (g.O.Sink.faults c.loop-item.out) _ c.in-Err-written.outcome c.loop-item.invariant.out_later c.in-Err-written.ensures.ends.0
+    caused_item _ _ _ (g.O.Sink.faults c.loop-item.out) _ c.in-Err-written.outcome (omega (arith, c.loop-item.invariant.out_steady)) c.in-Err-written.ensures.ends.0
 
 pub returns-in-Ok-None-clause-written : goal.returns-in-Ok-None-clause-written
 returns-in-Ok-None-clause-written g c =
@@ -56,7 +60,7 @@ returns-in-Ok-None-clause-written g c =
 
 pub returns-in-Ok-None-clause-cause : goal.returns-in-Ok-None-clause-cause
 returns-in-Ok-None-clause-cause g c =
-    caused_end _ _ _ (g.O.Sink.faults c.loop-item.out) _ c.loop-item.gathered.bytes ended.Done c.finish.result _ _ c.loop-item.invariant.out_later c.finish.ensures.ends tt
+    caused_end _ _ _ (g.O.Sink.faults c.loop-item.out) _ c.loop-item.gathered.bytes ended.Done c.finish.result _ _ (omega (arith, c.loop-item.invariant.out_steady)) c.finish.ensures.ends tt
 
 pub returns-in-Err-clause-written : goal.returns-in-Err-clause-written
 returns-in-Err-clause-written g c =
@@ -64,3 +68,30 @@ returns-in-Err-clause-written g c =
     ends_early g.F.ItemForm.piece _ _ c.args.file.now c.loop-item.reader c.next.new.self c.in-Err.stop c.outcome_of.result c.loop-item.gathered _ (g.O.Sink.taken c.loop-item.out) _
     (g.I.Inputs.faults c.loop-item.inputs) (g.I.Inputs.faults c.next.new.inputs) (g.O.Sink.faults c.loop-item.out) (g.O.Sink.faults c.finish-in-Err.new.out) c.finish-in-Err.result
     i.same i.name c.outcome_of.ensures.outcome c.in-Err.ensures.read c.finish-in-Err.ensures.ends i.stands
+
+pub returns-in-Ok-None-clause-steady : goal.returns-in-Ok-None-clause-steady
+returns-in-Ok-None-clause-steady g c = steady_anyway _ _ c.finish.result (c.in-Ok-None.ensures.steady ∙ c.loop-item.invariant.steady)
+
+pub returns-in-Ok-None-clause-ends_steady : goal.returns-in-Ok-None-clause-ends_steady
+returns-in-Ok-None-clause-ends_steady g c = steady_anyway _ _ c.finish.result (c.in-Ok-None.ensures.ends_steady ∙ c.loop-item.invariant.ends_steady)
+
+pub returns-in-Ok-None-clause-out_steady : goal.returns-in-Ok-None-clause-out_steady
+returns-in-Ok-None-clause-out_steady g c = subst (λ (n : ℕ). SteadyIfDone n (g.O.Sink.faults c.finish.new.out) c.finish.result) c.loop-item.invariant.out_steady c.finish.ensures.steady
+
+pub returns-in-Err-clause-steady : goal.returns-in-Err-clause-steady
+returns-in-Err-clause-steady g c = stopped_steady _ _ c.finish-in-Err.result (c.finish-in-Err.ensures.stops c.outcome_of.ensures.stops)
+
+pub returns-in-Err-written-clause-steady : goal.returns-in-Err-written-clause-steady
+returns-in-Err-written-clause-steady g c = stopped_steady _ _ c.in-Err-written.outcome c.in-Err-written.ensures.stops
+
+pub returns-in-Err-clause-ends_steady : goal.returns-in-Err-clause-ends_steady
+returns-in-Err-clause-ends_steady g c = stopped_steady _ _ c.finish-in-Err.result (c.finish-in-Err.ensures.stops c.outcome_of.ensures.stops)
+
+pub returns-in-Err-written-clause-ends_steady : goal.returns-in-Err-written-clause-ends_steady
+returns-in-Err-written-clause-ends_steady g c = stopped_steady _ _ c.in-Err-written.outcome c.in-Err-written.ensures.stops
+
+pub returns-in-Err-clause-out_steady : goal.returns-in-Err-clause-out_steady
+returns-in-Err-clause-out_steady g c = stopped_steady _ _ c.finish-in-Err.result (c.finish-in-Err.ensures.stops c.outcome_of.ensures.stops)
+
+pub returns-in-Err-written-clause-out_steady : goal.returns-in-Err-written-clause-out_steady
+returns-in-Err-written-clause-out_steady g c = stopped_steady _ _ c.in-Err-written.outcome c.in-Err-written.ensures.stops

@@ -1,16 +1,17 @@
-use Rattle.std.proofs.Common.{◌≡◌, ◌-◌, ◌≤◌}
+use Rattle.std.proofs.Common.{◌≡◌, ◌-◌}
 use Rattle.send_model.specs.Lengths.{limit}
 use Rattle.cmd_reader.specs.Places.{IfTold}
 use Rattle.cmd_reader.specs.Left.{HasAhead}
 use Rattle.stream_dump.proofs.Standing.{Stands}
 use Rattle.stream_dump.proofs.file_writing.write_file.Given as goal
 
--- What was written and gathered are the bytes of what was read; the inputs tell the same files, and no count fell.
+-- What was written and gathered are the bytes of what was read; the inputs tell the same files, and no count rose.
 abbrev pub invariant-loop-item : goal.invariant-loop-item
 invariant-loop-item g l = record {
   same : g.I.Inputs.told l.inputs ≡ g.I.Inputs.told l.fn.inputs;
-  later : g.I.Inputs.faults l.fn.inputs ≤ g.I.Inputs.faults l.inputs;
-  out_later : g.O.Sink.faults l.fn.out ≤ g.O.Sink.faults l.out;
+  steady : g.I.Inputs.faults l.inputs ≡ g.I.Inputs.faults l.fn.inputs;
+  ends_steady : g.I.Inputs.ends l.inputs ≡ g.I.Inputs.ends l.fn.inputs;
+  out_steady : g.O.Sink.faults l.out ≡ g.O.Sink.faults l.fn.out;
   file : l.reader.file ≡ 1;
   name : l.reader.name ≡ l.fn.file;
   stands : IfTold (g.I.Inputs.told l.fn.inputs) l.fn.file (Stands g.F.ItemForm.piece l.reader l.gathered (g.O.Sink.taken l.fn.out) (g.O.Sink.taken l.out));
