@@ -19,7 +19,7 @@ pub fn images_stand_for_one_store()
 {}
 
 /// An image stands for one store at most over any cells. Groups make the same store over all cells, and one group more makes of it
-/// what that group makes.
+/// what that group makes. Each transaction number in it is one of eight bytes.
 pub fn groups_make_one_store<C, D>()
     ensures one { ImageIsOneStore C }
     ensures cells { GroupsKeepCells C D }
@@ -28,7 +28,9 @@ pub fn groups_make_one_store<C, D>()
 {}
 
 /// What receiving items passes through, receiving more items does: the store itself, what each item leaves, and each part once it is
-/// complete. So it is of files. As many lines of complete parts stand whole as there are line ends.
+/// complete. So it is of files, and of what is read of them up to the limit of their lengths. Such a store has the entries at the
+/// start, and of those behind them so many complete ones, the first of those at the end. As many lines of complete parts stand whole as
+/// there are line ends, and what files print has one for each part that is complete.
 pub fn receiving_passes_states<C>()
     ensures more { MoreItemsPassMore C }
     ensures first { BeginsWithTheStore C }

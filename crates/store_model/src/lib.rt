@@ -1,5 +1,5 @@
-//! The definitions of a store: what its image stands for, what a crash may leave of it, and which answers are due over it; and
-//! the laws that tie them together.
+//! The definitions of a store: what its image stands for, what a crash may leave of it, which answers are due over it, and receives
+//! that take turns; and the laws that tie them together.
 #![tactic(auto)]
 
 mod laws;
