@@ -1,6 +1,6 @@
 // Standard output and standard error as places that take bytes.
 ghost use Rattle.std.specs.Prelude.{◌≡◌, ◌<◌, ◌≤◌, length, None, IfOk};
-ghost use Rattle.sx_base.specs.Causes.{HasCause};
+ghost use Rattle.sx_base.specs.Causes.{HasCause, Steady};
 ghost use Rattle.host_io.specs.Counting.{CountsFaults};
 
 use std::io::Write;
@@ -33,6 +33,7 @@ impl<W: Write> Sink for OutSink<W> {
         ensures bound { IfOk result (λ count. count ≤ length piece.now) }
         ensures progress { IfOk result (λ count. 0 < length piece.now → 0 < count) }
         ensures cause { HasCause self.old.faults self.new.faults result }
+        ensures steady { Steady self.old.faults self.new.faults result }
         ensures counted { CountsFaults self.old.faults self.new.faults result }
     {
         match self.stream.write(piece) {

@@ -1,7 +1,7 @@
 // Files of the system, named by their paths.
 ghost use Rattle.std.specs.Prelude.{◌≡◌, ◌≤◌, length, string_bytes, IfOk, OnOk, None};
 ghost use Rattle.sx_base.specs.Again.{FillsFrom, EndsKept, LostFor, MeetsEnd};
-ghost use Rattle.sx_base.specs.Causes.{HasCause, Rose};
+ghost use Rattle.sx_base.specs.Causes.{HasCause, Rose, Steady};
 ghost use Rattle.sx_base.specs.Outside.{GivesAt};
 ghost use Rattle.host_io.specs.Counting.{one_more, CountsFaults, CountsLosses};
 
@@ -162,6 +162,8 @@ impl<'a, R: Files> Inputs for PathInputs<'a, R> {
         ensures ends_later { EndsKept None self.old.ends self.new.ends }
         ensures ends { self.new.ends ≡ self.old.ends }
         ensures cause { HasCause self.old.faults self.new.faults result }
+        ensures steady { Steady self.old.faults self.new.faults result }
+        ensures ends_steady { Steady self.old.ends self.new.ends result }
         ensures counted { CountsFaults self.old.faults self.new.faults result }
         ensures few { length self.old.open.items ≤ 16 → length self.new.open.items ≤ 16 }
     {
@@ -181,6 +183,8 @@ impl<'a, R: Files> Inputs for PathInputs<'a, R> {
             self.new.ends result }
         ensures met { MeetsEnd name.now
             (record { name = string_bytes self.new.last_name; place = self.new.last_place }) result }
+        ensures steady { Steady self.old.faults self.new.faults result }
+        ensures ends_steady { Steady self.old.ends self.new.ends result }
         ensures counted { CountsLosses self.old.faults self.new.faults self.old.ends self.new.ends
             result }
         ensures few { length self.old.open.items ≤ 16 → length self.new.open.items ≤ 16 }

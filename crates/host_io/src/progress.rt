@@ -1,7 +1,7 @@
 // Inputs that say on a terminal how far a run is.
 ghost use Rattle.std.specs.Prelude.{◌≡◌, ◌≤◌, ◌==◌, ◌&&◌, ◌||◌, not, false, true, length, bytes_eq, string_bytes, IfOk, OnOk, OnErr};
 ghost use Rattle.sx_base.specs.Again.{LiesIn, FillsFrom, EndsKept, LostFor, MeetsEnd};
-ghost use Rattle.sx_base.specs.Causes.{HasCause};
+ghost use Rattle.sx_base.specs.Causes.{HasCause, Steady};
 ghost use Rattle.sx_base.specs.Outside.{GivesAt};
 ghost use Rattle.host_io.specs.Showing.{next_pass, next_done, next_ended};
 
@@ -136,6 +136,8 @@ impl<'a, I: Inputs, C: Clock, S: Sink> Inputs for Progress<'a, I, C, S> {
         ensures ends { EndsKept (I.told self.old.inputs)
             (I.ends self.old.inputs) (I.ends self.new.inputs) }
         ensures cause { HasCause (I.faults self.old.inputs) (I.faults self.new.inputs) result }
+        ensures steady { Steady (I.faults self.old.inputs) (I.faults self.new.inputs) result }
+        ensures ends_steady { Steady (I.ends self.old.inputs) (I.ends self.new.inputs) result }
         ensures pass { IfOk result
             (λ count. self.new.tally.pass ≡ next_pass
             (at == 0 && bytes_eq name.now (string_bytes self.old.first)) self.old.tally.ended
@@ -171,6 +173,8 @@ impl<'a, I: Inputs, C: Clock, S: Sink> Inputs for Progress<'a, I, C, S> {
             (I.faults self.old.inputs) (I.faults self.new.inputs)
             (I.ends self.old.inputs) (I.ends self.new.inputs) result }
         ensures met { MeetsEnd name.now (I.last_end self.new.inputs) result }
+        ensures steady { Steady (I.faults self.old.inputs) (I.faults self.new.inputs) result }
+        ensures ends_steady { Steady (I.ends self.old.inputs) (I.ends self.new.inputs) result }
         ensures tally { self.new.tally ≡ self.old.tally }
         ensures first { self.new.first ≡ self.old.first }
         ensures all { self.new.all ≡ self.old.all }
