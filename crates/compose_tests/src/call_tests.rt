@@ -46,25 +46,29 @@ impl Inputs for ListedInputs {
     ghost last_end = { λ s. record { name = string_bytes s.last_name; place = s.last_place } };
 
     fn read_at(&mut self, name: &str, at: u64, buf: &mut [u8]) -> Result<usize, Failed> {
-        self.faults = self.faults.saturating_add(1);
         let Ok(copy) = String::from_str(self.alloc, name) else {
+            self.faults = self.faults.saturating_add(1);
             return Err(Failed);
         };
-        let count = self.files.read_at(name, at, buf)?;
+        let Ok(count) = self.files.read_at(name, at, buf) else {
+            self.faults = self.faults.saturating_add(1);
+            return Err(Failed);
+        };
         let call = Call {
             name: copy,
             at,
             count,
         };
         if self.calls.push(call).is_err() {
+            self.faults = self.faults.saturating_add(1);
             return Err(Failed);
         }
         Ok(count)
     }
 
     fn read_again(&mut self, name: &str, at: u64, buf: &mut [u8]) -> Result<(), Lost> {
-        self.faults = self.faults.saturating_add(1);
         let Ok(copy) = String::from_str(self.alloc, name) else {
+            self.faults = self.faults.saturating_add(1);
             return Err(Lost::Failed);
         };
         if self.ended && !buf.is_empty() {
@@ -79,6 +83,7 @@ impl Inputs for ListedInputs {
             count: buf.len(),
         };
         if self.again.push(again).is_err() {
+            self.faults = self.faults.saturating_add(1);
             return Err(Lost::Failed);
         }
         for byte in buf {
