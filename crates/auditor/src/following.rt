@@ -1,5 +1,7 @@
 // Following commands: each is looked at by the guards, and then it is one step of the core.
 ghost use Rattle.std.specs.Prelude.{◌≡◌, ◌≤◌, ◌^◌, ℕ, map, None, IfOk};
+ghost use Rattle.std.specs.Option.{option_map};
+ghost use Rattle.send_model.specs.Cells.{recelled};
 ghost use Rattle.send_commands.specs.Meaning.{meaning_of};
 ghost use Rattle.clone_resolve.specs.Steps.{data_len, done_by, Answers};
 ghost use Rattle.cmd_reader.specs.Next.{item_of};
@@ -10,13 +12,14 @@ use clone_resolve::{Done, EditCore, Part};
 use cmd_reader::Item;
 use extent_map::Origin;
 use guard_rules::{Guard, look_all};
+use inode_tree::Tree;
 use send_commands::Command;
 use std::marker::Model;
 use sx_base::{Outcome, Refusal, Stop, Verdict};
 
-// The subvolumes and the part so far, seen without their cells, and the origin of every WRITE.
+/// The subvolumes and the part so far, seen without their cells, and the origin of every WRITE.
 #[derive(Drop)]
-pub(crate) struct Follower<R: Origin> {
+pub struct Follower<R: Origin> {
     core: EditCore<R>,
     part: Option<Part<R>>,
     origin: R,
@@ -36,8 +39,8 @@ impl<R: Origin> Model for Follower<R> {
 }
 
 impl<R: Origin> Follower<R> {
-    // No part yet. The origin reaches as far as the data of any command.
-    pub(crate) fn new(core: EditCore<R>, origin: R) -> Follower<R>
+    /// No part yet. The origin reaches as far as the data of any command. Takes no memory.
+    pub fn new(core: EditCore<R>, origin: R) -> Follower<R>
         requires reach { 2 ^ 18 ≤ R.reach origin }
         ensures start { result ≡ record { store = blank core; part = None } }
     {
@@ -48,8 +51,22 @@ impl<R: Origin> Follower<R> {
         }
     }
 
-    // One command.
-    fn step(&mut self, command: &Command) -> Result<Done, Stop>
+    /// The inodes and names of the part so far. Takes no memory.
+    pub fn tree(&self) -> Option<&Tree<R>>
+        ensures { option_map (λ t. recelled (λ _. tt) t.now) result
+            ≡ option_map (λ p. p.subvolume) self.now.part }
+    {
+        match &self.part {
+            Some(part) => Some(part.sub().tree()),
+            None => None,
+        }
+    }
+
+    /// One command. After a refusal it is not said what the part is.
+    ///
+    /// # Errors
+    /// The refusals of the command.
+    pub fn step(&mut self, command: &Command) -> Result<Done, Stop>
         requires short { data_len (meaning_of command.now) ≤ 2 ^ 18 }
         ensures done { IfOk result (λ done. done ≡ done_by (meaning_of command.now)) }
         ensures stepped { Answers result self.new (blank_step self.old (meaning_of command.now)) }

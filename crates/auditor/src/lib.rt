@@ -7,3 +7,4 @@ mod files;
 mod following;
 
 pub use auditing::audit;
+pub use following::Follower;

@@ -1,5 +1,5 @@
 // The tree, and what looks at it without changing it.
-ghost use Rattle.std.specs.Prelude.{◌≡◌, None, Some, Result, Ok, Err, IfOk, IfSome};
+ghost use Rattle.std.specs.Prelude.{◌≡◌, None, Some, Result, Ok, Err, IfOk, IfSome, length};
 ghost use Rattle.std.specs.Option.{option_copied, option_map};
 ghost use Rattle.std.specs.Ordering.{nat_cmp};
 ghost use Rattle.send_model.specs.Map.{named_cmp};
@@ -103,6 +103,13 @@ impl<O: Origin> Tree<O> {
     /// it stays. Takes no memory.
     pub fn copied(&self) -> u64 {
         self.copied
+    }
+
+    /// How many names all directories have. Takes no memory.
+    pub fn name_count(&self) -> u64
+        ensures { result ≡ length self.now.names }
+    {
+        self.names.len()
     }
 
     /// The number that the next new inode gets. Takes no memory.
@@ -216,6 +223,13 @@ impl<O: Origin> Tree<O> {
         self.names.get(place).copied()
     }
 
+    /// What a name in a directory leads to. Takes no memory.
+    pub fn name_in(&self, directory: u64, name: &[u8]) -> Option<u64>
+        ensures { result ≡ named self.now directory name.now }
+    {
+        self.named(&Place::new(directory, name))
+    }
+
     // Whether there is a directory of that number.
     #[tactic(auto, unfolding(send_model::specs::Subvolume::is_directory))]
     pub(crate) fn is_directory(&self, ino: u64) -> bool
@@ -230,9 +244,9 @@ impl<O: Origin> Tree<O> {
         }
     }
 
-    // Whether there is a file of that number.
+    /// Whether there is a regular file of that number. Takes no memory.
     #[tactic(auto, unfolding(send_model::specs::Subvolume::is_file))]
-    pub(crate) fn is_file(&self, ino: u64) -> bool
+    pub fn is_file(&self, ino: u64) -> bool
         ensures { result ≡ is_file self.now ino }
     {
         match self.inodes.get(&ino) {

@@ -16,8 +16,8 @@ use cmd_reader::{CmdReader, Item, outcome_of};
 use std::alloc::Global;
 use sx_base::{Inputs, Outcome, Sink, write_whole};
 
-// How many bytes are gathered before they are written.
-const PIECE: usize = 65_536;
+/// How many bytes are gathered before they are written.
+pub const PIECE: usize = 65_536;
 
 /// Writes all commands of the file that can be read, in this form. The file is read once, in order. `Done` says that it is whole, and
 /// `Refused` gives its first fault; with both `out` got the bytes of all commands before, and with every other outcome a front part
@@ -83,8 +83,11 @@ fn write_item<F: ItemForm, O: Sink>(
     Ok(())
 }
 
-// Writes what was gathered.
-fn send<O: Sink>(gathered: &mut Gathered, out: &mut O) -> Result<(), Outcome>
+/// Writes what was gathered.
+///
+/// # Errors
+/// `OutputFault` where the output failed.
+pub fn send<O: Sink>(gathered: &mut Gathered, out: &mut O) -> Result<(), Outcome>
     ensures later { O.faults out.old ≤ O.faults out.new }
     ensures steady { Steady (O.faults out.old) (O.faults out.new) result }
     ensures stops { IfErr result IsStop }
@@ -98,15 +101,16 @@ fn send<O: Sink>(gathered: &mut Gathered, out: &mut O) -> Result<(), Outcome>
     Ok(())
 }
 
-// The outcome of a file that ends here. What was gathered is written first, but not where the inputs failed or there is no memory.
-fn finish<O: Sink>(gathered: &mut Gathered, out: &mut O, outcome: Outcome) -> Outcome
+/// The outcome of a call that ends here. What was gathered is written first, but not where an object of the outside failed or there
+/// is no memory.
+pub fn finish<O: Sink>(gathered: &mut Gathered, out: &mut O, outcome: Outcome) -> Outcome
     ensures later { O.faults out.old ≤ O.faults out.new }
     ensures steady { SteadyIfDone (O.faults out.old) (O.faults out.new) result }
     ensures stops { IsStop outcome → IsStop result }
     ensures ends { EndsWith gathered.old.bytes outcome (O.taken out.old) (O.taken out.new)
         (O.faults out.old) (O.faults out.new) result }
 {
-    if let Outcome::InputFault | Outcome::NoMemory = outcome {
+    if let Outcome::InputFault | Outcome::OutputFault | Outcome::NoMemory = outcome {
         return outcome;
     }
     match send(gathered, out) {

@@ -12,5 +12,6 @@ mod numbers;
 mod values;
 
 pub use dumping::dump;
-pub use file_writing::write_file;
+pub use file_writing::{PIECE, finish, send, write_file};
+pub use gathering::Gathered;
 pub use item_form::ItemForm;

@@ -1,2 +1,1 @@
 pub mod AskedFrames
-pub mod Exports

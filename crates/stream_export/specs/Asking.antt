@@ -1,10 +1,9 @@
--- What the real `btrfs receive` asks for, as the code has it, and the bytes that a command adds to an exported file.
-use Rattle.std.specs.Prelude.{◌≡◌, ℕ, Bool, List, [], ◌∷◌, ◌++◌, Option, None, Some}
+-- What the real `btrfs receive` asks for, as the code has it.
+use Rattle.std.specs.Prelude.{◌≡◌, List, [], ◌∷◌, Option, None, Some}
 use Rattle.send_model.specs.Attribute.{CTIME, Moment, field_bytes}
 use Rattle.send_model.specs.Command.{Command, Kind, UTIMES, kind_of}
 use Rattle.send_model.specs.Spelling.{Attribute}
-use Rattle.send_model.specs.Reading.{Item}
-use Rattle.send_model.specs.Receivable.{number_zero, asked_for, receivable, header_before}
+use Rattle.send_model.specs.Receivable.{number_zero, asked_for}
 use Rattle.send_commands.specs.Meaning.{kind_meant, time_of}
 use Rattle.stream_export.specs.declared.asked.Asked.{Asked}
 use Rattle.stream_export.specs.declared.asked.Asked.TheVariants as made
@@ -23,7 +22,3 @@ kind_asked (made.ChangeTime time) = UTIMES
 abbrev pub AskedIs : Option Asked → Command → Type 0
 AskedIs None command = asked_for command ≡ []
 AskedIs (Some asked) command = (kind_of command ≡ kind_asked asked) × (asked_for command ≡ attribute_of asked ∷ [])
-
--- The header of a stream where the command begins one, and its receivable spelling.
-abbrev pub export_bytes : Bool → Item → List ℕ
-export_bytes begins item = header_before begins item.version ++ receivable item.version item.command

@@ -1,28 +1,38 @@
-// Exporting a file.
-ghost use Rattle.std.specs.Prelude.{◌≡◌, ◌≤◌, [], ◌∷◌};
+// Exporting files.
+ghost use Rattle.std.specs.Prelude.{◌≡◌, ◌≤◌, ◌^◌, ℕ, map};
+ghost use Rattle.std.specs.String.{string_bytes};
+ghost use Rattle.send_model.specs.Store as meant;
 ghost use Rattle.send_model.specs.Words.{Export};
 ghost use Rattle.sx_base.specs.Calls.{Caused, IfAllTold, Wrote, Ends};
+ghost use Rattle.auditor.specs.Following.{HaveSameShape};
 
-use crate::receivable_form::ReceivableForm;
+use crate::exporter::Exporter;
+use crate::files::export_files;
+use clone_resolve::EditCore;
+use extent_map::Origin;
 use std::alloc::Global;
-use stream_dump::write_file;
+use stream_dump::{Gathered, finish};
 use sx_base::{Inputs, Outcome, Sink};
 
-/// Writes the streams of the file in the receivable spelling, which the real `btrfs receive` takes, each with its own version. The
-/// file is read once, in order. `Done` says that it is whole, and `Refused` gives its first fault; with both `out` got all commands
-/// before, and with every other outcome a front part of them: END is written only where the file has it. `InputTooLong` comes
-/// exactly where the file is too long.
-#[tactic(auto, using(crate::proofs::Exports::was_exported))]
-pub fn export<I: Inputs, O: Sink>(alloc: Global, inputs: &mut I, file: &str, out: &mut O) -> Outcome
-    ensures same { I.told inputs.new ≡ I.told inputs.old }
-    ensures later { I.faults inputs.old ≤ I.faults inputs.new }
-    ensures out_later { O.faults out.old ≤ O.faults out.new }
-    ensures cause { Caused (I.faults inputs.old) (I.faults inputs.new)
-        (O.faults out.old) (O.faults out.new) result }
-    ensures exported { IfAllTold (I.told inputs.old) (file.now ∷ [])
-        (λ files. Wrote (O.taken out.old) (O.taken out.new)
-        (λ written. Ends (Export 1) [] files result written)) }
+/// Steps the streams in the files over the subvolumes of `core`, receives nothing, and writes each command that is taken in the
+/// receivable spelling, each stream with its own version, and separators between them. The files are read once, in order and one
+/// command at a time, so a pipe serves. `Refused` gives the first command that would be refused, or the first fault; then, and with
+/// `Done`, `out` got all commands before, and with every other outcome a front part of them. `blank` is the origin of every WRITE;
+/// nobody looks at it.
+pub fn export<R: Origin, I: Inputs, O: Sink>(
+    alloc: Global,
+    core: EditCore<R>,
+    blank: R,
+    inputs: &mut I,
+    files: &[String],
+    out: &mut O,
+) -> Outcome
 {
-    let mut form = ReceivableForm::new(alloc);
-    write_file(alloc, &mut form, inputs, file, out)
+    let mut exporter = Exporter::new(alloc, core, blank);
+    let mut gathered = Gathered::new(alloc);
+    let outcome = match export_files(alloc, &mut exporter, &mut gathered, inputs, files, out) {
+        Ok(()) => Outcome::Done,
+        Err(outcome) => outcome,
+    };
+    finish(&mut gathered, out, outcome)
 }

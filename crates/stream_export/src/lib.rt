@@ -1,10 +1,13 @@
-//! Streams as the real `btrfs receive` takes them. `send_model`'s law `receivable_spelling_is_read_back` says what an exported file
-//! keeps: a whole file is exported as a whole file with the same commands in the same streams, and so what composing promises of a
-//! stream that it wrote holds of that stream exported (`ExportedIsSame`, `ExportedIsComposed`).
+//! Streams as the real `btrfs receive` takes them and makes of them what they say: in the receivable spelling, and with separators
+//! where it would write to a file that the path does not name any more. `send_model`'s law `exported_streams_are_the_same` says what
+//! an exported stream keeps (`ExportedIsSame`).
 #![tactic(auto)]
 
 mod asked;
+mod exporter;
 mod exporting;
-mod receivable_form;
+mod files;
+mod separators;
+mod spelling;
 
 pub use exporting::export;

@@ -4,7 +4,7 @@ use Rattle.send_model.specs.Spelling.{attribute_bytes, frame_of, canonical}
 use Rattle.send_commands.specs.Meaning.{meaning_of}
 use Rattle.stream_export.specs.Asking.{attribute_of, kind_asked}
 use Rattle.stream_export.proofs.AskedFrames.{frame_long, frame_short, tail_short, plain_is, asked_is}
-use Rattle.stream_export.proofs.receivable_form.ReceivableForm.push_receivable.Goals as goal
+use Rattle.stream_export.proofs.spelling.push_receivable.Goals as goal
 
 pub returns-in_default-clause-added : goal.returns-in_default-clause-added
 returns-in_default-clause-added c =

@@ -5,8 +5,8 @@ use Rattle.tlv_frame.specs.Frame.{Begun, head_room}
 use Rattle.stream_export.specs.Asking.{attribute_of, kind_asked}
 use Rattle.sx_base.proofs.KeptFronts.{kept_then}
 use Rattle.stream_export.proofs.AskedFrames.{room_is, framed_is}
-use Rattle.stream_export.proofs.receivable_form.push_frame.Goals.{In_ok-push_all}
-use Rattle.stream_export.proofs.receivable_form.push_frame.Goals as goal
+use Rattle.stream_export.proofs.spelling.push_frame.Goals.{In_ok-push_all}
+use Rattle.stream_export.proofs.spelling.push_frame.Goals as goal
 
 -- Where the frame begins, and what stands there before its header is put in.
 unfinished : (c : In_ok-push_all) → (c.push_asked.new.writer.start ≡ length c.args.to.now)

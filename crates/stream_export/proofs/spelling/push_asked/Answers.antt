@@ -3,7 +3,7 @@ use Rattle.send_model.specs.Attribute.{CTIME}
 use Rattle.send_model.specs.Spelling.{attribute_bytes}
 use Rattle.stream_export.specs.declared.asked.Asked.{Asked}
 use Rattle.stream_export.specs.Asking.{attribute_of}
-use Rattle.stream_export.proofs.receivable_form.push_asked.Goals as goal
+use Rattle.stream_export.proofs.spelling.push_asked.Goals as goal
 
 pub returns-in-ChangeTime-clause-appended : goal.returns-in-ChangeTime-clause-appended
 returns-in-ChangeTime-clause-appended c =

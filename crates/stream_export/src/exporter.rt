@@ -1,0 +1,167 @@
+// The part as it stands, and the file that the receiver has open: what goes before each command.
+ghost use Rattle.std.specs.Prelude.{◌≡◌, ◌≤◌, ◌^◌, ◌++◌, OnOk};
+ghost use Rattle.send_model.specs.Opened.{written_path};
+ghost use Rattle.send_model.specs.Exported.{exporting};
+ghost use Rattle.send_model.specs.Laws.{CanWrite};
+ghost use Rattle.send_commands.specs.Meaning.{meaning_of};
+ghost use Rattle.send_commands.specs.Writing.{IsWritable};
+ghost use Rattle.clone_resolve.specs.Steps.{data_len};
+ghost use Rattle.auditor.specs.Following.{blank};
+ghost use Rattle.cmd_reader.specs.Next.{item_of};
+ghost use Rattle.stream_export.specs.Exporting.{export_bytes, opened_for, found_in};
+ghost use Rattle.stream_export.specs.Steps.{Takes};
+ghost use Rattle.sx_base.specs.Bytes.{IsFront};
+
+use crate::separators::{free_name, push_link, push_root_times, push_touch, push_unlink};
+use crate::spelling::push_receivable;
+use auditor::Follower;
+use clone_resolve::EditCore;
+use cmd_reader::Item;
+use extent_map::Origin;
+use inode_tree::Tree;
+use send_commands::Command;
+use std::alloc::{AllocError, Global};
+use std::marker::Model;
+use sx_base::{Blob, Stop};
+use tlv_frame::StreamHead;
+
+// The part so far, and which file the receiver has open.
+#[derive(Drop)]
+pub(crate) struct Exporter<R: Origin> {
+    alloc: Global,
+    follower: Follower<R>,
+    // The inode that is open, if one is, and the path by which it was opened.
+    ino: Option<u64>,
+    path: Blob,
+    // The path that was open before it.
+    other: Blob,
+    // Room for the canonical frame of the command at hand.
+    room: Blob,
+}
+
+impl<R: Origin> Exporter<R> {
+    // Nothing is open, before the first command. The origin reaches as far as the data of any command.
+    pub(crate) fn new(alloc: Global, core: EditCore<R>, origin: R) -> Exporter<R>
+    {
+        Exporter {
+            alloc,
+            follower: Follower::new(core, origin),
+            ino: None,
+            path: Blob::new(alloc),
+            other: Blob::new(alloc),
+            room: Blob::new(alloc),
+        }
+    }
+
+    // One command: it is taken and its bytes are appended, or nothing is.
+    pub(crate) fn take(&mut self, begins: bool, item: &Item, to: &mut Blob) -> Result<(), Stop>
+    {
+        let start = to.as_slice().len();
+        let Ok(()) = self.push_item(begins, item, to) else {
+            return Err(Stop::NoMemory);
+        };
+        match self.follower.step(&item.command) {
+            Ok(_) => Ok(()),
+            Err(stop) => {
+                to.cut(start);
+                Err(stop)
+            }
+        }
+    }
+
+    // Appends the bytes of a command, and opens the file that it writes to.
+    fn push_item(&mut self, begins: bool, item: &Item, to: &mut Blob) -> Result<(), AllocError>
+    {
+        if begins {
+            let header = StreamHead {
+                version: item.version,
+            };
+            to.push_all(&header.bytes())?;
+        }
+        self.push_before(&item.command, item.version, to)?;
+        push_receivable(&item.command, item.version, &mut self.room, to)
+    }
+
+    // Appends what goes before a command, and opens the file that it writes to.
+    fn push_before(
+        &mut self,
+        command: &Command,
+        version: u32,
+        to: &mut Blob,
+    ) -> Result<(), AllocError>
+    {
+        match command {
+            Command::Write { path, .. } => self.open(path.as_slice(), version, to),
+            Command::Clone { path, .. } => self.open(path.as_slice(), version, to),
+            Command::Fallocate { path, .. } => self.open(path.as_slice(), version, to),
+            Command::Subvol { .. } | Command::Snapshot { .. } | Command::End => {
+                self.ino = None;
+                Ok(())
+            }
+            _ => Ok(()),
+        }
+    }
+
+    // Opens the file that a path names, with a separator in front where another file is open by this path.
+    fn open(&mut self, path: &[u8], version: u32, to: &mut Blob) -> Result<(), AllocError>
+    {
+        let Some(tree) = self.follower.tree() else {
+            return self.open_anew(path, None);
+        };
+        let found = tree.find(path).ok();
+        let Some(opened) = self.ino else {
+            return self.open_anew(path, found);
+        };
+        if self.path.as_slice() != path {
+            return self.open_anew(path, found);
+        }
+        let Some(now) = found else {
+            return Ok(());
+        };
+        if now != opened {
+            push_separator(self.alloc, tree, self.other.as_slice(), path, version, to)?;
+            self.ino = Some(now);
+        }
+        Ok(())
+    }
+
+    // Opens a file by a path that is not open; the path that was open is the one before it.
+    fn open_anew(&mut self, path: &[u8], ino: Option<u64>) -> Result<(), AllocError>
+    {
+        if self.ino.is_some() {
+            std::mem::swap(&mut self.path, &mut self.other);
+        }
+        self.path.clear();
+        self.path.push_all(path)?;
+        self.ino = ino;
+        Ok(())
+    }
+}
+
+// Appends commands that change nothing and make the receiver open another path.
+fn push_separator<R: Origin>(
+    alloc: Global,
+    tree: &Tree<R>,
+    other: &[u8],
+    path: &[u8],
+    version: u32,
+    to: &mut Blob,
+) -> Result<(), AllocError>
+{
+    if other != path && names_file(tree, other) {
+        return push_touch(other, version, to);
+    }
+    let name = free_name(alloc, tree)?;
+    push_link(name.as_slice(), path, version, to)?;
+    push_touch(name.as_slice(), version, to)?;
+    push_unlink(name.as_slice(), version, to)?;
+    push_root_times(tree, version, to)
+}
+
+// Whether a path names a regular file.
+fn names_file<R: Origin>(tree: &Tree<R>, path: &[u8]) -> bool {
+    match tree.find(path) {
+        Ok(ino) => tree.is_file(ino),
+        Err(_) => false,
+    }
+}
