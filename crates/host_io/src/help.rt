@@ -5,7 +5,7 @@ btrsend checks Btrfs send streams, merges a chain of them into one, and prints t
 
 usage: btrsend audit [GUARD..] none FILE..
        btrsend compose none FILE.. > MERGED
-       btrsend export FILE > STREAM
+       btrsend export none FILE.. > STREAM
        btrsend dump FILE
        btrsend gen COUNT SEED > CHAIN
        btrsend trial COUNT SEED
@@ -17,7 +17,9 @@ usage: btrsend audit [GUARD..] none FILE..
             stream, and each later part is an incremental one on the part before. A clone within a part stays one;
             what a clone takes from an earlier part is written as bytes, which are read again. Each FILE is read
             twice, so it can not be a pipe, and must not change meanwhile
-  export    writes the streams of FILE in the spelling that `btrfs receive` takes; what `compose` writes is not
+  export    writes the streams of all FILEs for `btrfs receive`, up to the first command that `audit` would refuse: in
+            the spelling that it takes, and with commands in between that change nothing and make it open a file anew
+            where it would write on to one that a path does not name any more. Each FILE is read once
   dump      prints the commands of FILE, a line each
   gen       writes a lawful chain of COUNT parts, 1 to 4096, that SEED gives. Each part after the first has a clone
   trial     composes that chain in memory and writes `trial PARTS COMMANDS IN OUT CLONES REDIRECTED`: of the chain its
@@ -35,7 +37,7 @@ A full stream and two incremental ones, checked, merged and restored:
   btrfs send -p /snapshots/tuesday /snapshots/wednesday > third
   btrsend audit none full second third
   btrsend compose none full second third > merged
-  btrsend export merged | btrfs receive /restored
+  btrsend export none merged | btrfs receive /restored
 
 WARNING: where a path of the chain names another file later (a file saved by renaming, a rotated log), `btrfs receive`
 silently makes wrong or empty files of a merged stream. Receive such a chain stream by stream.

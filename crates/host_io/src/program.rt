@@ -114,8 +114,8 @@ fn files_of(words: &[String]) -> &[String] {
         return &[];
     };
     match word.as_str() {
-        "audit" | "compose" => behind_none(&words[1..]),
-        "export" | "dump" => &words[1..],
+        "audit" | "compose" | "export" => behind_none(&words[1..]),
+        "dump" => &words[1..],
         _ => &[],
     }
 }

@@ -79,16 +79,16 @@ module _ (old new : Option (List ℕ)) (files : List (List ℕ)) where
   dumps at ended.OutputFault w = w
   dumps at ended.NoMemory w = w
 
-  pub exports : (at : ℕ) (outcome : Outcome) → Wrote old new (λ written. Ends (Export 1) [] files outcome written) → Wrote old new (λ written. Ends (Export at) [] files outcome written)
+  pub exports : (store at : ℕ) (outcome : Outcome) → Wrote old new (λ written. Ends (Export 0 0) [] files outcome written) → Wrote old new (λ written. Ends (Export store at) [] files outcome written)
   unfolding due whole_of
-  exports at ended.Done w = w
-  exports at (ended.Refused verdict) w = w
-  exports at (ended.InputTooLong file) w = w
-  exports at (ended.TooMuch sum) w = w
-  exports at (ended.InputChanged file place) w = w
-  exports at ended.InputFault w = w
-  exports at ended.OutputFault w = w
-  exports at ended.NoMemory w = w
+  exports store at ended.Done w = w
+  exports store at (ended.Refused verdict) w = w
+  exports store at (ended.InputTooLong file) w = w
+  exports store at (ended.TooMuch sum) w = w
+  exports store at (ended.InputChanged file place) w = w
+  exports store at ended.InputFault w = w
+  exports store at ended.OutputFault w = w
+  exports store at ended.NoMemory w = w
 
 -- What follows of files whose names are given in another way.
 pub following : (told : Option (List (List ℕ × List ℕ))) (names others : List (List ℕ)) (P Q : List (List ℕ) → Type 0) → names ≡ others
@@ -160,7 +160,7 @@ module _ (ends_before ends_now inputs_before inputs_now out_before out_now : ℕ
   again (Compose store files) outcome w = w
   again (Audit guards store files) outcome w = once outcome w
   again (Dump file) outcome w = once outcome w
-  again (Export file) outcome w = once outcome w
+  again (Export store files) outcome w = once outcome w
   again (Gen count seed) outcome w = once outcome w
   again (Trial count seed) outcome w = once outcome w
 
@@ -211,7 +211,7 @@ module _ (ends_before ends_now inputs_before inputs_now out_before out_now : ℕ
       of_compose ended.NoMemory p = tt
   composing_alone (Audit guards store files) outcome P given w = not_once outcome P w
   composing_alone (Dump file) outcome P given w = not_once outcome P w
-  composing_alone (Export file) outcome P given w = not_once outcome P w
+  composing_alone (Export store files) outcome P given w = not_once outcome P w
   composing_alone (Gen count seed) outcome P given w = not_once outcome P w
   composing_alone (Trial count seed) outcome P given w = not_once outcome P w
 

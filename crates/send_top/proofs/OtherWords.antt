@@ -25,14 +25,14 @@ none_asked word words compose audit dump export gen trial =
     let all : List (List ℕ) = word ∷ words in
     let from_trial : Option Request = if is_word (codes "trial") word then count_and_seed Trial words else None in
     let from_gen : Option Request = if is_word (codes "gen") word then count_and_seed Gen words else from_trial in
-    let from_export : Option Request = if is_word (codes "export") word then one_file Export words else from_gen in
+    let from_export : Option Request = if is_word (codes "export") word then store_and_files Export 1 words else from_gen in
     let from_dump : Option Request = if is_word (codes "dump") word then one_file Dump words else from_export in
     let from_audit : Option Request = if is_word (codes "audit") word then guards_and_files 1 words else from_dump in
     ap (if_answered all) (
     passed (bytes_eq word (codes "compose")) (store_and_files Compose 1 words) from_audit (differ word (codes "compose") compose)
     ∙ passed (bytes_eq word (codes "audit")) (guards_and_files 1 words) from_dump (differ word (codes "audit") audit)
     ∙ passed (bytes_eq word (codes "dump")) (one_file Dump words) from_export (differ word (codes "dump") dump)
-    ∙ passed (bytes_eq word (codes "export")) (one_file Export words) from_gen (differ word (codes "export") export)
+    ∙ passed (bytes_eq word (codes "export")) (store_and_files Export 1 words) from_gen (differ word (codes "export") export)
     ∙ passed (bytes_eq word (codes "gen")) (count_and_seed Gen words) from_trial (differ word (codes "gen") gen)
     ∙ passed (bytes_eq word (codes "trial")) (count_and_seed Trial words) None (differ word (codes "trial") trial))
 

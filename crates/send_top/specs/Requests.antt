@@ -16,7 +16,7 @@ abbrev pub is_answered : List (List ℕ) → meant.Request → Bool
 is_answered words (Compose store files) = is_none_at words store
 is_answered words (Audit guards store files) = is_none_at words store
 is_answered words (Dump file) = true
-is_answered words (Export file) = true
+is_answered words (Export store files) = is_none_at words store
 is_answered words (Gen count seed) = true
 is_answered words (Trial count seed) = true
 
@@ -33,7 +33,7 @@ abbrev pub specs_of : meant.Request → List GuardSpec
 specs_of (Compose store files) = []
 specs_of (Audit guards store files) = guards
 specs_of (Dump file) = []
-specs_of (Export file) = []
+specs_of (Export store files) = []
 specs_of (Gen count seed) = []
 specs_of (Trial count seed) = []
 
@@ -67,7 +67,7 @@ abbrev pub guard_words : List (List ℕ) → Request → List (List ℕ)
 guard_words words (made.Compose store files) = []
 guard_words words (made.Audit store files) = before_store words store
 guard_words words (made.Dump file) = []
-guard_words words (made.Export file) = []
+guard_words words (made.Export store files) = []
 guard_words words (made.Gen count seed) = []
 guard_words words (made.Trial count seed) = []
 
@@ -76,7 +76,7 @@ abbrev pub request_meant : List (List ℕ) → Request → meant.Request
 request_meant words (made.Compose store files) = Compose store files
 request_meant words (made.Audit store files) = Audit (guards_in (before_store words store)) store files
 request_meant words (made.Dump file) = Dump file
-request_meant words (made.Export file) = Export file
+request_meant words (made.Export store files) = Export store files
 request_meant words (made.Gen count seed) = Gen count seed
 request_meant words (made.Trial count seed) = Trial count seed
 
@@ -85,7 +85,7 @@ abbrev pub names_asked : meant.Request → List (List ℕ) → List (List ℕ)
 names_asked (Compose store files) words = drop files words
 names_asked (Audit guards store files) words = drop files words
 names_asked (Dump file) words = slice_index_or words file [] ∷ []
-names_asked (Export file) words = slice_index_or words file [] ∷ []
+names_asked (Export store files) words = drop files words
 names_asked (Gen count seed) words = []
 names_asked (Trial count seed) words = []
 
@@ -94,6 +94,6 @@ abbrev pub IsWithin : ℕ → Request → Type 0
 IsWithin count (made.Compose store files) = files < count
 IsWithin count (made.Audit store files) = (1 ≤ store) × (store + 1 ≡ files) × (files < count)
 IsWithin count (made.Dump file) = file < count
-IsWithin count (made.Export file) = file < count
+IsWithin count (made.Export store files) = files < count
 IsWithin count (made.Gen number seed) = (1 ≤ number) × (number ≤ 4_096)
 IsWithin count (made.Trial number seed) = (1 ≤ number) × (number ≤ 4_096)

@@ -29,7 +29,7 @@ abbrev pub EndCaused : Request → (ends_before ends_now inputs_before inputs_no
 EndCaused (Compose store files) ends_before ends_now inputs_before inputs_now out_before out_now outcome = CausedAgain ends_before ends_now inputs_before inputs_now out_before out_now outcome
 EndCaused (Audit guards store files) ends_before ends_now inputs_before inputs_now out_before out_now outcome = Caused inputs_before inputs_now out_before out_now outcome
 EndCaused (Dump file) ends_before ends_now inputs_before inputs_now out_before out_now outcome = Caused inputs_before inputs_now out_before out_now outcome
-EndCaused (Export file) ends_before ends_now inputs_before inputs_now out_before out_now outcome = Caused inputs_before inputs_now out_before out_now outcome
+EndCaused (Export store files) ends_before ends_now inputs_before inputs_now out_before out_now outcome = Caused inputs_before inputs_now out_before out_now outcome
 EndCaused (Gen count seed) ends_before ends_now inputs_before inputs_now out_before out_now outcome = Caused inputs_before inputs_now out_before out_now outcome
 EndCaused (Trial count seed) ends_before ends_now inputs_before inputs_now out_before out_now outcome = Caused inputs_before inputs_now out_before out_now outcome
 

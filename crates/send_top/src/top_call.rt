@@ -146,7 +146,10 @@ fn end_of<I: Inputs, O: Sink>(
             audit(alloc, core, Nowhere, inputs, names, guards, out)
         }
         Request::Dump { file } => dump(alloc, inputs, name_at(words, file), out),
-        Request::Export { file } => export(alloc, inputs, name_at(words, file), out),
+        Request::Export { files, .. } => {
+            let core = EditCore::new(alloc);
+            export(alloc, core, Nowhere, inputs, names_from(words, files), out)
+        }
         Request::Gen { count, seed } => write_chain(alloc, count, seed, out),
         Request::Trial { count, seed } => write_trial(alloc, count, seed, out),
     }

@@ -31,10 +31,12 @@ pub enum Request {
         /// The place of the file.
         file: usize,
     },
-    /// The streams of a file are to be written as the real receiver asks for.
+    /// The streams of some files are to be written as the real receiver makes them right, over a store.
     Export {
-        /// The place of the file.
-        file: usize,
+        /// The place of the store.
+        store: usize,
+        /// The place of the first file. All words from there on are files.
+        files: usize,
     },
     /// A lawful chain is to be made from a number.
     Gen {
@@ -158,19 +160,22 @@ fn read_dump(words: &[String]) -> Option<Request>
     Some(Request::Dump { file: 1 })
 }
 
-// `export FILE`
+// `export STORE FILE..`
 fn read_export(words: &[String]) -> Option<Request>
     ensures meaning { option_map (request_meant (map string_bytes words.now)) result
         ≡ if_answered (map string_bytes words.now)
-        (one_file Export (drop 1 (map string_bytes words.now))) }
+        (store_and_files Export 1 (drop 1 (map string_bytes words.now))) }
     ensures within { IfSome result (IsWithin (length words.now)) }
     ensures guards { IfSome result
         (λ request. AreGuardWords (guard_words (map string_bytes words.now) request)) }
 {
-    let [_, _] = words else {
+    let [_, store, _, ..] = words else {
         return None;
     };
-    Some(Request::Export { file: 1 })
+    if store.as_str() == NO_STORE {
+        return Some(Request::Export { store: 1, files: 2 });
+    }
+    None
 }
 
 // `gen COUNT SEED`

@@ -11,7 +11,7 @@ use Rattle.send_model.specs.Words.{first_file}
 use Rattle.send_model.specs.Lengths.{limit, only_ends}
 use Rattle.send_model.proofs.Fronts.{is_front, part_front}
 use Rattle.sx_base.specs.Causes.{Rose}
-use Rattle.sx_base.specs.Outside.{file_at}
+use Rattle.sx_base.specs.Outside.{file_at, AppendsPart}
 use Rattle.sx_base.specs.Refusals.{refusal_of, verdict_meant}
 use Rattle.sx_base.specs.declared.outcome.Verdict.{Verdict}
 use Rattle.sx_base.specs.declared.outcome.Outcome.{Outcome}
@@ -110,12 +110,24 @@ pub unopened : (piece : Bool → Item → List ℕ) (told : Option (List (List �
 unopened piece None name taken = tt
 unopened piece (Some files) name taken = ([], Appends-nil taken, is_front (written_of piece (file_at files name)) [] (written_of piece (file_at files name)) refl)
 
+-- What is written in the end is all that is gathered, or nothing.
+part_of_all : (outcome : Outcome) (bytes : List ℕ) (old new : Option (List ℕ)) → AppendsPart old new (last_bytes outcome bytes) → AppendsPart old new bytes
+part_of_all ended_by.InputFault bytes old new (count, less, appends) = absurd (omega (arith, less))
+part_of_all ended_by.OutputFault bytes old new (count, less, appends) = absurd (omega (arith, less))
+part_of_all ended_by.NoMemory bytes old new (count, less, appends) = absurd (omega (arith, less))
+part_of_all ended_by.Done bytes old new part = part
+part_of_all (ended_by.Refused verdict) bytes old new part = part
+part_of_all (ended_by.InputTooLong file) bytes old new part = part
+part_of_all (ended_by.TooMuch sum) bytes old new part = part
+part_of_all (ended_by.InputChanged file place) bytes old new part = part
+
 finished : (piece : Bool → Item → List ℕ) (reader : Reader) (gathered : Gathered) (taken_old taken_mid taken_now : Option (List ℕ)) (before now : ℕ) (outcome result : Outcome) (bytes : List ℕ) (s : Stands piece reader gathered taken_old taken_mid bytes)
     → EndsWith gathered.bytes outcome taken_mid taken_now before now result → WritesFile piece bytes outcome (s.sent ++ last_bytes outcome gathered.bytes) → Answered piece taken_old taken_now result bytes
 finished piece reader gathered taken_old taken_mid taken_now before now outcome result bytes s (inl (is, appends)) due =
     subst (λ (x : Outcome). Answered piece taken_old taken_now x bytes) (sym is)
     (s.sent ++ last_bytes outcome gathered.bytes, Appends-trans taken_old taken_mid taken_now s.sent (last_bytes outcome gathered.bytes) s.appends appends, due)
-finished piece reader gathered taken_old taken_mid taken_now before now outcome result bytes s (inr (is, rose, part)) due =
+finished piece reader gathered taken_old taken_mid taken_now before now outcome result bytes s (inr (is, rose, last)) due =
+    let part = part_of_all outcome gathered.bytes taken_mid taken_now last in
     subst (λ (x : Outcome). Answered piece taken_old taken_now x bytes) (sym is) (
       s.sent ++ take part.0 gathered.bytes,
       Appends-trans taken_old taken_mid taken_now s.sent (take part.0 gathered.bytes) s.appends part.2,

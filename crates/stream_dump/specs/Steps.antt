@@ -58,4 +58,4 @@ last_bytes (ended.InputChanged file place) bytes = bytes
 abbrev pub EndsWith : List ℕ → Outcome → Option (List ℕ) → Option (List ℕ) → (before now : ℕ) → Outcome → Type 0
 EndsWith bytes outcome taken_old taken_now before now result =
     ((result ≡ outcome) × Appends taken_old taken_now (last_bytes outcome bytes))
-    ⊎ ((result ≡ ended.OutputFault) × Rose before now × AppendsPart taken_old taken_now bytes)
+    ⊎ ((result ≡ ended.OutputFault) × Rose before now × AppendsPart taken_old taken_now (last_bytes outcome bytes))

@@ -1,1 +1,7 @@
 pub mod AskedFrames
+pub mod Going
+pub mod OneFile
+pub mod AllFiles
+pub mod Answering
+pub mod Opening
+pub mod Frames

@@ -1,15 +1,14 @@
 -- What is exported over subvolumes whose cells carry nothing: no separator and no step looks at cells. This program's own.
-use Rattle.std.specs.Prelude.{◌≡◌, ℕ, Bool, false, List, [], ◌∷◌, ◌++◌, Option, None, Some, Result, Ok, Err}
-use Rattle.send_model.specs.Refusal.{Refusal}
+use Rattle.std.specs.Prelude.{◌≡◌, ℕ, Bool, List, [], ◌∷◌, ◌++◌, Option, None, Some}
+use Rattle.std.specs.Option.{option_map}
 use Rattle.send_model.specs.Command.{Command}
 use Rattle.send_model.specs.Reading.{Item}
-use Rattle.send_model.specs.Subvolume.{Subvolume, walk}
-use Rattle.send_model.specs.Store.{Part, State, After}
+use Rattle.send_model.specs.Store.{State, After}
 use Rattle.send_model.specs.Opened.{Opened, written_path}
 use Rattle.send_model.specs.Separated.{separator, open_anew, other_path}
 use Rattle.send_model.specs.Exported.{Exporting, separated_by, AreSmallBy}
 use Rattle.send_model.specs.Receivable.{receivable, header_before, exported_from}
-use Rattle.auditor.specs.Following.{blank_step}
+use Rattle.auditor.specs.Following.{blank_step, beside, AreAccepted}
 
 -- A cell that carries nothing.
 abbrev pub Blank : Type 0
@@ -20,15 +19,6 @@ abbrev pub blank_does : State Blank → Item → After (State Blank)
 blank_does state item = blank_step state item.command
 
 -- ---- one command
-
--- The inode that a path of a part leads to.
-abbrev pub found : Result ℕ Refusal → Option ℕ
-found (Ok ino) = Some ino
-found (Err refusal) = None
-
-abbrev pub found_in : {C : Type 0} → Option (Part C) → List ℕ → Option ℕ
-found_in None path = None
-found_in (Some part) path = found (walk part.subvolume path)
 
 -- Commands in the receivable spelling, one after the other.
 abbrev pub all_receivable : ℕ → List Command → List ℕ
@@ -42,6 +32,17 @@ before now c = separator now.opened now.other now.state c
 -- What is known after what goes before a command: the file that is open then, and the path before it.
 abbrev pub opened_for : Exporting Blank → Command → Exporting Blank
 opened_for now c = record now { opened = open_anew now.opened now.state c; other = other_path now.other now.opened (written_path c) }
+
+-- A file that is open.
+abbrev pub opened_by : List ℕ → ℕ → Opened
+opened_by path ino = record { path = path; ino = ino }
+
+-- A path that was not open is opened, if it leads to an inode; the one that was open is the one before it.
+abbrev pub opened_anew : Exporting Blank → List ℕ → Option ℕ → Exporting Blank
+opened_anew now path ino = record now {
+  opened = option_map (λ i. opened_by path i) ino;
+  other = elim now.opened [ None ↦ now.other | Some opened ↦ opened.path ];
+}
 
 -- The header of a stream where the command begins one, what goes before it, and the command.
 abbrev pub export_bytes : Bool → Exporting Blank → ℕ → Command → List ℕ
@@ -61,3 +62,9 @@ written_from point items = exported_from point.begins (separated_by blank_does p
 -- Before each of the items the part is small.
 abbrev pub SmallFrom : Point → List Item → Type 0
 SmallFrom point items = AreSmallBy blank_does point.now.state items
+
+-- Items are all taken and lead from one point to another, and these bytes are written of them; what else is read comes after.
+pub record Goes (old : Point) (items : List Item) (new : Point) (text : List ℕ) : Type 0 where
+  pub accepted : AreAccepted (beside [] old.now.state) items (beside [] new.now.state)
+  pub written : (more : List Item) → written_from old (items ++ more) ≡ text ++ written_from new more
+  pub small : (more : List Item) → SmallFrom new more → SmallFrom old (items ++ more)

@@ -1,6 +1,8 @@
 // The part as it stands, and the file that the receiver has open: what goes before each command.
-ghost use Rattle.std.specs.Prelude.{◌≡◌, ◌≤◌, ◌^◌, ◌++◌, OnOk};
-ghost use Rattle.send_model.specs.Opened.{written_path};
+ghost use Rattle.std.specs.Prelude.{◌≡◌, ◌≤◌, ◌^◌, ◌++◌, ℕ, Some, OnOk, length};
+ghost use Rattle.std.specs.Option.{option_map};
+ghost use Rattle.send_model.specs.Opened.{kept_at, opened_at};
+ghost use Rattle.send_model.specs.Separated.{IsSmall, separator_in, names_file, touch};
 ghost use Rattle.send_model.specs.Exported.{exporting};
 ghost use Rattle.send_model.specs.Laws.{CanWrite};
 ghost use Rattle.send_commands.specs.Meaning.{meaning_of};
@@ -8,7 +10,7 @@ ghost use Rattle.send_commands.specs.Writing.{IsWritable};
 ghost use Rattle.clone_resolve.specs.Steps.{data_len};
 ghost use Rattle.auditor.specs.Following.{blank};
 ghost use Rattle.cmd_reader.specs.Next.{item_of};
-ghost use Rattle.stream_export.specs.Exporting.{export_bytes, opened_for, found_in};
+ghost use Rattle.stream_export.specs.Exporting.{all_receivable, before, opened_for, opened_by, opened_anew, export_bytes};
 ghost use Rattle.stream_export.specs.Steps.{Takes};
 ghost use Rattle.sx_base.specs.Bytes.{IsFront};
 
@@ -39,9 +41,25 @@ pub(crate) struct Exporter<R: Origin> {
     room: Blob,
 }
 
+impl<R: Origin> Model for Exporter<R> {
+    ghost use Rattle.std.specs.Option.{option_map};
+    ghost use Rattle.send_model.specs.Exported.{Exporting};
+    ghost use Rattle.stream_export.specs.Exporting.{Blank, opened_by};
+
+    ghost Value = { Exporting Blank };
+
+    ghost view = { λ e. record {
+        state = e.follower;
+        opened = option_map (λ ino. opened_by e.path ino) e.ino;
+        other = e.other;
+    } };
+}
+
 impl<R: Origin> Exporter<R> {
     // Nothing is open, before the first command. The origin reaches as far as the data of any command.
     pub(crate) fn new(alloc: Global, core: EditCore<R>, origin: R) -> Exporter<R>
+        requires reach { 2 ^ 18 ≤ R.reach origin }
+        ensures start { result ≡ exporting (blank core) }
     {
         Exporter {
             alloc,
@@ -55,7 +73,14 @@ impl<R: Origin> Exporter<R> {
 
     // One command: it is taken and its bytes are appended, or nothing is.
     pub(crate) fn take(&mut self, begins: bool, item: &Item, to: &mut Blob) -> Result<(), Stop>
+        requires short { data_len (meaning_of item.now.command) ≤ 2 ^ 18 }
+        requires writable { IsWritable item.now.version (meaning_of item.now.command) }
+        requires sayable { CanWrite item.now.version (meaning_of item.now.command) }
+        ensures small { IsSmall self.old.state.part }
+        ensures taken { (file : ℕ) → Takes self.old self.new begins (item_of file item.now)
+            to.old to.new result }
     {
+        let _names = self.names();
         let start = to.as_slice().len();
         let Ok(()) = self.push_item(begins, item, to) else {
             return Err(Stop::NoMemory);
@@ -69,8 +94,25 @@ impl<R: Origin> Exporter<R> {
         }
     }
 
+    // How many names the part has.
+    fn names(&self) -> u64
+        ensures small { IsSmall self.now.state.part }
+    {
+        match self.follower.tree() {
+            Some(tree) => tree.name_count(),
+            None => 0,
+        }
+    }
+
     // Appends the bytes of a command, and opens the file that it writes to.
     fn push_item(&mut self, begins: bool, item: &Item, to: &mut Blob) -> Result<(), AllocError>
+        requires writable { IsWritable item.now.version (meaning_of item.now.command) }
+        requires sayable { CanWrite item.now.version (meaning_of item.now.command) }
+        ensures added { OnOk result (to.new ≡ to.old ++ export_bytes begins self.old
+            item.now.version (meaning_of item.now.command)) }
+        ensures opened { OnOk result
+            (self.new ≡ opened_for self.old (meaning_of item.now.command)) }
+        ensures kept { IsFront to.old to.new }
     {
         if begins {
             let header = StreamHead {
@@ -89,6 +131,10 @@ impl<R: Origin> Exporter<R> {
         version: u32,
         to: &mut Blob,
     ) -> Result<(), AllocError>
+        ensures added { OnOk result (to.new ≡ to.old
+            ++ all_receivable version (before self.old (meaning_of command.now))) }
+        ensures opened { OnOk result (self.new ≡ opened_for self.old (meaning_of command.now)) }
+        ensures kept { IsFront to.old to.new }
     {
         match command {
             Command::Write { path, .. } => self.open(path.as_slice(), version, to),
@@ -104,29 +150,74 @@ impl<R: Origin> Exporter<R> {
 
     // Opens the file that a path names, with a separator in front where another file is open by this path.
     fn open(&mut self, path: &[u8], version: u32, to: &mut Blob) -> Result<(), AllocError>
+        ensures added { OnOk result (to.new ≡ to.old
+            ++ all_receivable version (before self.old (touch path.now))) }
+        ensures opened { OnOk result (self.new ≡ opened_for self.old (touch path.now)) }
+        ensures kept { IsFront to.old to.new }
+    {
+        match self.open_by(path) {
+            Some(ino) => self.open_again(path, ino, version, to),
+            None => {
+                let found = self.find(path);
+                self.open_anew(path, found)
+            }
+        }
+    }
+
+    // The inode that is open by this path.
+    fn open_by(&self, path: &[u8]) -> Option<u64>
+        ensures { result ≡ kept_at self.now.opened (Some path.now) }
+    {
+        let ino = self.ino?;
+        if self.path.as_slice() != path {
+            return None;
+        }
+        Some(ino)
+    }
+
+    // The inode that a path of the part leads to.
+    fn find(&self, path: &[u8]) -> Option<u64>
+        ensures { option_map (λ ino. opened_by path.now ino) result
+            ≡ opened_at self.now.state.part path.now }
+    {
+        let tree = self.follower.tree()?;
+        match tree.find(path) {
+            Ok(ino) => Some(ino),
+            Err(_) => None,
+        }
+    }
+
+    // Goes on with the path that is open, with a separator in front where it leads to another inode than the one that is open.
+    fn open_again(
+        &mut self,
+        path: &[u8],
+        ino: u64,
+        version: u32,
+        to: &mut Blob,
+    ) -> Result<(), AllocError>
+        requires open { kept_at self.old.opened (Some path.now) ≡ Some ino }
+        ensures added { OnOk result (to.new ≡ to.old
+            ++ all_receivable version (before self.old (touch path.now))) }
+        ensures opened { OnOk result (self.new ≡ opened_for self.old (touch path.now)) }
+        ensures kept { IsFront to.old to.new }
     {
         let Some(tree) = self.follower.tree() else {
-            return self.open_anew(path, None);
-        };
-        let found = tree.find(path).ok();
-        let Some(opened) = self.ino else {
-            return self.open_anew(path, found);
-        };
-        if self.path.as_slice() != path {
-            return self.open_anew(path, found);
-        }
-        let Some(now) = found else {
             return Ok(());
         };
-        if now != opened {
-            push_separator(self.alloc, tree, self.other.as_slice(), path, version, to)?;
-            self.ino = Some(now);
+        let Ok(now) = tree.find(path) else {
+            return Ok(());
+        };
+        if now == ino {
+            return Ok(());
         }
+        push_separator(self.alloc, tree, self.other.as_slice(), path, version, to)?;
+        self.ino = Some(now);
         Ok(())
     }
 
     // Opens a file by a path that is not open; the path that was open is the one before it.
     fn open_anew(&mut self, path: &[u8], ino: Option<u64>) -> Result<(), AllocError>
+        ensures opened { OnOk result (self.new ≡ opened_anew self.old path.now ino) }
     {
         if self.ino.is_some() {
             std::mem::swap(&mut self.path, &mut self.other);
@@ -147,6 +238,10 @@ fn push_separator<R: Origin>(
     version: u32,
     to: &mut Blob,
 ) -> Result<(), AllocError>
+    requires short { length path.now ≤ 4095 }
+    ensures added { OnOk result (to.new ≡ to.old
+        ++ all_receivable version (separator_in tree.now other.now path.now)) }
+    ensures kept { IsFront to.old to.new }
 {
     if other != path && names_file(tree, other) {
         return push_touch(other, version, to);
@@ -159,7 +254,9 @@ fn push_separator<R: Origin>(
 }
 
 // Whether a path names a regular file.
-fn names_file<R: Origin>(tree: &Tree<R>, path: &[u8]) -> bool {
+fn names_file<R: Origin>(tree: &Tree<R>, path: &[u8]) -> bool
+    ensures { result ≡ names_file tree.now path.now }
+{
     match tree.find(path) {
         Ok(ino) => tree.is_file(ino),
         Err(_) => false,

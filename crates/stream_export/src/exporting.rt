@@ -2,7 +2,11 @@
 ghost use Rattle.std.specs.Prelude.{◌≡◌, ◌≤◌, ◌^◌, ℕ, map};
 ghost use Rattle.std.specs.String.{string_bytes};
 ghost use Rattle.send_model.specs.Store as meant;
+ghost use Rattle.send_model.specs.Reading.{input};
+ghost use Rattle.send_model.specs.Receive.{start_of};
+ghost use Rattle.send_model.specs.Exported.{AreSmallBy, byte_step};
 ghost use Rattle.send_model.specs.Words.{Export};
+ghost use Rattle.sx_base.specs.declared.outcome.Outcome.TheVariants as ended;
 ghost use Rattle.sx_base.specs.Calls.{Caused, IfAllTold, Wrote, Ends};
 ghost use Rattle.auditor.specs.Following.{HaveSameShape};
 
@@ -27,12 +31,25 @@ pub fn export<R: Origin, I: Inputs, O: Sink>(
     files: &[String],
     out: &mut O,
 ) -> Outcome
+    requires reach { 2 ^ 18 ≤ R.reach blank }
+    ensures same { I.told inputs.new ≡ I.told inputs.old }
+    ensures later { I.faults inputs.old ≤ I.faults inputs.new }
+    ensures out_later { O.faults out.old ≤ O.faults out.new }
+    ensures cause { Caused (I.faults inputs.old) (I.faults inputs.new)
+        (O.faults out.old) (O.faults out.new) result }
+    ensures exported { (store : meant.Store ℕ) → HaveSameShape core store
+        → IfAllTold (I.told inputs.old) (map string_bytes files.now)
+        (λ files. Wrote (O.taken out.old) (O.taken out.new)
+        (λ written. Ends (Export 0 0) store files result written)) }
+    ensures small { (store : meant.Store ℕ) → HaveSameShape core store
+        → IfAllTold (I.told inputs.old) (map string_bytes files.now)
+        (λ files. result ≡ ended.Done
+        → AreSmallBy byte_step (start_of store) (input files).items) }
 {
     let mut exporter = Exporter::new(alloc, core, blank);
     let mut gathered = Gathered::new(alloc);
-    let outcome = match export_files(alloc, &mut exporter, &mut gathered, inputs, files, out) {
-        Ok(()) => Outcome::Done,
-        Err(outcome) => outcome,
-    };
-    finish(&mut gathered, out, outcome)
+    match export_files(alloc, &mut exporter, &mut gathered, inputs, files, out) {
+        Ok(()) => finish(&mut gathered, out, Outcome::Done),
+        Err(outcome) => finish(&mut gathered, out, outcome),
+    }
 }

@@ -67,7 +67,14 @@ returns-in-Dump-clause-ends g c =
 
 pub returns-in-Export-clause-ends : goal.returns-in-Export-clause-ends
 returns-in-Export-clause-ends g c =
-    rw c.in-Export.is (of_one_file Export exports (g.I.Inputs.told c.args.inputs.now) c.name_at-in-Export.result.now (map string_bytes c.args.words.now) c.in-Export.file (g.O.Sink.taken c.args.out.now) (g.O.Sink.taken c.export.new.out) c.export.result c.name_at-in-Export.ensures.name c.export.ensures.exported)
+    let old = g.O.Sink.taken c.args.out.now in
+    let new = g.O.Sink.taken c.export.new.out in
+    rw c.in-Export.is (following (g.I.Inputs.told c.args.inputs.now) (map string_bytes c.names_from-in-Export.result.now) (drop c.in-Export.files (map string_bytes c.args.words.now))
+    (λ files. Wrote old new (λ written. Ends (Export 0 0) [] files c.export.result written))
+    (λ files. Wrote old new (λ written. Ends (Export c.in-Export.store c.in-Export.files) [] files c.export.result written))
+    (ap (map string_bytes) c.names_from-in-Export.ensures.names ∙ sym (drop-map string_bytes c.in-Export.files c.args.words.now))
+    (λ files. exports old new files c.in-Export.store c.in-Export.files c.export.result)
+    (c.export.ensures.exported [] (ap (λ (s : Store (Option Nowhere)). blank s) c.new-core-in-Export.ensures)))
 
 pub returns-in-Trial-clause-cause : goal.returns-in-Trial-clause-cause
 returns-in-Trial-clause-cause g c = rw c.in-Trial.is (caused_unread (g.I.Inputs.faults c.args.inputs.now) (g.I.Inputs.faults c.args.inputs.now) (g.O.Sink.faults c.args.out.now) (g.O.Sink.faults c.write_trial.new.out) c.write_trial.result c.write_trial.ensures.cause)

@@ -1,0 +1,64 @@
+-- A frame that is written attribute by attribute.
+use Rattle.std.specs.Prelude.{◌≡◌, ℕ, ◌+◌, ◌^◌, ◌<◌, ◌≤◌, List, [], ◌∷◌, ◌++◌, length, take, drop}
+use Rattle.std.proofs.Common.{refl, sym, ap, ◌∙◌, arith, append_assoc, append-nil, length-append}
+use Rattle.std.proofs.Math.Seq.{take-append_seam, drop-append_seam}
+use Rattle.send_model.specs.Spelling.{Attribute, attribute_bytes, body_of, frame_of}
+use Rattle.send_model.proofs.Canonical.{attribute_len}
+use Rattle.tlv_frame.specs.Frame.{head_room}
+
+-- ---- attributes one after the other
+
+pub one_body : (version : ℕ) (to : List ℕ) (a : Attribute) (at1 : List ℕ) → at1 ≡ (to ++ head_room) ++ attribute_bytes version a → at1 ≡ (to ++ head_room) ++ body_of version (a ∷ [])
+unfolding body_of
+one_body version to a at1 e = e ∙ ap (λ (l : List ℕ). (to ++ head_room) ++ l) (sym (append-nil (attribute_bytes version a)))
+
+further : (version : ℕ) (front : List ℕ) (as : List Attribute) (a : Attribute) (now next : List ℕ) → now ≡ front ++ body_of version as → next ≡ now ++ attribute_bytes version a → next ≡ front ++ body_of version (as ++ a ∷ [])
+further version front as a now next e f =
+    f ∙ ap (λ (l : List ℕ). l ++ attribute_bytes version a) e ∙ append_assoc front (body_of version as) (attribute_bytes version a)
+    ∙ ap (λ (l : List ℕ). front ++ l) (joined as)
+  where
+    joined : (as : List Attribute) → body_of version as ++ attribute_bytes version a ≡ body_of version (as ++ a ∷ [])
+    unfolding body_of
+    joined [] = sym (append-nil (attribute_bytes version a))
+    joined (x ∷ as) = append_assoc (attribute_bytes version x) (body_of version as) (attribute_bytes version a) ∙ ap (λ (l : List ℕ). attribute_bytes version x ++ l) (joined as)
+
+pub two_body : (version : ℕ) (to : List ℕ) (a b : Attribute) (at1 at2 : List ℕ) → at1 ≡ (to ++ head_room) ++ attribute_bytes version a → at2 ≡ at1 ++ attribute_bytes version b
+    → at2 ≡ (to ++ head_room) ++ body_of version (a ∷ b ∷ [])
+two_body version to a b at1 at2 e f = further version (to ++ head_room) (a ∷ []) b at1 at2 (one_body version to a at1 e) f
+
+pub three_body : (version : ℕ) (to : List ℕ) (a b c : Attribute) (at1 at2 at3 : List ℕ) → at1 ≡ (to ++ head_room) ++ attribute_bytes version a → at2 ≡ at1 ++ attribute_bytes version b → at3 ≡ at2 ++ attribute_bytes version c
+    → at3 ≡ (to ++ head_room) ++ body_of version (a ∷ b ∷ c ∷ [])
+three_body version to a b c at1 at2 at3 e f g = further version (to ++ head_room) (a ∷ b ∷ []) c at2 at3 (two_body version to a b at1 at2 e f) g
+
+pub four_body : (version : ℕ) (to : List ℕ) (a b c d : Attribute) (at1 at2 at3 at4 : List ℕ) → at1 ≡ (to ++ head_room) ++ attribute_bytes version a → at2 ≡ at1 ++ attribute_bytes version b → at3 ≡ at2 ++ attribute_bytes version c
+    → at4 ≡ at3 ++ attribute_bytes version d → at4 ≡ (to ++ head_room) ++ body_of version (a ∷ b ∷ c ∷ d ∷ [])
+four_body version to a b c d at1 at2 at3 at4 e f g h = further version (to ++ head_room) (a ∷ b ∷ c ∷ []) d at3 at4 (three_body version to a b c at1 at2 at3 e f g) h
+
+-- The room that attributes take.
+abbrev pub room_of : List Attribute → ℕ
+room_of [] = 0
+room_of (a ∷ others) = (4 + length a.bytes) + room_of others
+
+room_len : (version : ℕ) (attributes : List Attribute) → length (body_of version attributes) ≤ room_of attributes
+unfolding body_of
+room_len version [] = omega (arith)
+room_len version (a ∷ others) = omega (arith, length-append (attribute_bytes version a) (body_of version others), attribute_len version a, room_len version others)
+
+-- ---- the frame around them
+
+-- It can be finished.
+pub can_finish : (version start : ℕ) (attributes : List Attribute) (to now : List ℕ) → start ≡ length to → now ≡ (to ++ head_room) ++ body_of version attributes → room_of attributes < 2 ^ 32
+    → (start + 10 ≤ length now) × (length now < start + 10 + 2 ^ 32)
+can_finish version start attributes to now at is short =
+    let body : List ℕ = body_of version attributes in
+    let whole : length now ≡ length to + 10 + length body = ap length is ∙ length-append (to ++ head_room) body ∙ ap (λ (n : ℕ). n + length body) (length-append to head_room) in
+    let few = room_len version attributes in
+    (omega (arith, at, whole), omega (arith, at, whole, few, short))
+
+pub finished : (number start : ℕ) (to body now written : List ℕ) → start ≡ length to → now ≡ (to ++ head_room) ++ body → written ≡ take start now ++ frame_of number (drop (start + 10) now) → written ≡ to ++ frame_of number body
+finished number start to body now written at is framed =
+    let front : take (length to) now ≡ to = ap (take (length to)) (is ∙ append_assoc to head_room body) ∙ take-append_seam to (head_room ++ body) in
+    let place : length to + 10 ≡ length (to ++ head_room) = sym (length-append to head_room) in
+    let back : drop (length to + 10) now ≡ body = ap (λ (n : ℕ). drop n now) place ∙ ap (drop (length (to ++ head_room))) is ∙ drop-append_seam (to ++ head_room) body in
+    framed ∙ ap (λ (n : ℕ). take n now ++ frame_of number (drop (n + 10) now)) at
+    ∙ ap (λ (l : List ℕ). l ++ frame_of number (drop (length to + 10) now)) front ∙ ap (λ (l : List ℕ). to ++ frame_of number l) back

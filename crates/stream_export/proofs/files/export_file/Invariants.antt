@@ -1,0 +1,24 @@
+use Rattle.std.proofs.Common.{◌≡◌, ◌≤◌, ◌-◌}
+use Rattle.send_model.specs.Lengths.{limit}
+use Rattle.cmd_reader.specs.Places.{IfTold}
+use Rattle.cmd_reader.specs.Left.{HasAhead}
+use Rattle.stream_export.specs.Steps.{point_at}
+use Rattle.stream_export.proofs.OneFile.{Stands}
+use Rattle.stream_export.proofs.files.export_file.Given as goal
+
+-- The commands that were read were taken, and their bytes are gathered or written; the inputs tell the same files, and no count fell.
+abbrev pub invariant-loop-item : goal.invariant-loop-item
+invariant-loop-item g l = record {
+  same : g.I.Inputs.told l.inputs ≡ g.I.Inputs.told l.fn.inputs;
+  later : g.I.Inputs.faults l.fn.inputs ≤ g.I.Inputs.faults l.inputs;
+  out_later : g.O.Sink.faults l.fn.out ≤ g.O.Sink.faults l.out;
+  file : l.reader.file ≡ l.fn.file;
+  name : l.reader.name ≡ l.fn.name;
+  stands : IfTold (g.I.Inputs.told l.fn.inputs) l.fn.name (Stands l.fn.file (point_at l.fn.exporter l.fn.gathered) (point_at l.exporter l.gathered)
+      l.fn.gathered.bytes l.gathered.bytes (g.O.Sink.taken l.fn.out) (g.O.Sink.taken l.out) l.reader);
+  ahead : IfTold (g.I.Inputs.told l.inputs) l.reader.name (HasAhead l.reader);
+}
+
+-- Each command brings the reader nearer to the limit.
+abbrev pub decreases-loop-item : goal.decreases-loop-item
+decreases-loop-item g l = limit - l.reader.offset
