@@ -64,7 +64,7 @@ same_refused (item ∷ items) w =
     one (Some refusal) more = refl
 
 -- The answer that is due does not look at cells.
-same_due : {C : Type 0} (core : Store C) (store : Store ℕ) (guards : List Guard) (files : List (List ℕ)) → HaveSameShape core store
+pub same_due : {C : Type 0} (core : Store C) (store : Store ℕ) (guards : List Guard) (files : List (List ℕ)) → HaveSameShape core store
     → due_from_here (beside guards (record { store = blank core; part = None })) (limited_from 1 files) ≡ audit_due store guards files
 unfolding audit_due
 same_due core store guards files same =

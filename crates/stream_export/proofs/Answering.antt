@@ -46,7 +46,7 @@ due_is core store files same = same_due core store [] files same
 
 -- All that was gathered is written, or a front part of it.
 module _ {C : Type 0} (core : Store C) (store : Store ℕ) (same : HaveSameShape core store) (files : List (List ℕ)) (bytes : List ℕ) (taken_old taken_mid taken_now : Option (List ℕ)) (before now : ℕ) where
-  All : List ℕ
+  abbrev All : List ℕ
   All = written_from (start_over core) (limited_from 1 files).items
 
   -- The output failed in the middle.

@@ -12,15 +12,15 @@ pub one_body : (version : ℕ) (to : List ℕ) (a : Attribute) (at1 : List ℕ) 
 unfolding body_of
 one_body version to a at1 e = e ∙ ap (λ (l : List ℕ). (to ++ head_room) ++ l) (sym (append-nil (attribute_bytes version a)))
 
-further : (version : ℕ) (front : List ℕ) (as : List Attribute) (a : Attribute) (now next : List ℕ) → now ≡ front ++ body_of version as → next ≡ now ++ attribute_bytes version a → next ≡ front ++ body_of version (as ++ a ∷ [])
-further version front as a now next e f =
-    f ∙ ap (λ (l : List ℕ). l ++ attribute_bytes version a) e ∙ append_assoc front (body_of version as) (attribute_bytes version a)
-    ∙ ap (λ (l : List ℕ). front ++ l) (joined as)
+further : (version : ℕ) (front : List ℕ) (before : List Attribute) (a : Attribute) (now next : List ℕ) → now ≡ front ++ body_of version before → next ≡ now ++ attribute_bytes version a → next ≡ front ++ body_of version (before ++ a ∷ [])
+further version front before a now next e f =
+    f ∙ ap (λ (l : List ℕ). l ++ attribute_bytes version a) e ∙ append_assoc front (body_of version before) (attribute_bytes version a)
+    ∙ ap (λ (l : List ℕ). front ++ l) (joined before)
   where
-    joined : (as : List Attribute) → body_of version as ++ attribute_bytes version a ≡ body_of version (as ++ a ∷ [])
+    joined : (before : List Attribute) → body_of version before ++ attribute_bytes version a ≡ body_of version (before ++ a ∷ [])
     unfolding body_of
     joined [] = sym (append-nil (attribute_bytes version a))
-    joined (x ∷ as) = append_assoc (attribute_bytes version x) (body_of version as) (attribute_bytes version a) ∙ ap (λ (l : List ℕ). attribute_bytes version x ++ l) (joined as)
+    joined (x ∷ before) = append_assoc (attribute_bytes version x) (body_of version before) (attribute_bytes version a) ∙ ap (λ (l : List ℕ). attribute_bytes version x ++ l) (joined before)
 
 pub two_body : (version : ℕ) (to : List ℕ) (a b : Attribute) (at1 at2 : List ℕ) → at1 ≡ (to ++ head_room) ++ attribute_bytes version a → at2 ≡ at1 ++ attribute_bytes version b
     → at2 ≡ (to ++ head_room) ++ body_of version (a ∷ b ∷ [])

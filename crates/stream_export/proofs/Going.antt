@@ -9,6 +9,7 @@ use Rattle.send_model.specs.Reading.{Item}
 use Rattle.send_model.specs.Counts.{is_end}
 use Rattle.send_model.specs.Store.{Part, State, After}
 use Rattle.send_model.specs.Subvolume.{Subvolume}
+use Rattle.send_model.specs.Guards.{refused_from, looked}
 use Rattle.send_model.specs.Opened.{Opened, written_path, is_astray}
 use Rattle.send_model.specs.Separated.{separator, separator_for, separator_in, touch, detour, names_file, free_name}
 use Rattle.send_model.specs.Exported.{Exporting, exporting_after, items_before, then_separated, separated_by, AreSmallBy}
@@ -78,6 +79,7 @@ one_written begins now item rest =
 
 -- An item does under no guards what it does.
 pub follow_plain : (state : State Blank) (item : Item) → follow (beside [] state) item ≡ record { state = beside [] (blank_does state item).state; refusal = (blank_does state item).refusal }
+unfolding refused_from looked
 follow_plain state item = refl
 
 -- The first of items, where it is taken.
@@ -113,7 +115,7 @@ pub goes_one : (old new : Point) (item : Item) → OneTaken old new item → Goe
 unfolding AreSmallBy
 goes_one old new item t = record {
   accepted = one follow item (beside [] old.now.state) (beside [] new.now.state)
-      (ap (λ (a : After (State Blank)). record { state = beside [] a.state; refusal = a.refusal }) t.stepped);
+      (follow_plain old.now.state item ∙ ap (λ (a : After (State Blank)). record { state = beside [] a.state; refusal = a.refusal }) t.stepped);
   written = λ more.
       ap (exported_from old.begins) (taken_first old.now item more new.now.state t.stepped)
       ∙ one_written old.begins old.now item (separated_by blank_does (exporting_after old.now item.command new.now.state) more)

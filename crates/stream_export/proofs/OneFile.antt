@@ -6,6 +6,7 @@ use Rattle.std.proofs.KnownBytes.{Appends-nil, Appends-trans}
 use Rattle.send_model.specs.Refusal as meant
 use Rattle.send_model.specs.Reading.{Item, Verdict as meant_Verdict, Ending, Whole, Faulty, Reading, with_item, reads}
 use Rattle.send_model.specs.Receive.{Ran, verdict_of}
+use Rattle.send_model.specs.Store.{After}
 use Rattle.send_model.specs.Headline.{IsFrontOf}
 use Rattle.send_model.specs.Lengths.{limit, only_ends, is_too_long}
 use Rattle.send_model.specs.Due.{RefusedAt, TooLong, Limited, AtFault, AtLimit, limited_from, then_limited}
@@ -34,7 +35,7 @@ use Rattle.auditor.proofs.OneFile.{and_then}
 use Rattle.auditor.proofs.Dues.{due_stop, due_refused, refused_one}
 use Rattle.stream_export.specs.Exporting.{blank_does, Point, written_from, Goes}
 use Rattle.stream_export.specs.Steps.{Passes, OneTaken, IsRefused, bytes_at, ItemStops, ItemEnds, Stops, FileTaken, FileEnds}
-use Rattle.stream_export.proofs.Going.{refused_writes, goes_one, goes_none, goes_on, goes_all, passes_none, passes_on}
+use Rattle.stream_export.proofs.Going.{follow_plain, refused_writes, goes_one, goes_none, goes_on, goes_all, passes_none, passes_on}
 
 -- ---- what the loop keeps
 
@@ -205,7 +206,7 @@ item_ends told inputs file name first now next bytes_old bytes_now bytes_next ta
     refused_in : (verdict : Verdict) → IsRefused now meant_item verdict → Passes bytes_now bytes_next [] taken_now taken_next → (b : List ℕ) → Next b → (s : Stood b) → (extra : List Item) → RefusedIn verdict (s.items ++ meant_item ∷ extra)
     refused_in verdict (refusal, bad, is) passes b n s extra =
         let one : (follow_all (beside [] now.now.state) (meant_item ∷ [])).refused ≡ Some (verdict_meant verdict) =
-        refused_one (beside [] now.now.state) meant_item refusal bad ∙ ap (λ (v : meant_Verdict). Some v) (sym is) in
+        refused_one (beside [] now.now.state) meant_item refusal (ap (λ (x : After Followed). x.refusal) (follow_plain now.now.state meant_item) ∙ bad) ∙ ap (λ (v : meant_Verdict). Some v) (sym is) in
         let text : written_from first (s.items ++ meant_item ∷ extra) ≡ s.text ++ [] = s.goes.written (meant_item ∷ extra) ∙ ap (λ (l : List ℕ). s.text ++ l) (refused_writes now meant_item extra refusal bad) in (
           ap (λ (x : Ran Followed). x.refused) (run_on follow s.items (meant_item ∷ extra) (beside [] first.now.state) (beside [] now.now.state) s.goes.accepted)
               ∙ refused_still follow (meant_item ∷ []) extra (beside [] now.now.state) (verdict_meant verdict) one,

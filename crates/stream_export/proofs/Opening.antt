@@ -119,10 +119,10 @@ module _ (now : Exporting Blank) (path : List ℕ) where
 -- ---- the part's inodes and names
 
 module _ {C : Type 0} (tree : Subvolume C) (o : Option (Subvolume C)) (part : Option (Part Blank)) (same : option_map (recelled (λ _. tt)) o ≡ option_map (λ p. p.subvolume) part) where
-  blank_part : Key → Part Blank
+  abbrev blank_part : Key → Part Blank
   blank_part key = record { key = key; subvolume = recelled (λ _. tt) tree }
 
-  full_part : Key → Part C
+  abbrev full_part : Key → Part C
   full_part key = record { key = key; subvolume = tree }
 
   part_of : o ≡ Some tree → (key : Key) × (part ≡ Some (blank_part key))
@@ -179,7 +179,7 @@ module _ {C : Type 0} (tree : Subvolume C) (o : Option (Subvolume C)) (part : Op
     elsewhere_now now ino is walked n = elsewhere_by (Ok now) ino is walked ∙ differ (now == ino) (λ e. n (eqb-true now ino e))
 
   -- The separator of a part is that of its inodes and names.
-  separator_of : {D : Type 0} → Option Opened → List ℕ → List ℕ → Option (Part D) → List Command
+  abbrev separator_of : {D : Type 0} → Option Opened → List ℕ → List ℕ → Option (Part D) → List Command
   separator_of opened other path p = if is_astray_at opened p (Some path) then separator_for other p (Some path) else []
 
   pub separator_tree : (now : Exporting Blank) (path : List ℕ) (ino : ℕ) → now.state.part ≡ part → o ≡ Some tree → kept_at now.opened (Some path) ≡ Some ino → leads_elsewhere part ino path ≡ true

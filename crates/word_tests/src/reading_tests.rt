@@ -204,7 +204,7 @@ fn files_that_are_cut(rt: HostRuntime) -> Result<(), Fail> {
         let words: [Written<'_>; 3] = [
             (&["audit", "none"], b""),
             (&["dump"], lines.as_slice()),
-            (&["export"], exported.as_slice()),
+            (&["export", "none"], exported.as_slice()),
         ];
         expect_refused(&rt, alloc, &bytes[..len], note, &words)?;
     }
@@ -226,7 +226,7 @@ fn frames_that_are_refused(rt: HostRuntime) -> Result<(), Fail> {
         let words: [Written<'_>; 3] = [
             (&["audit", "none"], b""),
             (&["dump"], lines),
-            (&["export"], exported.as_slice()),
+            (&["export", "none"], exported.as_slice()),
         ];
         for (frame, note) in frames {
             let file = joined(alloc, &[header, SUBVOL_A, MKFILE_X, frame])?;
@@ -243,7 +243,7 @@ fn headers_that_are_refused(rt: HostRuntime) -> Result<(), Fail> {
     let words: [Written<'_>; 3] = [
         (&["audit", "none"], b""),
         (&["dump"], DUMPED),
-        (&["export"], exported.as_slice()),
+        (&["export", "none"], exported.as_slice()),
     ];
     for (header, note) in &HEADERS {
         let file = joined(alloc, &[HEADER, SUBVOL_A, MKFILE_X, WRITE_HI, END, header])?;

@@ -304,7 +304,7 @@ fn a_failed_note_leaves_the_status(rt: HostRuntime) -> Result<(), Fail> {
 
 #[test]
 fn other_words_mean_nothing(rt: HostRuntime) -> Result<(), Fail> {
-    let table: [&[&str]; 20] = [
+    let table: [&[&str]; 23] = [
         &[],
         &["compose"],
         &["compose", "none"],
@@ -318,6 +318,9 @@ fn other_words_mean_nothing(rt: HostRuntime) -> Result<(), Fail> {
         &["dump"],
         &["dump", "first", "first"],
         &["export"],
+        &["export", "none"],
+        &["export", "first"],
+        &["export", "store", "first"],
         &["gen", "0", "1"],
         &["gen", "4097", "1"],
         &["gen", "1"],
@@ -370,8 +373,18 @@ fn files_are_checked_and_printed(rt: HostRuntime) -> Result<(), Fail> {
             b"refused 1 1 17 13 NoParent\n",
         ),
         (&["dump", "first"], 0, DUMPED, b""),
-        (&["export", "first"], 0, exported.as_slice(), b""),
-        (&["export", "none"], 1, b"", b"refused 1 1 0 3 Truncated\n"),
+        (
+            &["export", "none", "first"],
+            0,
+            exported.as_slice(),
+            b"",
+        ),
+        (
+            &["export", "none", "second"],
+            1,
+            b"",
+            b"refused 1 1 17 13 NoParent\n",
+        ),
         (
             &["trial", "2", "7"],
             0,

@@ -1,0 +1,33 @@
+use Rattle.std.specs.Prelude.{map}
+use Rattle.std.specs.String.{string_bytes}
+use Rattle.sx_base.specs.declared.outcome.Outcome.TheVariants as ended
+use Rattle.stream_export.proofs.Answering.{export_done, done_small, export_stops, stops_small, caused_end}
+use Rattle.stream_export.proofs.exporting.export.Goals as goal
+
+pub returns-in-Ok-clause-exported : goal.returns-in-Ok-clause-exported
+returns-in-Ok-clause-exported g c =
+    export_done _ (map string_bytes c.args.files.now) c.args.core c.new-exporter.result c.new-gathered.result c.export_files.new.gathered.bytes _ _ _ _ _ c.finish.result
+    c.new-exporter.ensures.start c.new-gathered.ensures.empty c.in-Ok.ensures.exported c.finish.ensures.ends
+
+pub returns-in-Ok-clause-small : goal.returns-in-Ok-clause-small
+returns-in-Ok-clause-small g c =
+    done_small _ (map string_bytes c.args.files.now) c.args.core c.new-exporter.result c.new-gathered.result c.export_files.new.gathered.bytes _ _ c.finish.result
+    c.new-exporter.ensures.start c.new-gathered.ensures.empty c.in-Ok.ensures.exported
+
+pub returns-in-Ok-clause-cause : goal.returns-in-Ok-clause-cause
+returns-in-Ok-clause-cause g c =
+    caused_end _ _ _ _ _ c.export_files.new.gathered.bytes ended.Done c.finish.result _ _ c.finish.ensures.later c.in-Ok.ensures.out_later c.finish.ensures.ends tt
+
+pub returns-in-Err-clause-exported : goal.returns-in-Err-clause-exported
+returns-in-Err-clause-exported g c =
+    export_stops _ (map string_bytes c.args.files.now) c.args.core c.new-exporter.result c.new-gathered.result c.export_files.new.gathered.bytes _ _ _ _ _ c.in-Err.outcome c.finish-in-Err.result
+    c.new-exporter.ensures.start c.new-gathered.ensures.empty c.in-Err.ensures.exported c.finish-in-Err.ensures.ends
+
+pub returns-in-Err-clause-small : goal.returns-in-Err-clause-small
+returns-in-Err-clause-small g c =
+    stops_small _ (map string_bytes c.args.files.now) c.args.core c.new-exporter.result c.new-gathered.result c.export_files.new.gathered.bytes _ _ _ _ _ c.in-Err.outcome c.finish-in-Err.result
+    c.new-exporter.ensures.start c.new-gathered.ensures.empty c.in-Err.ensures.exported c.finish-in-Err.ensures.ends
+
+pub returns-in-Err-clause-cause : goal.returns-in-Err-clause-cause
+returns-in-Err-clause-cause g c =
+    caused_end _ _ _ _ _ c.export_files.new.gathered.bytes c.in-Err.outcome c.finish-in-Err.result _ _ c.finish-in-Err.ensures.later c.in-Err.ensures.out_later c.finish-in-Err.ensures.ends c.in-Err.ensures.cause
