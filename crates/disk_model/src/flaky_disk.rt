@@ -1,6 +1,6 @@
 // A disk that fails now and then.
 ghost use Rattle.std.specs.Prelude.{◌≡◌, ◌⊎◌, ◌+◌, ◌-◌, ◌^◌, ◌<◌, ◌≤◌, [], false, IsTrue, length, take, min, max, IfOk, OnOk, OnErr, IsErr, if◌then◌else◌};
-ghost use Rattle.sx_base.specs.Causes.{Rose};
+ghost use Rattle.sx_base.specs.Causes.{Rose, Steady};
 ghost use Rattle.sx_base.specs.Disk.{IsAsBefore, IsReadAt, Passes, written, shortened, settled};
 ghost use Rattle.sx_base.specs.Bytes.{put_at};
 ghost use Rattle.disk_model.specs.FlakyDisk.{is_listed, CountsCall, within, left_within, faults_within};
@@ -97,6 +97,8 @@ impl<D: Disk> Disk for FlakyDisk<D> {
             IsAsBefore (within D.seen) (within D.pending) self.old self.new }
         ensures passes { Passes D.tells (within D.moment) (left_within D.left_since)
             (within D.pending) (faults_within D.faults) self.old self.new result }
+        ensures steady { Steady (faults_within D.faults self.old)
+            (faults_within D.faults self.new) result }
         ensures counts { CountsCall self.old self.new }
         ensures stopped { IsTrue (is_listed self.old.failing self.new.calls) → IsErr result }
         ensures passed { is_listed self.old.failing self.new.calls ≡ false →
@@ -116,6 +118,8 @@ impl<D: Disk> Disk for FlakyDisk<D> {
             IsAsBefore (within D.seen) (within D.pending) self.old self.new }
         ensures passes { Passes D.tells (within D.moment) (left_within D.left_since)
             (within D.pending) (faults_within D.faults) self.old self.new result }
+        ensures steady { Steady (faults_within D.faults self.old)
+            (faults_within D.faults self.new) result }
         ensures counts { CountsCall self.old self.new }
         ensures stopped { IsTrue (is_listed self.old.failing self.new.calls) → IsErr result }
         ensures passed { is_listed self.old.failing self.new.calls ≡ false →
@@ -141,6 +145,8 @@ impl<D: Disk> Disk for FlakyDisk<D> {
             ⊎ Rose (D.faults self.old.disk) (D.faults self.new.disk) }
         ensures passes { Passes D.tells (within D.moment) (left_within D.left_since)
             (within D.pending) (faults_within D.faults) self.old self.new result }
+        ensures steady { Steady (faults_within D.faults self.old)
+            (faults_within D.faults self.new) result }
         ensures counts { CountsCall self.old self.new }
         ensures stopped { IsTrue (is_listed self.old.failing self.new.calls) → IsErr result }
         ensures passed { is_listed self.old.failing self.new.calls ≡ false →
@@ -164,6 +170,8 @@ impl<D: Disk> Disk for FlakyDisk<D> {
             ⊎ Rose (D.faults self.old.disk) (D.faults self.new.disk) }
         ensures passes { Passes D.tells (within D.moment) (left_within D.left_since)
             (within D.pending) (faults_within D.faults) self.old self.new result }
+        ensures steady { Steady (faults_within D.faults self.old)
+            (faults_within D.faults self.new) result }
         ensures counts { CountsCall self.old self.new }
         ensures stopped { IsTrue (is_listed self.old.failing self.new.calls) → IsErr result }
         ensures passed { is_listed self.old.failing self.new.calls ≡ false →
@@ -182,6 +190,8 @@ impl<D: Disk> Disk for FlakyDisk<D> {
             OnErr result (D.pending self.new.disk ≡ D.pending self.old.disk) }
         ensures passes { Passes D.tells (within D.moment) (left_within D.left_since)
             (within D.pending) (faults_within D.faults) self.old self.new result }
+        ensures steady { Steady (faults_within D.faults self.old)
+            (faults_within D.faults self.new) result }
         ensures counts { CountsCall self.old self.new }
         ensures stopped { IsTrue (is_listed self.old.failing self.new.calls) → IsErr result }
         ensures passed { is_listed self.old.failing self.new.calls ≡ false →

@@ -4,6 +4,14 @@ use Rattle.std.proofs.Common.{refl, ap, subst, ◌∙◌, arith}
 use Rattle.send_model.specs.Guards.{GuardSpec, Guard}
 use Rattle.send_model.specs.Answer as meant
 use Rattle.send_model.specs.Words.{Request, Compose, Audit, Dump, Export, Gen, Trial, new_guards, due, whole_of}
+use Rattle.std.specs.Prelude.{◌≢◌}
+use Rattle.std.specs.List.{AllByRecursion}
+use Rattle.std.proofs.Common.{sym}
+use Rattle.send_model.specs.Attribute.{IsBytes}
+use Rattle.send_model.specs.Reading.{input}
+use Rattle.send_model.specs.Receive.{start_of}
+use Rattle.send_model.specs.Exported.{AreSmallBy, byte_step, IsExported}
+use Rattle.send_model.proofs.ExportedStreams.{exported_is_same, none_can}
 use Rattle.sx_base.specs.Outside.{file_at}
 use Rattle.sx_base.specs.Again.{EarlyEnd}
 use Rattle.sx_base.specs.Causes.{Rose}
@@ -15,7 +23,7 @@ use Rattle.composer.specs.Files as composing
 use Rattle.send_top.specs.Answered.{outcome_meant}
 use Rattle.send_top.specs.Requests.{Asks, names_asked}
 use Rattle.send_top.specs.Ending.{Answers}
-use Rattle.send_top.specs.Run.{IfComposes, EndCaused, IfOfCompose, IsChangedAt}
+use Rattle.send_top.specs.Run.{IfComposes, IfExports, EndCaused, IfOfCompose, IsChangedAt}
 
 -- What follows of files follows wherever the files are told.
 pub then_told : (told : Option (List (List ℕ × List ℕ))) (names : List (List ℕ)) (P Q : List (List ℕ) → Type 0)
@@ -89,6 +97,43 @@ module _ (old new : Option (List ℕ)) (files : List (List ℕ)) where
   exports store at ended.InputFault w = w
   exports store at ended.OutputFault w = w
   exports store at ended.NoMemory w = w
+
+  -- What another word wrote is not exported.
+  pub no_export : (request : Request) (P : List ℕ → Type 0) → ((store at : ℕ) → request ≡ Export store at → ⊥) → Wrote old new P → Wrote old new (IfExports request files)
+  no_export request P other w = (w.0, w.1, λ s a same bytes. absurd (other s a same))
+
+-- ---- what is exported
+
+-- Files that have names are there.
+some_files : (table : List (List ℕ × List ℕ)) (names : List (List ℕ)) → names ≢ [] → map (file_at table) names ≢ []
+some_files table [] some = λ e. some refl
+some_files table (name ∷ names) some = λ e. cc
+
+pub map_some : {S : Type 0} {text : S → List ℕ} (words : List S) → words ≢ [] → map text words ≢ []
+map_some [] some = λ e. some refl
+map_some (word ∷ words) some = λ e. cc
+
+-- What was exported keeps what is promised of it.
+exported_of : (files : List (List ℕ)) (written : List ℕ) (outcome : Outcome) → files ≢ [] → outcome ≡ ended.Done → Ends (Export 0 0) [] files outcome written
+    → (outcome ≡ ended.Done → AreSmallBy byte_step (start_of []) (input files).items) → AllByRecursion IsBytes files → IsExported [] files written
+unfolding due whole_of
+exported_of files written ended.Done some e (is, all) small bytes =
+    subst (λ (w : List ℕ). IsExported [] files w) (sym all) (exported_is_same [] files some none_can bytes is (small refl))
+exported_of files written (ended.Refused verdict) some e ends small bytes = cc
+exported_of files written (ended.InputTooLong file) some e ends small bytes = cc
+exported_of files written (ended.TooMuch sum) some e ends small bytes = cc
+exported_of files written (ended.InputChanged file place) some e ends small bytes = cc
+exported_of files written ended.InputFault some e ends small bytes = cc
+exported_of files written ended.OutputFault some e ends small bytes = cc
+exported_of files written ended.NoMemory some e ends small bytes = cc
+
+pub promised : (told : Option (List (List ℕ × List ℕ))) (names : List (List ℕ)) (old new : Option (List ℕ)) (store at : ℕ) (outcome : Outcome) → names ≢ [] → outcome ≡ ended.Done
+    → IfAllTold told names (λ files. Wrote old new (λ written. Ends (Export 0 0) [] files outcome written))
+    → IfAllTold told names (λ files. outcome ≡ ended.Done → AreSmallBy byte_step (start_of []) (input files).items)
+    → IfAllTold told names (λ files. Wrote old new (IfExports (Export store at) files))
+promised None names old new store at outcome some done ends small = tt
+promised (Some table) names old new store at outcome some done ends small =
+    (ends.0, ends.1, λ s a same bytes. exported_of (map (file_at table) names) ends.0 outcome (some_files table names some) done ends.2 small bytes)
 
 -- What follows of files whose names are given in another way.
 pub following : (told : Option (List (List ℕ × List ℕ))) (names others : List (List ℕ)) (P Q : List (List ℕ) → Type 0) → names ≡ others

@@ -1,7 +1,10 @@
 -- What a run does: its words and guards, its answer, and the headline.
 use Rattle.std.specs.Prelude.{◌≡◌, ℕ, List, [], Option, ⊤}
 use Rattle.send_model.specs.Guards.{Guard}
+use Rattle.std.specs.List.{AllByRecursion}
+use Rattle.send_model.specs.Attribute.{IsBytes}
 use Rattle.send_model.specs.Headline.{IsComposed}
+use Rattle.send_model.specs.Exported.{IsExported}
 use Rattle.send_model.specs.Answer.{Answer, Done, Refused, Usage, InputFault, OutputFault, NoMemory, InputTooLong, TooMuch, InputChanged}
 use Rattle.send_model.specs.Words.{Request, Compose, Audit, Dump, Export, Gen, Trial}
 use Rattle.sx_base.specs.Again.{EarlyEnd}
@@ -22,6 +25,10 @@ IsAnswered told words guards old new answer = OfRequest told words guards (λ re
 -- The headline, of what was written where files are composed over no store.
 abbrev pub IfComposes : Request → List (List ℕ) → List ℕ → Type 0
 IfComposes request files written = (store at : ℕ) → request ≡ Compose store at → IsComposed [] files written
+
+-- What is promised of an exported stream, of what was written where files of bytes are exported over no store.
+abbrev pub IfExports : Request → List (List ℕ) → List ℕ → Type 0
+IfExports request files written = (store at : ℕ) → request ≡ Export store at → AllByRecursion IsBytes files → IsExported [] files written
 
 -- What an outcome says of its cause, by what is asked for. Composing alone reads bytes again and writes cloned bytes, so it alone
 -- may find a file changed, or too much to write.

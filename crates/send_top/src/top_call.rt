@@ -9,7 +9,7 @@ ghost use Rattle.sx_base.specs.Causes.{Rose};
 ghost use Rattle.sx_base.specs.declared.outcome.Outcome.TheVariants as ended;
 ghost use Rattle.send_top.specs.Answered.{IsGiven, answer_of};
 ghost use Rattle.send_top.specs.Requests.{AskNothing, IsWithin, request_meant, specs_of, names_asked};
-ghost use Rattle.send_top.specs.Run.{OfRequest, IsAnswered, IfComposes, EndCaused, AskToCompose, IfOfCompose, IsChangedAt};
+ghost use Rattle.send_top.specs.Run.{OfRequest, IsAnswered, IfComposes, IfExports, EndCaused, AskToCompose, IfOfCompose, IsChangedAt};
 
 use crate::fitting::guards_fit;
 use crate::noting::{Answer, status, write_note};
@@ -30,7 +30,9 @@ use sx_base::{Inputs, Outcome, Sink};
 /// the line that says why; a line that fails leaves the status. Words that mean nothing, and guards that are not those of the
 /// words, are answered without memory, and then nothing is asked of `inputs` and `out`.
 ///
-/// With status 0 `out` took all that is asked for; of `compose` this is one stream that the headline holds of. Where there was
+/// With status 0 `out` took all that is asked for; of `compose` this is one stream that the headline holds of, and of `export` streams
+/// that every receiver of the files takes, the real `btrfs receive` among them, and of which the headline holds as it does of the files.
+/// Where there was
 /// memory, no count of faults or of ends rose, no file is too long and there is not too much to write anew, the status is 0 if all
 /// commands of the files are lawful, and 1 if not; then the note names the first that is unlawful. Status 13, of a file that was
 /// changed, comes only where the count of ends rose, and its note names the file and the place of the end that the inputs
@@ -56,6 +58,10 @@ pub fn run<I: Inputs, O: Sink, N: Sink>(
         → OfRequest (I.told inputs.old) (map string_bytes words.now)
         (map (λ g. kept g) guards.items)
         (λ request files. Wrote (O.taken out.old) (O.taken out.new) (IfComposes request files)) }
+    ensures exported { result ≡ 0
+        → OfRequest (I.told inputs.old) (map string_bytes words.now)
+        (map (λ g. kept g) guards.items)
+        (λ request files. Wrote (O.taken out.old) (O.taken out.new) (IfExports request files)) }
     ensures answered { (answer : meant.Answer)
         × IsAnswered (I.told inputs.old) (map string_bytes words.now)
         (map (λ g. kept g) guards.items) (O.taken out.old) (O.taken out.new) answer
@@ -93,6 +99,9 @@ fn answer_to<I: Inputs, O: Sink>(
     ensures composed { answer_of result ≡ meant.Done
         → OfRequest (I.told inputs.old) (map string_bytes words.now) (map (λ g. kept g) guards.old)
         (λ request files. Wrote (O.taken out.old) (O.taken out.new) (IfComposes request files)) }
+    ensures exported { answer_of result ≡ meant.Done
+        → OfRequest (I.told inputs.old) (map string_bytes words.now) (map (λ g. kept g) guards.old)
+        (λ request files. Wrote (O.taken out.old) (O.taken out.new) (IfExports request files)) }
     ensures answered { IsAnswered (I.told inputs.old) (map string_bytes words.now)
         (map (λ g. kept g) guards.old) (O.taken out.old) (O.taken out.new) (answer_of result) }
     ensures changed_at { IsChangedAt (map string_bytes words.now) (map (λ g. kept g) guards.old)
@@ -132,6 +141,12 @@ fn end_of<I: Inputs, O: Sink>(
         (map string_bytes words.now))
         (λ files. Wrote (O.taken out.old) (O.taken out.new)
         (IfComposes (request_meant (map string_bytes words.now) request) files)) }
+    ensures exported { result ≡ ended.Done
+        → IfAllTold (I.told inputs.old)
+        (names_asked (request_meant (map string_bytes words.now) request)
+        (map string_bytes words.now))
+        (λ files. Wrote (O.taken out.old) (O.taken out.new)
+        (IfExports (request_meant (map string_bytes words.now) request) files)) }
     ensures ends { IfAllTold (I.told inputs.old)
         (names_asked (request_meant (map string_bytes words.now) request)
         (map string_bytes words.now))

@@ -7,7 +7,7 @@ use Rattle.send_model.specs.Words.{Request, new_guards}
 use Rattle.send_top.specs.Answered.{outcome_meant}
 use Rattle.send_top.specs.Requests.{answered_request, request_meant, names_asked, specs_of}
 use Rattle.send_top.specs.Ending.{Answers}
-use Rattle.send_top.specs.Run.{IfComposes, AskToCompose}
+use Rattle.send_top.specs.Run.{IfComposes, IfExports, AskToCompose}
 use Rattle.send_top.proofs.Asked.{then_told, same_request, is_done, answers, fault_caused, output_caused, change_caused, composing_alone, changed_at}
 use Rattle.send_top.proofs.top_call.answer_to.Goals as goal
 
@@ -19,6 +19,15 @@ returns-clause-composed g c done request asks =
     subst (λ (r : Request). IfAllTold (g.I.Inputs.told c.args.inputs.now) (names_asked r words) (λ files. Wrote old new (IfComposes r files)))
     (same_request (answered_request words) (request_meant words c.in-Some.request) request c.in-Some.ensures.meaning asks.meant)
     (c.end_of.ensures.composed (is_done c.end_of.result done))
+
+pub returns-clause-exported : goal.returns-clause-exported
+returns-clause-exported g c done request asks =
+    let words : List (List ℕ) = map string_bytes c.args.words.now in
+    let old = g.O.Sink.taken c.args.out.now in
+    let new = g.O.Sink.taken c.end_of.new.out in
+    subst (λ (r : Request). IfAllTold (g.I.Inputs.told c.args.inputs.now) (names_asked r words) (λ files. Wrote old new (IfExports r files)))
+    (same_request (answered_request words) (request_meant words c.in-Some.request) request c.in-Some.ensures.meaning asks.meant)
+    (c.end_of.ensures.exported (is_done c.end_of.result done))
 
 pub returns-clause-answered : goal.returns-clause-answered
 returns-clause-answered g c request asks =

@@ -11,8 +11,8 @@ use Rattle.composer.specs.Files as composing
 use Rattle.auditor.specs.Following.{blank}
 use Rattle.auditor.specs.Answers.{AuditEnds}
 use Rattle.send_top.specs.Requests.{guards_in, before_store, specs_of, request_meant}
-use Rattle.send_top.specs.Run.{IfComposes}
-use Rattle.send_top.proofs.Asked.{following, of_one_file, composed_ends, headline, audit_wrote, audits, dumps, exports, caused_unread}
+use Rattle.send_top.specs.Run.{IfComposes, IfExports}
+use Rattle.send_top.proofs.Asked.{following, of_one_file, composed_ends, headline, audit_wrote, audits, dumps, exports, no_export, promised, caused_unread, of_names, map_some}
 use Rattle.send_top.proofs.top_call.end_of.Goals as goal
 
 pub returns-in-Compose-clause-composed : goal.returns-in-Compose-clause-composed
@@ -24,6 +24,16 @@ returns-in-Compose-clause-composed g c done =
     (λ files. Wrote old new (IfComposes (Compose c.in-Compose.store c.in-Compose.files) files))
     (ap (map string_bytes) c.names_from.ensures.names ∙ sym (drop-map string_bytes c.in-Compose.files c.args.words.now))
     (λ files. headline old new files c.in-Compose.store c.in-Compose.files c.compose.result done) c.compose.ensures.ends)
+
+pub returns-in-Compose-clause-exported : goal.returns-in-Compose-clause-exported
+returns-in-Compose-clause-exported g c done =
+    let old = g.O.Sink.taken c.args.out.now in
+    let new = g.O.Sink.taken c.compose.new.out in
+    rw c.in-Compose.is (following (g.I.Inputs.told c.args.inputs.now) (map string_bytes c.names_from.result.now) (drop c.in-Compose.files (map string_bytes c.args.words.now))
+    (λ files. Wrote old new (composing.ComposeEnds [] files c.compose.result))
+    (λ files. Wrote old new (IfExports (Compose c.in-Compose.store c.in-Compose.files) files))
+    (ap (map string_bytes) c.names_from.ensures.names ∙ sym (drop-map string_bytes c.in-Compose.files c.args.words.now))
+    (λ files. no_export old new files (Compose c.in-Compose.store c.in-Compose.files) (composing.ComposeEnds [] files c.compose.result) (λ s a e. cc)) c.compose.ensures.ends)
 
 pub returns-in-Compose-clause-ends : goal.returns-in-Compose-clause-ends
 returns-in-Compose-clause-ends g c =
@@ -48,6 +58,19 @@ returns-in-Audit-clause-composed g c done =
     (λ files. audit_wrote old new files specs c.in-Audit.store c.in-Audit.files (AuditEnds [] guards files c.audit.result))
     (c.audit.ensures.audited [] (ap (λ (s : Store (Option Nowhere)). blank s) c.new-core.ensures)))
 
+pub returns-in-Audit-clause-exported : goal.returns-in-Audit-clause-exported
+returns-in-Audit-clause-exported g c done =
+    let old = g.O.Sink.taken c.args.out.now in
+    let new = g.O.Sink.taken c.audit.new.out in
+    let specs : List GuardSpec = guards_in (before_store (map string_bytes c.args.words.now) c.in-Audit.store) in
+    let guards = map (λ b. (goal.Guard-dyn g (b.vtable, b.value)).kept b.value) c.args.guards.now in
+    rw c.in-Audit.is (following (g.I.Inputs.told c.args.inputs.now) (map string_bytes c.names_from-names.result.now) (drop c.in-Audit.files (map string_bytes c.args.words.now))
+    (λ files. Wrote old new (AuditEnds [] guards files c.audit.result))
+    (λ files. Wrote old new (IfExports (Audit specs c.in-Audit.store c.in-Audit.files) files))
+    (ap (map string_bytes) c.names_from-names.ensures.names ∙ sym (drop-map string_bytes c.in-Audit.files c.args.words.now))
+    (λ files. no_export old new files (Audit specs c.in-Audit.store c.in-Audit.files) (AuditEnds [] guards files c.audit.result) (λ s a e. cc))
+    (c.audit.ensures.audited [] (ap (λ (s : Store (Option Nowhere)). blank s) c.new-core.ensures)))
+
 pub returns-in-Audit-clause-ends : goal.returns-in-Audit-clause-ends
 returns-in-Audit-clause-ends g c =
     let old = g.O.Sink.taken c.args.out.now in
@@ -64,6 +87,19 @@ returns-in-Audit-clause-ends g c =
 pub returns-in-Dump-clause-ends : goal.returns-in-Dump-clause-ends
 returns-in-Dump-clause-ends g c =
     rw c.in-Dump.is (of_one_file Dump dumps (g.I.Inputs.told c.args.inputs.now) c.name_at.result.now (map string_bytes c.args.words.now) c.in-Dump.file (g.O.Sink.taken c.args.out.now) (g.O.Sink.taken c.dump.new.out) c.dump.result c.name_at.ensures.name c.dump.ensures.dumped)
+
+pub returns-in-Export-clause-exported : goal.returns-in-Export-clause-exported
+returns-in-Export-clause-exported g c done =
+    let old = g.O.Sink.taken c.args.out.now in
+    let new = g.O.Sink.taken c.export.new.out in
+    let told = g.I.Inputs.told c.args.inputs.now in
+    let names : List (List ℕ) = map string_bytes c.names_from-in-Export.result.now in
+    let same = ap (λ (s : Store (Option Nowhere)). blank s) c.new-core-in-Export.ensures in
+    rw c.in-Export.is (of_names told names (drop c.in-Export.files (map string_bytes c.args.words.now))
+    (λ files. Wrote old new (IfExports (Export c.in-Export.store c.in-Export.files) files))
+    (ap (map string_bytes) c.names_from-in-Export.ensures.names ∙ sym (drop-map string_bytes c.in-Export.files c.args.words.now))
+    (promised told names old new c.in-Export.store c.in-Export.files c.export.result (map_some c.names_from-in-Export.result.now c.names_from-in-Export.ensures.some) done
+    (c.export.ensures.exported [] same) (c.export.ensures.small [] same)))
 
 pub returns-in-Export-clause-ends : goal.returns-in-Export-clause-ends
 returns-in-Export-clause-ends g c =

@@ -2,7 +2,7 @@ use Rattle.std.specs.Prelude.{◌≡◌, ◌↔◌, ◌⊎◌, ℕ, map}
 use Rattle.std.specs.String.{string_bytes}
 use Rattle.sx_base.specs.Calls.{Wrote}
 use Rattle.send_top.specs.Requests.{AskNothing}
-use Rattle.send_top.specs.Run.{OfRequest, IsAnswered, IfComposes, AskToCompose, IsChangedAt}
+use Rattle.send_top.specs.Run.{OfRequest, IsAnswered, IfComposes, IfExports, AskToCompose, IsChangedAt}
 use Rattle.std.proofs.Common.{sym, ◌∙◌, ap, subst, rules}
 use Rattle.send_model.specs.Answer.{status_of}
 use Rattle.send_top.specs.Answered.{answer_of}
@@ -28,6 +28,11 @@ pub returns-clause-composed : goal.returns-clause-composed
 returns-clause-composed g c none =
     subst (λ gs. OfRequest (g.I.Inputs.told c.args.inputs.now) (map string_bytes c.args.words.now) (map (λ b. (goal.Guard-dyn g (b.vtable, b.value)).kept b.value) gs) (λ request files. Wrote (g.O.Sink.taken c.args.out.now) (g.O.Sink.taken c.answer_to-answer.new.out) (IfComposes request files)))
     c.deref_mut.ensures.value (c.answer_to-answer.ensures.composed (done-of_zero (answer_of c.answer_to-answer.result) (sym c.status.ensures ∙ none)))
+
+pub returns-clause-exported : goal.returns-clause-exported
+returns-clause-exported g c none =
+    subst (λ gs. OfRequest (g.I.Inputs.told c.args.inputs.now) (map string_bytes c.args.words.now) (map (λ b. (goal.Guard-dyn g (b.vtable, b.value)).kept b.value) gs) (λ request files. Wrote (g.O.Sink.taken c.args.out.now) (g.O.Sink.taken c.answer_to-answer.new.out) (IfExports request files)))
+    c.deref_mut.ensures.value (c.answer_to-answer.ensures.exported (done-of_zero (answer_of c.answer_to-answer.result) (sym c.status.ensures ∙ none)))
 
 pub returns-clause-quiet : goal.returns-clause-quiet
 returns-clause-quiet g c none = c.write_note.ensures.quiet (done-of_zero (answer_of c.answer_to-answer.result) (sym c.status.ensures ∙ none))
