@@ -201,7 +201,8 @@ run compose none; refused 'no files' 2 usage
 run compose some small; refused 'another store' 2 usage
 run --help --version; refused 'two words' 2 usage
 for words in 'audit none' 'audit some small' 'audit guard:bytes none small' 'audit guard:nodev' 'dump' 'dump small second' \
-    'export' 'gen 1' 'gen 0 1' 'gen 4097 1' 'gen 1 18446744073709551616' 'gen 1 x' 'trial 1' 'trial 0 1' 'trial 4097 1' \
+    'export' 'export small' 'export none' 'export some small' 'gen 1' 'gen 0 1' 'gen 4097 1' 'gen 1 18446744073709551616' 'gen 1 x' \
+    'trial 1' 'trial 0 1' 'trial 4097 1' \
     'compose guard:nodev none small'; do
     run $words; refused "the words $words" 2 usage
 done
@@ -258,23 +259,24 @@ run audit guard:end=2 none small second; refused 'audit, too far an end' 1 'refu
 run audit none second; refused 'audit without the first stream' 1 'refused 1 1 17 13 NoParent'
 case_is 'audit of what is refused writes nothing' "$([ ! -s out ] || echo 'it wrote something')"
 run dump small; composed 'dump' printed
-run export small; composed 'export' receivable
+run export none small; composed 'export' receivable
 (timeout 20 "$program" dump /dev/stdin <small >out 2>note); status=$?
 composed 'dump of standard input' printed
-(cat small | timeout 20 "$program" export /dev/stdin >out 2>note); status=$?
+(cat small | timeout 20 "$program" export none /dev/stdin >out 2>note); status=$?
 composed 'export of a pipe' receivable
 head -c 113 small >shorter
 run dump shorter; refused 'dump of a file that is cut' 1 'refused 1 4 113 3 Truncated'
 head -n 4 printed | cmp -s - out; case_is 'dump prints what it can' "$([ $? = 0 ] || echo 'it printed something else')"
-run export damaged; refused 'export of a damaged file' 1 "$(cat damaged-note)"
-for words in 'audit none small' 'dump small' 'export small' 'gen 3 1' 'trial 3 1'; do
+run export none second; refused 'export without the first stream' 1 'refused 1 1 17 13 NoParent'
+run export none damaged; refused 'export of a damaged file' 1 "$(cat damaged-note)"
+for words in 'audit none small' 'dump small' 'export none small' 'gen 3 1' 'trial 3 1'; do
     : >out
     timeout 20 "$program" $words >/dev/full 2>note; status=$?
     refused "a full device, $words" 4 'output fault'
     timeout 20 "$program" $words 2>note >&-; status=$?
     refused "a closed output, $words" 4 'output fault'
 done
-for words in 'audit none' 'dump' 'export'; do
+for words in 'audit none' 'dump' 'export none'; do
     run $words missing; refused "a missing file, $words" 3 'input fault'
 done
 run gen 4096 1; case_is 'the longest chain' "$([ "$status" = 0 ] && [ ! -s note ] || echo "status $status")"

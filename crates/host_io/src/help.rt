@@ -17,9 +17,8 @@ usage: btrsend audit [GUARD..] none FILE..
             stream, and each later part is an incremental one on the part before. A clone within a part stays one;
             what a clone takes from an earlier part is written as bytes, which are read again. Each FILE is read
             twice, so it can not be a pipe, and must not change meanwhile
-  export    writes the streams of all FILEs for `btrfs receive`, up to the first command that `audit` would refuse: in
-            the spelling that it takes, and with commands in between that change nothing and make it open a file anew
-            where it would write on to one that a path does not name any more. Each FILE is read once
+  export    writes the streams of all FILEs for `btrfs receive`, which makes wrong files of them else where a path names
+            another file later. Refuses what `audit` refuses. Each FILE is read once: a pipe serves
   dump      prints the commands of FILE, a line each
   gen       writes a lawful chain of COUNT parts, 1 to 4096, that SEED gives. Each part after the first has a clone
   trial     composes that chain in memory and writes `trial PARTS COMMANDS IN OUT CLONES REDIRECTED`: of the chain its
@@ -36,11 +35,8 @@ A full stream and two incremental ones, checked, merged and restored:
   btrfs send -p /snapshots/monday /snapshots/tuesday > second
   btrfs send -p /snapshots/tuesday /snapshots/wednesday > third
   btrsend audit none full second third
-  btrsend compose none full second third > merged
-  btrsend export none merged | btrfs receive /restored
-
-WARNING: where a path of the chain names another file later (a file saved by renaming, a rotated log), `btrfs receive`
-silently makes wrong or empty files of a merged stream. Receive such a chain stream by stream.
+  set -o pipefail
+  btrsend compose none full second third | btrsend export none /dev/stdin | btrfs receive /restored
 
 Streams of protocol versions 1 and 2 are read, with all commands but ENCODED_WRITE, which is refused as Encoded.
 
