@@ -17,8 +17,9 @@ usage: btrsend audit [GUARD..] none FILE..
             stream, and each later part is an incremental one on the part before. A clone within a part stays one;
             what a clone takes from an earlier part is written as bytes, which are read again. Each FILE is read
             twice, so it can not be a pipe, and must not change meanwhile
-  export    writes the streams of all FILEs for `btrfs receive`, which makes wrong files of them else where a path names
-            another file later. Refuses what `audit` refuses. Each FILE is read once: a pipe serves
+  export    writes the streams of all FILEs for `btrfs receive`: in the spelling that it takes, and with commands in
+            between that change nothing and make it open another file, where it would write to one that a path does
+            not name any more. Refuses what `audit` refuses. Each FILE is read once: a pipe serves
   dump      prints the commands of FILE, a line each
   gen       writes a lawful chain of COUNT parts, 1 to 4096, that SEED gives. Each part after the first has a clone
   trial     composes that chain in memory and writes `trial PARTS COMMANDS IN OUT CLONES REDIRECTED`: of the chain its
