@@ -91,6 +91,7 @@ pub fn send<O: Sink>(gathered: &mut Gathered, out: &mut O) -> Result<(), Outcome
     ensures later { O.faults out.old ≤ O.faults out.new }
     ensures steady { Steady (O.faults out.old) (O.faults out.new) result }
     ensures stops { IfErr result IsStop }
+    ensures begins { gathered.new.begins ≡ gathered.old.begins }
     ensures sent { Sends gathered.old gathered.new (O.taken out.old) (O.taken out.new)
         (O.faults out.old) (O.faults out.new) result }
 {

@@ -8,7 +8,7 @@ use Rattle.composer.proofs.composing.contents_of.Goals as goal
 pub returns-in-Some : goal.returns-in-Some
 returns-in-Some c source at f w file =
     contents_found c.args.core.now (key_of c.args.key) c.args.path.now c.in_ok-sub.sub.now c.in-Ok.ino c.in-Some.inode.now c.contents.result.now
-    (c.in_ok-sub.ensures.found ∙ ap (λ s. find s (key_of c.args.key)) c.catalog.ensures)
+    (c.in_ok-sub.ensures.found ∙ ap (λ s. find s (key_of c.args.key)) c.catalog.ensures.core)
     (ap (λ s. walk s c.args.path.now) (sym c.tree.ensures) ∙ c.in-Ok.ensures)
     (c.in-Some.ensures ∙ ap (λ s. inode_at s c.in-Ok.ino) c.tree-2.ensures)
     c.contents.ensures source at f w
@@ -16,6 +16,6 @@ returns-in-Some c source at f w file =
 pub returns-in-None : goal.returns-in-None
 returns-in-None c source at f w file =
     absurd (no_inode c.args.core.now (key_of c.args.key) c.args.path.now c.in_ok-sub.sub.now c.in-Ok.ino
-    (c.in_ok-sub.ensures.found ∙ ap (λ s. find s (key_of c.args.key)) c.catalog.ensures)
+    (c.in_ok-sub.ensures.found ∙ ap (λ s. find s (key_of c.args.key)) c.catalog.ensures.core)
     (ap (λ s. walk s c.args.path.now) (sym c.tree.ensures) ∙ c.in-Ok.ensures)
     (c.in-None.ensures ∙ ap (λ s. inode_at s c.in-Ok.ino) c.tree-2.ensures) source at f w file)
