@@ -2,9 +2,12 @@
 use Rattle.std.specs.Prelude.{◌≡◌, ℕ, ◌+◌, ◌^◌, ◌<◌, ◌≤◌, List, [], ◌∷◌, ◌++◌, length, take, drop}
 use Rattle.std.proofs.Common.{refl, sym, ap, ◌∙◌, arith, append_assoc, append-nil, length-append}
 use Rattle.std.proofs.Math.Seq.{take-append_seam, drop-append_seam}
-use Rattle.send_model.specs.Spelling.{Attribute, attribute_bytes, body_of, frame_of}
+use Rattle.send_model.specs.Attribute.{Time, Moment, Number, field_bytes, CTIME, MTIME, ATIME, PATH, PATH_LINK, FILE_OFFSET, DATA}
+use Rattle.send_model.specs.Command.{Write, Link, Unlink, Utimes, row}
+use Rattle.send_model.specs.Spelling.{Attribute, attribute_bytes, attributes_of, body_of, frame_of}
+use Rattle.send_model.specs.Receivable.{receivable, receivable_attributes}
 use Rattle.send_model.proofs.Canonical.{attribute_len}
-use Rattle.tlv_frame.specs.Frame.{head_room}
+use Rattle.tlv_frame.specs.Frame.{Begun, head_room}
 
 -- ---- attributes one after the other
 
@@ -12,15 +15,17 @@ pub one_body : (version : ℕ) (to : List ℕ) (a : Attribute) (at1 : List ℕ) 
 unfolding body_of
 one_body version to a at1 e = e ∙ ap (λ (l : List ℕ). (to ++ head_room) ++ l) (sym (append-nil (attribute_bytes version a)))
 
-further : (version : ℕ) (front : List ℕ) (before : List Attribute) (a : Attribute) (now next : List ℕ) → now ≡ front ++ body_of version before → next ≡ now ++ attribute_bytes version a → next ≡ front ++ body_of version (before ++ a ∷ [])
+joined : (version : ℕ) (before : List Attribute) (a : Attribute) → body_of version before ++ attribute_bytes version a ≡ body_of version (before ++ a ∷ [])
+unfolding body_of
+joined version [] a = sym (append-nil (attribute_bytes version a))
+joined version (x ∷ before) a =
+    append_assoc (attribute_bytes version x) (body_of version before) (attribute_bytes version a) ∙ ap (λ (l : List ℕ). attribute_bytes version x ++ l) (joined version before a)
+
+further : (version : ℕ) (front : List ℕ) (before : List Attribute) (a : Attribute) (now next : List ℕ) → now ≡ front ++ body_of version before → next ≡ now ++ attribute_bytes version a
+    → next ≡ front ++ body_of version (before ++ a ∷ [])
 further version front before a now next e f =
     f ∙ ap (λ (l : List ℕ). l ++ attribute_bytes version a) e ∙ append_assoc front (body_of version before) (attribute_bytes version a)
-    ∙ ap (λ (l : List ℕ). front ++ l) (joined before)
-  where
-    joined : (before : List Attribute) → body_of version before ++ attribute_bytes version a ≡ body_of version (before ++ a ∷ [])
-    unfolding body_of
-    joined [] = sym (append-nil (attribute_bytes version a))
-    joined (x ∷ before) = append_assoc (attribute_bytes version x) (body_of version before) (attribute_bytes version a) ∙ ap (λ (l : List ℕ). attribute_bytes version x ++ l) (joined before)
+    ∙ ap (λ (l : List ℕ). front ++ l) (joined version before a)
 
 pub two_body : (version : ℕ) (to : List ℕ) (a b : Attribute) (at1 at2 : List ℕ) → at1 ≡ (to ++ head_room) ++ attribute_bytes version a → at2 ≡ at1 ++ attribute_bytes version b
     → at2 ≡ (to ++ head_room) ++ body_of version (a ∷ b ∷ [])
@@ -62,3 +67,43 @@ finished number start to body now written at is framed =
     let back : drop (length to + 10) now ≡ body = ap (λ (n : ℕ). drop n now) place ∙ ap (drop (length (to ++ head_room))) is ∙ drop-append_seam (to ++ head_room) body in
     framed ∙ ap (λ (n : ℕ). take n now ++ frame_of number (drop (n + 10) now)) at
     ∙ ap (λ (l : List ℕ). l ++ frame_of number (drop (length to + 10) now)) front ∙ ap (λ (l : List ℕ). to ++ frame_of number l) back
+
+-- ---- the commands of separators
+
+-- A path, or another of a command's texts, as an attribute.
+abbrev pub text_of : ℕ → List ℕ → Attribute
+text_of kind bytes = record { kind = kind; bytes = bytes }
+
+abbrev pub moment_of : ℕ → Time → Attribute
+moment_of kind time = record { kind = kind; bytes = field_bytes (Moment time) }
+
+-- The attributes of each.
+pub unlink_is : (version : ℕ) (path : List ℕ) → frame_of 11 (body_of version (text_of PATH path ∷ [])) ≡ receivable version (Unlink path)
+unfolding receivable receivable_attributes attributes_of row
+unlink_is version path = refl
+
+pub link_is : (version : ℕ) (name path : List ℕ) → frame_of 10 (body_of version (text_of PATH name ∷ text_of PATH_LINK path ∷ [])) ≡ receivable version (Link name path)
+unfolding receivable receivable_attributes attributes_of row
+link_is version name path = refl
+
+pub touch_is : (version : ℕ) (path : List ℕ) → frame_of 15 (body_of version (text_of PATH path ∷ text_of FILE_OFFSET (field_bytes (Number 0)) ∷ text_of DATA [] ∷ [])) ≡ receivable version (Write path 0 [])
+unfolding receivable receivable_attributes attributes_of row
+touch_is version path = refl
+
+pub times_are : (version : ℕ) (mtime atime : Time) → frame_of 20 (body_of version (moment_of CTIME mtime ∷ moment_of MTIME mtime ∷ moment_of ATIME atime ∷ text_of PATH [] ∷ [])) ≡ receivable version (Utimes mtime atime [])
+unfolding receivable receivable_attributes attributes_of row
+times_are version mtime atime = refl
+
+-- What the writer of a frame is.
+pub is_begun : (start number version : ℕ) (first now : Begun) → first ≡ record { start = start; number = number; version = version } → now ≡ first → (now.start ≡ start) × (now.number ≡ number) × (now.version ≡ version)
+is_begun start number version first now is same =
+    (ap (λ (w : Begun). w.start) (same ∙ is), ap (λ (w : Begun). w.number) (same ∙ is), ap (λ (w : Begun). w.version) (same ∙ is))
+
+-- One attribute more, by a writer of a version.
+pub by_writer : (version said : ℕ) (to now : List ℕ) (a : Attribute) → said ≡ version → now ≡ to ++ attribute_bytes said a → now ≡ to ++ attribute_bytes version a
+by_writer version said to now a e is = is ∙ ap (λ (v : ℕ). to ++ attribute_bytes v a) e
+
+-- The same of an attribute whose bytes are those of another word.
+pub with_bytes : (version said kind : ℕ) (to now bytes other : List ℕ) → said ≡ version → bytes ≡ other → now ≡ to ++ attribute_bytes said (text_of kind bytes) → now ≡ to ++ attribute_bytes version (text_of kind other)
+with_bytes version said kind to now bytes other e same is =
+    by_writer version said to now (text_of kind bytes) e is ∙ ap (λ (b : List ℕ). to ++ attribute_bytes version (text_of kind b)) same

@@ -5,3 +5,6 @@ pub mod AllFiles
 pub mod Answering
 pub mod Opening
 pub mod Frames
+pub mod FreeNames
+mod OneItem
+mod Separating

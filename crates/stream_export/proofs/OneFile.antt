@@ -229,8 +229,8 @@ item_ends told inputs file name first now next bytes_old bytes_now bytes_next ta
     by_outcome : (x : Outcome) → ItemStops now next bytes_now bytes_next meant_item taken_now taken_next early late x → IfTold told name (FileEnds file first next bytes_old bytes_next taken_old taken_next (Err x))
     by_outcome (ended_by.Refused verdict) (bad, passes) =
         both (FileEnds file first next bytes_old bytes_next taken_old taken_next (Err (ended_by.Refused verdict))) (λ bytes n s more.
-          let r : RefusedIn verdict (limited_from file (bytes ∷ more)).items = read_on (RefusedIn verdict) bytes more (refused_in verdict bad passes) n s in
-          (due_refused (beside [] first.now.state) (limited_from file (bytes ∷ more)) (verdict_meant verdict) r.0, r.1))
+        let r : RefusedIn verdict (limited_from file (bytes ∷ more)).items = read_on (RefusedIn verdict) bytes more (refused_in verdict bad passes) n s in
+        (due_refused (beside [] first.now.state) (limited_from file (bytes ∷ more)) (verdict_meant verdict) r.0, r.1))
     by_outcome ended_by.NoMemory none =
         both (FileEnds file first next bytes_old bytes_next taken_old taken_next (Err ended_by.NoMemory)) (λ bytes n s more. read_on FrontIn bytes more (no_memory none) n s)
     by_outcome ended_by.OutputFault (taken, rose, front) =

@@ -13,32 +13,12 @@ use Rattle.send_model.specs.Command.{Command}
 use Rattle.send_model.specs.Store.{Key, Part, State}
 use Rattle.send_model.specs.Cells.{recelled}
 use Rattle.send_model.specs.Opened.{Opened, kept_at, opened_at, open_after, is_astray, is_astray_at, leads_elsewhere}
-use Rattle.send_model.specs.Separated.{IsSmall, touch, separator, separator_for, separator_in, open_anew, other_path}
+use Rattle.send_model.specs.Separated.{touch, separator, separator_for, separator_in, open_anew, other_path}
 use Rattle.send_model.specs.Exported.{Exporting}
 use Rattle.send_model.proofs.Stores.{bytes_eq_true}
 use Rattle.send_model.proofs.CellMaps.{walk-cells}
 use Rattle.send_model.proofs.SeparatedCells.{separator-cells}
 use Rattle.stream_export.specs.Exporting.{Blank, before, opened_by, opened_for, opened_anew}
-
--- ---- the part's names
-
-pub small_names : {C : Type 0} (tree : Subvolume C) (o : Option (Subvolume C)) (part : Option (Part Blank)) → o ≡ Some tree → option_map (recelled (λ _. tt)) o ≡ option_map (λ p. p.subvolume) part
-    → length tree.names < 2 ^ 64 → IsSmall part
-small_names tree o part is same small = one part (sym (ap (option_map (recelled (λ _. tt))) is) ∙ same)
-  where
-    inside : {a b : Subvolume Blank} → Some a ≡ Some b → a ≡ b
-    inside e = cc
-
-    one : (p : Option (Part Blank)) → Some (recelled (λ _. tt) tree) ≡ option_map (λ p. p.subvolume) p → IsSmall p
-    one None e = cc
-    one (Some p) e = subst (λ (s : Subvolume Blank). length s.names < 2 ^ 64) (inside e) small
-
-pub no_names : {C : Type 0} (o : Option (Subvolume C)) (part : Option (Part Blank)) → o ≡ None → option_map (recelled (λ _. tt)) o ≡ option_map (λ p. p.subvolume) part → IsSmall part
-no_names o part is same = one part (sym (ap (option_map (recelled (λ _. tt))) is) ∙ same)
-  where
-    one : (p : Option (Part Blank)) → None ≡ option_map (λ p. p.subvolume) p → IsSmall p
-    one None e = tt
-    one (Some p) e = cc
 
 -- ---- a path that is not open
 
@@ -73,7 +53,7 @@ module _ (now : Exporting Blank) (path : List ℕ) where
       let at : Option Opened → List ℕ → Exporting Blank = λ opened other. record { state = now.state; opened = opened; other = other } in
       ap₂ at (found ∙ sym (anew_after e)) (sym (past now.opened e))
 
--- ---- the path that is open
+  -- ---- the path that is open
 
   same_other : (opened : Option Opened) (ino : ℕ) → kept_at opened (Some path) ≡ Some ino → (opened ≡ Some (opened_by path ino)) × (other_path now.other opened (Some path) ≡ now.other)
   same_other None ino e = cc
@@ -118,25 +98,25 @@ module _ (now : Exporting Blank) (path : List ℕ) where
 
 -- ---- the part's inodes and names
 
-module _ {C : Type 0} (tree : Subvolume C) (o : Option (Subvolume C)) (part : Option (Part Blank)) (same : option_map (recelled (λ _. tt)) o ≡ option_map (λ p. p.subvolume) part) where
+module _ {C T : Type 0} (seen : T → Subvolume C) (tree : T) (o : Option T) (part : Option (Part Blank)) (same : option_map (λ t. recelled (λ _. tt) (seen t)) o ≡ option_map (λ p. p.subvolume) part) where
   abbrev blank_part : Key → Part Blank
-  blank_part key = record { key = key; subvolume = recelled (λ _. tt) tree }
+  blank_part key = record { key = key; subvolume = recelled (λ _. tt) (seen tree) }
 
   abbrev full_part : Key → Part C
-  full_part key = record { key = key; subvolume = tree }
+  full_part key = record { key = key; subvolume = seen tree }
 
   part_of : o ≡ Some tree → (key : Key) × (part ≡ Some (blank_part key))
-  part_of is = one part (sym (ap (option_map (recelled (λ _. tt))) is) ∙ same)
+  part_of is = one part (sym (ap (option_map (λ (t : T). recelled (λ _. tt) (seen t))) is) ∙ same)
     where
       inside : {a b : Subvolume Blank} → Some a ≡ Some b → a ≡ b
       inside e = cc
 
-      one : (p : Option (Part Blank)) → Some (recelled (λ _. tt) tree) ≡ option_map (λ p. p.subvolume) p → (key : Key) × (p ≡ Some (blank_part key))
+      one : (p : Option (Part Blank)) → Some (recelled (λ _. tt) (seen tree)) ≡ option_map (λ p. p.subvolume) p → (key : Key) × (p ≡ Some (blank_part key))
       one None e = cc
       one (Some p) e = (p.key, ap (λ (s : Subvolume Blank). Some (record { key = p.key; subvolume = s })) (sym (inside e)))
 
   no_part : o ≡ None → part ≡ None
-  no_part is = one part (sym (ap (option_map (recelled (λ _. tt))) is) ∙ same)
+  no_part is = one part (sym (ap (option_map (λ (t : T). recelled (λ _. tt) (seen t))) is) ∙ same)
     where
       one : (p : Option (Part Blank)) → None ≡ option_map (λ p. p.subvolume) p → p ≡ None
       one None e = refl
@@ -149,33 +129,33 @@ module _ {C : Type 0} (tree : Subvolume C) (o : Option (Subvolume C)) (part : Op
     pub none_elsewhere : (ino : ℕ) → o ≡ None → leads_elsewhere part ino path ≡ false
     none_elsewhere ino is = ap (λ (p : Option (Part Blank)). leads_elsewhere p ino path) (no_part is)
 
-    found_by : (r : Result ℕ Refusal) → o ≡ Some tree → walk tree path ≡ r → opened_at part path ≡ (elim r as (λ x. Option Opened) [ Err refusal ↦ None | Ok ino ↦ Some (opened_by path ino) ])
+    found_by : (r : Result ℕ Refusal) → o ≡ Some tree → walk (seen tree) path ≡ r → opened_at part path ≡ (elim r as (λ x. Option Opened) [ Err refusal ↦ None | Ok ino ↦ Some (opened_by path ino) ])
     found_by r is walked =
         ap (λ (p : Option (Part Blank)). opened_at p path) (part_of is).1
-        ∙ ap (λ (w : Result ℕ Refusal). elim w as (λ x. Option Opened) [ Err refusal ↦ None | Ok ino ↦ Some (opened_by path ino) ]) (walk-cells (λ _. tt) tree path ∙ walked)
+        ∙ ap (λ (w : Result ℕ Refusal). elim w as (λ x. Option Opened) [ Err refusal ↦ None | Ok ino ↦ Some (opened_by path ino) ]) (walk-cells (λ _. tt) (seen tree) path ∙ walked)
 
-    elsewhere_by : (r : Result ℕ Refusal) (ino : ℕ) → o ≡ Some tree → walk tree path ≡ r → leads_elsewhere part ino path ≡ (elim r as (λ x. Bool) [ Err refusal ↦ false | Ok now ↦ not (now == ino) ])
+    elsewhere_by : (r : Result ℕ Refusal) (ino : ℕ) → o ≡ Some tree → walk (seen tree) path ≡ r → leads_elsewhere part ino path ≡ (elim r as (λ x. Bool) [ Err refusal ↦ false | Ok now ↦ not (now == ino) ])
     elsewhere_by r ino is walked =
         ap (λ (p : Option (Part Blank)). leads_elsewhere p ino path) (part_of is).1
-        ∙ ap (λ (w : Result ℕ Refusal). elim w as (λ x. Bool) [ Err refusal ↦ false | Ok now ↦ not (now == ino) ]) (walk-cells (λ _. tt) tree path ∙ walked)
+        ∙ ap (λ (w : Result ℕ Refusal). elim w as (λ x. Bool) [ Err refusal ↦ false | Ok now ↦ not (now == ino) ]) (walk-cells (λ _. tt) (seen tree) path ∙ walked)
 
-    pub found_at : (ino : ℕ) → o ≡ Some tree → walk tree path ≡ Ok ino → Some (opened_by path ino) ≡ opened_at part path
+    pub found_at : (ino : ℕ) → o ≡ Some tree → walk (seen tree) path ≡ Ok ino → Some (opened_by path ino) ≡ opened_at part path
     found_at ino is walked = sym (found_by (Ok ino) is walked)
 
-    pub found_not : (refusal : Refusal) → o ≡ Some tree → walk tree path ≡ Err refusal → None ≡ opened_at part path
+    pub found_not : (refusal : Refusal) → o ≡ Some tree → walk (seen tree) path ≡ Err refusal → None ≡ opened_at part path
     found_not refusal is walked = sym (found_by (Err refusal) is walked)
 
-    pub not_elsewhere : (refusal : Refusal) (ino : ℕ) → o ≡ Some tree → walk tree path ≡ Err refusal → leads_elsewhere part ino path ≡ false
+    pub not_elsewhere : (refusal : Refusal) (ino : ℕ) → o ≡ Some tree → walk (seen tree) path ≡ Err refusal → leads_elsewhere part ino path ≡ false
     not_elsewhere refusal ino is walked = elsewhere_by (Err refusal) ino is walked
 
-    pub here_still : (now ino : ℕ) → o ≡ Some tree → walk tree path ≡ Ok now → now ≡ ino → leads_elsewhere part ino path ≡ false
+    pub here_still : (now ino : ℕ) → o ≡ Some tree → walk (seen tree) path ≡ Ok now → now ≡ ino → leads_elsewhere part ino path ≡ false
     here_still now ino is walked e = elsewhere_by (Ok now) ino is walked ∙ ap not (eq-eqb now ino e)
 
     differ : (b : Bool) → (b ≡ true → ⊥) → not b ≡ true
     differ true n = absurd (n refl)
     differ false n = refl
 
-    pub elsewhere_now : (now ino : ℕ) → o ≡ Some tree → walk tree path ≡ Ok now → (now ≡ ino → ⊥) → leads_elsewhere part ino path ≡ true
+    pub elsewhere_now : (now ino : ℕ) → o ≡ Some tree → walk (seen tree) path ≡ Ok now → (now ≡ ino → ⊥) → leads_elsewhere part ino path ≡ true
     elsewhere_now now ino is walked n = elsewhere_by (Ok now) ino is walked ∙ differ (now == ino) (λ e. n (eqb-true now ino e))
 
   -- The separator of a part is that of its inodes and names.
@@ -183,7 +163,7 @@ module _ {C : Type 0} (tree : Subvolume C) (o : Option (Subvolume C)) (part : Op
   separator_of opened other path p = if is_astray_at opened p (Some path) then separator_for other p (Some path) else []
 
   pub separator_tree : (now : Exporting Blank) (path : List ℕ) (ino : ℕ) → now.state.part ≡ part → o ≡ Some tree → kept_at now.opened (Some path) ≡ Some ino → leads_elsewhere part ino path ≡ true
-      → before now (touch path) ≡ separator_in tree now.other path
+      → before now (touch path) ≡ separator_in (seen tree) now.other path
   unfolding separator is_astray
   separator_tree now path ino here is kept elsewhere =
       let (key, at) = part_of is in
@@ -191,10 +171,10 @@ module _ {C : Type 0} (tree : Subvolume C) (o : Option (Subvolume C)) (part : Op
       let blank_at : before now (touch path) ≡ separator_of now.opened now.other path (Some (blank_part key)) = ap (separator_of now.opened now.other path) (here ∙ at) in
       let astray : is_astray_at now.opened (Some (full_part key)) (Some path) ≡ true =
       ap (λ (k : Option ℕ). elim k as (λ x. Bool) [ None ↦ false | Some i ↦ leads_elsewhere (Some (full_part key)) i path ]) kept
-      ∙ ap (λ (w : Result ℕ Refusal). elim w as (λ x. Bool) [ Err refusal ↦ false | Ok now ↦ not (now == ino) ]) (sym (walk-cells (λ _. tt) tree path))
+      ∙ ap (λ (w : Result ℕ Refusal). elim w as (λ x. Bool) [ Err refusal ↦ false | Ok now ↦ not (now == ino) ]) (sym (walk-cells (λ _. tt) (seen tree) path))
       ∙ sym (ap (λ (p : Option (Part Blank)). leads_elsewhere p ino path) at) ∙ elsewhere in
       blank_at ∙ separator-cells (λ _. tt) now.opened now.other state (touch path)
-      ∙ ap (λ (b : Bool). if b then separator_in tree now.other path else []) astray
+      ∙ ap (λ (b : Bool). if b then separator_in (seen tree) now.other path else []) astray
 
 -- ---- short paths
 

@@ -1,9 +1,10 @@
 -- What is exported over subvolumes whose cells carry nothing: no separator and no step looks at cells. This program's own.
-use Rattle.std.specs.Prelude.{◌≡◌, ℕ, Bool, List, [], ◌∷◌, ◌++◌, Option, None, Some}
+use Rattle.std.specs.Prelude.{is_some, ◌||◌, ◌≡◌, ℕ, Bool, List, [], ◌∷◌, ◌++◌, Option, None, Some}
 use Rattle.std.specs.Option.{option_map}
 use Rattle.send_model.specs.Command.{Command}
 use Rattle.send_model.specs.Reading.{Item}
-use Rattle.send_model.specs.Store.{State, After}
+use Rattle.send_model.specs.Counts.{is_end}
+use Rattle.send_model.specs.Store.{head_of, State, After}
 use Rattle.send_model.specs.Opened.{Opened, written_path}
 use Rattle.send_model.specs.Separated.{separator, open_anew, other_path}
 use Rattle.send_model.specs.Exported.{Exporting, separated_by, AreSmallBy}
@@ -19,6 +20,10 @@ abbrev pub blank_does : State Blank → Item → After (State Blank)
 blank_does state item = blank_step state item.command
 
 -- ---- one command
+
+-- A head and END close the file that is open.
+abbrev pub closes : Command → Bool
+closes command = is_some (head_of command) || is_end command
 
 -- Commands in the receivable spelling, one after the other.
 abbrev pub all_receivable : ℕ → List Command → List ℕ

@@ -1,16 +1,17 @@
 // The part as it stands, and the file that the receiver has open: what goes before each command.
 ghost use Rattle.std.specs.Prelude.{◌≡◌, ◌≤◌, ◌^◌, ◌++◌, ℕ, Some, OnOk, length};
 ghost use Rattle.std.specs.Option.{option_map};
-ghost use Rattle.send_model.specs.Opened.{kept_at, opened_at};
+ghost use Rattle.send_model.specs.Opened.{written_path, kept_at, opened_at};
 ghost use Rattle.send_model.specs.Separated.{IsSmall, separator_in, names_file, touch};
 ghost use Rattle.send_model.specs.Exported.{exporting};
+ghost use Rattle.send_model.specs.Receivable.{header_before};
 ghost use Rattle.send_model.specs.Laws.{CanWrite};
 ghost use Rattle.send_commands.specs.Meaning.{meaning_of};
 ghost use Rattle.send_commands.specs.Writing.{IsWritable};
 ghost use Rattle.clone_resolve.specs.Steps.{data_len};
 ghost use Rattle.auditor.specs.Following.{blank};
 ghost use Rattle.cmd_reader.specs.Next.{item_of};
-ghost use Rattle.stream_export.specs.Exporting.{all_receivable, before, opened_for, opened_by, opened_anew, export_bytes};
+ghost use Rattle.stream_export.specs.Exporting.{closes, all_receivable, before, opened_for, opened_by, opened_anew, export_bytes};
 ghost use Rattle.stream_export.specs.Steps.{Takes};
 ghost use Rattle.sx_base.specs.Bytes.{IsFront};
 
@@ -49,9 +50,9 @@ impl<R: Origin> Model for Exporter<R> {
     ghost Value = { Exporting Blank };
 
     ghost view = { λ e. record {
-        state = e.follower;
-        opened = option_map (λ ino. opened_by e.path ino) e.ino;
-        other = e.other;
+      state = e.follower;
+      opened = option_map (λ ino. opened_by e.path ino) e.ino;
+      other = e.other;
     } };
 }
 
@@ -114,14 +115,10 @@ impl<R: Origin> Exporter<R> {
             (self.new ≡ opened_for self.old (meaning_of item.now.command)) }
         ensures kept { IsFront to.old to.new }
     {
-        if begins {
-            let header = StreamHead {
-                version: item.version,
-            };
-            to.push_all(&header.bytes())?;
-        }
+        push_header(begins, item.version, to)?;
         self.push_before(&item.command, item.version, to)?;
-        push_receivable(&item.command, item.version, &mut self.room, to)
+        push_receivable(&item.command, item.version, &mut self.room, to)?;
+        Ok(())
     }
 
     // Appends what goes before a command, and opens the file that it writes to.
@@ -136,15 +133,13 @@ impl<R: Origin> Exporter<R> {
         ensures opened { OnOk result (self.new ≡ opened_for self.old (meaning_of command.now)) }
         ensures kept { IsFront to.old to.new }
     {
-        match command {
-            Command::Write { path, .. } => self.open(path.as_slice(), version, to),
-            Command::Clone { path, .. } => self.open(path.as_slice(), version, to),
-            Command::Fallocate { path, .. } => self.open(path.as_slice(), version, to),
-            Command::Subvol { .. } | Command::Snapshot { .. } | Command::End => {
-                self.ino = None;
-                Ok(())
-            }
-            _ => Ok(()),
+        if closes_file(command) {
+            self.ino = None;
+            return Ok(());
+        }
+        match written_path(command) {
+            Some(path) => self.open(path, version, to),
+            None => Ok(()),
         }
     }
 
@@ -229,6 +224,18 @@ impl<R: Origin> Exporter<R> {
     }
 }
 
+// Appends the header of a stream where a command begins one.
+fn push_header(begins: bool, version: u32, to: &mut Blob) -> Result<(), AllocError>
+    ensures added { OnOk result (to.new ≡ to.old ++ header_before begins version) }
+    ensures kept { IsFront to.old to.new }
+{
+    if !begins {
+        return Ok(());
+    }
+    let header = StreamHead { version };
+    to.push_all(&header.bytes())
+}
+
 // Appends commands that change nothing and make the receiver open another path.
 fn push_separator<R: Origin>(
     alloc: Global,
@@ -260,5 +267,47 @@ fn names_file<R: Origin>(tree: &Tree<R>, path: &[u8]) -> bool
     match tree.find(path) {
         Ok(ino) => tree.is_file(ino),
         Err(_) => false,
+    }
+}
+
+// Whether the receiver has no file open after a command: a head or END.
+fn closes_file(command: &Command) -> bool
+    ensures { result ≡ closes (meaning_of command.now) }
+{
+    matches!(
+        command,
+        Command::Subvol { .. } | Command::Snapshot { .. } | Command::End
+    )
+}
+
+// The path of the file that a command writes to through the one that the receiver keeps open.
+fn written_path(command: &Command) -> Option<&[u8]>
+    ensures { option_map (λ path. path.now) result ≡ written_path (meaning_of command.now) }
+{
+    match command {
+        Command::Write { path, .. } => Some(path.as_slice()),
+        Command::Clone { path, .. } => Some(path.as_slice()),
+        Command::Fallocate { path, .. } => Some(path.as_slice()),
+        Command::Subvol { .. } => None,
+        Command::Snapshot { .. } => None,
+        Command::MkFile { .. } => None,
+        Command::MkDir { .. } => None,
+        Command::MkNod { .. } => None,
+        Command::MkFifo { .. } => None,
+        Command::MkSock { .. } => None,
+        Command::Symlink { .. } => None,
+        Command::Rename { .. } => None,
+        Command::Link { .. } => None,
+        Command::Unlink { .. } => None,
+        Command::Rmdir { .. } => None,
+        Command::SetXattr { .. } => None,
+        Command::RemoveXattr { .. } => None,
+        Command::Truncate { .. } => None,
+        Command::Chmod { .. } => None,
+        Command::Chown { .. } => None,
+        Command::Utimes { .. } => None,
+        Command::End => None,
+        Command::UpdateExtent { .. } => None,
+        Command::FileAttr { .. } => None,
     }
 }

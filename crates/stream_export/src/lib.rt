@@ -1,5 +1,5 @@
 //! Streams as the real `btrfs receive` takes them and makes of them what they say: in the receivable spelling, and with separators
-//! where it would write to a file that the path does not name any more. `send_model`'s law `exported_streams_are_the_same` says what
+//! where it would write to a file that the path does not name any more. `send_model`'s law `separators_change_nothing` says what
 //! an exported stream keeps (`ExportedIsSame`).
 #![tactic(auto)]
 

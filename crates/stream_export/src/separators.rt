@@ -3,6 +3,8 @@ ghost use Rattle.std.specs.Prelude.{◌≡◌, ◌++◌, ◌≤◌, ◌<◌, ◌
 ghost use Rattle.send_model.specs.Command.{Write, Link, Unlink, Utimes};
 ghost use Rattle.send_model.specs.Receivable.{receivable};
 ghost use Rattle.send_model.specs.Separated.{own_name, free_name, mtime_of_root, atime_of_root};
+ghost use Rattle.send_commands.specs.Meaning.{time_of};
+ghost use Rattle.inode_tree.specs.Kinds.{time_of as moment_of};
 ghost use Rattle.sx_base.specs.Bytes.{IsFront};
 
 use extent_map::Origin;
@@ -83,14 +85,20 @@ pub(crate) fn push_root_times<R: Origin>(
 }
 
 // The times of the root: of its last change, and of its last use.
-fn root_times<R: Origin>(tree: &Tree<R>) -> (Time, Time) {
+fn root_times<R: Origin>(tree: &Tree<R>) -> (Time, Time)
+    ensures mtime { time_of result.0 ≡ mtime_of_root tree.now }
+    ensures atime { time_of result.1 ≡ atime_of_root tree.now }
+{
     match tree.inode(ROOT) {
-        Some(root) => (time_of(root.mtime()), time_of(root.atime())),
+        Some(root) => (time_at(root.mtime()), time_at(root.atime())),
         None => (Time { secs: 0, nanos: 0 }, Time { secs: 0, nanos: 0 }),
     }
 }
 
-fn time_of(moment: Timestamp) -> Time {
+// A moment of an inode as one of a command.
+fn time_at(moment: Timestamp) -> Time
+    ensures { time_of result ≡ moment_of moment }
+{
     Time {
         secs: moment.secs,
         nanos: moment.nanos,

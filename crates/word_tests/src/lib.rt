@@ -21,6 +21,8 @@ mod reading_tests;
 #[cfg(test)]
 mod run_tests;
 #[cfg(test)]
+mod separator_tests;
+#[cfg(test)]
 mod showing_tests;
 #[cfg(test)]
 mod streams;

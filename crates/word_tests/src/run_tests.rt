@@ -373,12 +373,7 @@ fn files_are_checked_and_printed(rt: HostRuntime) -> Result<(), Fail> {
             b"refused 1 1 17 13 NoParent\n",
         ),
         (&["dump", "first"], 0, DUMPED, b""),
-        (
-            &["export", "none", "first"],
-            0,
-            exported.as_slice(),
-            b"",
-        ),
+        (&["export", "none", "first"], 0, exported.as_slice(), b""),
         (
             &["export", "none", "second"],
             1,

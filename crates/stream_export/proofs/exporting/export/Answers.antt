@@ -18,16 +18,16 @@ pub returns-in-Ok-clause-cause : goal.returns-in-Ok-clause-cause
 returns-in-Ok-clause-cause g c =
     caused_end _ _ _ _ _ c.export_files.new.gathered.bytes ended.Done c.finish.result _ _ c.finish.ensures.later c.in-Ok.ensures.out_later c.finish.ensures.ends tt
 
-pub returns-in-Err-clause-exported : goal.returns-in-Err-clause-exported
-returns-in-Err-clause-exported g c =
+pub returns-clause-exported : goal.returns-clause-exported
+returns-clause-exported g c =
     export_stops _ (map string_bytes c.args.files.now) c.args.core c.new-exporter.result c.new-gathered.result c.export_files.new.gathered.bytes _ _ _ _ _ c.in-Err.outcome c.finish-in-Err.result
     c.new-exporter.ensures.start c.new-gathered.ensures.empty c.in-Err.ensures.exported c.finish-in-Err.ensures.ends
 
-pub returns-in-Err-clause-small : goal.returns-in-Err-clause-small
-returns-in-Err-clause-small g c =
+pub returns-clause-small : goal.returns-clause-small
+returns-clause-small g c =
     stops_small _ (map string_bytes c.args.files.now) c.args.core c.new-exporter.result c.new-gathered.result c.export_files.new.gathered.bytes _ _ _ _ _ c.in-Err.outcome c.finish-in-Err.result
     c.new-exporter.ensures.start c.new-gathered.ensures.empty c.in-Err.ensures.exported c.finish-in-Err.ensures.ends
 
-pub returns-in-Err-clause-cause : goal.returns-in-Err-clause-cause
-returns-in-Err-clause-cause g c =
+pub returns-clause-cause : goal.returns-clause-cause
+returns-clause-cause g c =
     caused_end _ _ _ _ _ c.export_files.new.gathered.bytes c.in-Err.outcome c.finish-in-Err.result _ _ c.finish-in-Err.ensures.later c.in-Err.ensures.out_later c.finish-in-Err.ensures.ends c.in-Err.ensures.cause

@@ -2,6 +2,7 @@ use Rattle.std.proofs.Common.{refl, ap, ◌∙◌, arith}
 use Rattle.cmd_reader.specs.Left.{Reader}
 use Rattle.cmd_reader.proofs.Aheads.{start_ahead, next_ahead}
 use Rattle.auditor.proofs.Short.{item_short}
+use Rattle.cmd_reader.specs.Next.{item_of}
 use Rattle.stream_export.specs.Steps.{point_at}
 use Rattle.stream_export.proofs.OneFile.{stands_at_start, stands_after, file_unopened, file_ends, item_ends, file_stops, item_cause}
 use Rattle.stream_export.proofs.files.export_file.Goals as goal
@@ -22,7 +23,6 @@ loop-item-init g c =
       stands = stands_at_start (g.I.Inputs.told c.args.inputs.now) c.args.file c.args.name.now c.in-Ok.reader (point_at c.args.exporter.now c.args.gathered.now) c.args.gathered.now.bytes (g.O.Sink.taken c.args.out.now) fresh;
       ahead = start_ahead _ c.args.file c.args.name.now c.in-Ok.reader fresh;
     }
-
 
 pub loop-item-preserved : goal.loop-item-preserved
 loop-item-preserved g c =
@@ -51,7 +51,10 @@ returns-in-Err-exported-clause-exported g c =
 
 pub returns-in-Err-exported-clause-cause : goal.returns-in-Err-exported-clause-cause
 returns-in-Err-exported-clause-cause g c =
-    item_cause _ _ _ _ _ _ _ c.in-Err-exported.outcome _ _ _ (g.O.Sink.faults c.loop-item.out) _ c.loop-item.invariant.out_later c.in-Err-exported.ensures.ends
+    item_cause (point_at c.loop-item.exporter c.loop-item.gathered) (point_at c.export_item-exported.new.exporter c.export_item-exported.new.gathered)
+    c.loop-item.gathered.bytes c.export_item-exported.new.gathered.bytes (item_of c.args.file c.in-Ok-Some.item) (g.O.Sink.taken c.loop-item.out) (g.O.Sink.taken c.export_item-exported.new.out)
+    c.in-Err-exported.outcome (g.I.Inputs.faults c.args.inputs.now) (g.I.Inputs.faults c.next.new.inputs) (g.O.Sink.faults c.args.out.now) (g.O.Sink.faults c.loop-item.out) (g.O.Sink.faults c.export_item-exported.new.out)
+    c.loop-item.invariant.out_later c.in-Err-exported.ensures.ends
 
 pub returns-in-Ok-None-clause-exported : goal.returns-in-Ok-None-clause-exported
 returns-in-Ok-None-clause-exported g c =
@@ -64,3 +67,6 @@ returns-in-Err-clause-exported g c =
     let i = c.loop-item.invariant in
     file_stops _ _ c.args.file c.args.name.now (point_at c.args.exporter.now c.args.gathered.now) (point_at c.loop-item.exporter c.loop-item.gathered) c.args.gathered.now.bytes c.loop-item.gathered.bytes (g.O.Sink.taken c.args.out.now) (g.O.Sink.taken c.loop-item.out)
     c.loop-item.reader c.next.new.self (g.I.Inputs.faults c.loop-item.inputs) (g.I.Inputs.faults c.next.new.inputs) c.in-Err.stop c.outcome_of.result i.same i.name c.in-Err.ensures.read c.outcome_of.ensures.outcome i.stands
+
+pub export_item-exported-requires-clause-short : goal.export_item-exported-requires-clause-short
+export_item-exported-requires-clause-short g c = item_short c.in-Ok-Some.field-0 c.in-Ok-Some.item _ _ c.in-Ok-Some.field-0-is c.in-Ok-Some.ensures.fits

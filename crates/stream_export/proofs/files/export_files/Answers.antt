@@ -14,17 +14,17 @@ loop-file-init g c = record {
   stand = all_start _ (map string_bytes c.args.files.now) (point_at c.args.exporter.now c.args.gathered.now) c.args.gathered.now.bytes (g.O.Sink.taken c.args.out.now);
 }
 
-pub returns-in-Err-exported-clause-exported : goal.returns-in-Err-exported-clause-exported
-returns-in-Err-exported-clause-exported g c =
+pub returns-in-Err-clause-exported : goal.returns-in-Err-clause-exported
+returns-in-Err-clause-exported g c =
     let i = c.loop-file.invariant in
     all_stop _ _ c.args.files.now c.loop-file.file (point_at c.args.exporter.now c.args.gathered.now) (point_at c.loop-file.exporter c.loop-file.gathered) (point_at c.export_file-exported.new.exporter c.export_file-exported.new.gathered)
     c.args.gathered.now.bytes c.loop-file.gathered.bytes c.export_file-exported.new.gathered.bytes (g.O.Sink.taken c.args.out.now) (g.O.Sink.taken c.loop-file.out) (g.O.Sink.taken c.export_file-exported.new.out)
-    c.index-files-file.result c.as_str-name.result.now c.in-Err-exported.outcome i.same c.loop-file-test.true c.index-files-file.is c.as_str-name.ensures.value c.in-Err-exported.ensures.exported i.stand
+    c.index-files-file.result c.as_str-name.result.now c.in-Err.outcome i.same c.loop-file-test.true c.index-files-file.is c.as_str-name.ensures.value c.in-Err.ensures.exported i.stand
 
 pub loop-file-preserved : goal.loop-file-preserved
 loop-file-preserved g c =
     let i = c.loop-file.invariant in
-    let e = c.in_default-exported.ensures in
+    let e = c.in_default.ensures in
     record {
       within = omega (arith, c.loop-file-test.true);
       same = e.same ∙ i.same;

@@ -1,0 +1,44 @@
+use Rattle.std.proofs.Common.{[], ◌∷◌, ◌≡◌, ◌++◌, ◌+◌, ℕ, List, length, take, drop, ap, sym, ◌∙◌, arith}
+use Rattle.send_model.specs.Command.{row}
+use Rattle.send_model.specs.Attribute.{PATH, PATH_LINK, FILE_OFFSET, DATA, Number, field_bytes}
+use Rattle.send_model.specs.Spelling.{attribute_bytes, body_of, frame_of}
+use Rattle.tlv_frame.specs.Frame.{Begun, head_room}
+use Rattle.stream_export.proofs.Frames.{text_of, three_body, by_writer, can_finish, finished, touch_is}
+use Rattle.stream_export.proofs.separators.push_touch.Goals.{In_ok-attr_data}
+use Rattle.stream_export.proofs.separators.push_touch.Goals as goal
+
+-- Where the frame begins, and what stands there before its header is put in.
+unfinished : (c : In_ok-attr_data) → (c.attr_data.new.self.start ≡ length c.args.to.now) × (c.attr_data.new.self.number ≡ 15) × (c.attr_data.new.to ≡ (c.args.to.now ++ head_room) ++ body_of c.args.version (text_of PATH c.args.path.now ∷ text_of FILE_OFFSET (field_bytes (Number 0)) ∷ text_of DATA [] ∷ []))
+unfolding row
+unfinished c =
+    let begun = c.in_ok-writer.ensures.begun in
+    let v0 : c.in_ok-writer.writer.version ≡ c.args.version = ap (λ (w : Begun). w.version) begun in
+    let v1 : c.attr_bytes.new.self.version ≡ c.args.version = ap (λ (w : Begun). w.version) c.attr_bytes.ensures.writer ∙ v0 in
+    let v2 : c.attr_u64.new.self.version ≡ c.args.version = ap (λ (w : Begun). w.version) c.attr_u64.ensures.writer ∙ v1 in (
+      ap (λ (w : Begun). w.start) (c.attr_data.ensures.writer ∙ c.attr_u64.ensures.writer ∙ c.attr_bytes.ensures.writer ∙ begun),
+      ap (λ (w : Begun). w.number) (c.attr_data.ensures.writer ∙ c.attr_u64.ensures.writer ∙ c.attr_bytes.ensures.writer ∙ begun) ∙ c.number.ensures.number,
+      three_body c.args.version c.args.to.now (text_of PATH c.args.path.now) (text_of FILE_OFFSET (field_bytes (Number 0))) (text_of DATA []) c.attr_bytes.new.to c.attr_u64.new.to c.attr_data.new.to
+          (by_writer c.args.version c.in_ok-writer.writer.version c.begin.new.to c.attr_bytes.new.to (text_of PATH c.args.path.now) v0 c.in_ok-attr_bytes.ensures.appended ∙ ap (λ (l : List ℕ). l ++ attribute_bytes c.args.version (text_of PATH c.args.path.now)) c.in_ok-writer.ensures.room)
+          (by_writer c.args.version c.attr_bytes.new.self.version c.attr_bytes.new.to c.attr_u64.new.to (text_of FILE_OFFSET (field_bytes (Number 0))) v1 c.in_ok-attr_u64.ensures.appended)
+          (by_writer c.args.version c.attr_u64.new.self.version c.attr_u64.new.to c.attr_data.new.to (text_of DATA []) v2 c.in_ok-attr_data.ensures.appended),
+    )
+
+pub finish-requires-clause-short : goal.finish-requires-clause-short
+finish-requires-clause-short c =
+    let (start, number, bytes) = unfinished (goal.at.finish-requires-clause-short c).In_ok-attr_data in
+    (can_finish c.args.version c.attr_data.new.self.start (text_of PATH c.args.path.now ∷ text_of FILE_OFFSET (field_bytes (Number 0)) ∷ text_of DATA [] ∷ []) c.args.to.now c.attr_data.new.to start bytes (omega (arith, c.requires.short))).1
+
+pub returns-clause-added : goal.returns-clause-added
+returns-clause-added c =
+    let (start, number, bytes) = unfinished (goal.at.returns-clause-added c).In_ok-attr_data in
+    finished 15 c.attr_data.new.self.start c.args.to.now (body_of c.args.version (text_of PATH c.args.path.now ∷ text_of FILE_OFFSET (field_bytes (Number 0)) ∷ text_of DATA [] ∷ [])) c.attr_data.new.to c.finish.new.to start bytes
+    (c.finish.ensures.framed ∙ ap (λ (n : ℕ). take c.attr_data.new.self.start c.attr_data.new.to ++ frame_of n (drop (c.attr_data.new.self.start + 10) c.attr_data.new.to)) number)
+    ∙ ap (λ (l : List ℕ). c.args.to.now ++ l) (touch_is c.args.version c.args.path.now)
+
+pub returns-clause-kept : goal.returns-clause-kept
+returns-clause-kept c =
+    let (start, number, bytes) = unfinished (goal.at.returns-clause-kept c).In_ok-attr_data in (
+      frame_of 15 (body_of c.args.version (text_of PATH c.args.path.now ∷ text_of FILE_OFFSET (field_bytes (Number 0)) ∷ text_of DATA [] ∷ [])),
+      finished 15 c.attr_data.new.self.start c.args.to.now (body_of c.args.version (text_of PATH c.args.path.now ∷ text_of FILE_OFFSET (field_bytes (Number 0)) ∷ text_of DATA [] ∷ [])) c.attr_data.new.to c.finish.new.to start bytes
+          (c.finish.ensures.framed ∙ ap (λ (n : ℕ). take c.attr_data.new.self.start c.attr_data.new.to ++ frame_of n (drop (c.attr_data.new.self.start + 10) c.attr_data.new.to)) number),
+    )
