@@ -60,6 +60,9 @@ module _ (old new : Option (List ℕ)) (files : List (List ℕ)) where
   pub audit_wrote : (guards : List GuardSpec) (store at : ℕ) (P : List ℕ → Type 0) → Wrote old new P → Wrote old new (IfComposes (Audit guards store at) files)
   audit_wrote guards store at P w = (w.0, w.1, λ s a same. cc)
 
+  pub export_wrote : (store at : ℕ) (P : List ℕ → Type 0) → Wrote old new P → Wrote old new (IfComposes (Export store at) files)
+  export_wrote store at P w = (w.0, w.1, λ s a same. cc)
+
   -- Auditing under guards that are new ones of their kinds.
   audits_new : (specs : List GuardSpec) (store at : ℕ) (outcome : Outcome) → Wrote old new (AuditEnds [] (new_guards specs) files outcome) → Wrote old new (λ written. Ends (Audit specs store at) [] files outcome written)
   unfolding due whole_of

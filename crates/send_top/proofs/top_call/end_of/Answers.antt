@@ -12,7 +12,7 @@ use Rattle.auditor.specs.Following.{blank}
 use Rattle.auditor.specs.Answers.{AuditEnds}
 use Rattle.send_top.specs.Requests.{guards_in, before_store, specs_of, request_meant}
 use Rattle.send_top.specs.Run.{IfComposes, IfExports}
-use Rattle.send_top.proofs.Asked.{following, of_one_file, composed_ends, headline, audit_wrote, audits, dumps, exports, no_export, promised, caused_unread, of_names, map_some}
+use Rattle.send_top.proofs.Asked.{following, of_one_file, composed_ends, headline, audit_wrote, export_wrote, audits, dumps, exports, no_export, promised, caused_unread, of_names, map_some}
 use Rattle.send_top.proofs.top_call.end_of.Goals as goal
 
 pub returns-in-Compose-clause-composed : goal.returns-in-Compose-clause-composed
@@ -87,6 +87,17 @@ returns-in-Audit-clause-ends g c =
 pub returns-in-Dump-clause-ends : goal.returns-in-Dump-clause-ends
 returns-in-Dump-clause-ends g c =
     rw c.in-Dump.is (of_one_file Dump dumps (g.I.Inputs.told c.args.inputs.now) c.name_at.result.now (map string_bytes c.args.words.now) c.in-Dump.file (g.O.Sink.taken c.args.out.now) (g.O.Sink.taken c.dump.new.out) c.dump.result c.name_at.ensures.name c.dump.ensures.dumped)
+
+pub returns-in-Export-clause-composed : goal.returns-in-Export-clause-composed
+returns-in-Export-clause-composed g c done =
+    let old = g.O.Sink.taken c.args.out.now in
+    let new = g.O.Sink.taken c.export.new.out in
+    rw c.in-Export.is (following (g.I.Inputs.told c.args.inputs.now) (map string_bytes c.names_from-in-Export.result.now) (drop c.in-Export.files (map string_bytes c.args.words.now))
+    (λ files. Wrote old new (λ written. Ends (Export 0 0) [] files c.export.result written))
+    (λ files. Wrote old new (IfComposes (Export c.in-Export.store c.in-Export.files) files))
+    (ap (map string_bytes) c.names_from-in-Export.ensures.names ∙ sym (drop-map string_bytes c.in-Export.files c.args.words.now))
+    (λ files. export_wrote old new files c.in-Export.store c.in-Export.files (λ written. Ends (Export 0 0) [] files c.export.result written))
+    (c.export.ensures.exported [] (ap (λ (s : Store (Option Nowhere)). blank s) c.new-core-in-Export.ensures)))
 
 pub returns-in-Export-clause-exported : goal.returns-in-Export-clause-exported
 returns-in-Export-clause-exported g c done =
