@@ -112,9 +112,9 @@ some_files : (table : List (List ℕ × List ℕ)) (names : List (List ℕ)) →
 some_files table [] some = λ e. some refl
 some_files table (name ∷ names) some = λ e. cc
 
-pub map_some : {S : Type 0} {text : S → List ℕ} (words : List S) → words ≢ [] → map text words ≢ []
-map_some [] some = λ e. some refl
-map_some (word ∷ words) some = λ e. cc
+pub map_some : {S : Type 0} (text : S → List ℕ) (words : List S) → words ≢ [] → map text words ≢ []
+map_some text [] some = λ e. some refl
+map_some text (word ∷ words) some = λ e. cc
 
 -- What was exported keeps what is promised of it.
 exported_of : (files : List (List ℕ)) (written : List ℕ) (outcome : Outcome) → files ≢ [] → outcome ≡ ended.Done → Ends (Export 0 0) [] files outcome written

@@ -109,7 +109,7 @@ returns-in-Export-clause-exported g c done =
     rw c.in-Export.is (of_names told names (drop c.in-Export.files (map string_bytes c.args.words.now))
     (λ files. Wrote old new (IfExports (Export c.in-Export.store c.in-Export.files) files))
     (ap (map string_bytes) c.names_from-in-Export.ensures.names ∙ sym (drop-map string_bytes c.in-Export.files c.args.words.now))
-    (promised told names old new c.in-Export.store c.in-Export.files c.export.result (map_some c.names_from-in-Export.result.now c.names_from-in-Export.ensures.some) done
+    (promised told names old new c.in-Export.store c.in-Export.files c.export.result (map_some string_bytes c.names_from-in-Export.result.now c.names_from-in-Export.ensures.some) done
     (c.export.ensures.exported [] same) (c.export.ensures.small [] same)))
 
 pub returns-in-Export-clause-ends : goal.returns-in-Export-clause-ends
