@@ -1,9 +1,9 @@
 -- What words say of files of bytes is what they say of what was read of them; that this is so without names; and what compose says over
 -- a base with fewer contents.
-use Rattle.std.specs.Prelude.{◌≡◌, ◌↔◌, ℕ, Bool, List, [], ◌∷◌}
+use Rattle.std.specs.Prelude.{◌≡◌, ◌↔◌, ℕ, List, [], ◌∷◌}
 use Rattle.std.proofs.Common.{refl, sym, ap, ap₂, subst, ◌∙◌}
 use Rattle.send_model.specs.Reading.{Item}
-use Rattle.send_model.specs.Store.{Key, Store}
+use Rattle.send_model.specs.Store.{Store}
 use Rattle.send_model.specs.Due.{Due, DoneWhole, RefusedAt, TooLong, TooMuch, audit_due, accepted_line}
 use Rattle.send_model.specs.Words.{Request, Compose, Audit, Dump, Export, Gen, Trial, due, whole_of, EndSays, StandsBefore, StandsRefused, StandsCut}
 use Rattle.send_model.specs.Exported.{exported}
