@@ -52,7 +52,7 @@ audit_is_receiving store guards files none =
 
 -- ---- where a file is too long
 
-long_answer : (refused : Option Verdict) (n : ℕ) → answer_of refused (AtLimit n) ≡ or_due (option_map RefusedAt (first_of refused None)) (TooLong n)
+pub long_answer : (refused : Option Verdict) (n : ℕ) → answer_of refused (AtLimit n) ≡ or_due (option_map RefusedAt (first_of refused None)) (TooLong n)
 long_answer (Some verdict) n = refl
 long_answer None n = refl
 

@@ -2,10 +2,10 @@
 use Rattle.std.specs.Prelude.{◌≡◌, ◌<◌, ℕ, ◌+◌, ◌^◌, Bool, true, false, List, [], ◌∷◌, drop, length, Option, None, Some, IfSome, nat_lt, if◌then◌else◌}
 use Rattle.std.specs.List.{AllByRecursion}
 use Rattle.std.proofs.Common.{refl, ap, subst}
-use Rattle.std.proofs.lemmas.Bool.{ltb-true}
+use Rattle.std.proofs.lemmas.Bool.{ltb-true, lt-ltb}
 use Rattle.send_model.specs.Attribute.{IsBytes}
 use Rattle.send_model.specs.Renamed.{IsNewName, AreNewNames}
-use Rattle.send_model.specs.NamedWords.{GivenFile, is_name_word, new_name, onto_files, files_from, names_of, PlainFilesAreGiven, GivenNamesFit}
+use Rattle.send_model.specs.NamedWords.{GivenFile, is_name_word, new_name, onto_files, files_from, names_of, PlainFilesAreGiven, GivenNamesFit, ShortNamesAreGiven}
 use Rattle.send_model.proofs.ElementLaws.{all_drop}
 use Rattle.send_model.proofs.Sorts.{same_inside}
 
@@ -46,3 +46,6 @@ fit_from (Some new) at (word ∷ words) name bytes = one (is_name_word word) (fi
 
 pub given_names_fit : GivenNamesFit
 given_names_fit at words given bytes e = fit_from None at words tt bytes given e
+
+pub short_names_are_given : ShortNamesAreGiven
+short_names_are_given word short = rw (lt-ltb (length (drop 5 word)) (2 ^ 16) short) refl

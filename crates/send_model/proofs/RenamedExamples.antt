@@ -2,14 +2,14 @@
 -- it does not; and the words that give names.
 use Rattle.std.specs.Prelude.{◌≡◌, ℕ, List, [], ◌∷◌, ◌++◌, Option, None, Some, codes, refl}
 use Rattle.std.specs.Fmt.{digits}
-use Rattle.send_model.specs.Refusal.{Refusal, BadName, NameThere}
+use Rattle.send_model.specs.Refusal.{Refusal, BadName, NameThere, Guarded}
 use Rattle.send_model.specs.Command.{Command, Subvol, Snapshot, MkFile, Rename, Clone, End}
 use Rattle.send_model.specs.Reading.{Whole, input}
 use Rattle.send_model.specs.Store.{Store}
 use Rattle.send_model.specs.Lengths.{is_too_long, too_long, too_long_from}
 use Rattle.send_model.specs.Receive.{run_by}
 use Rattle.send_model.specs.Order.{judge_items, judge_reading, judge_of}
-use Rattle.send_model.specs.Guards.{NoDevices, guard_of, guard_refuses, guard_after, refused_from, looked}
+use Rattle.send_model.specs.Guards.{MostCommands, NoDevices, guard_of, guard_refuses, guard_after, refused_from, looked}
 use Rattle.send_model.specs.Composed.{version_of}
 use Rattle.send_model.specs.Due.{Due, DoneWhole, RefusedAt, due_from, compose_due, compose_due_of, limited_from, audit_due_of}
 use Rattle.send_model.specs.Words.{Dump, guards_and_files, request_of}
@@ -139,6 +139,20 @@ no_file : named_request_of (codes "compose" ∷ codes "none" ∷ codes "a" ∷ c
 unfolding name_words
 no_file = refl
 
+-- A store alone is not enough, nor is one with a name behind it.
+no_words : named_request_of (codes "compose" ∷ codes "none" ∷ []) ≡ None
+unfolding name_words
+no_words = refl
+
+no_file_named : named_request_of (codes "audit" ∷ codes "none" ∷ codes "name:mon" ∷ []) ≡ None
+unfolding name_words
+no_file_named = refl
+
+-- A name where the store stands is a store so called.
+store_so_called : named_request_of (codes "compose" ∷ codes "name:x" ∷ codes "a" ∷ []) ≡ Some (ComposeAs 1 (given 2 None ∷ []))
+unfolding name_words
+store_so_called = refl
+
 two_for_one : named_request_of (codes "compose" ∷ codes "none" ∷ codes "name:mon" ∷ codes "name:tue" ∷ codes "a" ∷ []) ≡ None
 unfolding name_words
 two_for_one = refl
@@ -151,7 +165,7 @@ receive_words : named_request_of (codes "receive" ∷ codes "st" ∷ codes "a" �
 unfolding name_words
 receive_words = refl
 
--- A guard behind the store is a file, and so is a name where no names are given.
+-- Where no names are given, such a word is a file.
 dump_words : named_request_of (codes "dump" ∷ codes "name:mon" ∷ []) ≡ Some (Plain (Dump 1))
 unfolding name_words
 dump_words = refl
@@ -163,6 +177,18 @@ dump_named = refl
 composed_due : named_due (ComposeAs 1 (given 3 (Some (codes "mon")) ∷ given 5 (Some (codes "tue")) ∷ [])) [] both ≡ DoneWhole
 unfolding name_words
 composed_due = refl
+
+audited_due : named_due (AuditAs [] 1 (given 2 None ∷ given 4 (Some (codes "tue")) ∷ [])) [] both ≡ DoneWhole
+unfolding name_words
+audited_due = refl
+
+received_due : named_due (ReceiveAs (MostCommands 6 ∷ []) 1 (given 2 None ∷ given 4 (Some (codes "tue")) ∷ [])) [] both ≡ refused 2 3 135 (Guarded 0 6)
+unfolding name_words
+received_due = refl
+
+audited_line : named_whole (AuditAs [] 1 (given 2 None ∷ given 4 (Some (codes "tue")) ∷ [])) [] both ≡ codes "accepted 2 7" ++ 0x0a ∷ []
+unfolding name_words
+audited_line = refl
 
 -- The last name is the composed subvolume's.
 composed_whole : named_whole (ComposeAs 1 (given 3 None ∷ given 5 (Some (codes "tue")) ∷ [])) [] both ≡ tuesday

@@ -1,6 +1,6 @@
 -- The words that give names with files: `name:NEW` in front of a file, and NEW is the name of the part or parts in it. What is due to such
--- words, and what they write. They are this program's own.
-use Rattle.std.specs.Prelude.{◌≡◌, ℕ, ◌+◌, ◌^◌, Bool, false, List, [], ◌∷◌, map, take, drop, length, Option, None, Some, codes, nat_lt, if◌then◌else◌}
+-- words, and what they write. They are this program's own; no word of it gives a name yet.
+use Rattle.std.specs.Prelude.{◌≡◌, ◌<◌, ℕ, ◌+◌, ◌^◌, Bool, false, List, [], ◌∷◌, map, take, drop, length, Option, None, Some, codes, nat_lt, if◌then◌else◌}
 use Rattle.std.specs.List.{AllByRecursion}
 use Rattle.std.specs.Str.{bytes_eq}
 use Rattle.send_model.specs.Attribute.{IsBytes}
@@ -114,3 +114,7 @@ PlainFilesAreGiven = (at : ℕ) (words : List (List ℕ)) → AllByRecursion (λ
 abbrev pub GivenNamesFit : Type 0
 GivenNamesFit = (at : ℕ) (words : List (List ℕ)) (given : List GivenFile) → AllByRecursion IsBytes words → files_from None at words ≡ Some given
     → AreNewNames (names_of given)
+
+-- And each that an attribute has room for can be given.
+abbrev pub ShortNamesAreGiven : Type 0
+ShortNamesAreGiven = (word : List ℕ) → length (drop 5 word) < 2 ^ 16 → new_name word ≡ Some (drop 5 word)

@@ -8,15 +8,13 @@ use Rattle.send_model.specs.Command.{Command, Subvol, Snapshot, MkFile, MkDir, M
 use Rattle.send_model.specs.Reading.{Item, Reading, Whole, reads, joined, input, is_version}
 use Rattle.send_model.specs.Path.{is_name}
 use Rattle.send_model.specs.Store.{Head, head_of, Store, State, completed, step}
-use Rattle.send_model.specs.Receive.{byte_cells, receive_of, IsAccepted}
-use Rattle.send_model.specs.Guards.{Guard, receive_watched}
+use Rattle.send_model.specs.Receive.{receive_of, IsAccepted}
 use Rattle.send_model.specs.Order.{heads, commands_of, IsConsecutive}
 use Rattle.send_model.specs.Outside.{part_uuids, base_of, all_keys_named, keys_outside, FindsSayable}
 use Rattle.send_model.specs.Counts.{literal, kept_of}
 use Rattle.send_model.specs.Composed.{version_of}
 use Rattle.send_model.specs.Headline.{IsComposedOf, output_of}
-use Rattle.send_model.specs.Lengths.{too_long}
-use Rattle.send_model.specs.Due.{refused_due, Limited, limited_from, audit_due_of, accepted_line_of}
+use Rattle.send_model.specs.Due.{Limited, accepted_line_of}
 use Rattle.send_model.specs.Lawful.{IsLawfulStore}
 use Rattle.send_model.specs.Laws.{CanWrite, IsWhole}
 
@@ -152,12 +150,6 @@ RenamedFilesHold = (store : Store ℕ) (names : Names) (files : List (List ℕ))
     → let reading = renamed names (input files) in let base = base_of store reading.items in
     reading.end ≡ Whole → IsConsecutive reading.items → IsAccepted (receive_of base reading) → FindsSayable base (keys_outside reading.items)
     → IsComposedOf base reading (output_of None base reading.items)
-
--- The answer that is due to an audit of files with names is that of receiving them under guards, where no file is too long.
-abbrev pub RenamedAuditIsReceiving : Type 0
-RenamedAuditIsReceiving = (names : Names) (store : Store ℕ) (guards : List Guard) (files : List (List ℕ)) → too_long files ≡ None
-    → audit_due_of store guards (renamed_limited names (limited_from 1 files))
-    ≡ refused_due (receive_watched 0 byte_cells store guards (renamed names (input files))).refused
 
 -- What is received into a lawful store, with names that an attribute has room for, leaves a lawful one, wherever it ends.
 abbrev pub RenamedLeaveLawful : Type 0

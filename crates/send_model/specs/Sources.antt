@@ -1,14 +1,18 @@
 -- What words say of their files, over what was read of them. Files of bytes are one source of that; files with other names for their parts
 -- are another. This program's own.
-use Rattle.std.specs.Prelude.{◌≡◌, ◌↔◌, ℕ, Bool, List, [], Option}
-use Rattle.send_model.specs.Reading.{Reading, input}
-use Rattle.send_model.specs.Lengths.{too_long}
+use Rattle.std.specs.Prelude.{◌≡◌, ◌↔◌, ℕ, Bool, List, [], ◌∷◌, ◌++◌, take, Option, None}
+use Rattle.std.specs.Option.{option_map}
+use Rattle.send_model.specs.Reading.{Reading, Whole, input}
+use Rattle.send_model.specs.Lengths.{limit, too_long}
 use Rattle.send_model.specs.Store.{Key, Store}
+use Rattle.send_model.specs.Receive.{byte_cells}
+use Rattle.send_model.specs.Guards.{GuardSpec, receive_watched}
 use Rattle.send_model.specs.Lines.{dump_of}
 use Rattle.send_model.specs.Exported.{exported_of}
 use Rattle.send_model.specs.Generated.{chain_of, trial_line}
 use Rattle.send_model.specs.Headline.{IsFrontOf, IsProperFrontOf, IsComposedOf, IsStoppedOf, whole_output_of}
-use Rattle.send_model.specs.Due.{Due, DoneWhole, RefusedAt, TooLong, TooMuch, Limited, limited_from, compose_due_of, audit_due_of, accepted_line_of, file_due}
+use Rattle.send_model.specs.Due.{Due, refused_due, or_due, DoneWhole, RefusedAt, TooLong, TooMuch, Limited, limited_from, compose_due_of, audit_due_of, accepted_line_of, file_due}
+use Rattle.send_model.specs.LengthLaws.{IsFirstLong}
 use Rattle.send_model.specs.Words.{Request, Compose, Audit, Dump, Export, Gen, Trial, new_guards, first_file, due, whole_of, EndSays, StandsBefore, StandsCut}
 use Rattle.send_model.specs.Thinned.{thinned, KeepsOutside, IsApart}
 use Rattle.send_model.specs.Renamed.{Names, renamed, renamed_limited}
@@ -102,6 +106,20 @@ pub record SaysOfFiles (request : Request) (base : Store ℕ) (files : List (Lis
 -- Without names nothing changes.
 abbrev pub NoNamesChangeNothing : Type 0
 NoNamesChangeNothing = (read : Sources) → renamed_sources [] read ≡ read
+
+-- The answer that is due to an audit of files with names is that of receiving them under its guards, where no file is too long.
+abbrev pub RenamedAuditIsReceiving : Type 0
+RenamedAuditIsReceiving = (names : Names) (guards : List GuardSpec) (store first : ℕ) (base : Store ℕ) (files : List (List ℕ)) → too_long files ≡ None
+    → due_of (Audit guards store first) base (renamed_sources names (sources files))
+    ≡ refused_due (receive_watched 0 byte_cells base (new_guards guards) (renamed names (input files))).refused
+
+-- And where one is, it is the first refusal of what stands before the limit of the first such file; and else it names that file.
+abbrev pub RenamedAuditStopsAtLimit : Type 0
+RenamedAuditStopsAtLimit = (names : Names) (guards : List GuardSpec) (store first : ℕ) (base : Store ℕ) (files : List (List ℕ)) (n : ℕ)
+    (long : IsFirstLong 1 n files)
+    → let before : Reading = record { items = (input (long.before ++ take limit long.bytes ∷ [])).items; end = Whole } in
+    due_of (Audit guards store first) base (renamed_sources names (sources files))
+    ≡ or_due (option_map RefusedAt (receive_watched 0 byte_cells base (new_guards guards) (renamed names before)).refused) (TooLong n)
 
 -- What compose answers and leaves over one base is what it answers and leaves over another.
 pub record EndsAlike (base other : Store ℕ) (read : Sources) : Type 0 where

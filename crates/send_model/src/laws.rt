@@ -15,10 +15,10 @@ ghost use Rattle.send_model.specs.Receivable.{ReceivableSpells, ReceivableRises}
 ghost use Rattle.send_model.specs.Exported.{CanExportOver, ExportedIsSame, ReceivedCanExport};
 ghost use Rattle.send_model.specs.Separated.{NeutralChangesNothing, TouchIsNeutral, DetourIsNeutral, FreeNameIsFree, SteadyIsPlain, SeparatedIsReceived, SeparatedCountsSame};
 ghost use Rattle.send_model.specs.Thinned.{LeavesOutContents, LooksAtNamed, AlikeIsSame, LooksOutside, LeastIsEnough, AlikeOutside};
-ghost use Rattle.send_model.specs.Renamed.{Names, KeepsAllElse, ChangesHeadsAlone, RenamedOneByOne, FileHasOneName, HasNewName, BadNameStands, RenamedIsWritable, RenamedIsWhole, RenamedFilesHold, RenamedAuditIsReceiving, RenamedLeaveLawful};
+ghost use Rattle.send_model.specs.Renamed.{Names, KeepsAllElse, ChangesHeadsAlone, RenamedOneByOne, FileHasOneName, HasNewName, BadNameStands, RenamedIsWritable, RenamedIsWhole, RenamedFilesHold, RenamedLeaveLawful};
 ghost use Rattle.send_model.specs.Words.{Request};
-ghost use Rattle.send_model.specs.Sources.{SaysOfFiles, NoNamesChangeNothing, ThinnedEnds};
-ghost use Rattle.send_model.specs.NamedWords.{PlainFilesAreGiven, GivenNamesFit};
+ghost use Rattle.send_model.specs.Sources.{SaysOfFiles, NoNamesChangeNothing, RenamedAuditIsReceiving, RenamedAuditStopsAtLimit, ThinnedEnds};
+ghost use Rattle.send_model.specs.NamedWords.{PlainFilesAreGiven, GivenNamesFit, ShortNamesAreGiven};
 ghost use Rattle.send_model.specs.Laws.{SpelledIsRead, SpelledIsFront, FrameHasOneReading, ReadWasSpelled, RulesWereSpelled, DataIsThere, CanonicalSpells, SpelledIsSpellable, SecondSaysMore, AreInner, StreamIsRead, CutIsUnfinished, EditLooksAtItsPart, StepKeepsCells, FirstPathsAreLeast, AreCounted, ItemsHold, ItemsSpelled, FrontsAreWritable, ReadingsHold, PlainReadingsHold, FilesAreWhole, FilesHold, PlainFilesHold, BaseCanReceive, BaseReceives, ChainIsLawful};
 
 /// Whatever spells a command is read as that command, whatever follows it, and spells no other; what is read was spelled. So it is
@@ -197,7 +197,7 @@ pub fn words_speak_of_readings()
 /// Names that are given with files stand in place of those of their heads, and change nothing else: no key, no order of parts, no version
 /// and no count. A name that is no lawful one is refused at the head. The headline holds of the reading with these names, and an audit is
 /// receiving it under guards. What is received leaves a lawful store. Without names nothing changes, and words without names are files.
-/// Each name that words give is one that an attribute has room for.
+/// Each name that words give is one that an attribute has room for, and each such name can be given.
 pub fn parts_may_have_other_names<C>()
     ensures none { NoNamesChangeNothing }
     ensures rest { (names : Names) (items : List Item) → KeepsAllElse names items }
@@ -210,7 +210,9 @@ pub fn parts_may_have_other_names<C>()
     ensures whole { RenamedIsWhole }
     ensures files { RenamedFilesHold }
     ensures audits { RenamedAuditIsReceiving }
+    ensures limited { RenamedAuditStopsAtLimit }
     ensures lawful { RenamedLeaveLawful }
     ensures words { PlainFilesAreGiven }
     ensures fit { GivenNamesFit }
+    ensures short { ShortNamesAreGiven }
 {}
