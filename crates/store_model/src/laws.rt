@@ -1,7 +1,7 @@
 // Laws that tie the definitions to what they mean. Each is the contract of a function that does nothing.
 ghost use Rattle.store_model.specs.StateLaws.{MoreItemsPassMore, BeginsWithTheStore, PassesWhatItLeaves, PassesWhatIsCompleted, FilesAreItems, BetweenHasThem, LimitedIsFront, LinesAreParts, FirstLinesStandWhole, ReceivedHasNumbers, PrintedAreParts};
-ghost use Rattle.store_model.specs.Stops.{NothingIsOnTheWay, AllIsOnTheWay};
-ghost use Rattle.store_model.specs.Written.{WrittenIsReceived, WrittenIsLawful};
+ghost use Rattle.store_model.specs.Stops.{NothingIsOnTheWay, AllIsOnTheWay, FirstIsOnTheWay};
+ghost use Rattle.store_model.specs.Written.{WrittenIsReceived, FirstGroupsAreStates, WrittenIsLawful};
 ghost use Rattle.store_model.specs.StoreWords.{OneStoreDue, ReceiveIsAudit, LeftIsPassed, LeftIsState, LeftIsReceived};
 ghost use Rattle.store_model.specs.StoreLaws.{BodyIsOneGroup, ImageIsOneStore, ImageIsNotBoth, OneGroupIsAtFault, EachImageIsDecided, StoredIsLawful, GroupsKeepCells, PlacesAreBytes, BytesHavePlaces, OneMoreIsMade, StoredHasNumbers, OneScrub, EachImageIsScrubbed, StoredIsWhole};
 ghost use Rattle.store_model.specs.TurnLaws.{TurnsAreOneByOne, PartsAreRead, FilesAreOneByOne, FilesAreInTurn, OneIsReceiving, AllAreOver, NoneIsLeftOpen, FilesLeaveNoneOpen, GroupsAreLawful, GroupsStand, LinesAreComplete, FrontsAreStates, FrontStatesAreStates, FrontGroupsAreStates, StatesAreOneByOne};
@@ -63,13 +63,16 @@ pub fn one_answer_is_due_over_a_store()
 {}
 
 /// The groups that receiving writes behind those of a store, one Mark for each part that begins and one Body for each that is complete,
-/// make of it what receiving leaves. Those of files of bytes can stand in an image of either format. The image at entry is on the way,
-/// and so is the one that has them all.
+/// make of it what receiving leaves; and whatever the first of them make is a state on the way, with all parts complete that are complete
+/// in it. Those of files of bytes can stand in an image of either format. The image at entry is on the way, so is the one that has them
+/// all, and so is each that has the first of them, with no more lines written than parts are complete in it.
 pub fn written_groups_make_what_is_received()
     ensures received { WrittenIsReceived }
+    ensures states { FirstGroupsAreStates }
     ensures lawful { WrittenIsLawful }
     ensures nothing { NothingIsOnTheWay }
     ensures all { AllIsOnTheWay }
+    ensures first { FirstIsOnTheWay }
 {}
 
 /// After any turns of sessions the store has what receiving the completed parts one after the other, in the order of their completion,
