@@ -14,7 +14,7 @@ use Rattle.send_model.specs.Composed.{version_of}
 use Rattle.send_model.specs.Due.{Due, DoneWhole, RefusedAt, due_from, compose_due, compose_due_of, limited_from, audit_due_of}
 use Rattle.send_model.specs.Words.{Dump, guards_and_files, request_of}
 use Rattle.send_model.specs.Renamed.{Names, renamed_item, renamed_items, renamed, renamed_limited}
-use Rattle.send_model.specs.NamedWords.{GivenFile, ComposeAs, AuditAs, ReceiveAs, Plain, files_from, guards_and_given, named_request_of, named_due, named_whole}
+use Rattle.send_model.specs.NamedWords.{GivenFile, ComposeAs, AuditAs, ExportAs, ReceiveAs, Plain, files_from, guards_and_given, named_request_of, named_due, named_whole}
 use Rattle.send_model.proofs.ExampleWords.{hexadecimal, uuid, items, reading_words, composing_words}
 
 -- Two parts of one name, and the stream that stands for both under the name that is given with the last, as an assembler independent of
@@ -165,6 +165,10 @@ receive_words : named_request_of (codes "receive" ∷ codes "st" ∷ codes "a" �
 unfolding name_words
 receive_words = refl
 
+export_words : named_request_of (codes "export" ∷ codes "st" ∷ codes "name:mon" ∷ codes "a" ∷ []) ≡ Some (ExportAs 1 (given 3 (Some (codes "mon")) ∷ []))
+unfolding name_words
+export_words = refl
+
 -- Where no names are given, such a word is a file.
 dump_words : named_request_of (codes "dump" ∷ codes "name:mon" ∷ []) ≡ Some (Plain (Dump 1))
 unfolding name_words
@@ -181,6 +185,10 @@ composed_due = refl
 audited_due : named_due (AuditAs [] 1 (given 2 None ∷ given 4 (Some (codes "tue")) ∷ [])) [] both ≡ DoneWhole
 unfolding name_words
 audited_due = refl
+
+exported_due : named_due (ExportAs 1 (given 2 None ∷ given 4 (Some (codes "tue")) ∷ [])) [] both ≡ DoneWhole
+unfolding name_words
+exported_due = refl
 
 received_due : named_due (ReceiveAs (MostCommands 6 ∷ []) 1 (given 2 None ∷ given 4 (Some (codes "tue")) ∷ [])) [] both ≡ refused 2 3 135 (Guarded 0 6)
 unfolding name_words

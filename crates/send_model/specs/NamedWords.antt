@@ -7,7 +7,7 @@ use Rattle.send_model.specs.Attribute.{IsBytes}
 use Rattle.send_model.specs.Store.{Store}
 use Rattle.send_model.specs.Guards.{GuardSpec, guard_of, is_guard_word}
 use Rattle.send_model.specs.Due.{Due}
-use Rattle.send_model.specs.Words.{Request, Compose, Audit, is_word, request_of, due, whole_of}
+use Rattle.send_model.specs.Words.{Request, Compose, Audit, Export, is_word, request_of, due, whole_of}
 use Rattle.send_model.specs.Renamed.{Names, AreNewNames}
 use Rattle.send_model.specs.Sources.{Sources, sources, renamed_sources, due_of, whole_from}
 
@@ -20,6 +20,7 @@ pub record GivenFile : Type 0 where
 pub data NamedRequest : Type 0 where
   ComposeAs : (store : ℕ) (files : List GivenFile) → NamedRequest
   AuditAs : (guards : List GuardSpec) (store : ℕ) (files : List GivenFile) → NamedRequest
+  ExportAs : (store : ℕ) (files : List GivenFile) → NamedRequest
   ReceiveAs : (guards : List GuardSpec) (store : ℕ) (files : List GivenFile) → NamedRequest
   Plain : Request → NamedRequest
 
@@ -66,15 +67,16 @@ guards_and_given request at (word ∷ words) =
     then (elim (guard_of word) [ None ↦ None | Some guard ↦ guards_and_given (λ guards. request (guard ∷ guards)) (at + 1) words ])
     else store_and_given (request []) at (word ∷ words)
 
--- `compose STORE [name:NEW] FILE ..`, `audit [GUARD..] STORE [name:NEW] FILE ..`, `receive [GUARD..] STORE [name:NEW] FILE ..`; other words
--- mean what they mean without names.
+-- `compose STORE [name:NEW] FILE ..`, `export STORE [name:NEW] FILE ..`, `audit [GUARD..] STORE [name:NEW] FILE ..` and
+-- `receive [GUARD..] STORE [name:NEW] FILE ..`; other words mean what they mean without names.
 unfoldable pub named_request_of : List (List ℕ) → Option NamedRequest
 named_request_of [] = None
 named_request_of (word ∷ words) =
     if is_word (codes "compose") word then store_and_given ComposeAs 1 words
     else (if is_word (codes "audit") word then guards_and_given AuditAs 1 words
     else (if is_word (codes "receive") word then guards_and_given ReceiveAs 1 words
-    else (elim (request_of (word ∷ words)) [ None ↦ None | Some request ↦ Some (Plain request) ])))
+    else (if is_word (codes "export") word then store_and_given ExportAs 1 words
+    else (elim (request_of (word ∷ words)) [ None ↦ None | Some request ↦ Some (Plain request) ]))))
 
 -- ---- answers
 
@@ -89,6 +91,7 @@ sources_as given files = renamed_sources (names_of given) (sources files)
 unfoldable pub named_due : NamedRequest → Store ℕ → List (List ℕ) → Due
 named_due (ComposeAs store given) base files = due_of (Compose store 0) base (sources_as given files)
 named_due (AuditAs guards store given) base files = due_of (Audit guards store 0) base (sources_as given files)
+named_due (ExportAs store given) base files = due_of (Export store 0) base (sources_as given files)
 named_due (ReceiveAs guards store given) base files = due_of (Audit guards store 0) base (sources_as given files)
 named_due (Plain request) base files = due request base files
 
@@ -96,6 +99,7 @@ named_due (Plain request) base files = due request base files
 unfoldable pub named_whole : NamedRequest → Store ℕ → List (List ℕ) → List ℕ
 named_whole (ComposeAs store given) base files = whole_from (Compose store 0) base (sources_as given files)
 named_whole (AuditAs guards store given) base files = whole_from (Audit guards store 0) base (sources_as given files)
+named_whole (ExportAs store given) base files = whole_from (Export store 0) base (sources_as given files)
 named_whole (ReceiveAs guards store given) base files = []
 named_whole (Plain request) base files = whole_of request base files
 
