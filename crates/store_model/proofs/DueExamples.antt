@@ -13,7 +13,7 @@ use Rattle.send_model.specs.Guards.{guard_refuses, guard_after, refused_from, lo
 use Rattle.send_model.specs.Lengths.{is_too_long, too_long, too_long_from}
 use Rattle.send_model.specs.Answer as answers
 use Rattle.send_model.specs.Answer.{kept_values, eight_digits, verdict_text}
-use Rattle.send_model.specs.Due.{DoneWhole, RefusedAt, due_from, limited_from, audit_due}
+use Rattle.send_model.specs.Due.{DoneWhole, RefusedAt, TooLong, TooMuch, due_from, limited_from, audit_due, accepted_line}
 use Rattle.store_model.specs.Image.{usual_header}
 use Rattle.store_model.specs.States.{complete_line, lines_behind, received_lines, left_by}
 use Rattle.store_model.specs.StoreLines.{entry_line, listed, inode_line, xattr_line, name_line, shown}
@@ -22,7 +22,7 @@ use Rattle.store_model.specs.Dues.{left_from, receive_left, NotStore, Ends, Miss
 use Rattle.send_model.specs.Spelling.{canonical, frame_of, attributes_of, attribute_bytes, body_of}
 use Rattle.send_model.specs.Words as streams
 use Rattle.send_model.specs.Words.{Compose, Audit, Dump, Export, guards_and_files}
-use Rattle.store_model.specs.Requests.{Request, OfStreams, InitStore, DropEntry, ReceiveFiles, ListStore, ShowEntry, CatFile, ScrubStore, over_store, request_of, IsDue}
+use Rattle.store_model.specs.Requests.{Request, OfStreams, InitStore, DropEntry, ReceiveFiles, ListStore, ShowEntry, CatFile, ScrubStore, over_store, request_of, IsDue, Says}
 use Rattle.send_model.specs.Guards.{MostBytes, MostCommands, NoDevices, new_guard, guard_of}
 use Rattle.send_model.proofs.ExampleWords.{key, composing_words, hexadecimal, uuid, one_file, items}
 use Rattle.send_model.proofs.ReadingExamples.{second_stream, first_stream}
@@ -159,13 +159,14 @@ second_shown = (refl, refl)
 
 -- ---- statuses and notes
 
-statuses : map status_of (Ends DoneWhole ∷ NotStore 3 ∷ Missing (codes "zz") ∷ LogFull 123 3969 4096 ∷ StoreThere 21 ∷ Damaged 1 2 3 ∷ []) ≡ 0 ∷ 6 ∷ 8 ∷ 10 ∷ 12 ∷ 14 ∷ []
+statuses : map status_of (Ends DoneWhole ∷ Ends (TooMuch 5) ∷ Ends (TooLong 2) ∷ NotStore 3 ∷ Missing (codes "zz") ∷ LogFull 123 3969 4096 ∷ StoreThere 21 ∷ Damaged 1 2 3 ∷ [])
+    ≡ 0 ∷ 9 ∷ 11 ∷ 6 ∷ 8 ∷ 10 ∷ 12 ∷ 14 ∷ []
 unfolding due_words
 statuses = refl
 
-notes : (note_of (NotStore 3) ≡ codes "not a store 3" ++ 10 ∷ []) × (note_of (LogFull 123 3969 4096) ≡ codes "log full 123 3969 4096" ++ 10 ∷ []) × (note_of (Ends DoneWhole) ≡ [])
+notes : (note_of (Ends (TooMuch 5)) ≡ codes "too much 5" ++ 10 ∷ []) × (note_of (Ends (TooLong 2)) ≡ codes "input too long 2" ++ 10 ∷ []) × (note_of (NotStore 3) ≡ codes "not a store 3" ++ 10 ∷ []) × (note_of (LogFull 123 3969 4096) ≡ codes "log full 123 3969 4096" ++ 10 ∷ []) × (note_of (Ends DoneWhole) ≡ [])
 unfolding due_words
-notes = (refl, refl, refl)
+notes = (refl, refl, refl, refl, refl)
 
 refused_note : (note_of (receive_due (2 ^ 40) 160 (a_complete ∷ []) [] (first_stream ∷ [])) ≡ codes "refused 1 1 17 11 NameThere" ++ 10 ∷ []) × (status_of (receive_due (2 ^ 40) 160 (a_complete ∷ []) [] (first_stream ∷ [])) ≡ 1)
 unfolding due_words first_stream a_with
@@ -236,6 +237,16 @@ exported_over_a : IsDue (OfStreams (Export 1 2)) (codes "export" ∷ codes "st" 
     (Ends (RefusedAt (record { file = 1; command = 1; offset = 17; refusal = NameThere })))
 unfolding stream_words
 exported_over_a = (a_complete ∷ [], a_stands, refl)
+
+-- and what is written then; nothing where there is no store
+accepted_over_none : (image : List ℕ) → Says (OfStreams (Audit [] 1 2)) (codes "audit" ∷ codes "none" ∷ codes "f" ∷ []) image (first_stream ∷ []) (Ends DoneWhole)
+    (codes "accepted 1 4" ++ 10 ∷ []) image
+unfolding stream_words streams.whole_of accepted_line
+accepted_over_none image = (refl, refl)
+
+refused_over_a : Says (OfStreams (Audit [] 1 2)) (codes "audit" ∷ codes "st" ∷ codes "f" ∷ []) image_of_a (first_stream ∷ [])
+    (Ends (RefusedAt (record { file = 1; command = 1; offset = 17; refusal = NameThere }))) [] image_of_a
+refused_over_a = (refl, (λ s stands. refl, λ group none. refl))
 
 over_no_image : IsDue (OfStreams (Audit [] 1 2)) (codes "audit" ∷ codes "st" ∷ codes "f" ∷ []) [] (first_stream ∷ []) (NotStore 0)
 over_no_image = empty_fails

@@ -4,8 +4,8 @@ use Rattle.std.proofs.Common.{refl, sym, ap, subst, ◌∙◌}
 use Rattle.send_model.specs.Refusal.{Refusal}
 use Rattle.send_model.specs.Spelling.{canonical}
 use Rattle.send_model.specs.Reading.{Item}
-use Rattle.send_model.specs.Store.{Head, Store, State, After, head_of, completed, step}
-use Rattle.send_model.specs.Receive.{Ran, run_by, then_run, verdict_of, byte_cells, start_of}
+use Rattle.send_model.specs.Store.{Head, Store, State, After, head_of, completed}
+use Rattle.send_model.specs.Receive.{run_by, then_run, verdict_of, byte_cells, start_of}
 use Rattle.send_model.specs.Guards.{Watched, guarded, looked, watched_step, receive_watched, receive_under}
 use Rattle.send_model.specs.Due.{RefusedAt, limited_from, stop_due}
 use Rattle.store_model.specs.States.{IsBetween, complete_behind, received}
