@@ -1,5 +1,5 @@
 -- A step looks at no contents but those of the keys that its command names.
-use Rattle.std.specs.Prelude.{◌≡◌, ℕ, Bool, true, false, ◌||◌, List, [], ◌∷◌, ◌++◌, Option, None, Some, Result, Ok, Err, if◌then◌else◌}
+use Rattle.std.specs.Prelude.{◌≡◌, ℕ, Bool, true, false, ◌||◌, List, [], ◌∷◌, ◌++◌, map, Option, None, Some, Result, Ok, Err, if◌then◌else◌}
 use Rattle.std.specs.List.{AllByRecursion}
 use Rattle.std.specs.Str.{bytes_eq}
 use Rattle.std.proofs.Common.{refl, sym, ap, ap₂, subst, ◌∙◌}
@@ -16,7 +16,7 @@ use Rattle.send_model.specs.Outside.{keys_named}
 use Rattle.send_model.specs.Counts.{is_clone}
 use Rattle.send_model.proofs.Sorts.{by_sort, head_step, plain_edit_part, plain_step_edit, same_inside}
 use Rattle.send_model.proofs.Stores.{same_key_true}
-use Rattle.send_model.specs.Thinned.{thinned_entry, thinned, LeavesOutContents}
+use Rattle.send_model.specs.Thinned.{thinned_entry, thinned, head_in, LeavesOutContents}
 
 -- A state with fewer contents, and what a step leads to.
 abbrev pub thinned_state : {C : Type 0} → (Key → Bool) → State C → State C
@@ -195,8 +195,13 @@ module _ (keep : Key → Bool) where
     steps_alike c kept x put a b same =
         sym (step-thinned c kept x put a) ∙ ap (λ (s : State C). thinned_step keep (step x put s c)) same ∙ step-thinned c kept x put b
 
+entries_stay : {S : Type 0} (keep : Key → Bool) (store : List (Entry S)) → map head_in (thinned keep store) ≡ map head_in store
+entries_stay keep [] = refl
+entries_stay keep (e ∷ store) = ap (λ (r : List Head). head_in e ∷ r) (entries_stay keep store)
+
 pub leaves_out_contents : {S : Type 0} (keep : Key → Bool) (store : List (Entry S)) → LeavesOutContents keep store
 leaves_out_contents keep store = record {
+  entries = entries_stay keep store;
   names = λ name. has_name-thinned keep name store;
   uuids = λ uuid. has_uuid-thinned keep uuid store;
   finds = λ key. find-thinned keep store key;

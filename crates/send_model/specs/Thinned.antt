@@ -3,7 +3,7 @@
 use Rattle.std.specs.Prelude.{◌≡◌, ◌↔◌, ℕ, Bool, true, List, [], ◌∷◌, map, Option, None, if◌then◌else◌}
 use Rattle.std.specs.List.{AllByRecursion, list_any}
 use Rattle.send_model.specs.Reading.{Item, Reading}
-use Rattle.send_model.specs.Store.{Key, same_key, Entry, Store, has_name, has_uuid, find}
+use Rattle.send_model.specs.Store.{Key, same_key, Head, Entry, Store, has_name, has_uuid, find}
 use Rattle.send_model.specs.Order.{commands_of, judge_of}
 use Rattle.send_model.specs.Outside.{part_uuids, store_without, all_keys_named, keys_outside, IsAmong}
 use Rattle.send_model.specs.Provenance.{uncarried_cells, carried_runs}
@@ -40,9 +40,14 @@ AreAlike keys (e ∷ store) [] = ⊥
 AreAlike keys (e ∷ store) (f ∷ other) =
     (e.name ≡ f.name) × (e.key ≡ f.key) × (e.parent ≡ f.parent) × (IsAmong e.key keys → e.contents ≡ f.contents) × AreAlike keys store other
 
--- What is left out is contents alone: each name and each uuid is still there, and a key finds what it found where the test keeps it, and
--- else nothing.
+-- An entry's name, key and parent.
+abbrev pub head_in : {S : Type 0} → Entry S → Head
+head_in e = record { name = e.name; key = e.key; parent = e.parent }
+
+-- What is left out is contents alone: each entry is still there in its place, and so are each name and each uuid; a key finds what it
+-- found where the test keeps it, and else nothing.
 pub record LeavesOutContents {S : Type 0} (keep : Key → Bool) (store : List (Entry S)) : Type 0 where
+  pub entries : map head_in (thinned keep store) ≡ map head_in store
   pub names : (name : List ℕ) → has_name name (thinned keep store) ≡ has_name name store
   pub uuids : (uuid : List ℕ) → has_uuid uuid (thinned keep store) ≡ has_uuid uuid store
   pub finds : (key : Key) → find (thinned keep store) key ≡ (if keep key then find store key else None)

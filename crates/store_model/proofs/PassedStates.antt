@@ -261,6 +261,13 @@ module _ {C : Type 0} where
         is = inr (on.is ∙ sym (append_assoc start on.complete (on.last ∷ [])) ∙ ap (λ (e : Entry (Subvolume C)). (start ++ on.complete) ++ e ∷ []) same);
       }
 
+  -- A store on the way to an end, with all parts complete that are complete in it.
+  abbrev pub IsPassed : Store C → Store C → Store C → Type 0
+  IsPassed start end now = IsBetween (complete_behind start now) start end now
+
+  pub on_way : (start store : Store C) (part : Option (Part C)) (end : Store C) → IsOn start store part → Goes start store end → IsPassed start end store
+  on_way start store part end on goes = between_goes (complete_behind start store) start store end store goes (own_between start store part on)
+
   -- ---- items
 
   module _ (zero_cell : C) (cells : Item → List C) where

@@ -17,14 +17,14 @@ use Rattle.send_model.specs.Receive.{Ran, run_by, then_run, bytes_of, byte_cells
 use Rattle.send_model.specs.Guards.{Guard, Watched, watched, guarded, looked, watched_step}
 use Rattle.store_model.specs.Stored.{Mark, Group, body_bytes, is_edit, as_bytes, taken, marked, unfinished_at, started, resumed, edits_made, frames_at, made, body_at, made_all}
 use Rattle.send_model.specs.Counts.{is_end}
-use Rattle.store_model.specs.States.{IsBetween, complete_behind, received}
+use Rattle.store_model.specs.States.{received}
 use Rattle.store_model.specs.Written.{Begun, body_of, closed, closed_by, begun_by, and_command, begun_after_edit, begun_after, groups_from, groups_of, WrittenIsReceived, FirstGroupsAreStates}
 use Rattle.send_model.proofs.Sorts.{head_step}
 use Rattle.send_model.proofs.Stores.{or_parts, bytes_eq_same, finds_unfinished}
 use Rattle.send_model.proofs.Merging.{begun_begins}
 use Rattle.send_model.proofs.Guarding.{after_looks, looks_are}
 use Rattle.store_model.proofs.LawfulGroups.{edit_step}
-use Rattle.store_model.proofs.PassedStates.{Goes, goes_twice, between_goes, sort_of, IsClosed, IsOpen, IsOn, completed_on, entered_on, edited_on, own_between, run_on, start_closed}
+use Rattle.store_model.proofs.PassedStates.{Goes, goes_twice, sort_of, IsClosed, IsOpen, IsOn, completed_on, entered_on, edited_on, own_between, IsPassed, on_way, run_on, start_closed}
 
 -- ---- edits
 
@@ -106,15 +106,11 @@ keeps_edit store part open_part c s e keeps = record {
 -- ---- groups one after the other
 
 module _ (start : Store ℕ) where
-  -- A store on the way to an end, with all parts complete that are complete in it.
-  abbrev pub IsPassed : Store ℕ → Store ℕ → Type 0
-  IsPassed end store = IsBetween (complete_behind start store) start end store
-
   -- Groups make one store after the other, each of which is on the way to the end, and the last one is the end.
   abbrev pub Passes : Store ℕ → ℕ → Store ℕ → List Group → Type 0
-  Passes end gate store [] = (store ≡ end) × IsPassed end store
+  Passes end gate store [] = (store ≡ end) × IsPassed start end store
   Passes end gate store (group ∷ groups) =
-      IsPassed end store × ((next : Store ℕ) × (made 0 as_bytes (body_at gate) store group.content ≡ Some next) × Passes end (body_at gate + length (body_bytes group)) next groups)
+      IsPassed start end store × ((next : Store ℕ) × (made 0 as_bytes (body_at gate) store group.content ≡ Some next) × Passes end (body_at gate + length (body_bytes group)) next groups)
 
   passes_made : (end : Store ℕ) (gate : ℕ) (store : Store ℕ) (groups : List Group) → Passes end gate store groups → made_all 0 as_bytes gate store groups ≡ Some end
   unfolding made_all
@@ -124,13 +120,13 @@ module _ (start : Store ℕ) where
       ap (λ (o : Option (Store ℕ)). elim o as (λ x. Option (Store ℕ)) [ None ↦ None | Some s ↦ made_all 0 as_bytes behind s groups ]) p.1.1
       ∙ passes_made end behind p.1.0 groups p.1.2
 
-  passes_here : (end : Store ℕ) (gate : ℕ) (store : Store ℕ) (groups : List Group) → Passes end gate store groups → IsPassed end store
+  passes_here : (end : Store ℕ) (gate : ℕ) (store : Store ℕ) (groups : List Group) → Passes end gate store groups → IsPassed start end store
   passes_here end gate store [] p = p.1
   passes_here end gate store (group ∷ groups) p = p.0
 
   -- What the first of them make.
   passes_first : (end : Store ℕ) (gate : ℕ) (store : Store ℕ) (first more : List Group) → Passes end gate store (first ++ more)
-      → (now : Store ℕ) × (made_all 0 as_bytes gate store first ≡ Some now) × IsPassed end now
+      → (now : Store ℕ) × (made_all 0 as_bytes gate store first ≡ Some now) × IsPassed start end now
   unfolding made_all
   passes_first end gate store [] more p = (store, refl, passes_here end gate store more p)
   passes_first end gate store (group ∷ first) more p =
@@ -141,15 +137,8 @@ module _ (start : Store ℕ) where
         later.2,
       )
 
-  -- A store with entries behind the start, of which others come.
-  on_way : (store : Store ℕ) (part : Option (Part ℕ)) (end : Store ℕ) → IsOn start store part → Goes start store end → IsPassed end store
-  on_way store part end on goes = between_goes (complete_behind start store) start store end store goes (own_between start store part on)
-
-  stands : (store : Store ℕ) (part : Option (Part ℕ)) → IsOn start store part → IsPassed store store
-  stands store part on = own_between start store part on
-
   -- The open part is closed, and other groups follow.
-  closes : (end : Store ℕ) (gate : ℕ) (store : Store ℕ) (part : Option (Part ℕ)) (open_part : Option Begun) (more : List Group) → Keeps store part open_part → IsPassed end store
+  closes : (end : Store ℕ) (gate : ℕ) (store : Store ℕ) (part : Option (Part ℕ)) (open_part : Option Begun) (more : List Group) → Keeps store part open_part → IsPassed start end store
       → ((next : ℕ) → Passes end next (completed (record { store = store; part = part })) more) → Passes end gate store (closed open_part ++ more)
   unfolding made completed
   closes end gate store None None more keeps here rest = rest gate
@@ -167,10 +156,10 @@ module _ (start : Store ℕ) where
 
 -- ---- one item
 
-abbrev does : State ℕ → Item → After (State ℕ)
+abbrev pub does : State ℕ → Item → After (State ℕ)
 does s item = step 0 (byte_cells item) s item.command
 
-abbrev run_from : Watched (State ℕ) → List Item → Ran (Watched (State ℕ))
+abbrev pub run_from : Watched (State ℕ) → List Item → Ran (Watched (State ℕ))
 run_from w items = run_by (watched_step does) w items
 
 -- All items from here on write groups that pass to what they leave.
@@ -204,7 +193,7 @@ module _ (start : Store ℕ) (item : Item) (items : List Item) (guards : List Gu
   head_passes : (gate : ℕ) (whole : Store ℕ) (open_part : Option Begun) (head : Head) (r : Result (Subvolume ℕ) Refusal) → head_of item.command ≡ Some head → begun whole head ≡ r → IsClosed start whole
       → Passes start (left_after item items (watched guards (entered whole head r))) gate whole (written_after item items open_part (watched guards (entered whole head r)))
   unfolding made marked step_head completed
-  head_passes gate whole open_part head (Err refusal) is e done = (refl, stands start whole None done)
+  head_passes gate whole open_part head (Err refusal) is e done = (refl, own_between start whole None done)
   head_passes gate whole open_part head (Ok s) is e done =
       let all : Store ℕ = whole ++ unfinished head ∷ [] in
       let part : Part ℕ = record { key = head.key; subvolume = s } in
@@ -231,7 +220,7 @@ module _ (start : Store ℕ) (item : Item) (items : List Item) (guards : List Gu
   edit_passes : (gate : ℕ) (store : Store ℕ) (part : Part ℕ) (open_part : Begun) (r : Result (Subvolume ℕ) Refusal) → head_of item.command ≡ None → is_end item.command ≡ false
       → edit_part 0 (bytes_of item.command) store part item.command ≡ r → IsKept store part open_part → IsOpen start store part
       → Passes start (left_after item items (watched guards (edited store part r))) gate store (written_after item items (Some open_part) (watched guards (edited store part r)))
-  edit_passes gate store part open_part (Err refusal) no_head no_end e keeps on = (refl, stands start store (Some part) on)
+  edit_passes gate store part open_part (Err refusal) no_head no_end e keeps on = (refl, own_between start store (Some part) on)
   edit_passes gate store part open_part (Ok s) no_head no_end e keeps on =
       let next : Watched (State ℕ) = record { guards = guards; state = record { store = store; part = Some (record { key = part.key; subvolume = s }) } } in
       let end : Store ℕ = (run_from next items).state.state.store in
@@ -264,7 +253,7 @@ module _ (start : Store ℕ) (item : Item) (items : List Item) (guards : List Gu
   by_edit : (gate : ℕ) (store : Store ℕ) (part : Option (Part ℕ)) (open_part : Option Begun) → head_of item.command ≡ None → is_end item.command ≡ false → Keeps store part open_part → IsOn start store part
       → Writes gate (record { store = store; part = part }) open_part true (step_edit 0 (bytes_of item.command) (record { store = store; part = part }) item.command)
   unfolding step_edit
-  by_edit gate store None open_part no_head no_end keeps on = (refl, stands start store None on)
+  by_edit gate store None open_part no_head no_end keeps on = (refl, own_between start store None on)
   by_edit gate store (Some part) None no_head no_end keeps on = absurd keeps
   by_edit gate store (Some part) (Some open_part) no_head no_end keeps on =
       edit_passes gate store part open_part (edit_part 0 (bytes_of item.command) store part item.command) no_head no_end refl keeps on
@@ -324,11 +313,11 @@ one_item start item items rest gate w open_part keeps on =
     one : (o : Option Refusal) → Passes start (left_after item items (after_looks (State ℕ) does w item o)) gate w.state.store
         ((if is_edit item.command then [] else (elim o as (λ x. List Group) [ Some refusal ↦ [] | None ↦ closed open_part ])) ++ written_after item items open_part (after_looks (State ℕ) does w item o))
     one None = allowed start item items (looked w.guards item.command) rest gate w.state.store w.state.part open_part keeps on
-    one (Some refusal) = subst (λ (groups : List Group). Passes start w.state.store gate w.state.store groups) (sym (none_closed (is_edit item.command))) (refl, stands start w.state.store w.state.part on)
+    one (Some refusal) = subst (λ (groups : List Group). Passes start w.state.store gate w.state.store groups) (sym (none_closed (is_edit item.command))) (refl, own_between start w.state.store w.state.part on)
 
 all_items : (start : Store ℕ) (items : List Item) → PassesAll start items
 unfolding groups_from run_by
-all_items start [] gate w open_part keeps on = (refl, stands start w.state.store w.state.part on)
+all_items start [] gate w open_part keeps on = (refl, own_between start w.state.store w.state.part on)
 all_items start (item ∷ items) gate w open_part keeps on = one_item start item items (all_items start items) gate w open_part keeps on
 
 written_passes : (gate : ℕ) (store : Store ℕ) (guards : List Guard) (items : List Item)

@@ -46,4 +46,4 @@ FirstIsOnTheWay = (before image : List ℕ) (guards : List Guard) (files : List 
     → AllByRecursion IsBytes files → groups_of store guards (input files).items ≡ first ++ more → HasGroups stands.header (map body_bytes (stands.groups ++ first)) image
     → (now : Store ℕ) × StandsFor image now
     × ((written unwritten : List ℕ) → received_lines store guards files ≡ written ++ unwritten → lines_in written ≤ complete_behind store now
-        → IsOnTheWay before guards files store written image)
+    → IsOnTheWay before guards files store written image)

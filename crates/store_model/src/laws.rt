@@ -2,7 +2,7 @@
 ghost use Rattle.store_model.specs.StateLaws.{MoreItemsPassMore, BeginsWithTheStore, PassesWhatItLeaves, PassesWhatIsCompleted, FilesAreItems, BetweenHasThem, LimitedIsFront, LinesAreParts, FirstLinesStandWhole, ReceivedHasNumbers, PrintedAreParts};
 ghost use Rattle.store_model.specs.Stops.{NothingIsOnTheWay, AllIsOnTheWay, FirstIsOnTheWay};
 ghost use Rattle.store_model.specs.Written.{WrittenIsReceived, FirstGroupsAreStates, WrittenIsLawful};
-ghost use Rattle.store_model.specs.StoreWords.{OneStoreDue, ReceiveIsAudit, LeftIsPassed, LeftIsState, LeftIsReceived};
+ghost use Rattle.store_model.specs.Requests.{OneDue, ReceiveIsAudit, LeftIsPassed, LeftIsState, LeftIsReceived};
 ghost use Rattle.store_model.specs.StoreLaws.{BodyIsOneGroup, ImageIsOneStore, ImageIsNotBoth, OneGroupIsAtFault, EachImageIsDecided, StoredIsLawful, GroupsKeepCells, PlacesAreBytes, BytesHavePlaces, OneMoreIsMade, StoredHasNumbers, OneScrub, EachImageIsScrubbed, StoredIsWhole};
 ghost use Rattle.store_model.specs.TurnLaws.{TurnsAreOneByOne, PartsAreRead, FilesAreOneByOne, FilesAreInTurn, OneIsReceiving, AllAreOver, NoneIsLeftOpen, FilesLeaveNoneOpen, GroupsAreLawful, GroupsStand, LinesAreComplete, FrontsAreStates, FrontStatesAreStates, FrontGroupsAreStates, StatesAreOneByOne};
 
@@ -52,10 +52,10 @@ pub fn scrub_has_one_answer()
     ensures stored { StoredIsWhole }
 {}
 
-/// One answer is due to a word over a store. What is due to receiving is what is due to an audit over the same store, unless there is
+/// One answer is due to each word, on streams or over a store. What is due to receiving is what is due to an audit over the same store, unless there is
 /// no room for a group. The store that it leaves is one that receiving passes through and, where there was room, the one that it leaves.
 pub fn one_answer_is_due_over_a_store()
-    ensures one { OneStoreDue }
+    ensures one { OneDue }
     ensures receive { ReceiveIsAudit }
     ensures passed { LeftIsPassed }
     ensures state { LeftIsState }
