@@ -2,7 +2,7 @@
 ghost use Rattle.std.specs.Prelude.{◌≡◌, ◌≤◌, ◌^◌, ℕ, map, IfOk};
 ghost use Rattle.std.specs.String.{string_bytes};
 ghost use Rattle.send_model.specs.Store as meant;
-ghost use Rattle.sx_base.specs.Calls.{Caused, IfAllTold, Wrote};
+ghost use Rattle.sx_base.specs.Calls.{Caused, IfAllTold, Wrote, SteadyIfDone};
 ghost use Rattle.auditor.specs.Following.{HaveSameShape};
 ghost use Rattle.auditor.specs.Answers.{AuditEnds, WritesLine, accepted_text};
 
@@ -31,6 +31,9 @@ pub fn audit<R: Origin, I: Inputs, O: Sink>(
 ) -> Outcome
     requires reach { 2 ^ 18 ≤ R.reach blank }
     ensures same { I.told inputs.new ≡ I.told inputs.old }
+    ensures steady { SteadyIfDone (I.faults inputs.old) (I.faults inputs.new) result }
+    ensures ends_steady { SteadyIfDone (I.ends inputs.old) (I.ends inputs.new) result }
+    ensures out_steady { SteadyIfDone (O.faults out.old) (O.faults out.new) result }
     ensures cause { Caused (I.faults inputs.old) (I.faults inputs.new)
         (O.faults out.old) (O.faults out.new) result }
     ensures audited { (store : meant.Store ℕ) → HaveSameShape core store
@@ -47,6 +50,7 @@ pub fn audit<R: Origin, I: Inputs, O: Sink>(
 
 // Writes the line of an audit that accepts all.
 fn write_accepted<O: Sink>(alloc: Global, totals: Totals, out: &mut O) -> Outcome
+    ensures steady { SteadyIfDone (O.faults out.old) (O.faults out.new) result }
     ensures written { WritesLine (accepted_text totals.parts totals.commands)
         (O.taken out.old) (O.taken out.new) (O.faults out.old) (O.faults out.new) result }
 {

@@ -3,7 +3,7 @@ ghost use Rattle.std.specs.Prelude.{◌≡◌, ◌≤◌, [], ◌∷◌, ◌++�
 ghost use Rattle.std.specs.String.{string_bytes};
 ghost use Rattle.std.specs.Fmt.{decimal};
 ghost use Rattle.send_model.specs.Words.{Trial};
-ghost use Rattle.sx_base.specs.Calls.{Caused, Wrote, Ends};
+ghost use Rattle.sx_base.specs.Calls.{Caused, Wrote, Ends, SteadyIfDone};
 ghost use Rattle.chain_trial.specs.Trying.{IfTried, line_text};
 
 use crate::counting::count_file;
@@ -33,6 +33,7 @@ pub fn write_trial<O: Sink>(alloc: Global, count: u64, seed: u64, out: &mut O) -
     requires some { 1 ≤ count }
     requires few { count ≤ 4_096 }
     ensures later { O.faults out.old ≤ O.faults out.new }
+    ensures steady { SteadyIfDone (O.faults out.old) (O.faults out.new) result }
     ensures cause { Caused 0 0 (O.faults out.old) (O.faults out.new) result }
     ensures written { Wrote (O.taken out.old) (O.taken out.new)
         (λ written. Ends (Trial count seed) [] [] result written) }

@@ -4,6 +4,7 @@ use Rattle.std.proofs.Common.{sym, ap, subst, ◌∙◌, arith}
 use Rattle.std.proofs.lemmas.Result.{err_from_is_err_and}
 use Rattle.sx_base.specs.Again.{EarlyEnd}
 use Rattle.sx_base.specs.Calls.{ErrFoundChanged}
+use Rattle.sx_base.specs.Causes.{Steady}
 use Rattle.sx_base.specs.declared.outcome.Outcome.{Outcome}
 use Rattle.clone_pieces.specs.Stopping.{outcome_with}
 use Rattle.clone_pieces.specs.Sending.{PutEnd}
@@ -20,6 +21,11 @@ answer_with (Err why) = Err (outcome_with why)
 pub answer_is : (result : Result (Unit {0}) SendStop) (answer : Result (Unit {0}) Outcome) → MatchResult result (λ x. answer ≡ Ok x) (λ why. IsErrAnd answer (λ outcome. outcome ≡ outcome_with why)) → answer ≡ answer_with result
 answer_is (Ok done) answer is = is
 answer_is (Err why) answer is = let e = err_from_is_err_and answer is in e.1 ∙ ap (λ (o : Outcome). Err o) e.2
+
+-- A count that stays where all went out.
+pub handed_steady : (before now : ℕ) (result : Result (Unit {0}) SendStop) (answer : Result (Unit {0}) Outcome) → answer ≡ answer_with result → Steady before now result → Steady before now answer
+handed_steady before now (Ok done) answer answered steady = subst (λ (r : Result (Unit {0}) Outcome). Steady before now r) (sym answered) steady
+handed_steady before now (Err why) answer answered steady = subst (λ (r : Result (Unit {0}) Outcome). Steady before now r) (sym answered) tt
 
 -- Only the output fails where bytes go out, or there is no memory.
 pub put_caused : (e0 e1 i0 i1 before now : ℕ) (out_old out_new : Option (List ℕ)) (old new bytes : List ℕ) (result : Result (Unit {0}) SendStop) (answer : Result (Unit {0}) Outcome) → answer ≡ answer_with result

@@ -12,6 +12,7 @@ ghost use Rattle.send_model.specs.Spelling.{canonical};
 ghost use Rattle.send_model.specs.Laws.{CanWrite};
 ghost use Rattle.send_model.specs.Lengths.{limit};
 ghost use Rattle.sx_base.specs.Calls.{IfAllTold, ErrFoundChanged};
+ghost use Rattle.sx_base.specs.Causes.{Steady};
 ghost use Rattle.sx_base.specs.Refusals.{refusal_of, verdict_meant};
 ghost use Rattle.sx_base.specs.declared.outcome.Outcome.TheVariants as ended;
 ghost use Rattle.send_commands.specs.Meaning.{meaning_of};
@@ -138,9 +139,13 @@ impl Composer {
         ensures same { I.told inputs.new ≡ I.told inputs.old }
         ensures held { B.held bytes.new ≡ B.held bytes.old }
         ensures later { I.faults inputs.old ≤ I.faults inputs.new }
+        ensures steady { Steady (I.faults inputs.old) (I.faults inputs.new) result }
         ensures ends_later { I.ends inputs.old ≤ I.ends inputs.new }
+        ensures ends_steady { Steady (I.ends inputs.old) (I.ends inputs.new) result }
         ensures bytes_later { B.faults bytes.old ≤ B.faults bytes.new }
+        ensures bytes_steady { Steady (B.faults bytes.old) (B.faults bytes.new) result }
         ensures out_later { O.faults out.old ≤ O.faults out.new }
+        ensures out_steady { Steady (O.faults out.old) (O.faults out.new) result }
         ensures cause { ErrCausedAgain (I.ends inputs.old) (I.ends inputs.new)
             (I.faults inputs.old + B.faults bytes.old) (I.faults inputs.new + B.faults bytes.new)
             (O.faults out.old) (O.faults out.new) result }
@@ -263,9 +268,13 @@ impl Composer {
         ensures same { I.told inputs.new ≡ I.told inputs.old }
         ensures held { B.held bytes.new ≡ B.held bytes.old }
         ensures later { I.faults inputs.old ≤ I.faults inputs.new }
+        ensures steady { Steady (I.faults inputs.old) (I.faults inputs.new) result }
         ensures ends_later { I.ends inputs.old ≤ I.ends inputs.new }
+        ensures ends_steady { Steady (I.ends inputs.old) (I.ends inputs.new) result }
         ensures bytes_later { B.faults bytes.old ≤ B.faults bytes.new }
+        ensures bytes_steady { Steady (B.faults bytes.old) (B.faults bytes.new) result }
         ensures out_later { O.faults out.old ≤ O.faults out.new }
+        ensures out_steady { Steady (O.faults out.old) (O.faults out.new) result }
         ensures cause { ErrCausedAgain (I.ends inputs.old) (I.ends inputs.new)
             (I.faults inputs.old + B.faults bytes.old) (I.faults inputs.new + B.faults bytes.new)
             (O.faults out.old) (O.faults out.new) result }
@@ -347,6 +356,7 @@ impl Composer {
         ensures latest { self.new.latest ≡ self.old.latest }
         ensures sum { self.new.sum ≡ self.old.sum }
         ensures later { O.faults out.old ≤ O.faults out.new }
+        ensures steady { Steady (O.faults out.old) (O.faults out.new) result }
         ensures put { PutEnd (O.taken out.old) (O.taken out.new) self.old.pending self.new.pending
             (canonical survey.now.version
             (Clone range.now.path.now range.now.offset (key_of last).uuid (key_of last).ctransid
@@ -397,9 +407,13 @@ impl Composer {
         ensures same { I.told inputs.new ≡ I.told inputs.old }
         ensures held { B.held bytes.new ≡ B.held bytes.old }
         ensures later { I.faults inputs.old ≤ I.faults inputs.new }
+        ensures steady { Steady (I.faults inputs.old) (I.faults inputs.new) result }
         ensures ends_later { I.ends inputs.old ≤ I.ends inputs.new }
+        ensures ends_steady { Steady (I.ends inputs.old) (I.ends inputs.new) result }
         ensures bytes_later { B.faults bytes.old ≤ B.faults bytes.new }
+        ensures bytes_steady { Steady (B.faults bytes.old) (B.faults bytes.new) result }
         ensures out_later { O.faults out.old ≤ O.faults out.new }
+        ensures out_steady { Steady (O.faults out.old) (O.faults out.new) result }
         ensures cause { ErrCausedAgain (I.ends inputs.old) (I.ends inputs.new)
             (I.faults inputs.old + B.faults bytes.old) (I.faults inputs.new + B.faults bytes.new)
             (O.faults out.old) (O.faults out.new) result }
@@ -482,6 +496,7 @@ impl Composer {
     pub fn end<O: Sink>(&mut self, version: u32, out: &mut O) -> Result<(), SendStop>
         requires version { (version ≡ 1) ⊎ (version ≡ 2) }
         ensures later { O.faults out.old ≤ O.faults out.new }
+        ensures steady { Steady (O.faults out.old) (O.faults out.new) result }
         ensures ended { EndEnd (self.old.pending ++ canonical version End)
             (O.taken out.old) (O.taken out.new) (O.faults out.old) (O.faults out.new) result }
     {
@@ -508,6 +523,7 @@ fn put_item<O: Sink>(
     requires writable { IsWritable version (meaning_of item.now.command) }
     requires short { IsShortEnough version (meaning_of item.now.command) }
     ensures later { O.faults out.old ≤ O.faults out.new }
+    ensures steady { Steady (O.faults out.old) (O.faults out.new) result }
     ensures put { PutEnd (O.taken out.old) (O.taken out.new) pending.old pending.new
         (canonical version (meaning_of item.now.command)) (O.faults out.old) (O.faults out.new)
         result }

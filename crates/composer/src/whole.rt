@@ -9,7 +9,8 @@ ghost use Rattle.provenance.specs.Traces.{place_of};
 ghost use Rattle.clone_pieces.specs.Origins.{IsHad, IsInInput, AreHeld, byte_of_trace};
 ghost use Rattle.clone_pieces.specs.Seen.{seen};
 ghost use Rattle.file_survey.specs.Findings.{SurveyEnd};
-ghost use Rattle.sx_base.specs.Calls.{IfAllTold, CausedAgain, FoundChanged, ErrFoundChanged, Wrote};
+ghost use Rattle.sx_base.specs.Calls.{IfAllTold, CausedAgain, FoundChanged, ErrFoundChanged, Wrote, SteadyIfDone};
+ghost use Rattle.sx_base.specs.Causes.{Steady};
 ghost use Rattle.composer.specs.OverBase.{at_start};
 ghost use Rattle.composer.specs.Kept.{composing_of};
 ghost use Rattle.composer.specs.Taking.{ErrCausedAgain};
@@ -37,6 +38,9 @@ pub fn compose<I: Inputs, O: Sink>(
 ) -> Outcome
     requires some { files.now ≢ [] }
     ensures same { I.told inputs.new ≡ I.told inputs.old }
+    ensures steady { SteadyIfDone (I.faults inputs.old) (I.faults inputs.new) result }
+    ensures ends_steady { SteadyIfDone (I.ends inputs.old) (I.ends inputs.new) result }
+    ensures out_steady { SteadyIfDone (O.faults out.old) (O.faults out.new) result }
     ensures cause { CausedAgain (I.ends inputs.old) (I.ends inputs.new)
         (I.faults inputs.old) (I.faults inputs.new) (O.faults out.old) (O.faults out.new) result }
     ensures changed { FoundChanged (map string_bytes files.now) (I.last_end inputs.new) result }
@@ -84,6 +88,10 @@ pub fn compose_over<I: Inputs, E: Known, B: OutsideBytes, O: Sink>(
     requires apart { store_without survey.now.parts (E.base known.now) ≡ E.base known.now }
     requires sayable { AllSayable (E.base known.now) }
     ensures same { I.told inputs.new ≡ I.told inputs.old }
+    ensures steady { SteadyIfDone (I.faults inputs.old) (I.faults inputs.new) result }
+    ensures ends_steady { SteadyIfDone (I.ends inputs.old) (I.ends inputs.new) result }
+    ensures bytes_steady { SteadyIfDone (B.faults bytes.old) (B.faults bytes.new) result }
+    ensures out_steady { SteadyIfDone (O.faults out.old) (O.faults out.new) result }
     ensures cause { CausedAgain (I.ends inputs.old) (I.ends inputs.new)
         (I.faults inputs.old + B.faults bytes.old) (I.faults inputs.new + B.faults bytes.new)
         (O.faults out.old) (O.faults out.new) result }
@@ -132,6 +140,10 @@ fn write_files<I: Inputs, E: Known, B: OutsideBytes, O: Sink>(
     requires apart { store_without survey.now.parts (E.base known.now) ≡ E.base known.now }
     requires sayable { AllSayable (E.base known.now) }
     ensures same { I.told inputs.new ≡ I.told inputs.old }
+    ensures steady { Steady (I.faults inputs.old) (I.faults inputs.new) result }
+    ensures ends_steady { Steady (I.ends inputs.old) (I.ends inputs.new) result }
+    ensures bytes_steady { Steady (B.faults bytes.old) (B.faults bytes.new) result }
+    ensures out_steady { Steady (O.faults out.old) (O.faults out.new) result }
     ensures cause { ErrCausedAgain (I.ends inputs.old) (I.ends inputs.new)
         (I.faults inputs.old + B.faults bytes.old) (I.faults inputs.new + B.faults bytes.new)
         (O.faults out.old) (O.faults out.new) result }
@@ -180,9 +192,13 @@ fn write_file<I: Inputs, E: Known, B: OutsideBytes, O: Sink>(
     ensures same { I.told inputs.new ≡ I.told inputs.old }
     ensures held { B.held bytes.new ≡ B.held bytes.old }
     ensures later { I.faults inputs.old ≤ I.faults inputs.new }
+    ensures steady { Steady (I.faults inputs.old) (I.faults inputs.new) result }
     ensures ends_later { I.ends inputs.old ≤ I.ends inputs.new }
+    ensures ends_steady { Steady (I.ends inputs.old) (I.ends inputs.new) result }
     ensures bytes_later { B.faults bytes.old ≤ B.faults bytes.new }
+    ensures bytes_steady { Steady (B.faults bytes.old) (B.faults bytes.new) result }
     ensures out_later { O.faults out.old ≤ O.faults out.new }
+    ensures out_steady { Steady (O.faults out.old) (O.faults out.new) result }
     ensures cause { ErrCausedAgain (I.ends inputs.old) (I.ends inputs.new)
         (I.faults inputs.old + B.faults bytes.old) (I.faults inputs.new + B.faults bytes.new)
         (O.faults out.old) (O.faults out.new) result }

@@ -2,6 +2,7 @@
 ghost use Rattle.std.specs.Prelude.{◌≡◌, ◌≤◌, []};
 ghost use Rattle.cmd_reader.specs.Places.{IfTold};
 ghost use Rattle.sx_base.specs.Calls.{ErrCaused};
+ghost use Rattle.sx_base.specs.Causes.{Steady};
 ghost use Rattle.memory_base.specs.Receiving.{ReceiveEnd};
 
 use crate::kept::Kept;
@@ -53,6 +54,8 @@ impl MemoryBase {
         name: &str,
     ) -> Result<MemoryBase, Outcome>
         ensures same { I.told inputs.new ≡ I.told inputs.old }
+        ensures steady { Steady (I.faults inputs.old) (I.faults inputs.new) result }
+        ensures ends_steady { Steady (I.ends inputs.old) (I.ends inputs.new) result }
         ensures later { I.faults inputs.old ≤ I.faults inputs.new }
         ensures ends_later { I.ends inputs.old ≤ I.ends inputs.new }
         ensures cause { ErrCaused (I.faults inputs.old) (I.faults inputs.new) 0 0 result }

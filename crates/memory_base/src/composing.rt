@@ -2,7 +2,7 @@
 ghost use Rattle.std.specs.Prelude.{◌≡◌, ◌≢◌, [], map};
 ghost use Rattle.std.specs.String.{string_bytes};
 ghost use Rattle.send_model.specs.Outside.{base};
-ghost use Rattle.sx_base.specs.Calls.{IfAllTold, CausedAgain, FoundChanged, Wrote};
+ghost use Rattle.sx_base.specs.Calls.{IfAllTold, CausedAgain, FoundChanged, Wrote, SteadyIfDone};
 ghost use Rattle.composer.specs.Files.{ComposeEnds};
 
 use crate::base::MemoryBase;
@@ -23,6 +23,9 @@ pub fn compose_over_base<I: Inputs, O: Sink>(
 ) -> Outcome
     requires some { files.now ≢ [] }
     ensures same { I.told inputs.new ≡ I.told inputs.old }
+    ensures steady { SteadyIfDone (I.faults inputs.old) (I.faults inputs.new) result }
+    ensures ends_steady { SteadyIfDone (I.ends inputs.old) (I.ends inputs.new) result }
+    ensures out_steady { SteadyIfDone (O.faults out.old) (O.faults out.new) result }
     ensures cause { CausedAgain (I.ends inputs.old) (I.ends inputs.new)
         (I.faults inputs.old) (I.faults inputs.new) (O.faults out.old) (O.faults out.new) result }
     ensures changed { FoundChanged (map string_bytes files.now) (I.last_end inputs.new) result }

@@ -4,7 +4,7 @@ ghost use Rattle.std.specs.String.{string_bytes};
 ghost use Rattle.send_model.specs.Answer as meant;
 ghost use Rattle.send_model.specs.Answer.{InputFault, OutputFault, InputChanged, Usage};
 ghost use Rattle.send_model.specs.Words.{new_guards};
-ghost use Rattle.sx_base.specs.Calls.{IfAllTold, FoundChanged, Wrote, Ends};
+ghost use Rattle.sx_base.specs.Calls.{IfAllTold, FoundChanged, Wrote, Ends, SteadyIfDone};
 ghost use Rattle.sx_base.specs.Causes.{Rose};
 ghost use Rattle.sx_base.specs.declared.outcome.Outcome.TheVariants as ended;
 ghost use Rattle.send_top.specs.Answered.{IsGiven, answer_of};
@@ -49,6 +49,9 @@ pub fn run<I: Inputs, O: Sink, N: Sink>(
         ↔ AskNothing (map string_bytes words.now) (map (λ g. kept g) guards.items) }
     ensures untouched { result ≡ 2 → (inputs.new ≡ inputs.old) × (out.new ≡ out.old) }
     ensures same { I.told inputs.new ≡ I.told inputs.old }
+    ensures read_whole { result ≡ 0 → I.faults inputs.new ≡ I.faults inputs.old }
+    ensures ends_met { result ≡ 0 → I.ends inputs.new ≡ I.ends inputs.old }
+    ensures written { result ≡ 0 → O.faults out.new ≡ O.faults out.old }
     ensures input_fault { result ≡ 3 → Rose (I.faults inputs.old) (I.faults inputs.new) }
     ensures output_fault { result ≡ 4 → Rose (O.faults out.old) (O.faults out.new) }
     ensures changed { result ≡ 13 → Rose (I.ends inputs.old) (I.ends inputs.new) }
@@ -88,6 +91,10 @@ fn answer_to<I: Inputs, O: Sink>(
         ↔ AskNothing (map string_bytes words.now) (map (λ g. kept g) guards.old) }
     ensures untouched { answer_of result ≡ Usage → (inputs.new ≡ inputs.old) × (out.new ≡ out.old) }
     ensures same { I.told inputs.new ≡ I.told inputs.old }
+    ensures read_whole { answer_of result ≡ meant.Done
+        → I.faults inputs.new ≡ I.faults inputs.old }
+    ensures ends_met { answer_of result ≡ meant.Done → I.ends inputs.new ≡ I.ends inputs.old }
+    ensures written { answer_of result ≡ meant.Done → O.faults out.new ≡ O.faults out.old }
     ensures input_fault { answer_of result ≡ InputFault
         → Rose (I.faults inputs.old) (I.faults inputs.new) }
     ensures output_fault { answer_of result ≡ OutputFault
@@ -129,6 +136,9 @@ fn end_of<I: Inputs, O: Sink>(
     requires fits { map (λ g. kept g) guards.old ≡ new_guards
         (specs_of (request_meant (map string_bytes words.now) request)) }
     ensures same { I.told inputs.new ≡ I.told inputs.old }
+    ensures steady { SteadyIfDone (I.faults inputs.old) (I.faults inputs.new) result }
+    ensures ends_steady { SteadyIfDone (I.ends inputs.old) (I.ends inputs.new) result }
+    ensures out_steady { SteadyIfDone (O.faults out.old) (O.faults out.new) result }
     ensures cause { EndCaused (request_meant (map string_bytes words.now) request)
         (I.ends inputs.old) (I.ends inputs.new) (I.faults inputs.old) (I.faults inputs.new)
         (O.faults out.old) (O.faults out.new) result }

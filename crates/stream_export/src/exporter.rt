@@ -1,10 +1,11 @@
 // The part as it stands, and the file that the receiver has open: what goes before each command.
-ghost use Rattle.std.specs.Prelude.{◌≡◌, ◌≤◌, ◌^◌, ◌++◌, ℕ, Some, OnOk, length};
+ghost use Rattle.std.specs.Prelude.{◌≡◌, ◌≤◌, ◌^◌, ◌++◌, ℕ, Some, OnOk, length, true};
 ghost use Rattle.std.specs.Option.{option_map};
 ghost use Rattle.send_model.specs.Opened.{written_path, kept_at, opened_at};
 ghost use Rattle.send_model.specs.Separated.{IsSmall, separator_in, names_file, touch};
 ghost use Rattle.send_model.specs.Exported.{exporting};
 ghost use Rattle.send_model.specs.Receivable.{header_before};
+ghost use Rattle.send_model.specs.Spelling.{canonical};
 ghost use Rattle.send_model.specs.Laws.{CanWrite};
 ghost use Rattle.send_commands.specs.Meaning.{meaning_of};
 ghost use Rattle.send_commands.specs.Writing.{IsWritable};
@@ -72,8 +73,16 @@ impl<R: Origin> Exporter<R> {
         }
     }
 
-    // One command: it is taken and its bytes are appended, or nothing is.
-    pub(crate) fn take(&mut self, begins: bool, item: &Item, to: &mut Blob) -> Result<(), Stop>
+    // One command, whose frame came so: it is taken and its bytes are appended, or nothing is.
+    pub(crate) fn take(
+        &mut self,
+        begins: bool,
+        item: &Item,
+        frame: &[u8],
+        to: &mut Blob,
+    ) -> Result<(), Stop>
+        requires frame { item.now.canonical ≡ true
+            → frame.now ≡ canonical item.now.version (meaning_of item.now.command) }
         requires short { data_len (meaning_of item.now.command) ≤ 2 ^ 18 }
         requires writable { IsWritable item.now.version (meaning_of item.now.command) }
         requires sayable { CanWrite item.now.version (meaning_of item.now.command) }
@@ -83,7 +92,7 @@ impl<R: Origin> Exporter<R> {
     {
         let _names = self.names();
         let start = to.as_slice().len();
-        let Ok(()) = self.push_item(begins, item, to) else {
+        let Ok(()) = self.push_item(begins, item, frame, to) else {
             return Err(Stop::NoMemory);
         };
         match self.follower.step(&item.command) {
@@ -106,7 +115,15 @@ impl<R: Origin> Exporter<R> {
     }
 
     // Appends the bytes of a command, and opens the file that it writes to.
-    fn push_item(&mut self, begins: bool, item: &Item, to: &mut Blob) -> Result<(), AllocError>
+    fn push_item(
+        &mut self,
+        begins: bool,
+        item: &Item,
+        frame: &[u8],
+        to: &mut Blob,
+    ) -> Result<(), AllocError>
+        requires frame { item.now.canonical ≡ true
+            → frame.now ≡ canonical item.now.version (meaning_of item.now.command) }
         requires writable { IsWritable item.now.version (meaning_of item.now.command) }
         requires sayable { CanWrite item.now.version (meaning_of item.now.command) }
         ensures added { OnOk result (to.new ≡ to.old ++ export_bytes begins self.old
@@ -117,8 +134,7 @@ impl<R: Origin> Exporter<R> {
     {
         push_header(begins, item.version, to)?;
         self.push_before(&item.command, item.version, to)?;
-        push_receivable(&item.command, item.version, &mut self.room, to)?;
-        Ok(())
+        push_receivable(item, frame, &mut self.room, to)
     }
 
     // Appends what goes before a command, and opens the file that it writes to.

@@ -7,7 +7,7 @@ ghost use Rattle.send_model.specs.Receive.{start_of};
 ghost use Rattle.send_model.specs.Exported.{AreSmallBy, byte_step};
 ghost use Rattle.send_model.specs.Words.{Export};
 ghost use Rattle.sx_base.specs.declared.outcome.Outcome.TheVariants as ended;
-ghost use Rattle.sx_base.specs.Calls.{Caused, IfAllTold, Wrote, Ends};
+ghost use Rattle.sx_base.specs.Calls.{Caused, IfAllTold, Wrote, Ends, SteadyIfDone};
 ghost use Rattle.auditor.specs.Following.{HaveSameShape};
 
 use crate::exporter::Exporter;
@@ -33,6 +33,9 @@ pub fn export<R: Origin, I: Inputs, O: Sink>(
 ) -> Outcome
     requires reach { 2 ^ 18 ≤ R.reach blank }
     ensures same { I.told inputs.new ≡ I.told inputs.old }
+    ensures steady { SteadyIfDone (I.faults inputs.old) (I.faults inputs.new) result }
+    ensures ends_steady { SteadyIfDone (I.ends inputs.old) (I.ends inputs.new) result }
+    ensures out_steady { SteadyIfDone (O.faults out.old) (O.faults out.new) result }
     ensures later { I.faults inputs.old ≤ I.faults inputs.new }
     ensures out_later { O.faults out.old ≤ O.faults out.new }
     ensures cause { Caused (I.faults inputs.old) (I.faults inputs.new)

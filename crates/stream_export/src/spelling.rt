@@ -1,5 +1,5 @@
 // Commands in the receivable spelling.
-ghost use Rattle.std.specs.Prelude.{◌≡◌, ◌++◌, ◌≤◌, OnOk, [], length};
+ghost use Rattle.std.specs.Prelude.{◌≡◌, ◌++◌, ◌≤◌, OnOk, [], length, true};
 ghost use Rattle.send_model.specs.Command.{row};
 ghost use Rattle.send_model.specs.Spelling.{attribute_bytes, frame_of, greatest_body, canonical};
 ghost use Rattle.send_model.specs.Receivable.{receivable};
@@ -10,33 +10,50 @@ ghost use Rattle.stream_export.specs.Asking.{attribute_of, kind_asked};
 ghost use Rattle.sx_base.specs.Bytes.{IsFront};
 
 use crate::asked::{Asked, asked_of};
-use send_commands::{Command, encode};
+use cmd_reader::Item;
+use send_commands::encode;
 use std::alloc::AllocError;
 use sx_base::Blob;
 use tlv_frame::attribute_numbers::{CTIME, INO};
 use tlv_frame::{FRAME_HEAD_LEN, FrameWriter};
 
-// Appends the receivable spelling of a command: the canonical one where nothing more is asked for. The room is for its canonical
-// frame.
+// Appends the receivable spelling of an item's command, whose frame came so: the canonical one where nothing more is asked for. A
+// canonical frame is not spelled again; the room is for that of another.
 pub(crate) fn push_receivable(
-    command: &Command,
-    version: u32,
+    item: &Item,
+    frame: &[u8],
     room: &mut Blob,
     to: &mut Blob,
 ) -> Result<(), AllocError>
-    requires writable { IsWritable version (meaning_of command.now) }
-    requires sayable { CanWrite version (meaning_of command.now) }
+    requires frame { item.now.canonical ≡ true
+        → frame.now ≡ canonical item.now.version (meaning_of item.now.command) }
+    requires writable { IsWritable item.now.version (meaning_of item.now.command) }
+    requires sayable { CanWrite item.now.version (meaning_of item.now.command) }
     ensures added { OnOk result
-        (to.new ≡ to.old ++ receivable version (meaning_of command.now)) }
+        (to.new ≡ to.old ++ receivable item.now.version (meaning_of item.now.command)) }
     ensures kept { IsFront to.old to.new }
 {
-    let Some(asked) = asked_of(command) else {
-        return encode(command, version, to);
-    };
+    if item.canonical {
+        return push_anew(item, frame, to);
+    }
     room.clear();
-    encode(command, version, room)?;
-    let (_, body) = room.as_slice().split_at(FRAME_HEAD_LEN);
-    push_frame(asked, version, body, to)
+    encode(&item.command, item.version, room)?;
+    push_anew(item, room.as_slice(), to)
+}
+
+// Appends the receivable spelling of an item's command, of which this is the canonical one.
+fn push_anew(item: &Item, frame: &[u8], to: &mut Blob) -> Result<(), AllocError>
+    requires frame { frame.now ≡ canonical item.now.version (meaning_of item.now.command) }
+    requires sayable { CanWrite item.now.version (meaning_of item.now.command) }
+    ensures added { OnOk result
+        (to.new ≡ to.old ++ receivable item.now.version (meaning_of item.now.command)) }
+    ensures kept { IsFront to.old to.new }
+{
+    let Some(asked) = asked_of(&item.command) else {
+        return to.push_all(frame);
+    };
+    let (_, body) = frame.split_at(FRAME_HEAD_LEN);
+    push_frame(asked, item.version, body, to)
 }
 
 // Appends a frame with what is asked for and, behind it, these attributes.
