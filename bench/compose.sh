@@ -14,7 +14,6 @@ for run in 1 2 3; do
     "$folder/streams" measure "$folder/out" "$folder/streams" copy "$folder/stream" >>"$folder/theirs" 2>>"$folder/sums" || exit 1
 done
 
-least() { sort -n "$1" | head -n 1; }
 echo "$(least "$folder/ours") $(least "$folder/theirs")" | awk -v size="$size" '{
     printf "btrsend compose none: %.2f s, %.0f MiB/s, peak %.1f MiB\n", $1, size / $1, $2 / 1024
     printf "C baseline:           %.2f s, %.0f MiB/s, peak %.1f MiB\n", $3, size / $3, $4 / 1024
