@@ -13,7 +13,7 @@ use Rattle.send_model.specs.Guards.{guard_refuses, guard_after, refused_from, lo
 use Rattle.send_model.specs.Lengths.{is_too_long, too_long, too_long_from}
 use Rattle.send_model.specs.Answer as answers
 use Rattle.send_model.specs.Answer.{kept_values, eight_digits, verdict_text}
-use Rattle.send_model.specs.Due.{DoneWhole, RefusedAt, TooLong, TooMuch, due_from, limited_from, audit_due, accepted_line}
+use Rattle.send_model.specs.Due.{DoneWhole, RefusedAt, TooLong, TooMuch, due_from, limited_from, audit_due, accepted_line, file_due}
 use Rattle.store_model.specs.Image.{usual_header}
 use Rattle.store_model.specs.States.{complete_line, lines_behind, received_lines, left_by}
 use Rattle.store_model.specs.StoreLines.{entry_line, listed, inode_line, xattr_line, name_line, shown}
@@ -223,6 +223,16 @@ image_of_a = mark_bytes ++ body_part ++ 0 ∷ []
 over_none : (image : List ℕ) → IsDue (OfStreams (Audit [] 1 2)) (codes "audit" ∷ codes "none" ∷ codes "f" ∷ []) image (first_stream ∷ []) (Ends DoneWhole)
 unfolding stream_words
 over_none image = refl
+
+twice_over_none : (image : List ℕ) → IsDue (OfStreams (Audit [] 1 2)) (codes "audit" ∷ codes "none" ∷ codes "f" ∷ codes "f" ∷ []) image (first_stream ∷ first_stream ∷ [])
+    (Ends (RefusedAt (record { file = 2; command = 1; offset = 17; refusal = NameThere })))
+unfolding stream_words
+twice_over_none image = refl
+
+-- a word without a store does not look at one
+dumped : (image : List ℕ) → IsDue (OfStreams (Dump 1)) (codes "dump" ∷ codes "f" ∷ []) image (first_stream ∷ []) (Ends DoneWhole)
+unfolding stream_words file_due
+dumped image = refl
 
 over_a : IsDue (OfStreams (Audit [] 1 2)) (codes "audit" ∷ codes "st" ∷ codes "f" ∷ []) image_of_a (first_stream ∷ [])
     (Ends (RefusedAt (record { file = 1; command = 1; offset = 17; refusal = NameThere })))

@@ -72,7 +72,7 @@ abbrev pub WrittenIsReceived : Type 0
 WrittenIsReceived = (gate : ℕ) (store : Store ℕ) (guards : List Guard) (items : List Item)
     → made_all 0 as_bytes gate store (groups_of store guards items) ≡ Some (received 0 byte_cells store guards items).state.state.store
 
--- The first of them, as many as there are, make a state on the way, with all parts complete that are complete in it.
+-- The first of them, however many, make a state on the way, with all parts complete that are complete in it.
 abbrev pub FirstGroupsAreStates : Type 0
 FirstGroupsAreStates = (gate : ℕ) (store : Store ℕ) (guards : List Guard) (items : List Item) (first more : List Group)
     → groups_of store guards items ≡ first ++ more
