@@ -1,7 +1,8 @@
 // Following commands: each is looked at by the guards, and then it is one step of the core.
-ghost use Rattle.std.specs.Prelude.{◌≡◌, ◌≤◌, ◌^◌, ℕ, map, None, IfOk};
+ghost use Rattle.std.specs.Prelude.{◌≡◌, ◌≤◌, ◌^◌, ℕ, map, None, IfOk, IfErr};
 ghost use Rattle.std.specs.Option.{option_map};
 ghost use Rattle.send_model.specs.Cells.{recelled};
+ghost use Rattle.sx_base.specs.Calls.{IsStop};
 ghost use Rattle.send_commands.specs.Meaning.{meaning_of};
 ghost use Rattle.clone_resolve.specs.Steps.{data_len, done_by, Answers};
 ghost use Rattle.cmd_reader.specs.Next.{item_of};
@@ -110,6 +111,7 @@ pub(crate) fn follow_item<R: Origin>(
     item: &Item,
 ) -> Result<Done, Outcome>
     requires short { data_len (meaning_of item.now.command) ≤ 2 ^ 18 }
+    ensures stops { IfErr result IsStop }
     ensures followed { ItemEnds (beside (map (λ g. kept g) guards.old) follower.old)
         (beside (map (λ g. kept g) guards.new) follower.new) (item_of file item.now) result }
 {

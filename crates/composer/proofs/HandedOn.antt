@@ -1,9 +1,9 @@
 -- Why a command did not go out, handed on as the outcome of a run.
-use Rattle.std.specs.Prelude.{◌≡◌, ℕ, ◌≤◌, List, Option, Result, Ok, Err, MatchResult, IsErrAnd}
-use Rattle.std.proofs.Common.{sym, ap, subst, ◌∙◌, arith}
+use Rattle.std.specs.Prelude.{◌≡◌, ℕ, ◌≤◌, List, Option, Result, Ok, Err, MatchResult, IsErrAnd, IfErr}
+use Rattle.std.proofs.Common.{refl, sym, ap, subst, ◌∙◌, arith}
 use Rattle.std.proofs.lemmas.Result.{err_from_is_err_and}
 use Rattle.sx_base.specs.Again.{EarlyEnd}
-use Rattle.sx_base.specs.Calls.{ErrFoundChanged}
+use Rattle.sx_base.specs.Calls.{ErrFoundChanged, IsStop}
 use Rattle.sx_base.specs.Causes.{Steady}
 use Rattle.sx_base.specs.declared.outcome.Outcome.{Outcome}
 use Rattle.clone_pieces.specs.Stopping.{outcome_with}
@@ -26,6 +26,22 @@ answer_is (Err why) answer is = let e = err_from_is_err_and answer is in e.1 ∙
 pub handed_steady : (before now : ℕ) (result : Result (Unit {0}) SendStop) (answer : Result (Unit {0}) Outcome) → answer ≡ answer_with result → Steady before now result → Steady before now answer
 handed_steady before now (Ok done) answer answered steady = subst (λ (r : Result (Unit {0}) Outcome). Steady before now r) (sym answered) steady
 handed_steady before now (Err why) answer answered steady = subst (λ (r : Result (Unit {0}) Outcome). Steady before now r) (sym answered) tt
+
+-- A count that nothing touched.
+pub steady_result : {T E : Type 0} {count : ℕ} (result : Result T E) → Steady count count result
+steady_result (Ok done) = refl
+steady_result (Err why) = tt
+
+-- What is handed on as an outcome is a stop.
+pub handed_stops : (result : Result (Unit {0}) SendStop) (answer : Result (Unit {0}) Outcome) → answer ≡ answer_with result → IfErr answer IsStop
+handed_stops result answer answered = subst (λ (r : Result (Unit {0}) Outcome). IfErr r IsStop) (sym answered) (by_result result)
+  where
+    by_result : (r : Result (Unit {0}) SendStop) → IfErr (answer_with r) IsStop
+    by_result (Ok done) = tt
+    by_result (Err stopped.OutputFault) = tt
+    by_result (Err stopped.NoMemory) = tt
+    by_result (Err stopped.InputFault) = tt
+    by_result (Err (stopped.InputChanged file place)) = tt
 
 -- Only the output fails where bytes go out, or there is no memory.
 pub put_caused : (e0 e1 i0 i1 before now : ℕ) (out_old out_new : Option (List ℕ)) (old new bytes : List ℕ) (result : Result (Unit {0}) SendStop) (answer : Result (Unit {0}) Outcome) → answer ≡ answer_with result

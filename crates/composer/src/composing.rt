@@ -1,5 +1,5 @@
 // Composing, item by item.
-ghost use Rattle.std.specs.Prelude.{◌≡◌, ◌⊎◌, ℕ, ◌+◌, ◌≤◌, ◌<◌, ◌^◌, List, ◌++◌, length, map, not, true, Option, None, Some, is_some, Ok, OnOk, IfOk};
+ghost use Rattle.std.specs.Prelude.{◌≡◌, ◌⊎◌, ℕ, ◌+◌, ◌≤◌, ◌<◌, ◌^◌, List, ◌++◌, length, map, not, true, Option, None, Some, is_some, Ok, OnOk, IfOk, IfErr};
 ghost use Rattle.std.specs.Option.{option_map, option_copied};
 ghost use Rattle.std.specs.String.{string_bytes};
 ghost use Rattle.send_model.specs.Command.{Clone, End};
@@ -11,7 +11,7 @@ ghost use Rattle.send_model.specs.Provenance.{is_own};
 ghost use Rattle.send_model.specs.Spelling.{canonical};
 ghost use Rattle.send_model.specs.Laws.{CanWrite};
 ghost use Rattle.send_model.specs.Lengths.{limit};
-ghost use Rattle.sx_base.specs.Calls.{IfAllTold, ErrFoundChanged};
+ghost use Rattle.sx_base.specs.Calls.{IfAllTold, ErrFoundChanged, IsStop};
 ghost use Rattle.sx_base.specs.Causes.{Steady};
 ghost use Rattle.sx_base.specs.Refusals.{refusal_of, verdict_meant};
 ghost use Rattle.sx_base.specs.declared.outcome.Outcome.TheVariants as ended;
@@ -149,6 +149,7 @@ impl Composer {
         ensures cause { ErrCausedAgain (I.ends inputs.old) (I.ends inputs.new)
             (I.faults inputs.old + B.faults bytes.old) (I.faults inputs.new + B.faults bytes.new)
             (O.faults out.old) (O.faults out.new) result }
+        ensures stops { IfErr result IsStop }
         ensures changed { ErrFoundChanged (map string_bytes files.now) (I.last_end inputs.new)
             result }
         ensures taken { IfAllTold (I.told inputs.old) (map string_bytes files.now)
@@ -278,6 +279,7 @@ impl Composer {
         ensures cause { ErrCausedAgain (I.ends inputs.old) (I.ends inputs.new)
             (I.faults inputs.old + B.faults bytes.old) (I.faults inputs.new + B.faults bytes.new)
             (O.faults out.old) (O.faults out.new) result }
+        ensures stops { IfErr result IsStop }
         ensures changed { ErrFoundChanged (map string_bytes files.now) (I.last_end inputs.new)
             result }
         ensures added { IfAllTold (I.told inputs.old) (map string_bytes files.now)
@@ -417,6 +419,7 @@ impl Composer {
         ensures cause { ErrCausedAgain (I.ends inputs.old) (I.ends inputs.new)
             (I.faults inputs.old + B.faults bytes.old) (I.faults inputs.new + B.faults bytes.new)
             (O.faults out.old) (O.faults out.new) result }
+        ensures stops { IfErr result IsStop }
         ensures changed { ErrFoundChanged (map string_bytes files.now) (I.last_end inputs.new)
             result }
         ensures added { IfAllTold (I.told inputs.old) (map string_bytes files.now)
@@ -465,6 +468,7 @@ impl Composer {
     // The outcome where an item is refused at its place.
     fn refused<O: Sink>(&mut self, place: Place, refusal: Refusal, out: &mut O) -> Outcome
         ensures later { O.faults out.old ≤ O.faults out.new }
+        ensures stops { IsStop result }
         ensures refused { (verdict : Verdict)
             × (verdict_meant verdict ≡ record {
               file = place.file;
@@ -482,6 +486,7 @@ impl Composer {
     /// refusal; but where the inputs have failed, or there is no memory, nothing more is asked of the output.
     pub fn stopped<O: Sink>(&mut self, outcome: Outcome, out: &mut O) -> Outcome
         ensures later { O.faults out.old ≤ O.faults out.new }
+        ensures stops { IsStop outcome → IsStop result }
         ensures stopped { StopEnd self.old.pending (O.taken out.old) (O.taken out.new)
             (O.faults out.old) (O.faults out.new) outcome result }
     {
@@ -553,6 +558,7 @@ fn contents_of<'a>(core: &'a EditCore<Trace>, key: Key, path: &[u8]) -> Option<&
 // The outcome of a run that ends here, after what is pending was written.
 fn ended<O: Sink>(outcome: Outcome, pending: &mut Blob, out: &mut O) -> Outcome
     ensures later { O.faults out.old ≤ O.faults out.new }
+    ensures stops { IsStop outcome → IsStop result }
     ensures stopped { StopEnd pending.old (O.taken out.old) (O.taken out.new)
         (O.faults out.old) (O.faults out.new) outcome result }
 {

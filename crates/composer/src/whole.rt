@@ -1,5 +1,5 @@
 // Composing files: once over all of them for their heads, and once more to write.
-ghost use Rattle.std.specs.Prelude.{◌≡◌, ◌≢◌, ℕ, ◌+◌, ◌<◌, ◌≤◌, List, [], map, length, get_or, OnOk};
+ghost use Rattle.std.specs.Prelude.{◌≡◌, ◌≢◌, ℕ, ◌+◌, ◌<◌, ◌≤◌, List, [], map, length, get_or, OnOk, IfErr};
 ghost use Rattle.std.specs.String.{string_bytes};
 ghost use Rattle.send_model.specs.Outside.{store_without, AllSayable};
 ghost use Rattle.send_model.specs.Provenance.{traced_store};
@@ -9,7 +9,7 @@ ghost use Rattle.provenance.specs.Traces.{place_of};
 ghost use Rattle.clone_pieces.specs.Origins.{IsHad, IsInInput, AreHeld, byte_of_trace};
 ghost use Rattle.clone_pieces.specs.Seen.{seen};
 ghost use Rattle.file_survey.specs.Findings.{SurveyEnd};
-ghost use Rattle.sx_base.specs.Calls.{IfAllTold, CausedAgain, FoundChanged, ErrFoundChanged, Wrote, SteadyIfDone};
+ghost use Rattle.sx_base.specs.Calls.{IfAllTold, CausedAgain, FoundChanged, ErrFoundChanged, Wrote, SteadyIfDone, IsStop};
 ghost use Rattle.sx_base.specs.Causes.{Steady};
 ghost use Rattle.composer.specs.OverBase.{at_start};
 ghost use Rattle.composer.specs.Kept.{composing_of};
@@ -147,6 +147,7 @@ fn write_files<I: Inputs, E: Known, B: OutsideBytes, O: Sink>(
     ensures cause { ErrCausedAgain (I.ends inputs.old) (I.ends inputs.new)
         (I.faults inputs.old + B.faults bytes.old) (I.faults inputs.new + B.faults bytes.new)
         (O.faults out.old) (O.faults out.new) result }
+    ensures stops { IfErr result IsStop }
     ensures changed { ErrFoundChanged (map string_bytes files.now) (I.last_end inputs.new) result }
     ensures ends { IfAllTold (I.told inputs.old) (map string_bytes files.now)
         (λ told. Wrote (O.taken out.old) (O.taken out.new)
@@ -202,6 +203,7 @@ fn write_file<I: Inputs, E: Known, B: OutsideBytes, O: Sink>(
     ensures cause { ErrCausedAgain (I.ends inputs.old) (I.ends inputs.new)
         (I.faults inputs.old + B.faults bytes.old) (I.faults inputs.new + B.faults bytes.new)
         (O.faults out.old) (O.faults out.new) result }
+    ensures stops { IfErr result IsStop }
     ensures changed { ErrFoundChanged (map string_bytes files.now) (I.last_end inputs.new) result }
     ensures wrote { IfAllTold (I.told inputs.old) (map string_bytes files.now)
         (λ told. FileEnd told (plan_with (E.base known.now) survey.now) (number + 1)

@@ -13,7 +13,8 @@ loop-reader-init g c =
     let fresh = c.in-Ok.ensures.start in
     record {
       same = refl;
-      later = omega (arith);
+      steady = refl;
+      ends_steady = refl;
       file = ap (λ (r : Reader). r.file) fresh;
       name = ap (λ (r : Reader). r.name) fresh;
       number = omega (arith, ap (λ (r : Reader). r.number) fresh, c.none-counts.ensures.commands);
@@ -46,7 +47,8 @@ loop-reader-preserved g c =
     let m = item_moves c.in-Ok-Some.field-0 c.in-Ok-Some.item _ _ c.in-Ok-Some.field-0-is e.fits in
     record {
       same = e.same ∙ i.same;
-      later = omega (arith, i.later, e.later);
+      steady = e.steady ∙ i.steady;
+      ends_steady = e.ends_steady ∙ i.ends_steady;
       file = e.file ∙ i.file;
       name = e.name ∙ i.name;
       number = omega (arith, m.next_number, i.number, c.with-counts.ensures.commands);

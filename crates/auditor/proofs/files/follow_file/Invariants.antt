@@ -6,11 +6,12 @@ use Rattle.auditor.specs.Following.{beside}
 use Rattle.auditor.proofs.OneFile.{Stands}
 use Rattle.auditor.proofs.files.follow_file.Given as goal
 
--- The commands that were read were accepted and counted; the inputs tell the same files, and no count fell.
+-- The commands that were read were accepted and counted; the inputs tell the same files, and no count rose.
 abbrev pub invariant-loop-reader : goal.invariant-loop-reader
 invariant-loop-reader g l = record {
   same : g.I.Inputs.told l.inputs ≡ g.I.Inputs.told l.fn.inputs;
-  later : g.I.Inputs.faults l.fn.inputs ≤ g.I.Inputs.faults l.inputs;
+  steady : g.I.Inputs.faults l.inputs ≡ g.I.Inputs.faults l.fn.inputs;
+  ends_steady : g.I.Inputs.ends l.inputs ≡ g.I.Inputs.ends l.fn.inputs;
   file : l.reader.file ≡ l.fn.file;
   name : l.reader.name ≡ l.fn.name;
   number : l.reader.number ≡ l.counts.commands + 1;

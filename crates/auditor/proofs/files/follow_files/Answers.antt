@@ -8,7 +8,8 @@ pub loop-file-init : goal.loop-file-init
 loop-file-init g c = record {
   within = omega (arith);
   same = refl;
-  later = omega (arith);
+  steady = refl;
+  ends_steady = refl;
   parts = omega (arith, c.none-totals.ensures.parts);
   commands = omega (arith, c.none-totals.ensures.commands);
   stand = all_start _ (map string_bytes c.args.files.now) _ _ _ c.none-totals.ensures.parts c.none-totals.ensures.commands;
@@ -27,7 +28,8 @@ loop-file-preserved g c =
     record {
       within = omega (arith, c.loop-file-test.true);
       same = e.same ∙ i.same;
-      later = omega (arith, i.later, e.later);
+      steady = c.in-Ok.ensures.steady ∙ i.steady;
+      ends_steady = c.in-Ok.ensures.ends_steady ∙ i.ends_steady;
       parts = omega (arith, i.parts, c.with-totals.ensures.parts_bound);
       commands = omega (arith, i.commands, c.with-totals.ensures.commands_bound);
       stand = all_next _ _ c.args.files.now _ c.loop-file.file _ _ c.loop-file.totals.parts c.loop-file.totals.commands c.with-totals.result.parts c.with-totals.result.commands c.index-files-file.result c.as_str-name.result.now c.follow_file.result c.in-Ok.counts

@@ -6,12 +6,13 @@ use Rattle.auditor.specs.Following.{beside}
 use Rattle.auditor.proofs.AllFiles.{AllStand}
 use Rattle.auditor.proofs.files.follow_files.Given as goal
 
--- The commands of the files so far were accepted and counted; the inputs tell the same files, and no count fell.
+-- The commands of the files so far were accepted and counted; the inputs tell the same files, and no count rose.
 abbrev pub invariant-loop-file : goal.invariant-loop-file
 invariant-loop-file g l = record {
   within : l.file ≤ length l.fn.files;
   same : g.I.Inputs.told l.inputs ≡ g.I.Inputs.told l.fn.inputs;
-  later : g.I.Inputs.faults l.fn.inputs ≤ g.I.Inputs.faults l.inputs;
+  steady : g.I.Inputs.faults l.inputs ≡ g.I.Inputs.faults l.fn.inputs;
+  ends_steady : g.I.Inputs.ends l.inputs ≡ g.I.Inputs.ends l.fn.inputs;
   parts : l.totals.parts ≤ l.file * 18446744073709551616;
   commands : l.totals.commands ≤ l.file * 18446744073709551616;
   stand : IfAllTold (g.I.Inputs.told l.fn.inputs) (map string_bytes l.fn.files) (AllStand

@@ -1,5 +1,8 @@
 use Rattle.std.specs.Prelude.{[], map}
 use Rattle.std.specs.String.{string_bytes}
+use Rattle.std.proofs.Common.{ℕ, subst}
+use Rattle.sx_base.specs.Calls.{SteadyIfDone}
+use Rattle.sx_base.proofs.Ended.{stopped_steady}
 use Rattle.composer.proofs.FilesWriting.{survey_stopped}
 use Rattle.composer.proofs.Starting.{nothing_traced, nothing_held, nothing_sayable}
 use Rattle.composer.proofs.whole.compose.Goals as goal
@@ -15,3 +18,18 @@ compose_over-requires-clause-held g c = nothing_held
 
 pub compose_over-requires-clause-sayable : goal.compose_over-requires-clause-sayable
 compose_over-requires-clause-sayable g c = nothing_sayable
+
+pub returns-in-Err-clause-steady : goal.returns-in-Err-clause-steady
+returns-in-Err-clause-steady g c = stopped_steady _ _ c.in-Err.outcome c.in-Err.ensures.stops
+
+pub returns-in-Err-clause-ends_steady : goal.returns-in-Err-clause-ends_steady
+returns-in-Err-clause-ends_steady g c = stopped_steady _ _ c.in-Err.outcome c.in-Err.ensures.stops
+
+pub returns-in-Err-clause-out_steady : goal.returns-in-Err-clause-out_steady
+returns-in-Err-clause-out_steady g c = stopped_steady _ _ c.in-Err.outcome c.in-Err.ensures.stops
+
+pub returns-clause-steady : goal.returns-clause-steady
+returns-clause-steady g c = subst (λ (n : ℕ). SteadyIfDone n (g.I.Inputs.faults c.compose_over.new.inputs) c.compose_over.result) c.in-Ok.ensures.steady c.compose_over.ensures.steady
+
+pub returns-clause-ends_steady : goal.returns-clause-ends_steady
+returns-clause-ends_steady g c = subst (λ (n : ℕ). SteadyIfDone n (g.I.Inputs.ends c.compose_over.new.inputs) c.compose_over.result) c.in-Ok.ensures.ends_steady c.compose_over.ensures.ends_steady

@@ -1,6 +1,6 @@
 use Rattle.std.specs.Prelude.{[], map, get_or}
 use Rattle.std.specs.String.{string_bytes}
-use Rattle.std.proofs.Common.{◌≡◌, ◌-◌, ◌≤◌, ◌+◌, length}
+use Rattle.std.proofs.Common.{◌≡◌, ◌-◌, ◌+◌, length}
 use Rattle.send_model.specs.Lengths.{limit}
 use Rattle.sx_base.specs.Calls.{IfAllTold}
 use Rattle.cmd_reader.specs.Places.{IfTold}
@@ -11,15 +11,15 @@ use Rattle.composer.specs.Files.{plan_with}
 use Rattle.composer.proofs.FileWriting.{EndsAlike, Stands}
 use Rattle.composer.proofs.whole.write_file.Given as goal
 
--- The items that were read were taken, the inputs tell the same files, what is held of the base is the same, and no count fell.
+-- The items that were read were taken, the inputs tell the same files, what is held of the base is the same, and no count rose.
 abbrev pub invariant-loop-reader : goal.invariant-loop-reader
 invariant-loop-reader g l = record {
   same : g.I.Inputs.told l.inputs ≡ g.I.Inputs.told l.fn.inputs;
   held : g.B.OutsideBytes.held l.bytes ≡ g.B.OutsideBytes.held l.fn.bytes;
-  later : g.I.Inputs.faults l.fn.inputs ≤ g.I.Inputs.faults l.inputs;
-  ends_later : g.I.Inputs.ends l.fn.inputs ≤ g.I.Inputs.ends l.inputs;
-  bytes_later : g.B.OutsideBytes.faults l.fn.bytes ≤ g.B.OutsideBytes.faults l.bytes;
-  out_later : g.O.Sink.faults l.fn.out ≤ g.O.Sink.faults l.out;
+  steady : g.I.Inputs.faults l.inputs ≡ g.I.Inputs.faults l.fn.inputs;
+  ends_steady : g.I.Inputs.ends l.inputs ≡ g.I.Inputs.ends l.fn.inputs;
+  bytes_steady : g.B.OutsideBytes.faults l.bytes ≡ g.B.OutsideBytes.faults l.fn.bytes;
+  out_steady : g.O.Sink.faults l.out ≡ g.O.Sink.faults l.fn.out;
   file : l.reader.file ≡ l.fn.number + 1;
   name : l.reader.name ≡ get_or (map string_bytes l.fn.files) l.fn.number [];
   had : AllCells (IsHad (length l.fn.files) (g.E.Known.base l.fn.known)) l.composer.state;

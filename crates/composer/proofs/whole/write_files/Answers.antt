@@ -6,7 +6,7 @@ use Rattle.send_model.specs.Cells.{AllCells}
 use Rattle.composer.specs.Files.{plan_with}
 use Rattle.clone_pieces.proofs.Told.{told_moved}
 use Rattle.composer.proofs.FilesWriting.{files_start, files_there, files_after, begun, files_stopped, files_empty, files_ended}
-use Rattle.composer.proofs.HandedOn.{answer_is, end_caused, end_unchanged}
+use Rattle.composer.proofs.HandedOn.{answer_is, end_caused, end_unchanged, handed_steady, handed_stops}
 use Rattle.composer.proofs.whole.write_files.Goals as goal
 
 pub loop-file-init : goal.loop-file-init
@@ -14,10 +14,10 @@ loop-file-init g c = record {
   within = omega (arith);
   same = refl;
   held = refl;
-  later = omega (arith);
-  ends_later = omega (arith);
-  bytes_later = omega (arith);
-  out_later = omega (arith);
+  steady = refl;
+  ends_steady = refl;
+  bytes_steady = refl;
+  out_steady = refl;
   had = c.requires.had;
   stand = files_start (g.I.Inputs.told c.args.inputs.now) (map string_bytes c.args.files.now) (plan_with (g.E.Known.base c.args.known.now) c.args.survey.now) c.args.composer.now (g.O.Sink.taken c.args.out.now) c.start-place.result c.requires.there;
 }
@@ -43,10 +43,10 @@ loop-file-preserved g c =
       within = omega (arith, c.loop-file-test.true);
       same = e.same ∙ i.same;
       held = e.held ∙ i.held;
-      later = omega (arith, i.later, e.later);
-      ends_later = omega (arith, i.ends_later, e.ends_later);
-      bytes_later = omega (arith, i.bytes_later, e.bytes_later);
-      out_later = omega (arith, i.out_later, e.out_later);
+      steady = e.steady ∙ i.steady;
+      ends_steady = e.ends_steady ∙ i.ends_steady;
+      bytes_steady = e.bytes_steady ∙ i.bytes_steady;
+      out_steady = e.out_steady ∙ i.out_steady;
       had = e.had;
       stand = files_after _ _ c.args.files.now (plan_with (g.E.Known.base c.args.known.now) c.args.survey.now) c.args.composer.now _ c.loop-file.file c.loop-file.composer c.write_file.new.composer _ _ c.start-place.result c.loop-file.place c.in-Ok.place
           i.same c.loop-file-test.true e.wrote i.stand;
@@ -65,7 +65,10 @@ returns-clause-ends g c =
     (begun _ (map string_bytes c.args.files.now) (g.E.Known.base c.args.known.now) c.args.survey.now c.args.composer.now c.requires.apart c.requires.sayable c.requires.surveyed c.requires.start) c.loop-file.invariant.stand
 
 pub returns-clause-cause : goal.returns-clause-cause
-returns-clause-cause g c = end_caused _ _ _ _ _ _ _ _ _ _ c.end.result c.map_err.result (answer_is c.end.result c.map_err.result c.map_err.ensures.cases) c.loop-file.invariant.out_later c.end.ensures.ended
+returns-clause-cause g c = end_caused _ _ _ _ _ _ _ _ _ _ c.end.result c.map_err.result (answer_is c.end.result c.map_err.result c.map_err.ensures.cases) (omega (arith, c.loop-file.invariant.out_steady)) c.end.ensures.ended
 
 pub returns-clause-changed : goal.returns-clause-changed
 returns-clause-changed g c = end_unchanged _ _ _ _ _ _ _ c.end.result c.map_err.result (answer_is c.end.result c.map_err.result c.map_err.ensures.cases) c.end.ensures.ended
+
+pub returns-clause-stops : goal.returns-clause-stops
+returns-clause-stops g c = handed_stops c.end.result c.map_err.result (answer_is c.end.result c.map_err.result c.map_err.ensures.cases)

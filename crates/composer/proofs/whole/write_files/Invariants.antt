@@ -8,16 +8,16 @@ use Rattle.composer.specs.Files.{plan_with}
 use Rattle.composer.proofs.FilesWriting.{FilesStand}
 use Rattle.composer.proofs.whole.write_files.Given as goal
 
--- The items of the files so far were taken, the inputs tell the same files, what is held of the base is the same, and no count fell.
+-- The items of the files so far were taken, the inputs tell the same files, what is held of the base is the same, and no count rose.
 abbrev pub invariant-loop-file : goal.invariant-loop-file
 invariant-loop-file g l = record {
   within : l.file ≤ length l.fn.files;
   same : g.I.Inputs.told l.inputs ≡ g.I.Inputs.told l.fn.inputs;
   held : g.B.OutsideBytes.held l.bytes ≡ g.B.OutsideBytes.held l.fn.bytes;
-  later : g.I.Inputs.faults l.fn.inputs ≤ g.I.Inputs.faults l.inputs;
-  ends_later : g.I.Inputs.ends l.fn.inputs ≤ g.I.Inputs.ends l.inputs;
-  bytes_later : g.B.OutsideBytes.faults l.fn.bytes ≤ g.B.OutsideBytes.faults l.bytes;
-  out_later : g.O.Sink.faults l.fn.out ≤ g.O.Sink.faults l.out;
+  steady : g.I.Inputs.faults l.inputs ≡ g.I.Inputs.faults l.fn.inputs;
+  ends_steady : g.I.Inputs.ends l.inputs ≡ g.I.Inputs.ends l.fn.inputs;
+  bytes_steady : g.B.OutsideBytes.faults l.bytes ≡ g.B.OutsideBytes.faults l.fn.bytes;
+  out_steady : g.O.Sink.faults l.out ≡ g.O.Sink.faults l.fn.out;
   had : AllCells (IsHad (length l.fn.files) (g.E.Known.base l.fn.known)) l.composer.state;
   stand : IfAllTold (g.I.Inputs.told l.fn.inputs) (map string_bytes l.fn.files) (FilesStand (plan_with (g.E.Known.base l.fn.known) l.fn.survey) l.fn.composer (g.O.Sink.taken l.fn.out) l.file l.composer (g.O.Sink.taken l.out) l.initial.place l.place);
 }

@@ -1,7 +1,8 @@
 use Rattle.std.specs.Prelude.{map}
 use Rattle.std.specs.String.{string_bytes}
-use Rattle.std.proofs.Common.{ap₂, subst, ◌∙◌}
-use Rattle.sx_base.specs.Calls.{IfAllTold, Wrote}
+use Rattle.std.proofs.Common.{ℕ, ap₂, subst, ◌∙◌}
+use Rattle.sx_base.specs.Calls.{IfAllTold, Wrote, SteadyIfDone}
+use Rattle.sx_base.proofs.Ended.{stopped_steady}
 use Rattle.clone_pieces.specs.Origins.{outside_cells}
 use Rattle.composer.specs.Files.{ComposeEnds}
 use Rattle.memory_base.specs.Bases.{with_bytes}
@@ -55,3 +56,18 @@ returns-clause-ends g c =
     (g.I.Inputs.told c.args.inputs.now) (map string_bytes c.args.files.now) (g.O.Sink.taken c.args.out.now) (g.O.Sink.taken c.compose_over.new.out) c.compose_over.result c.in-Ok.ensures.surveyed
     (subst (λ told. IfAllTold told (map string_bytes c.args.files.now) (λ files. Wrote (g.O.Sink.taken c.args.out.now) (g.O.Sink.taken c.compose_over.new.out) (ComposeEnds (with_bytes c.in-Ok-new.standing.bytes.now c.in-Ok-new.standing.indexes) files c.compose_over.result)))
     c.survey.ensures.same c.compose_over.ensures.ends)
+
+pub returns-in-Err-clause-steady : goal.returns-in-Err-clause-steady
+returns-in-Err-clause-steady g c = stopped_steady _ _ c.in-Err.outcome c.in-Err.ensures.stops
+
+pub returns-in-Err-clause-ends_steady : goal.returns-in-Err-clause-ends_steady
+returns-in-Err-clause-ends_steady g c = stopped_steady _ _ c.in-Err.outcome c.in-Err.ensures.stops
+
+pub returns-in-Err-clause-out_steady : goal.returns-in-Err-clause-out_steady
+returns-in-Err-clause-out_steady g c = stopped_steady _ _ c.in-Err.outcome c.in-Err.ensures.stops
+
+pub returns-clause-steady : goal.returns-clause-steady
+returns-clause-steady g c = subst (λ (n : ℕ). SteadyIfDone n (g.I.Inputs.faults c.compose_over.new.inputs) c.compose_over.result) c.in-Ok.ensures.steady c.compose_over.ensures.steady
+
+pub returns-clause-ends_steady : goal.returns-clause-ends_steady
+returns-clause-ends_steady g c = subst (λ (n : ℕ). SteadyIfDone n (g.I.Inputs.ends c.compose_over.new.inputs) c.compose_over.result) c.in-Ok.ensures.ends_steady c.compose_over.ensures.ends_steady

@@ -1,7 +1,8 @@
 use Rattle.std.specs.Prelude.{◌≡◌, [], map, List, ℕ, Some}
 use Rattle.std.specs.String.{string_bytes}
 use Rattle.std.proofs.Common.{subst, sym, ap, ◌∙◌}
-use Rattle.sx_base.specs.Calls.{IfAllTold, Wrote, Ends}
+use Rattle.sx_base.specs.Calls.{IfAllTold, Wrote, Ends, SteadyIfDone}
+use Rattle.sx_base.specs.declared.outcome.Outcome.{Outcome}
 use Rattle.send_model.specs.Guards.{Guard}
 use Rattle.send_model.specs.Words.{Request, new_guards}
 use Rattle.send_top.specs.Answered.{outcome_meant}
@@ -74,3 +75,12 @@ returns-clause-changed_at g c =
     let mine : Request = request_meant words c.in-Some.request in
     changed_at words (map (λ b. (goal.Guard-dyn g (b.vtable, b.value)).kept b.value) c.args.guards.now) (g.I.Inputs.last_end c.end_of.new.inputs) mine c.end_of.result
     (λ request asks. same_request (answered_request words) mine request c.in-Some.ensures.meaning asks.meant) c.end_of.ensures.changed
+
+pub returns-clause-read_whole : goal.returns-clause-read_whole
+returns-clause-read_whole g c done = subst (λ (o : Outcome). SteadyIfDone (g.I.Inputs.faults c.args.inputs.now) (g.I.Inputs.faults c.end_of.new.inputs) o) (is_done c.end_of.result done) c.end_of.ensures.steady
+
+pub returns-clause-ends_met : goal.returns-clause-ends_met
+returns-clause-ends_met g c done = subst (λ (o : Outcome). SteadyIfDone (g.I.Inputs.ends c.args.inputs.now) (g.I.Inputs.ends c.end_of.new.inputs) o) (is_done c.end_of.result done) c.end_of.ensures.ends_steady
+
+pub returns-clause-written : goal.returns-clause-written
+returns-clause-written g c done = subst (λ (o : Outcome). SteadyIfDone (g.O.Sink.faults c.args.out.now) (g.O.Sink.faults c.end_of.new.out) o) (is_done c.end_of.result done) c.end_of.ensures.out_steady

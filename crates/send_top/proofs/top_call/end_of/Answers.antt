@@ -1,8 +1,9 @@
 use Rattle.std.specs.Prelude.{ℕ, [], map, drop, List, Option}
 use Rattle.std.specs.String.{string_bytes}
-use Rattle.std.proofs.Common.{◌≡◌, sym, ap, subst, ◌∙◌}
+use Rattle.std.proofs.Common.{◌≡◌, refl, sym, ap, subst, ◌∙◌}
 use Rattle.std.proofs.lemmas.List.{drop-map}
 use Rattle.sx_base.specs.Calls.{FoundChanged, Wrote, Ends}
+use Rattle.sx_base.proofs.Ended.{steady_anyway}
 use Rattle.send_model.specs.Store.{Store}
 use Rattle.send_model.specs.Guards.{GuardSpec}
 use Rattle.send_model.specs.Words.{Compose, Audit, Dump, Export, new_guards}
@@ -133,3 +134,15 @@ pub returns-in-Compose-clause-changed : goal.returns-in-Compose-clause-changed
 returns-in-Compose-clause-changed g c =
     rw c.in-Compose.is (subst (λ (names : List (List ℕ)). FoundChanged names (g.I.Inputs.last_end c.compose.new.inputs) c.compose.result)
     (ap (map string_bytes) c.names_from.ensures.names ∙ sym (drop-map string_bytes c.in-Compose.files c.args.words.now)) c.compose.ensures.changed)
+
+pub returns-in-Gen-clause-steady : goal.returns-in-Gen-clause-steady
+returns-in-Gen-clause-steady g c = steady_anyway _ _ c.write_chain.result refl
+
+pub returns-in-Gen-clause-ends_steady : goal.returns-in-Gen-clause-ends_steady
+returns-in-Gen-clause-ends_steady g c = steady_anyway _ _ c.write_chain.result refl
+
+pub returns-in-Trial-clause-steady : goal.returns-in-Trial-clause-steady
+returns-in-Trial-clause-steady g c = steady_anyway _ _ c.write_trial.result refl
+
+pub returns-in-Trial-clause-ends_steady : goal.returns-in-Trial-clause-ends_steady
+returns-in-Trial-clause-ends_steady g c = steady_anyway _ _ c.write_trial.result refl

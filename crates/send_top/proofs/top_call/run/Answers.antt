@@ -57,3 +57,12 @@ returns-clause-answered g c =
       record { status_is = c.status.ensures; note = search rules },
       subst (λ gs. IsChangedAt words (map (λ b. (goal.Guard-dyn g (b.vtable, b.value)).kept b.value) gs) (g.I.Inputs.last_end c.answer_to-answer.new.inputs) answer) c.deref_mut.ensures.value a.changed_at,
     )
+
+pub returns-clause-read_whole : goal.returns-clause-read_whole
+returns-clause-read_whole g c none = c.answer_to-answer.ensures.read_whole (done-of_zero (answer_of c.answer_to-answer.result) (sym c.status.ensures ∙ none))
+
+pub returns-clause-ends_met : goal.returns-clause-ends_met
+returns-clause-ends_met g c none = c.answer_to-answer.ensures.ends_met (done-of_zero (answer_of c.answer_to-answer.result) (sym c.status.ensures ∙ none))
+
+pub returns-clause-written : goal.returns-clause-written
+returns-clause-written g c none = c.answer_to-answer.ensures.written (done-of_zero (answer_of c.answer_to-answer.result) (sym c.status.ensures ∙ none))

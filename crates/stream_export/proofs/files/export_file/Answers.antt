@@ -16,8 +16,9 @@ loop-item-init g c =
     let fresh = c.in-Ok.ensures.start in
     record {
       same = refl;
-      later = omega (arith);
-      out_later = omega (arith);
+      steady = refl;
+      ends_steady = refl;
+      out_steady = refl;
       file = ap (λ (r : Reader). r.file) fresh;
       name = ap (λ (r : Reader). r.name) fresh;
       stands = stands_at_start (g.I.Inputs.told c.args.inputs.now) c.args.file c.args.name.now c.in-Ok.reader (point_at c.args.exporter.now c.args.gathered.now) c.args.gathered.now.bytes (g.O.Sink.taken c.args.out.now) fresh;
@@ -30,8 +31,9 @@ loop-item-preserved g c =
     let e = c.in-Ok-Some.ensures in
     record {
       same = e.same ∙ i.same;
-      later = omega (arith, i.later, e.later);
-      out_later = omega (arith, i.out_later, c.in_default-exported.ensures.later);
+      steady = e.steady ∙ i.steady;
+      ends_steady = e.ends_steady ∙ i.ends_steady;
+      out_steady = c.in_default-exported.ensures.steady ∙ i.out_steady;
       file = e.file ∙ i.file;
       name = e.name ∙ i.name;
       stands = stands_after _ _ c.args.file c.args.name.now (point_at c.args.exporter.now c.args.gathered.now) (point_at c.loop-item.exporter c.loop-item.gathered) (point_at c.export_item-exported.new.exporter c.export_item-exported.new.gathered)
@@ -54,7 +56,7 @@ returns-in-Err-exported-clause-cause g c =
     item_cause (point_at c.loop-item.exporter c.loop-item.gathered) (point_at c.export_item-exported.new.exporter c.export_item-exported.new.gathered)
     c.loop-item.gathered.bytes c.export_item-exported.new.gathered.bytes (item_of c.args.file c.in-Ok-Some.item) (g.O.Sink.taken c.loop-item.out) (g.O.Sink.taken c.export_item-exported.new.out)
     c.in-Err-exported.outcome (g.I.Inputs.faults c.args.inputs.now) (g.I.Inputs.faults c.next.new.inputs) (g.O.Sink.faults c.args.out.now) (g.O.Sink.faults c.loop-item.out) (g.O.Sink.faults c.export_item-exported.new.out)
-    c.loop-item.invariant.out_later c.in-Err-exported.ensures.ends
+    (omega (arith, c.loop-item.invariant.out_steady)) c.in-Err-exported.ensures.ends
 
 pub returns-in-Ok-None-clause-exported : goal.returns-in-Ok-None-clause-exported
 returns-in-Ok-None-clause-exported g c =

@@ -1,4 +1,4 @@
-use Rattle.std.proofs.Common.{◌≡◌, ◌≤◌, ◌-◌}
+use Rattle.std.proofs.Common.{◌≡◌, ◌-◌}
 use Rattle.send_model.specs.Lengths.{limit}
 use Rattle.cmd_reader.specs.Places.{IfTold}
 use Rattle.cmd_reader.specs.Left.{HasAhead}
@@ -6,12 +6,13 @@ use Rattle.stream_export.specs.Steps.{point_at}
 use Rattle.stream_export.proofs.OneFile.{Stands}
 use Rattle.stream_export.proofs.files.export_file.Given as goal
 
--- The commands that were read were taken, and their bytes are gathered or written; the inputs tell the same files, and no count fell.
+-- The commands that were read were taken, and their bytes are gathered or written; the inputs tell the same files, and no count rose.
 abbrev pub invariant-loop-item : goal.invariant-loop-item
 invariant-loop-item g l = record {
   same : g.I.Inputs.told l.inputs ≡ g.I.Inputs.told l.fn.inputs;
-  later : g.I.Inputs.faults l.fn.inputs ≤ g.I.Inputs.faults l.inputs;
-  out_later : g.O.Sink.faults l.fn.out ≤ g.O.Sink.faults l.out;
+  steady : g.I.Inputs.faults l.inputs ≡ g.I.Inputs.faults l.fn.inputs;
+  ends_steady : g.I.Inputs.ends l.inputs ≡ g.I.Inputs.ends l.fn.inputs;
+  out_steady : g.O.Sink.faults l.out ≡ g.O.Sink.faults l.fn.out;
   file : l.reader.file ≡ l.fn.file;
   name : l.reader.name ≡ l.fn.name;
   stands : IfTold (g.I.Inputs.told l.fn.inputs) l.fn.name (Stands l.fn.file (point_at l.fn.exporter l.fn.gathered) (point_at l.exporter l.gathered)

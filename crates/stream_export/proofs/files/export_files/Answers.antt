@@ -9,8 +9,9 @@ pub loop-file-init : goal.loop-file-init
 loop-file-init g c = record {
   within = omega (arith);
   same = refl;
-  later = omega (arith);
-  out_later = omega (arith);
+  steady = refl;
+  ends_steady = refl;
+  out_steady = refl;
   stand = all_start _ (map string_bytes c.args.files.now) (point_at c.args.exporter.now c.args.gathered.now) c.args.gathered.now.bytes (g.O.Sink.taken c.args.out.now);
 }
 
@@ -28,8 +29,9 @@ loop-file-preserved g c =
     record {
       within = omega (arith, c.loop-file-test.true);
       same = e.same ∙ i.same;
-      later = omega (arith, i.later, e.later);
-      out_later = omega (arith, i.out_later, e.out_later);
+      steady = e.steady ∙ i.steady;
+      ends_steady = e.ends_steady ∙ i.ends_steady;
+      out_steady = e.out_steady ∙ i.out_steady;
       stand = all_next _ _ c.args.files.now c.loop-file.file (point_at c.args.exporter.now c.args.gathered.now) (point_at c.loop-file.exporter c.loop-file.gathered) (point_at c.export_file-exported.new.exporter c.export_file-exported.new.gathered)
           c.args.gathered.now.bytes c.loop-file.gathered.bytes c.export_file-exported.new.gathered.bytes (g.O.Sink.taken c.args.out.now) (g.O.Sink.taken c.loop-file.out) (g.O.Sink.taken c.export_file-exported.new.out)
           c.index-files-file.result c.as_str-name.result.now i.same c.loop-file-test.true c.index-files-file.is c.as_str-name.ensures.value e.exported i.stand;

@@ -7,13 +7,14 @@ use Rattle.stream_export.proofs.AllFiles.{AllStand}
 use Rattle.stream_export.proofs.files.export_files.Given as goal
 
 -- The commands of the files so far were taken, and their bytes are gathered or written; the inputs tell the same files, and no count
--- fell.
+-- rose.
 abbrev pub invariant-loop-file : goal.invariant-loop-file
 invariant-loop-file g l = record {
   within : l.file ≤ length l.fn.files;
   same : g.I.Inputs.told l.inputs ≡ g.I.Inputs.told l.fn.inputs;
-  later : g.I.Inputs.faults l.fn.inputs ≤ g.I.Inputs.faults l.inputs;
-  out_later : g.O.Sink.faults l.fn.out ≤ g.O.Sink.faults l.out;
+  steady : g.I.Inputs.faults l.inputs ≡ g.I.Inputs.faults l.fn.inputs;
+  ends_steady : g.I.Inputs.ends l.inputs ≡ g.I.Inputs.ends l.fn.inputs;
+  out_steady : g.O.Sink.faults l.out ≡ g.O.Sink.faults l.fn.out;
   stand : IfAllTold (g.I.Inputs.told l.fn.inputs) (map string_bytes l.fn.files) (AllStand l.file (point_at l.fn.exporter l.fn.gathered) (point_at l.exporter l.gathered)
       l.fn.gathered.bytes l.gathered.bytes (g.O.Sink.taken l.fn.out) (g.O.Sink.taken l.out));
 }

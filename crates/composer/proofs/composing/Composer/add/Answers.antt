@@ -19,7 +19,7 @@ use Rattle.composer.specs.contracts.composing.Composer.{the_view}
 use Rattle.composer.proofs.EditSpelling.{paths_short}
 use Rattle.clone_pieces.proofs.Told.{all_always, all_map}
 use Rattle.composer.proofs.AddingItems.{led_taken, own_adds, kept_adds, redirected_adds, plain_of, plain_adds, end_adds}
-use Rattle.composer.proofs.HandedOn.{answer_is, put_caused, put_unchanged}
+use Rattle.composer.proofs.HandedOn.{answer_is, put_caused, put_unchanged, handed_steady, handed_stops, steady_result}
 use Rattle.composer.proofs.composing.Composer.add.Goals as goal
 
 pub add_own-requires : goal.add_own-requires
@@ -135,6 +135,11 @@ returns-in_default g c =
       ends_later = omega arith;
       bytes_later = omega arith;
       out_later = c.put_item-in_default.ensures.later;
+      steady = steady_result c.map_err-in_default.result;
+      ends_steady = steady_result c.map_err-in_default.result;
+      bytes_steady = steady_result c.map_err-in_default.result;
+      out_steady = handed_steady _ _ c.put_item-in_default.result c.map_err-in_default.result answered c.put_item-in_default.ensures.steady;
+      stops = handed_stops c.put_item-in_default.result c.map_err-in_default.result answered;
       cause = put_caused _ _ _ _ _ _ _ _ _ _ _ c.put_item-in_default.result c.map_err-in_default.result answered c.put_item-in_default.ensures.put;
       changed = put_unchanged _ _ _ _ _ _ _ _ _ c.put_item-in_default.result c.map_err-in_default.result answered c.put_item-in_default.ensures.put;
       added = all_always (g.I.Inputs.told c.args.inputs.now) (map string_bytes c.args.files.now) _ (λ told.
@@ -145,3 +150,17 @@ returns-in_default g c =
           (ap (λ (k : Kept). k.sum) c.self-in_default.view_is)
           (subst (λ (k : Kept). k.sum ≤ most_literal) c.self-in_default.view_is c.self-in_default.invariant.1));
     }
+
+pub returns-then-is_own-clause-out_steady : goal.returns-then-is_own-clause-out_steady
+returns-then-is_own-clause-out_steady g c = handed_steady _ _ c.add_own.result c.map_err.result (answer_is c.add_own.result c.map_err.result c.map_err.ensures.cases) c.add_own.ensures.steady
+
+pub returns-then-is_own-clause-stops : goal.returns-then-is_own-clause-stops
+returns-then-is_own-clause-stops g c = handed_stops c.add_own.result c.map_err.result (answer_is c.add_own.result c.map_err.result c.map_err.ensures.cases)
+
+pub returns-then-not-has_part-clause-out_steady : goal.returns-then-not-has_part-clause-out_steady
+returns-then-not-has_part-clause-out_steady g c =
+    handed_steady _ _ c.put_item.result c.map_err-then-not-has_part.result (answer_is c.put_item.result c.map_err-then-not-has_part.result c.map_err-then-not-has_part.ensures.cases) c.put_item.ensures.steady
+
+pub returns-then-not-has_part-clause-stops : goal.returns-then-not-has_part-clause-stops
+returns-then-not-has_part-clause-stops g c =
+    handed_stops c.put_item.result c.map_err-then-not-has_part.result (answer_is c.put_item.result c.map_err-then-not-has_part.result c.map_err-then-not-has_part.ensures.cases)

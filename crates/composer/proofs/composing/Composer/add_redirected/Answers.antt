@@ -13,7 +13,7 @@ use Rattle.composer.specs.Kept.{Kept}
 use Rattle.composer.specs.contracts.composing.Composer.{the_view}
 use Rattle.clone_pieces.proofs.Told.{all_always, all_map}
 use Rattle.composer.proofs.AddingItems.{source_cells, source_exceeds, source_added, range_had}
-use Rattle.composer.proofs.HandedOn.{answer_is, redirect_caused, redirect_changed}
+use Rattle.composer.proofs.HandedOn.{answer_is, redirect_caused, redirect_changed, handed_steady, handed_stops}
 use Rattle.composer.proofs.composing.Composer.add_redirected.Goals as goal
 
 pub returns-then-sum-gt-MOST_LITERAL-clause-added : goal.returns-then-sum-gt-MOST_LITERAL-clause-added
@@ -58,3 +58,18 @@ returns-clause-cause g c = redirect_caused _ _ _ _ _ _ c.redirect.result c.map_e
 
 pub returns-clause-changed : goal.returns-clause-changed
 returns-clause-changed g c = redirect_changed _ _ c.redirect.result c.map_err.result (answer_is c.redirect.result c.map_err.result c.map_err.ensures.cases) c.redirect.ensures.changed
+
+pub returns-clause-steady : goal.returns-clause-steady
+returns-clause-steady g c = handed_steady _ _ c.redirect.result c.map_err.result (answer_is c.redirect.result c.map_err.result c.map_err.ensures.cases) c.redirect.ensures.steady
+
+pub returns-clause-ends_steady : goal.returns-clause-ends_steady
+returns-clause-ends_steady g c = handed_steady _ _ c.redirect.result c.map_err.result (answer_is c.redirect.result c.map_err.result c.map_err.ensures.cases) c.redirect.ensures.ends_steady
+
+pub returns-clause-bytes_steady : goal.returns-clause-bytes_steady
+returns-clause-bytes_steady g c = handed_steady _ _ c.redirect.result c.map_err.result (answer_is c.redirect.result c.map_err.result c.map_err.ensures.cases) c.redirect.ensures.bytes_steady
+
+pub returns-clause-out_steady : goal.returns-clause-out_steady
+returns-clause-out_steady g c = handed_steady _ _ c.redirect.result c.map_err.result (answer_is c.redirect.result c.map_err.result c.map_err.ensures.cases) c.redirect.ensures.out_steady
+
+pub returns-clause-stops : goal.returns-clause-stops
+returns-clause-stops g c = handed_stops c.redirect.result c.map_err.result (answer_is c.redirect.result c.map_err.result c.map_err.ensures.cases)

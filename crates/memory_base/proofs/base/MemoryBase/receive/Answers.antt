@@ -14,8 +14,8 @@ use Rattle.memory_base.proofs.base.MemoryBase.receive.Goals as goal
 pub loop-receiver-init : goal.loop-receiver-init
 loop-receiver-init g c = record {
   same = refl;
-  later = omega arith;
-  ends_later = omega arith;
+  steady = refl;
+  ends_steady = refl;
   file = ap (λ (r : Reader). r.file) c.in-Ok.ensures.start;
   name = ap (λ (r : Reader). r.name) c.in-Ok.ensures.start;
   taken = taken_none c.args.self c.new-receiver.result c.new-receiver.ensures.start;
@@ -51,8 +51,8 @@ loop-receiver-preserved g c =
     let kept = c.loop-receiver.invariant in
     record {
       same = c.next.ensures.same ∙ kept.same;
-      later = omega (arith, kept.later, c.next.ensures.later);
-      ends_later = omega (arith, kept.ends_later, c.next.ensures.ends_later);
+      steady = c.in-Ok-Some.ensures.steady ∙ kept.steady;
+      ends_steady = c.in-Ok-Some.ensures.ends_steady ∙ kept.ends_steady;
       file = c.next.ensures.file ∙ kept.file;
       name = c.next.ensures.name ∙ kept.name;
       taken = taken_one c.args.self c.loop-receiver.receiver c.in-Ok-take.next 1 c.loop-receiver.reader c.next.new.self c.in-Ok-Some.item kept.taken
