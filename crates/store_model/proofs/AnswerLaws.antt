@@ -1,0 +1,108 @@
+-- What is due is answered as it says, and one such answer is given; and where nothing was done, nothing stands.
+use Rattle.std.specs.Prelude.{ℕ, Bool, true, false, List, [], ◌∷◌}
+use Rattle.std.proofs.Common.{inl, inr, refl}
+use Rattle.send_model.specs.Store.{Store}
+use Rattle.send_model.specs.Words as streams
+use Rattle.send_model.specs.Words.{Compose, Audit, Dump, Export, Gen, Trial, new_guards}
+use Rattle.send_model.specs.Due as stream_dues
+use Rattle.send_model.specs.Due.{DoneWhole, RefusedAt, TooLong}
+use Rattle.send_model.specs.Answer as answers
+use Rattle.send_model.specs.Answer.{Done, Refused, Usage, InputFault, OutputFault, NoMemory, InputTooLong, TooMuch, InputChanged}
+use Rattle.store_model.specs.Dues as dues
+use Rattle.store_model.specs.Dues.{Due, Ends}
+use Rattle.store_model.specs.Requests.{Request, OfStreams, InitStore, DropEntry, ReceiveFiles, ListStore, ShowEntry, CatFile, ScrubStore, store_of, reads_store, base_over}
+use Rattle.store_model.specs.Answers.{status_of, OfAnyWord, StoreFault, NotStore, Missing, LogFull, StoreThere, Damaged, answer_of, DueSays, Answers, DueIsAnswered, OneIsAnswered, DoneAlone, InitFault, StreamsBefore, PrintsBefore, NothingStandsBefore, NothingStandsAtFault}
+use Rattle.send_model.proofs.Fronts.{nothing_front}
+use Rattle.send_model.proofs.Writing.{nothing_unfinished}
+use Rattle.store_model.proofs.StoreAnswers.{one_due}
+use Rattle.store_model.proofs.OnTheWay.{nothing_is_on_the_way}
+
+pub due_is_answered : DueIsAnswered
+due_is_answered request words image files (Ends DoneWhole) written left h = h
+due_is_answered request words image files (Ends (RefusedAt verdict)) written left h = h
+due_is_answered request words image files (Ends (TooLong file)) written left h = h
+due_is_answered request words image files (Ends (stream_dues.TooMuch sum)) written left h = h
+due_is_answered request words image files (dues.NotStore group) written left h = h
+due_is_answered request words image files (dues.Missing what) written left h = h
+due_is_answered request words image files (dues.LogFull end wanted limit) written left h = h
+due_is_answered request words image files (dues.StoreThere size) written left h = h
+due_is_answered request words image files (dues.Damaged group stored computed) written left h = h
+
+-- and what is answered so is due
+answered_is_due : (request : Request) (words : List (List ℕ)) (image : List ℕ) (files : List (List ℕ)) (due : Due) (written left : List ℕ)
+    → Answers request words image files (answer_of due) written left → DueSays request words image files due written left
+answered_is_due request words image files (Ends DoneWhole) written left h = h
+answered_is_due request words image files (Ends (RefusedAt verdict)) written left h = h
+answered_is_due request words image files (Ends (TooLong file)) written left h = h
+answered_is_due request words image files (Ends (stream_dues.TooMuch sum)) written left h = h
+answered_is_due request words image files (dues.NotStore group) written left h = h
+answered_is_due request words image files (dues.Missing what) written left h = h
+answered_is_due request words image files (dues.LogFull end wanted limit) written left h = h
+answered_is_due request words image files (dues.StoreThere size) written left h = h
+answered_is_due request words image files (dues.Damaged group stored computed) written left h = h
+
+pub one_is_answered : OneIsAnswered
+one_is_answered request words image files due other written left more_written more_left are x y =
+    one_due request words image files due other are (answered_is_due request words image files due written left x).0
+    (answered_is_due request words image files other more_written more_left y).0
+
+pub done_alone : DoneAlone
+unfolding status_of answers.status_of
+done_alone (OfAnyWord Done) e = refl
+done_alone (OfAnyWord (Refused verdict)) e = cc
+done_alone (OfAnyWord Usage) e = cc
+done_alone (OfAnyWord InputFault) e = cc
+done_alone (OfAnyWord OutputFault) e = cc
+done_alone (OfAnyWord NoMemory) e = cc
+done_alone (OfAnyWord (InputTooLong file)) e = cc
+done_alone (OfAnyWord (TooMuch sum)) e = cc
+done_alone (OfAnyWord (InputChanged file place)) e = cc
+done_alone StoreFault e = cc
+done_alone (NotStore group) e = cc
+done_alone (Missing what) e = cc
+done_alone (LogFull end wanted limit) e = cc
+done_alone (StoreThere size) e = cc
+done_alone (Damaged group stored computed) e = cc
+
+-- ---- where nothing was done
+
+streams_nothing : (request : streams.Request) (base : Store ℕ) (files : List (List ℕ)) → streams.StandsBefore request base files []
+streams_nothing (Compose store at) base files = record { unfinished = nothing_unfinished 0; front = nothing_front _ 0 }
+streams_nothing (Audit guards store at) base files = refl
+streams_nothing (Dump at) base files = nothing_front _ 0
+streams_nothing (Export store at) base files = nothing_front _ 0
+streams_nothing (Gen count seed) base files = nothing_front _ 0
+streams_nothing (Trial count seed) base files = nothing_front _ 0
+
+over_nothing : (reads : Bool) (request : streams.Request) (image : List ℕ) (files : List (List ℕ)) → StreamsBefore reads request image files []
+over_nothing true request image files = (λ s stands. streams_nothing request (base_over request files s) files, λ group none. refl)
+over_nothing false request image files = streams_nothing request [] files
+
+prints_nothing : (image : List ℕ) (whole : Store ℕ → List ℕ) → PrintsBefore image whole [] image
+prints_nothing image whole = (refl, (λ s stands. nothing_front (whole s) 0, λ group none. refl))
+
+pub nothing_stands_before : NothingStandsBefore
+nothing_stands_before (OfStreams request) words image files = inr (refl, over_nothing (reads_store words (store_of request)) request image files)
+nothing_stands_before (InitStore store) words image files = inl (store, refl)
+nothing_stands_before (DropEntry store name) words image files = inr (refl, (λ s stands. stands, λ group none. refl))
+nothing_stands_before (ReceiveFiles guards store at) words image files =
+    inr (λ s stands. nothing_is_on_the_way image (new_guards guards) files s stands, λ group none. (refl, refl))
+nothing_stands_before (ListStore store) words image files = inr (prints_nothing image _)
+nothing_stands_before (ShowEntry store name) words image files = inr (prints_nothing image _)
+nothing_stands_before (CatFile store name path) words image files = inr (prints_nothing image _)
+nothing_stands_before (ScrubStore store) words image files = inr (refl, refl)
+
+init_nothing : (image : List ℕ) → InitFault image image
+init_nothing [] = tt
+init_nothing (byte ∷ more) = refl
+
+pub nothing_stands_at_fault : NothingStandsAtFault
+nothing_stands_at_fault (OfStreams request) words image files = inl (request, refl)
+nothing_stands_at_fault (InitStore store) words image files = inr (refl, init_nothing image)
+nothing_stands_at_fault (DropEntry store name) words image files = inr (refl, (λ s stands. inl stands, λ group none. refl))
+nothing_stands_at_fault (ReceiveFiles guards store at) words image files =
+    inr (λ s stands. nothing_is_on_the_way image (new_guards guards) files s stands, λ group none. (refl, refl))
+nothing_stands_at_fault (ListStore store) words image files = inr (prints_nothing image _)
+nothing_stands_at_fault (ShowEntry store name) words image files = inr (prints_nothing image _)
+nothing_stands_at_fault (CatFile store name path) words image files = inr (prints_nothing image _)
+nothing_stands_at_fault (ScrubStore store) words image files = inr (refl, refl)
