@@ -1,5 +1,5 @@
 -- What is due is answered as it says, and one such answer is given; and where nothing was done, nothing stands.
-use Rattle.std.specs.Prelude.{ℕ, Bool, true, false, List, [], ◌∷◌}
+use Rattle.std.specs.Prelude.{◌≡◌, ℕ, Bool, true, false, List, [], ◌∷◌}
 use Rattle.std.proofs.Common.{inl, inr, refl}
 use Rattle.send_model.specs.Store.{Store}
 use Rattle.send_model.specs.Words as streams
@@ -10,8 +10,8 @@ use Rattle.send_model.specs.Answer as answers
 use Rattle.send_model.specs.Answer.{Done, Refused, Usage, InputFault, OutputFault, NoMemory, InputTooLong, TooMuch, InputChanged}
 use Rattle.store_model.specs.Dues as dues
 use Rattle.store_model.specs.Dues.{Due, Ends}
-use Rattle.store_model.specs.Requests.{Request, OfStreams, InitStore, DropEntry, ReceiveFiles, ListStore, ShowEntry, CatFile, ScrubStore, store_of, reads_store, base_over}
-use Rattle.store_model.specs.Answers.{status_of, OfAnyWord, StoreFault, NotStore, Missing, LogFull, StoreThere, Damaged, answer_of, DueSays, Answers, DueIsAnswered, OneIsAnswered, DoneAlone, InitFault, StreamsBefore, PrintsBefore, NothingStandsBefore, NothingStandsAtFault}
+use Rattle.store_model.specs.Requests.{Request, OfStreams, InitStore, DropEntry, ReceiveFiles, ListStore, ShowEntry, CatFile, ScrubStore, store_of, reads_store, base_over, Says}
+use Rattle.store_model.specs.Answers.{status_of, OfAnyWord, StoreFault, NotStore, Missing, LogFull, StoreThere, Damaged, answer_of, DueSays, Answers, DueIsAnswered, OneIsAnswered, DoneAlone, InitFault, StreamsBefore, PrintsBefore, NothingStandsBefore, NothingStandsAtFault, StandsBefore, StandsCut, StandsFault, ReadsOnly, ReadersKeepTheImage, ReceiveIsOnTheWay, ReceiveIsCut, DropKeeps}
 use Rattle.send_model.proofs.Fronts.{nothing_front}
 use Rattle.send_model.proofs.Writing.{nothing_unfinished}
 use Rattle.store_model.proofs.StoreAnswers.{one_due}
@@ -106,3 +106,91 @@ nothing_stands_at_fault (ListStore store) words image files = inr (prints_nothin
 nothing_stands_at_fault (ShowEntry store name) words image files = inr (prints_nothing image _)
 nothing_stands_at_fault (CatFile store name path) words image files = inr (prints_nothing image _)
 nothing_stands_at_fault (ScrubStore store) words image files = inr (refl, refl)
+
+-- ---- words that read
+
+said_keeps : (request : Request) (words : List (List ℕ)) (image : List ℕ) (files : List (List ℕ)) (due : Due) (written left : List ℕ)
+    → ReadsOnly request → Says request words image files due written left → left ≡ image
+said_keeps (OfStreams request) words image files due written left reads h = h.0
+said_keeps (ListStore store) words image files due written left reads h = h.0
+said_keeps (ShowEntry store name) words image files due written left reads h = h.0
+said_keeps (CatFile store name path) words image files due written left reads h = h.0
+said_keeps (ScrubStore store) words image files due written left reads h = h.0
+said_keeps (InitStore store) words image files due written left reads h = absurd reads
+said_keeps (DropEntry store name) words image files due written left reads h = absurd reads
+said_keeps (ReceiveFiles guards store at) words image files due written left reads h = absurd reads
+
+before_keeps : (request : Request) (words : List (List ℕ)) (image : List ℕ) (files : List (List ℕ)) (written left : List ℕ)
+    → ReadsOnly request → StandsBefore request words image files written left → left ≡ image
+before_keeps (OfStreams request) words image files written left reads h = h.0
+before_keeps (ListStore store) words image files written left reads h = h.0
+before_keeps (ShowEntry store name) words image files written left reads h = h.0
+before_keeps (CatFile store name path) words image files written left reads h = h.0
+before_keeps (ScrubStore store) words image files written left reads h = h.0
+before_keeps (InitStore store) words image files written left reads h = absurd reads
+before_keeps (DropEntry store name) words image files written left reads h = absurd reads
+before_keeps (ReceiveFiles guards store at) words image files written left reads h = absurd reads
+
+cut_keeps : (request : Request) (words : List (List ℕ)) (image : List ℕ) (files : List (List ℕ)) (written left : List ℕ)
+    → ReadsOnly request → StandsCut request words image files written left → left ≡ image
+cut_keeps (OfStreams request) words image files written left reads h = h.0
+cut_keeps (ListStore store) words image files written left reads h = h.0
+cut_keeps (ShowEntry store name) words image files written left reads h = h.0
+cut_keeps (CatFile store name path) words image files written left reads h = h.0
+cut_keeps (ScrubStore store) words image files written left reads h = h.0
+cut_keeps (InitStore store) words image files written left reads h = absurd reads
+cut_keeps (DropEntry store name) words image files written left reads h = absurd reads
+cut_keeps (ReceiveFiles guards store at) words image files written left reads h = absurd reads
+
+fault_keeps : (request : Request) (words : List (List ℕ)) (image : List ℕ) (files : List (List ℕ)) (written left : List ℕ)
+    → ReadsOnly request → StandsFault request words image files written left → left ≡ image
+fault_keeps (OfStreams request) words image files written left reads h = h.0
+fault_keeps (ListStore store) words image files written left reads h = h.0
+fault_keeps (ShowEntry store name) words image files written left reads h = h.0
+fault_keeps (CatFile store name path) words image files written left reads h = h.0
+fault_keeps (ScrubStore store) words image files written left reads h = h.0
+fault_keeps (InitStore store) words image files written left reads h = absurd reads
+fault_keeps (DropEntry store name) words image files written left reads h = absurd reads
+fault_keeps (ReceiveFiles guards store at) words image files written left reads h = absurd reads
+
+pub readers_keep_the_image : ReadersKeepTheImage
+readers_keep_the_image request words image files (OfAnyWord Done) written left reads h = said_keeps request words image files (Ends DoneWhole) written left reads h.1
+readers_keep_the_image request words image files (OfAnyWord (Refused verdict)) written left reads h = said_keeps request words image files (Ends (RefusedAt verdict)) written left reads h.1
+readers_keep_the_image request words image files (OfAnyWord (InputTooLong file)) written left reads h = said_keeps request words image files (Ends (TooLong file)) written left reads h.1
+readers_keep_the_image request words image files (OfAnyWord (TooMuch sum)) written left reads h = said_keeps request words image files (Ends (stream_dues.TooMuch sum)) written left reads h.1
+readers_keep_the_image request words image files (NotStore group) written left reads h = said_keeps request words image files (dues.NotStore group) written left reads h.1
+readers_keep_the_image request words image files (Missing what) written left reads h = said_keeps request words image files (dues.Missing what) written left reads h.1
+readers_keep_the_image request words image files (LogFull end wanted limit) written left reads h = said_keeps request words image files (dues.LogFull end wanted limit) written left reads h.1
+readers_keep_the_image request words image files (StoreThere size) written left reads h = said_keeps request words image files (dues.StoreThere size) written left reads h.1
+readers_keep_the_image request words image files (Damaged group stored computed) written left reads h = said_keeps request words image files (dues.Damaged group stored computed) written left reads h.1
+readers_keep_the_image request words image files (OfAnyWord InputFault) written left reads h = before_keeps request words image files written left reads h.1
+readers_keep_the_image request words image files (OfAnyWord (InputChanged file place)) written left reads h = before_keeps request words image files written left reads h.1
+readers_keep_the_image request words image files (OfAnyWord OutputFault) written left reads h = cut_keeps request words image files written left reads h
+readers_keep_the_image request words image files (OfAnyWord NoMemory) written left reads h = before_keeps request words image files written left reads h
+readers_keep_the_image request words image files StoreFault written left reads h = fault_keeps request words image files written left reads h
+readers_keep_the_image request words image files (OfAnyWord Usage) written left reads h = absurd h
+
+-- ---- words that write
+
+pub receive_is_on_the_way : ReceiveIsOnTheWay
+receive_is_on_the_way guards place at words image files store (OfAnyWord Done) written left stands h = inl (Ends DoneWhole, refl)
+receive_is_on_the_way guards place at words image files store (OfAnyWord (Refused verdict)) written left stands h = inl (Ends (RefusedAt verdict), refl)
+receive_is_on_the_way guards place at words image files store (OfAnyWord (InputTooLong file)) written left stands h = inl (Ends (TooLong file), refl)
+receive_is_on_the_way guards place at words image files store (OfAnyWord (TooMuch sum)) written left stands h = inl (Ends (stream_dues.TooMuch sum), refl)
+receive_is_on_the_way guards place at words image files store (NotStore group) written left stands h = inl (dues.NotStore group, refl)
+receive_is_on_the_way guards place at words image files store (Missing what) written left stands h = inl (dues.Missing what, refl)
+receive_is_on_the_way guards place at words image files store (LogFull end wanted limit) written left stands h = inl (dues.LogFull end wanted limit, refl)
+receive_is_on_the_way guards place at words image files store (StoreThere size) written left stands h = inl (dues.StoreThere size, refl)
+receive_is_on_the_way guards place at words image files store (Damaged group stored computed) written left stands h = inl (dues.Damaged group stored computed, refl)
+receive_is_on_the_way guards place at words image files store (OfAnyWord InputFault) written left stands h = inr (h.1.0 store stands)
+receive_is_on_the_way guards place at words image files store (OfAnyWord (InputChanged file k)) written left stands h = absurd h.0
+receive_is_on_the_way guards place at words image files store (OfAnyWord OutputFault) written left stands h = inr (h.0 store stands).0
+receive_is_on_the_way guards place at words image files store (OfAnyWord NoMemory) written left stands h = inr (h.0 store stands)
+receive_is_on_the_way guards place at words image files store StoreFault written left stands h = inr (h.0 store stands)
+receive_is_on_the_way guards place at words image files store (OfAnyWord Usage) written left stands h = absurd h
+
+pub receive_is_cut : ReceiveIsCut
+receive_is_cut guards place at words image files store written left stands h = (h.0 store stands).1
+
+pub drop_keeps : DropKeeps
+drop_keeps place name words image files store written left stands = (λ h. h.1.0 store stands, λ h. h.1.0 store stands)

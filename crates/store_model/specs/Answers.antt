@@ -3,7 +3,7 @@
 use Rattle.std.specs.Prelude.{◌≡◌, ◌⊎◌, ⊤, ℕ, Bool, true, false, List, [], ◌∷◌, ◌++◌, codes}
 use Rattle.send_model.specs.Attribute.{IsBytes}
 use Rattle.send_model.specs.Store.{Store}
-use Rattle.send_model.specs.Guards.{Guard}
+use Rattle.send_model.specs.Guards.{Guard, GuardSpec}
 use Rattle.send_model.specs.Headline.{IsFrontOf, IsProperFrontOf}
 use Rattle.send_model.specs.Printed.{escaped}
 use Rattle.send_model.specs.Due as stream_dues
@@ -96,7 +96,7 @@ StandsBefore (ReceiveFiles guards store at) words image files written left = Rec
 StandsBefore (ListStore store) words image files written left = PrintsBefore image listed written left
 StandsBefore (ShowEntry store name) words image files written left = PrintsBefore image (show_output (word_at words name)) written left
 StandsBefore (CatFile store name path) words image files written left = PrintsBefore image (cat_output (word_at words name) (word_at words path)) written left
-StandsBefore (ScrubStore store) words image files written left = (written ≡ []) × (left ≡ image)
+StandsBefore (ScrubStore store) words image files written left = (left ≡ image) × (written ≡ [])
 
 -- The words that read files, and those that may read bytes of them again.
 abbrev pub ReadsFiles : Request → Type 0
@@ -167,7 +167,7 @@ StandsFault (ReceiveFiles guards store at) words image files written left = Rece
 StandsFault (ListStore store) words image files written left = PrintsBefore image listed written left
 StandsFault (ShowEntry store name) words image files written left = PrintsBefore image (show_output (word_at words name)) written left
 StandsFault (CatFile store name path) words image files written left = PrintsBefore image (cat_output (word_at words name) (word_at words path)) written left
-StandsFault (ScrubStore store) words image files written left = (written ≡ []) × (left ≡ image)
+StandsFault (ScrubStore store) words image files written left = (left ≡ image) × (written ≡ [])
 
 -- ---- what an answer says
 
@@ -220,3 +220,37 @@ NothingStandsBefore = (request : Request) (words : List (List ℕ)) (image : Lis
 abbrev pub NothingStandsAtFault : Type 0
 NothingStandsAtFault = (request : Request) (words : List (List ℕ)) (image : List ℕ) (files : List (List ℕ))
     → ((of_streams : streams.Request) × (request ≡ OfStreams of_streams)) ⊎ StandsFault request words image files [] image
+
+-- No answer of a word that reads a store, or none, changes the image.
+abbrev pub ReadsOnly : Request → Type 0
+ReadsOnly (OfStreams request) = ⊤
+ReadsOnly (InitStore store) = ⊥
+ReadsOnly (DropEntry store name) = ⊥
+ReadsOnly (ReceiveFiles guards store at) = ⊥
+ReadsOnly (ListStore store) = ⊤
+ReadsOnly (ShowEntry store name) = ⊤
+ReadsOnly (CatFile store name path) = ⊤
+ReadsOnly (ScrubStore store) = ⊤
+
+abbrev pub ReadersKeepTheImage : Type 0
+ReadersKeepTheImage = (request : Request) (words : List (List ℕ)) (image : List ℕ) (files : List (List ℕ)) (answer : Answer) (written left : List ℕ)
+    → ReadsOnly request → Answers request words image files answer written left → left ≡ image
+
+-- Receiving over a store gives an answer that is due, or it is on the way.
+abbrev pub ReceiveIsOnTheWay : Type 0
+ReceiveIsOnTheWay = (guards : List GuardSpec) (place at : ℕ) (words : List (List ℕ)) (image : List ℕ) (files : List (List ℕ)) (store : Store ℕ) (answer : Answer) (written left : List ℕ)
+    → StandsFor image store → Answers (ReceiveFiles guards place at) words image files answer written left
+    → ((due : Due) × (answer ≡ answer_of due)) ⊎ IsOnTheWay image (new_guards guards) files store written left
+
+-- And where standard output failed, some of the lines is missing.
+abbrev pub ReceiveIsCut : Type 0
+ReceiveIsCut = (guards : List GuardSpec) (place at : ℕ) (words : List (List ℕ)) (image : List ℕ) (files : List (List ℕ)) (store : Store ℕ) (written left : List ℕ)
+    → StandsFor image store → Answers (ReceiveFiles guards place at) words image files (OfAnyWord OutputFault) written left
+    → IsProperFrontOf (received_lines store (new_guards guards) files) written
+
+-- A drop that lacks memory has left the store as it was, and so has one whose device failed, unless it was due.
+abbrev pub DropKeeps : Type 0
+DropKeeps = (place name : ℕ) (words : List (List ℕ)) (image : List ℕ) (files : List (List ℕ)) (store : Store ℕ) (written left : List ℕ) → StandsFor image store
+    → (Answers (DropEntry place name) words image files (OfAnyWord NoMemory) written left → StandsFor left store)
+    × (Answers (DropEntry place name) words image files StoreFault written left
+    → StandsFor left store ⊎ (IsDropDue image (word_at words name) store (Ends DoneWhole) × DropLeaves (Ends DoneWhole) (word_at words name) store left))
