@@ -11,7 +11,7 @@ use Rattle.send_model.specs.Words.{Audit}
 use Rattle.store_model.specs.Image.{header_of, usual_header}
 use Rattle.store_model.specs.Dues as dues
 use Rattle.store_model.specs.Dues.{Due, Ends, init_due}
-use Rattle.store_model.specs.Requests.{OfStreams, InitStore, ReceiveFiles, ListStore}
+use Rattle.store_model.specs.Requests.{OfStreams, InitStore, ReceiveFiles, ListStore, ScrubStore}
 use Rattle.store_model.specs.Answers.{OfAnyWord, StoreFault, NotStore, Missing, LogFull, StoreThere, Damaged, status_of, note_of, answer_of, Answers}
 use Rattle.send_model.proofs.ReadingExamples.{first_stream}
 use Rattle.store_model.proofs.StoredExamples.{new_image, empty_fails}
@@ -174,3 +174,7 @@ reads_none image left written h = h.0
 
 reads_once : (image left written : List ℕ) → Answers (ReceiveFiles [] 1 2) (codes "receive" ∷ codes "st" ∷ codes "f" ∷ []) image (first_stream ∷ []) (OfAnyWord (InputChanged 1 79)) written left → ⊥
 reads_once image left written h = h.0
+
+-- scrub writes its line at its end
+scrub_at_end : (image left written : List ℕ) → Answers (ScrubStore 1) (codes "scrub" ∷ codes "st" ∷ []) image [] (OfAnyWord NoMemory) written left → written ≡ []
+scrub_at_end image left written h = h.1

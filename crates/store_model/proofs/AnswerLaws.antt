@@ -1,7 +1,8 @@
 -- What is due is answered as it says, and one such answer is given; and where nothing was done, nothing stands.
 use Rattle.std.specs.Prelude.{◌≡◌, ℕ, Bool, true, false, List, [], ◌∷◌}
-use Rattle.std.proofs.Common.{inl, inr, refl}
+use Rattle.std.proofs.Common.{inl, inr, refl, sym, subst}
 use Rattle.send_model.specs.Store.{Store}
+use Rattle.send_model.specs.Headline.{IsFrontOf, IsProperFrontOf}
 use Rattle.send_model.specs.Words as streams
 use Rattle.send_model.specs.Words.{Compose, Audit, Dump, Export, Gen, Trial, new_guards}
 use Rattle.send_model.specs.Due as stream_dues
@@ -11,7 +12,7 @@ use Rattle.send_model.specs.Answer.{Done, Refused, Usage, InputFault, OutputFaul
 use Rattle.store_model.specs.Dues as dues
 use Rattle.store_model.specs.Dues.{Due, Ends}
 use Rattle.store_model.specs.Requests.{Request, OfStreams, InitStore, DropEntry, ReceiveFiles, ListStore, ShowEntry, CatFile, ScrubStore, store_of, reads_store, base_over, Says}
-use Rattle.store_model.specs.Answers.{status_of, OfAnyWord, StoreFault, NotStore, Missing, LogFull, StoreThere, Damaged, answer_of, DueSays, Answers, DueIsAnswered, OneIsAnswered, DoneAlone, InitFault, StreamsBefore, PrintsBefore, NothingStandsBefore, NothingStandsAtFault, StandsBefore, StandsCut, StandsFault, ReadsOnly, ReadersKeepTheImage, ReceiveIsOnTheWay, ReceiveIsCut, DropKeeps}
+use Rattle.store_model.specs.Answers.{status_of, OfAnyWord, StoreFault, NotStore, Missing, LogFull, StoreThere, Damaged, answer_of, DueSays, Answers, DueIsAnswered, OneIsAnswered, DoneAlone, InitFault, StreamsBefore, PrintsBefore, NothingStandsBefore, NothingStandsAtFault, StandsBefore, StandsCut, StandsFault, ReadsOnly, ReadersKeepTheImage, ReceiveIsOnTheWay, ReceiveIsCut, DropKeeps, PrintsInFront}
 use Rattle.send_model.proofs.Fronts.{nothing_front}
 use Rattle.send_model.proofs.Writing.{nothing_unfinished}
 use Rattle.store_model.proofs.StoreAnswers.{one_due}
@@ -169,6 +170,26 @@ readers_keep_the_image request words image files (OfAnyWord OutputFault) written
 readers_keep_the_image request words image files (OfAnyWord NoMemory) written left reads h = before_keeps request words image files written left reads h
 readers_keep_the_image request words image files StoreFault written left reads h = fault_keeps request words image files written left reads h
 readers_keep_the_image request words image files (OfAnyWord Usage) written left reads h = absurd h
+
+-- what is printed is a front part of all that is to be printed
+front_of_all : {all whole written : List ℕ} → whole ≡ all → IsFrontOf all written → IsFrontOf whole written
+front_of_all {written} is h = subst (λ (l : List ℕ). IsFrontOf l written) (sym is) h
+
+cut_of_all : {all whole written : List ℕ} → whole ≡ all → IsProperFrontOf all written → IsProperFrontOf whole written
+cut_of_all {written} is h = subst (λ (l : List ℕ). IsProperFrontOf l written) (sym is) h
+
+pub prints_in_front : PrintsInFront
+prints_in_front (ListStore place) words image files store whole written left stands is =
+    (λ h. front_of_all is (h.1.0 store stands), λ h. front_of_all is (h.1.0 store stands), λ h. cut_of_all is (h.1.0 store stands))
+prints_in_front (ShowEntry place name) words image files store whole written left stands is =
+    (λ h. front_of_all is (h.1.0 store stands), λ h. front_of_all is (h.1.0 store stands), λ h. cut_of_all is (h.1.0 store stands))
+prints_in_front (CatFile place name path) words image files store whole written left stands is =
+    (λ h. front_of_all is (h.1.0 store stands), λ h. front_of_all is (h.1.0 store stands), λ h. cut_of_all is (h.1.0 store stands))
+prints_in_front (OfStreams request) words image files store whole written left stands is = absurd is
+prints_in_front (InitStore place) words image files store whole written left stands is = absurd is
+prints_in_front (DropEntry place name) words image files store whole written left stands is = absurd is
+prints_in_front (ReceiveFiles guards place at) words image files store whole written left stands is = absurd is
+prints_in_front (ScrubStore place) words image files store whole written left stands is = absurd is
 
 -- ---- words that write
 

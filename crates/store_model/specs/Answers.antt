@@ -254,3 +254,22 @@ DropKeeps = (place name : ℕ) (words : List (List ℕ)) (image : List ℕ) (fil
     → (Answers (DropEntry place name) words image files (OfAnyWord NoMemory) written left → StandsFor left store)
     × (Answers (DropEntry place name) words image files StoreFault written left
     → StandsFor left store ⊎ (IsDropDue image (word_at words name) store (Ends DoneWhole) × DropLeaves (Ends DoneWhole) (word_at words name) store left))
+
+-- All that a word which prints of a store has to print.
+abbrev pub IsPrinted : Request → List (List ℕ) → Store ℕ → List ℕ → Type 0
+IsPrinted (OfStreams request) words s whole = ⊥
+IsPrinted (InitStore store) words s whole = ⊥
+IsPrinted (DropEntry store name) words s whole = ⊥
+IsPrinted (ReceiveFiles guards store at) words s whole = ⊥
+IsPrinted (ListStore store) words s whole = whole ≡ listed s
+IsPrinted (ShowEntry store name) words s whole = whole ≡ show_output (word_at words name) s
+IsPrinted (CatFile store name path) words s whole = whole ≡ cat_output (word_at words name) (word_at words path) s
+IsPrinted (ScrubStore store) words s whole = ⊥
+
+-- It has printed a front part of that without memory or where the device failed, and not all of it where standard output failed.
+abbrev pub PrintsInFront : Type 0
+PrintsInFront = (request : Request) (words : List (List ℕ)) (image : List ℕ) (files : List (List ℕ)) (store : Store ℕ) (whole written left : List ℕ)
+    → StandsFor image store → IsPrinted request words store whole
+    → (Answers request words image files (OfAnyWord NoMemory) written left → IsFrontOf whole written)
+    × (Answers request words image files StoreFault written left → IsFrontOf whole written)
+    × (Answers request words image files (OfAnyWord OutputFault) written left → IsProperFrontOf whole written)
