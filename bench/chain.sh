@@ -5,12 +5,7 @@ here=$(CDPATH='' cd -- "$(dirname -- "$0")" && pwd) || exit 2
 parts=${1:-200}
 files=${2:-2000}
 changes=${3:-1}
-"$here/../btrsend" --version >/dev/null || exit 2
-program=$here/../crates/btrsend/out/btrsend
-folder=$(mktemp -d) || exit 2
-trap 'rm -rf -- "$folder"' EXIT
-trap 'exit 2' HUP INT TERM
-gcc -O2 -o "$folder/streams" "$here/streams.c" || exit 2
+. "$here/prepare.sh"
 mkdir "$folder/parts" || exit 2
 "$folder/streams" chain "$folder/parts" "$parts" "$files" "$changes" || exit 2
 measured=$("$folder/streams" measure "$folder/out" "$program" compose none "$folder"/parts/*) || exit 1

@@ -4,12 +4,7 @@
 # and its least time counts. Proves and builds the program first.
 here=$(CDPATH='' cd -- "$(dirname -- "$0")" && pwd) || exit 2
 size=${1:-512}
-"$here/../btrsend" --version >/dev/null || exit 2
-program=$here/../crates/btrsend/out/btrsend
-folder=$(mktemp -d) || exit 2
-trap 'rm -rf -- "$folder"' EXIT
-trap 'exit 2' HUP INT TERM
-gcc -O2 -o "$folder/streams" "$here/streams.c" || exit 2
+. "$here/prepare.sh"
 "$folder/streams" full "$size" >"$folder/stream" || exit 2
 
 for run in 1 2 3; do
@@ -19,7 +14,6 @@ for run in 1 2 3; do
     "$folder/streams" measure "$folder/out" "$folder/streams" copy "$folder/stream" >>"$folder/theirs" 2>>"$folder/sums" || exit 1
 done
 
-least() { sort -n "$1" | head -n 1; }
 echo "$(least "$folder/ours") $(least "$folder/theirs")" | awk -v size="$size" '{
     printf "btrsend compose none: %.2f s, %.0f MiB/s, peak %.1f MiB\n", $1, size / $1, $2 / 1024
     printf "C baseline:           %.2f s, %.0f MiB/s, peak %.1f MiB\n", $3, size / $3, $4 / 1024

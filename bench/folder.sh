@@ -4,12 +4,7 @@
 # Proves and builds the program first.
 here=$(CDPATH='' cd -- "$(dirname -- "$0")" && pwd) || exit 2
 files=${1:-$here/../docs}
-"$here/../btrsend" --version >/dev/null || exit 2
-program=$here/../crates/btrsend/out/btrsend
-folder=$(mktemp -d) || exit 2
-trap 'rm -rf -- "$folder"' EXIT
-trap 'exit 2' HUP INT TERM
-gcc -O2 -o "$folder/streams" "$here/streams.c" || exit 2
+. "$here/prepare.sh"
 "$folder/streams" folder "$files" "$folder" || exit 2
 
 # A full stream alone is spelled as the program spells it, so composing it gives it back.
