@@ -1,24 +1,22 @@
 -- Worked examples of answers over a store, of what `list` and `show` print, and of what `scrub` finds. The lines and the images are
 -- those of another program.
-use Rattle.std.specs.Prelude.{replicate, map, Option, ◌≡◌, ℕ, ◌^◌, List, [], ◌∷◌, ◌++◌, take, drop, None, Some, codes, refl}
+use Rattle.std.specs.Prelude.{replicate, Option, ◌≡◌, ℕ, ◌^◌, List, [], ◌∷◌, ◌++◌, take, drop, None, Some, codes, refl}
 use Rattle.std.specs.Fmt.{digits}
 use Rattle.std.proofs.Common.{inl, inr, arith, lit<}
 use Rattle.send_model.specs.Command.{row, Command, Subvol, MkFile, MkDir, MkNod, MkFifo, MkSock, Symlink, SetXattr, Rename, Write, Chown, Chmod, Utimes, End}
 use Rattle.send_model.specs.Printed.{is_plain, hex_digit, escaped_byte, escaped, uuid_text, time_text}
-use Rattle.send_model.specs.Refusal.{NameThere, refusal_number, refusal_name}
+use Rattle.send_model.specs.Refusal.{NameThere}
 use Rattle.send_model.specs.Store.{Entry}
 use Rattle.send_model.specs.Subvolume.{Subvolume}
 use Rattle.send_model.specs.Receive.{byte_cells, run_by, run_items, start_of}
 use Rattle.send_model.specs.Guards.{guard_refuses, guard_after, refused_from, looked, receive_watched, receive_under}
 use Rattle.send_model.specs.Lengths.{is_too_long, too_long, too_long_from}
-use Rattle.send_model.specs.Answer as answers
-use Rattle.send_model.specs.Answer.{kept_values, eight_digits, verdict_text}
-use Rattle.send_model.specs.Due.{DoneWhole, RefusedAt, TooLong, TooMuch, due_from, limited_from, audit_due, accepted_line, file_due}
+use Rattle.send_model.specs.Due.{DoneWhole, RefusedAt, due_from, limited_from, audit_due, accepted_line, file_due}
 use Rattle.store_model.specs.Image.{usual_header}
 use Rattle.store_model.specs.States.{complete_line, lines_behind, received_lines, left_by}
 use Rattle.store_model.specs.StoreLines.{entry_line, listed, inode_line, xattr_line, name_line, shown}
 use Rattle.store_model.specs.Scrub.{IsNoStoreAt, IsScrubbed, IsDamagedAt, scrub_line}
-use Rattle.store_model.specs.Dues.{left_from, receive_left, NotStore, Ends, Missing, LogFull, StoreThere, Damaged, status_of, note_of, complete_named, file_at, show_due, cat_due, cat_output, show_output, first_full, receive_from, receive_due, drop_due, init_due}
+use Rattle.store_model.specs.Dues.{left_from, receive_left, NotStore, Ends, Missing, LogFull, StoreThere, complete_named, file_at, show_due, cat_due, cat_output, show_output, first_full, receive_from, receive_due, drop_due, init_due}
 use Rattle.send_model.specs.Spelling.{canonical, frame_of, attributes_of, attribute_bytes, body_of}
 use Rattle.send_model.specs.Words as streams
 use Rattle.send_model.specs.Words.{Compose, Audit, Dump, Export, guards_and_files}
@@ -29,7 +27,7 @@ use Rattle.send_model.proofs.ReadingExamples.{second_stream, first_stream}
 use Rattle.store_model.proofs.StoredExamples.{old_image, stored_words, new_image, mark_bytes, body_part, a_with, a_stands, b_complete, empty_fails, usual}
 
 unfoldable due_words : Unit {0}
-unfolding digits kept_values stored_words escaped escaped_byte is_plain hex_digit uuid_text time_text complete_line lines_behind entry_line listed inode_line xattr_line name_line shown scrub_line status_of note_of answers.status_of answers.note_of complete_named file_at first_full receive_from receive_due left_from receive_left drop_due init_due run_by guard_refuses guard_after refused_from looked receive_watched receive_under is_too_long limited_from eight_digits verdict_text refusal_number refusal_name
+unfolding digits stored_words escaped escaped_byte is_plain hex_digit uuid_text time_text complete_line lines_behind entry_line listed inode_line xattr_line name_line shown scrub_line complete_named file_at first_full receive_from receive_due left_from receive_left drop_due init_due run_by guard_refuses guard_after refused_from looked receive_watched receive_under is_too_long limited_from
 due_words = tt
 
 abbrev a_complete : Entry (Subvolume ℕ)
@@ -64,10 +62,6 @@ first_lines = refl
 no_room : receive_due 0 20 [] [] (first_stream ∷ []) ≡ LogFull 20 9 0
 unfolding due_words first_stream
 no_room = refl
-
-no_room_note : note_of (LogFull 20 9 0) ≡ codes "log full 20 9 0" ++ 10 ∷ []
-unfolding due_words
-no_room_note = refl
 
 -- the image has 161 bytes: with one byte less there is no room for the WRITE
 just_room : receive_due 161 20 [] [] (first_stream ∷ []) ≡ Ends DoneWhole
@@ -136,10 +130,6 @@ missing : (show_due (codes "zz") (a_complete ∷ []) ≡ Missing (codes "zz")) �
 unfolding due_words a_with
 missing = (refl, refl)
 
-missing_note : (note_of (Missing (codes "zz")) ≡ codes "missing zz" ++ 10 ∷ []) × (status_of (Missing (codes "zz")) ≡ 8)
-unfolding due_words
-missing_note = (refl, refl)
-
 contents : (cat_due (codes "a") (codes "x") (a_complete ∷ []) ≡ Ends DoneWhole) × (cat_output (codes "a") (codes "x") (a_complete ∷ []) ≡ codes "hi")
 unfolding due_words a_with
 contents = (refl, refl)
@@ -157,20 +147,7 @@ second_shown : (cat_output (codes "b") (codes "x") (a_complete ∷ b_complete �
 unfolding due_words a_with b_complete
 second_shown = (refl, refl)
 
--- ---- statuses and notes
-
-statuses : map status_of (Ends DoneWhole ∷ Ends (TooMuch 5) ∷ Ends (TooLong 2) ∷ NotStore 3 ∷ Missing (codes "zz") ∷ LogFull 123 3969 4096 ∷ StoreThere 21 ∷ Damaged 1 2 3 ∷ [])
-    ≡ 0 ∷ 9 ∷ 11 ∷ 6 ∷ 8 ∷ 10 ∷ 12 ∷ 14 ∷ []
-unfolding due_words
-statuses = refl
-
-notes : (note_of (Ends (TooMuch 5)) ≡ codes "too much 5" ++ 10 ∷ []) × (note_of (Ends (TooLong 2)) ≡ codes "input too long 2" ++ 10 ∷ []) × (note_of (NotStore 3) ≡ codes "not a store 3" ++ 10 ∷ []) × (note_of (LogFull 123 3969 4096) ≡ codes "log full 123 3969 4096" ++ 10 ∷ []) × (note_of (Ends DoneWhole) ≡ [])
-unfolding due_words
-notes = (refl, refl, refl, refl, refl)
-
-refused_note : (note_of (receive_due (2 ^ 40) 160 (a_complete ∷ []) [] (first_stream ∷ [])) ≡ codes "refused 1 1 17 11 NameThere" ++ 10 ∷ []) × (status_of (receive_due (2 ^ 40) 160 (a_complete ∷ []) [] (first_stream ∷ [])) ≡ 1)
-unfolding due_words first_stream a_with
-refused_note = (refl, refl)
+-- ---- lines
 
 -- a part that is not complete has no line
 no_line : received_lines [] (new_guard (MostCommands 3) ∷ []) (first_stream ∷ []) ≡ []
@@ -263,9 +240,9 @@ over_no_image = empty_fails
 
 -- ---- init
 
-there_already : (init_due [] ≡ Ends DoneWhole) × (init_due new_image ≡ StoreThere 21) × (note_of (StoreThere 21) ≡ codes "store there 21" ++ 10 ∷ [])
+there_already : (init_due [] ≡ Ends DoneWhole) × (init_due new_image ≡ StoreThere 21)
 unfolding due_words new_image
-there_already = (refl, refl, refl)
+there_already = (refl, refl)
 
 -- ---- show
 
@@ -395,10 +372,6 @@ damaged = record {
     };
   };
 }
-
-damaged_note : note_of (Damaged 1 0xa704c7e4 0xb4543410) ≡ codes "damaged 1 a704c7e4 b4543410" ++ 10 ∷ []
-unfolding due_words
-damaged_note = refl
 
 -- two groups without a checksum in an image of format 1, and two with one
 mixed_image : IsScrubbed old_image 4 2

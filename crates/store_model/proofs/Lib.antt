@@ -9,10 +9,12 @@ mod StoredExamples
 pub mod PassedStates
 mod CompleteLines
 mod DueExamples
+mod AnswerExamples
 pub mod SaidBodies
 pub mod Decided
 pub mod ScrubLaws
 pub mod StoreAnswers
+pub mod AnswerLaws
 pub mod WrittenGroups
 pub mod WrittenLawful
 pub mod ScrubDecided

@@ -1,6 +1,6 @@
 -- The one answer that is due to a word, where no device fails and memory is there: over a store by its image, the word's name and path,
 -- and the files. The order of answers is this program's own.
-use Rattle.std.specs.Prelude.{◌≡◌, ℕ, ◌+◌, ◌-◌, ◌==◌, List, [], ◌∷◌, ◌++◌, length, map, Option, None, Some, Ok, Err, nat_lt, codes, is_some, if◌then◌else◌}
+use Rattle.std.specs.Prelude.{◌≡◌, ℕ, ◌+◌, ◌-◌, ◌==◌, List, [], ◌∷◌, ◌++◌, length, map, Option, None, Some, Ok, Err, nat_lt, is_some, if◌then◌else◌}
 use Rattle.std.specs.Str.{bytes_eq}
 use Rattle.send_model.specs.Command.{Command}
 use Rattle.send_model.specs.Spelling.{canonical}
@@ -10,11 +10,8 @@ use Rattle.send_model.specs.Store.{Entry, Store, Part, State, After, has_name, h
 use Rattle.send_model.specs.Receive.{verdict_of, byte_cells, start_of}
 use Rattle.send_model.specs.Guards.{Guard, Watched, watched_step}
 use Rattle.send_model.specs.Counts.{is_end}
-use Rattle.send_model.specs.Printed.{escaped}
-use Rattle.send_model.specs.Answer as answers
-use Rattle.send_model.specs.Answer.{Answer, Done, Refused, InputTooLong, TooMuch, and_field, and_number, line, eight_digits}
 use Rattle.send_model.specs.Due as dues
-use Rattle.send_model.specs.Due.{DoneWhole, RefusedAt, TooLong, limited_from, stop_due}
+use Rattle.send_model.specs.Due.{DoneWhole, RefusedAt, limited_from, stop_due}
 use Rattle.store_model.specs.Image.{limit_of, reserve, front_of}
 use Rattle.store_model.specs.Stored.{body_bytes, is_edit, StandsFor, StandsForNone}
 use Rattle.store_model.specs.States.{lines_behind}
@@ -30,31 +27,6 @@ pub data Due : Type 0 where
   LogFull : (end wanted limit : ℕ) → Due
   StoreThere : (size : ℕ) → Due
   Damaged : (group stored computed : ℕ) → Due
-
--- How a run answers what files decide.
-abbrev pub answered : dues.Due → Answer
-answered DoneWhole = Done
-answered (RefusedAt verdict) = Refused verdict
-answered (TooLong file) = InputTooLong file
-answered (dues.TooMuch sum) = TooMuch sum
-
--- Its status.
-unfoldable pub status_of : Due → ℕ
-status_of (Ends due) = answers.status_of (answered due)
-status_of (NotStore group) = 6
-status_of (Missing what) = 8
-status_of (LogFull end wanted limit) = 10
-status_of (StoreThere size) = 12
-status_of (Damaged group stored computed) = 14
-
--- Its line on standard error.
-unfoldable pub note_of : Due → List ℕ
-note_of (Ends due) = answers.note_of (answered due)
-note_of (NotStore group) = line (codes "not a store" ++ and_number group)
-note_of (Missing what) = line (codes "missing" ++ and_field (escaped what))
-note_of (LogFull end wanted limit) = line (codes "log full" ++ and_number end ++ and_number wanted ++ and_number limit)
-note_of (StoreThere size) = line (codes "store there" ++ and_number size)
-note_of (Damaged group stored computed) = line (codes "damaged" ++ and_number group ++ and_field (eight_digits stored) ++ and_field (eight_digits computed))
 
 -- ---- words that open the store
 

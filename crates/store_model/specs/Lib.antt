@@ -8,6 +8,7 @@ pub mod Written
 pub mod Stops
 pub mod Dues
 pub mod Requests
+pub mod Answers
 pub mod StoreLaws
 pub mod Turns
 pub mod TurnLaws

@@ -3,6 +3,7 @@ ghost use Rattle.store_model.specs.StateLaws.{MoreItemsPassMore, BeginsWithTheSt
 ghost use Rattle.store_model.specs.Stops.{NothingIsOnTheWay, AllIsOnTheWay, FirstIsOnTheWay};
 ghost use Rattle.store_model.specs.Written.{WrittenIsReceived, FirstGroupsAreStates, WrittenIsLawful};
 ghost use Rattle.store_model.specs.Requests.{OneDue, ReceiveIsAudit, LeftIsPassed, LeftIsState, LeftIsReceived};
+ghost use Rattle.store_model.specs.Answers.{DueIsAnswered, OneIsAnswered, DoneAlone, NothingStandsBefore, NothingStandsAtFault, ReadersKeepTheImage, PrintsInFront, ReceiveIsOnTheWay, ReceiveIsCut, DropKeeps};
 ghost use Rattle.store_model.specs.StoreLaws.{BodyIsOneGroup, ImageIsOneStore, ImageIsNotBoth, OneGroupIsAtFault, EachImageIsDecided, StoredIsLawful, GroupsKeepCells, PlacesAreBytes, BytesHavePlaces, OneMoreIsMade, StoredHasNumbers, OneScrub, EachImageIsScrubbed, StoredIsWhole};
 ghost use Rattle.store_model.specs.TurnLaws.{TurnsAreOneByOne, PartsAreRead, FilesAreOneByOne, FilesAreInTurn, OneIsReceiving, AllAreOver, NoneIsLeftOpen, FilesLeaveNoneOpen, GroupsAreLawful, GroupsStand, LinesAreComplete, FrontsAreStates, FrontStatesAreStates, FrontGroupsAreStates, StatesAreOneByOne};
 
@@ -60,6 +61,24 @@ pub fn one_answer_is_due_over_a_store()
     ensures passed { LeftIsPassed }
     ensures state { LeftIsState }
     ensures left { LeftIsReceived }
+{}
+
+/// What is due to a word is answered as it says, and one such answer is given, so one status and one note; status 0 is that of one
+/// answer alone. Where nothing was done yet, each word may lack memory but `init`, and the device of each word over a store may fail.
+/// No answer of a word that reads changes the image, and before its end a front part stands of what it prints; receiving is on the way
+/// after each answer that is not due, with some of its lines missing where standard output failed; and a drop that was not due, or
+/// that lacks memory, leaves the store as it was.
+pub fn answers_say_what_stands()
+    ensures answered { DueIsAnswered }
+    ensures one_answered { OneIsAnswered }
+    ensures done { DoneAlone }
+    ensures before { NothingStandsBefore }
+    ensures fault { NothingStandsAtFault }
+    ensures readers { ReadersKeepTheImage }
+    ensures printed { PrintsInFront }
+    ensures on_the_way { ReceiveIsOnTheWay }
+    ensures cut { ReceiveIsCut }
+    ensures drop { DropKeeps }
 {}
 
 /// The groups that receiving writes behind those of a store, one Mark for each part that begins and one Body for each that is complete,

@@ -7,7 +7,7 @@ mod laws;
 mod tests;
 
 pub use laws::{
-    crashes_leave_turns, groups_make_one_store, images_stand_for_one_store,
-    one_answer_is_due_over_a_store, receiving_passes_states, scrub_has_one_answer,
-    turns_have_an_order, written_groups_make_what_is_received,
+    answers_say_what_stands, crashes_leave_turns, groups_make_one_store,
+    images_stand_for_one_store, one_answer_is_due_over_a_store, receiving_passes_states,
+    scrub_has_one_answer, turns_have_an_order, written_groups_make_what_is_received,
 };
