@@ -8,7 +8,7 @@ use Rattle.stream_export.proofs.spelling.push_anew.Goals as goal
 
 pub returns-in_default-clause-added : goal.returns-in_default-clause-added
 returns-in_default-clause-added c =
-    subst (λ (l : List ℕ). OnOk c.push_all.result (c.push_all.new.to ≡ c.args.to.now ++ l)) (c.requires.frame ∙ plain_is c.args.item.now.version (meaning_of c.args.item.now.command) c.in_default.ensures.asked) c.push_all.ensures.appended
+    subst (λ (l : List ℕ). OnOk c.push_all.result (c.push_all.new.self ≡ c.args.to.now ++ l)) (c.requires.frame ∙ plain_is c.args.item.now.version (meaning_of c.args.item.now.command) c.in_default.ensures.asked) c.push_all.ensures.appended
 
 pub split_at-requires : goal.split_at-requires
 split_at-requires c = frame_long c.args.item.now.version (meaning_of c.args.item.now.command) c.args.frame.now c.requires.frame
