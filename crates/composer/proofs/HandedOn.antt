@@ -28,9 +28,9 @@ handed_steady before now (Ok done) answer answered steady = subst (λ (r : Resul
 handed_steady before now (Err why) answer answered steady = subst (λ (r : Result (Unit {0}) Outcome). Steady before now r) (sym answered) tt
 
 -- A count that nothing touched.
-pub steady_result : {T E : Type 0} {count : ℕ} (result : Result T E) → Steady count count result
-steady_result (Ok done) = refl
-steady_result (Err why) = tt
+pub untouched : (count : ℕ) (answer : Result (Unit {0}) Outcome) → Steady count count answer
+untouched count (Ok done) = refl
+untouched count (Err outcome) = tt
 
 -- What is handed on as an outcome is a stop.
 pub handed_stops : (result : Result (Unit {0}) SendStop) (answer : Result (Unit {0}) Outcome) → answer ≡ answer_with result → IfErr answer IsStop

@@ -19,7 +19,7 @@ use Rattle.composer.specs.contracts.composing.Composer.{the_view}
 use Rattle.composer.proofs.EditSpelling.{paths_short}
 use Rattle.clone_pieces.proofs.Told.{all_always, all_map}
 use Rattle.composer.proofs.AddingItems.{led_taken, own_adds, kept_adds, redirected_adds, plain_of, plain_adds, end_adds}
-use Rattle.composer.proofs.HandedOn.{answer_is, put_caused, put_unchanged, handed_steady, handed_stops, steady_result}
+use Rattle.composer.proofs.HandedOn.{answer_is, put_caused, put_unchanged, handed_steady, handed_stops, untouched}
 use Rattle.composer.proofs.composing.Composer.add.Goals as goal
 
 pub add_own-requires : goal.add_own-requires
@@ -135,9 +135,9 @@ returns-in_default g c =
       ends_later = omega arith;
       bytes_later = omega arith;
       out_later = c.put_item-in_default.ensures.later;
-      steady = steady_result c.map_err-in_default.result;
-      ends_steady = steady_result c.map_err-in_default.result;
-      bytes_steady = steady_result c.map_err-in_default.result;
+      steady = untouched _ c.map_err-in_default.result;
+      ends_steady = untouched _ c.map_err-in_default.result;
+      bytes_steady = untouched _ c.map_err-in_default.result;
       out_steady = handed_steady _ _ c.put_item-in_default.result c.map_err-in_default.result answered c.put_item-in_default.ensures.steady;
       stops = handed_stops c.put_item-in_default.result c.map_err-in_default.result answered;
       cause = put_caused _ _ _ _ _ _ _ _ _ _ _ c.put_item-in_default.result c.map_err-in_default.result answered c.put_item-in_default.ensures.put;
