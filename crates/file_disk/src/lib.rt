@@ -1,0 +1,8 @@
+//! A disk that is a file of the system.
+#![tactic(auto)]
+
+mod disk;
+mod opening;
+
+pub use disk::{FileDisk, ROOM};
+pub use opening::OpenStop;
