@@ -12,7 +12,7 @@ use std::test::Fail;
 use sx_base::{Disk, Failed};
 
 // What was done to a file.
-#[derive(Debug)]
+#[derive(Debug, Drop)]
 struct Calls {
     writes: Cell<u64>,
     syncs: Cell<u64>,
@@ -105,7 +105,7 @@ fn what_is_gathered_is_read_back(rt: HostRuntime) -> Result<(), Fail> {
     disk.write_at(5, b"!")?;
     disk.sync()?;
     drop(disk);
-    assert_eq!(rt; fs::read(&rt, "file_disk.gathered")?.as_slice(), b"aXYZe!");
+    assert_eq!(rt; fs::read(&rt, "file_disk.gathered")?.as_slice(), b"aXYZe!".as_slice());
     let mut again = FileDisk::open(&rt, rt.alloc(), "file_disk.gathered")?;
     expect_at(&rt, &mut again, 4, b"e!")?;
     expect_at(&rt, &mut again, 6, b"")?;
@@ -124,7 +124,7 @@ fn one_that_is_read_is_not_written(rt: HostRuntime) -> Result<(), Fail> {
     assert_eq!(rt; disk.size(), Err(Failed));
     assert_eq!(rt; disk.read(0, &mut [0; 1]), Err(Failed));
     drop(disk);
-    assert_eq!(rt; fs::read(&rt, "file_disk.read")?.as_slice(), b"abcdef");
+    assert_eq!(rt; fs::read(&rt, "file_disk.read")?.as_slice(), b"abcdef".as_slice());
     fs::remove_file(&rt, "file_disk.read")?;
     Ok(())
 }
@@ -226,7 +226,7 @@ fn a_new_file_and_its_folder_are_synced(rt: HostRuntime) -> Result<(), Fail> {
     disk.sync()?;
     assert_eq!(rt; (calls.writes.get(), calls.syncs.get(), calls.whole_syncs.get()), (4, 1, 2));
     drop(disk);
-    assert_eq!(rt; fs::read(&rt, "file_disk.new")?.as_slice(), b"a line of twenty-two.\n");
+    assert_eq!(rt; fs::read(&rt, "file_disk.new")?.as_slice(), b"a line of twenty-two.\n".as_slice());
     fs::remove_file(&rt, "file_disk.new")?;
     Ok(())
 }
@@ -279,7 +279,7 @@ fn a_store_stands_on_a_file(rt: HostRuntime) -> Result<(), Fail> {
     drop(again);
     assert_eq!(rt;
         fs::read(&rt, "file_disk.store")?.as_slice(),
-        b"sndstore\x02\0\0\0\0\0\0\0\0\x01\0\0\0"
+        b"sndstore\x02\0\0\0\0\0\0\0\0\x01\0\0\0".as_slice()
     );
     fs::remove_file(&rt, "file_disk.store")?;
     Ok(())
