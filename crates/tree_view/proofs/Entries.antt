@@ -18,6 +18,11 @@ use Rattle.tree_view.specs.Printing.{entry_if, at_zero}
 
 -- ---- the next entry
 
+less_of : (r : Ordering) → is_lt r ≡ true → r ≡ Less
+less_of Less t = refl
+less_of Equal t = cc
+less_of Greater t = cc
+
 module _ {K X : Type 0} (R : K → K → Ordering) (total : IsTotalOrder R) where
   no_more : (low high : K) (m : Map K X) → R low high ≡ Less → length (entries_above R high m) ≤ length (entries_above R low m)
   no_more low high [] less = omega arith
@@ -32,40 +37,34 @@ module _ {K X : Type 0} (R : K → K → Ordering) (total : IsTotalOrder R) wher
       by_side Greater e true t rest = omega (arith, rest)
       by_side Greater e false t rest = rest
 
-  less_of : (r : Ordering) → is_lt r ≡ true → r ≡ Less
-  less_of Less t = refl
-  less_of Equal t = cc
-  less_of Greater t = cc
-
   -- the first entry above a key is above it
   first_above : (key : K) (m rest : Map K X) (e : K × X) → entries_above R key m ≡ e ∷ rest → R key e.0 ≡ Less
   first_above key [] rest e q = cc
-  first_above key (f ∷ m) rest e q = by_side (is_lt (R key f.0)) refl q
+  first_above key (f ∷ m) rest e q = by_side (is_lt (R key f.0)) refl q (first_above key m rest e)
     where
-      by_side : (b : Bool) → is_lt (R key f.0) ≡ b → cond b (f ∷ entries_above R key m) (entries_above R key m) ≡ e ∷ rest → R key e.0 ≡ Less
-      by_side true t q = let same : f ≡ e = cc in subst (λ (g : K × X). R key g.0 ≡ Less) same (less_of (R key f.0) t)
-      by_side false t q = first_above key m rest e q
+      by_side : (b : Bool) → is_lt (R key f.0) ≡ b → cond b (f ∷ entries_above R key m) (entries_above R key m) ≡ e ∷ rest → (entries_above R key m ≡ e ∷ rest → R key e.0 ≡ Less) → R key e.0 ≡ Less
+      by_side true t q further = let same : f ≡ e = cc in subst (λ (g : K × X). R key g.0 ≡ Less) same (less_of (R key f.0) t)
+      by_side false t q further = further q
 
   -- fewer entries are above it
   fewer_above : (key : K) (m rest : Map K X) (e : K × X) → entries_above R key m ≡ e ∷ rest → length (entries_above R e.0 m) < length (entries_above R key m)
   fewer_above key [] rest e q = cc
-  fewer_above key (f ∷ m) rest e q = by_side (is_lt (R key f.0)) refl q
+  fewer_above key (f ∷ m) rest e q = by_side (is_lt (R key f.0)) refl q (first_above key m rest e) (fewer_above key m rest e)
     where
+      above : (b : Bool) → is_lt (R e.0 f.0) ≡ b → is_lt (R key f.0) ≡ false → R key e.0 ≡ Less → length (entries_above R e.0 m) < length (entries_above R key m)
+          → length (cond b (f ∷ entries_above R e.0 m) (entries_above R e.0 m)) < length (entries_above R key m)
+      above true u t less fewer = let higher : is_lt (R key f.0) ≡ true = ap is_lt (total.trans key e.0 f.0 less (less_of (R e.0 f.0) u)) in cc
+      above false u t less fewer = fewer
+
       by_side : (b : Bool) → is_lt (R key f.0) ≡ b → cond b (f ∷ entries_above R key m) (entries_above R key m) ≡ e ∷ rest
+          → (entries_above R key m ≡ e ∷ rest → R key e.0 ≡ Less) → (entries_above R key m ≡ e ∷ rest → length (entries_above R e.0 m) < length (entries_above R key m))
           → length (entries_above R e.0 (f ∷ m)) < length (cond b (f ∷ entries_above R key m) (entries_above R key m))
-      by_side true t q =
+      by_side true t q less fewer =
           let same : f ≡ e = cc in
           let itself : entries_above R f.0 (f ∷ m) ≡ entries_above R f.0 m = ap (λ (r : Ordering). cond (is_lt r) (f ∷ entries_above R f.0 m) (entries_above R f.0 m)) (tied_itself total f.0) in
           let most = no_more key f.0 m (less_of (R key f.0) t) in
           subst (λ (g : K × X). length (entries_above R g.0 (f ∷ m)) < length (f ∷ entries_above R key m)) same (omega (arith, ap length itself, most))
-      by_side false t q = by_other (is_lt (R e.0 f.0)) refl
-        where
-          less : R key e.0 ≡ Less
-          less = first_above key m rest e q
-
-          by_other : (b : Bool) → is_lt (R e.0 f.0) ≡ b → length (cond b (f ∷ entries_above R e.0 m) (entries_above R e.0 m)) < length (entries_above R key m)
-          by_other true u = let above : is_lt (R key f.0) ≡ true = ap is_lt (total.trans key e.0 f.0 less (less_of (R e.0 f.0) u)) in cc
-          by_other false u = fewer_above key m rest e q
+      by_side false t q less fewer = above (is_lt (R e.0 f.0)) refl t (less q) (fewer q)
 
   -- it is the entry of its own key
   found_above : (key : K) (m rest : Map K X) (e : K × X) → entries_above R key m ≡ e ∷ rest → value_at R e.0 m ≡ Some e.1
@@ -153,8 +152,14 @@ zero_first {X = X} (e ∷ m) sorted = by_side (nat_cmp 0 e.0) refl
 pub at_place : {X : Type 0} (xs : List X) (place : ℕ) (x : X) → Some x ≡ slice_get xs place → drop place xs ≡ x ∷ drop (place + 1) xs
 at_place {X = X} xs place x is = drop_more xs place x (slice_get_within xs place x (sym is)) ∙ ap (λ (y : X). y ∷ drop (place + 1) xs) (get_or_from_slice_get xs place x x (sym is))
 
-pub past_places : {X : Type 0} (xs : List X) (place : ℕ) → None ≡ slice_get xs place → drop place xs ≡ []
-past_places [] zero none = refl
-past_places [] (suc place) none = refl
-past_places (x ∷ xs) zero none = cc
-past_places (x ∷ xs) (suc place) none = past_places xs place none
+-- There is one at each place below the length, and none is left at the length.
+pub is_there : {X : Type 0} (xs : List X) (place : ℕ) → place < length xs → None ≡ slice_get xs place → ⊥
+is_there [] place less none = absurd (omega (arith, less))
+is_there (x ∷ xs) zero less none = cc
+is_there (x ∷ xs) (suc place) less none = is_there xs place (omega (arith, less)) none
+
+pub none_left : {X : Type 0} (xs : List X) (place : ℕ) → length xs ≤ place → drop place xs ≡ []
+none_left [] zero past = refl
+none_left [] (suc place) past = refl
+none_left (x ∷ xs) zero past = absurd (omega (arith, past))
+none_left (x ∷ xs) (suc place) past = none_left xs place (omega (arith, past))

@@ -1,3 +1,3 @@
 pub mod Entries
-pub mod Fields
+pub mod LineByField
 pub mod Texts

@@ -1,7 +1,9 @@
 -- Text that is added part by part, and where that stops.
-use Rattle.std.specs.Prelude.{◌≡◌, ℕ, ◌≤◌, List, [], ◌∷◌, ◌++◌, Option, Result, Ok, Err, length, take}
+use Rattle.std.specs.Prelude.{◌≡◌, ℕ, ◌≤◌, List, [], ◌∷◌, ◌++◌, Option, Result, Ok, Err, IsErrAnd, length, take}
+use Rattle.std.specs.List.{flat_map}
 use Rattle.std.specs.Io.KnownBytes.{Appends}
 use Rattle.std.proofs.Common.{refl, sym, ap, subst, ◌∙◌, append_assoc, append-nil, inl, inr}
+use Rattle.std.proofs.lemmas.Result.{err_from_is_err_and}
 use Rattle.std.proofs.KnownBytes.{Appends-nil, Appends-trans}
 use Rattle.send_model.specs.Headline.{IsFrontOf}
 use Rattle.send_model.proofs.Fronts.{part_front}
@@ -53,7 +55,18 @@ line_added text old mid new first last before now (Ok done) is x = record { sent
 line_added text old mid new first last before now (Err outcome) is (why, (written, appends, front)) =
     (why, (written, appends, subst (λ (l : List ℕ). IsFrontOf l written) (append-nil mid ∙ is) front))
 
+-- A stop that is handed on.
+pub handed_on : (text old new : List ℕ) (first last : Option (List ℕ)) (before now : ℕ) (answer : Result (Unit {0}) Outcome) (outcome : Outcome) → IsErrAnd answer (λ o. o ≡ outcome)
+    → AddsText text old new first last before now (Err outcome) → AddsText text old new first last before now answer
+handed_on text old new first last before now answer outcome is stops =
+    let e = err_from_is_err_and answer is in
+    subst (λ (r : Result (Unit {0}) Outcome). AddsText text old new first last before now r) (sym (e.1 ∙ ap (λ (o : Outcome). Err o) e.2)) stops
+
 -- ---- part by part
+
+-- The text of a list, its first element in front.
+pub lines_next : {A : Type 0} (text : A → List ℕ) (xs left : List A) (x : A) → xs ≡ x ∷ left → flat_map text xs ≡ text x ++ flat_map text left
+lines_next text xs left x is = ap (flat_map text) is
 
 -- Some of a text is added, and the rest is left.
 pub record Printed (all rest old now : List ℕ) (first last : Option (List ℕ)) : Type 0 where
@@ -85,16 +98,16 @@ printed_all all rest old now first last is p =
 -- ---- the end
 
 -- All was gathered, and the last of it is written.
-pub text_ends : (text gathered : List ℕ) (first then last : Option (List ℕ)) (before now : ℕ) (result : Outcome) → TextAdded text [] gathered first then
+pub text_ends : (text start gathered : List ℕ) (first then last : Option (List ℕ)) (before now : ℕ) (result : Outcome) → start ≡ [] → TextAdded text start gathered first then
     → EndsWith gathered ended.Done then last before now result → Wrote first last (Prints text result)
-text_ends text gathered first then last before now result x (inl (is, appends)) =
+text_ends text start gathered first then last before now result none x (inl (is, appends)) =
     subst (λ (o : Outcome). Wrote first last (Prints text o)) (sym is)
-    (x.sent ++ gathered, Appends-trans first then last x.sent gathered x.appends appends, x.bytes_are)
-text_ends text gathered first then last before now result x (inr (is, rose, (count, less, appends))) =
+    (x.sent ++ gathered, Appends-trans first then last x.sent gathered x.appends appends, x.bytes_are ∙ ap (λ (l : List ℕ). l ++ text) none)
+text_ends text start gathered first then last before now result none x (inr (is, rose, (count, less, appends))) =
     subst (λ (o : Outcome). Wrote first last (Prints text o)) (sym is) (
       x.sent ++ take count gathered,
       Appends-trans first then last x.sent (take count gathered) x.appends appends,
-      part_front text x.sent gathered [] count (sym x.bytes_are ∙ sym (append-nil (x.sent ++ gathered))),
+      part_front text x.sent gathered [] count (sym (ap (λ (l : List ℕ). l ++ text) none) ∙ sym x.bytes_are ∙ sym (append-nil (x.sent ++ gathered))),
     )
 
 pub text_caused : (gathered : List ℕ) (then last : Option (List ℕ)) (before now late : ℕ) (result : Outcome) → now ≡ before → EndsWith gathered ended.Done then last now late result → PrintCaused before late result

@@ -38,11 +38,11 @@ fn write_entries<V, O: Sink>(
     ensures added { AddsText (listed catalog.now) text.old.bytes text.new.bytes
         (O.taken out.old) (O.taken out.new) (O.faults out.old) (O.faults out.new) result }
 {
-    let _count = catalog.len();
-    let mut place = 0;
-    while let Some(entry) = catalog.at(place) {
+    for place in 0..catalog.len() {
+        let Some(entry) = catalog.at(place) else {
+            unreachable!()
+        };
         write_entry(entry, text, out)?;
-        place += 1;
     }
     Ok(())
 }
