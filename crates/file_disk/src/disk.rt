@@ -156,8 +156,11 @@ impl<F: FileExt + OpenFile + Drop> FileDisk<F> {
     fn begin(&mut self, at: u64, piece: &[u8])
         requires room { at + length piece.now < 2 ^ 63 }
         requires short { length piece.now ≤ 2 ^ 20 }
-        ensures { self.new ≡ record self.old { size = max self.old.size (at + length piece.now);
-            from = at; gathered = piece.now } }
+        ensures { self.new ≡ record self.old {
+          size = max self.old.size (at + length piece.now);
+          from = at;
+          gathered = piece.now;
+        } }
     {
         self.room[0..piece.len()].copy_from_slice(piece);
         self.filled = piece.len();
@@ -185,7 +188,10 @@ impl<F: FileExt + OpenFile + Drop> FileDisk<F> {
 
 // Whether the error says that the file stands on a medium that takes no sync, since it can only be read.
 fn takes_no_sync(error: &io::Error) -> bool {
-    matches!(error.kind(), ErrorKind::InvalidInput | ErrorKind::ReadOnlyFilesystem)
+    matches!(
+        error.kind(),
+        ErrorKind::InvalidInput | ErrorKind::ReadOnlyFilesystem
+    )
 }
 
 impl<F: FileExt + OpenFile + Drop> Disk for FileDisk<F> {

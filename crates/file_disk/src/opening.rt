@@ -4,10 +4,9 @@ ghost use Rattle.file_disk.specs.State.{opened};
 
 use crate::disk::FileDisk;
 use std::alloc::{AllocError, Global};
-use std::fs;
 use std::fs::{File, Files, Metadata, OpenOptions, TryLockError};
-use std::io;
 use std::io::ErrorKind;
+use std::{fs, io};
 use thiserror::Error;
 
 // A size that is larger than this is no size of a disk.

@@ -2,13 +2,12 @@
 use file_disk::{FileDisk, OpenStop, ROOM};
 use group_log::Log;
 use std::cell::Cell;
-use std::fs;
 use std::fs::{File, Metadata, OpenFile, OpenOptions};
-use std::io;
 use std::io::ErrorKind;
 use std::os::unix::fs::FileExt;
 use std::process::Abort;
 use std::test::Fail;
+use std::{fs, io};
 use sx_base::{Disk, Failed};
 
 // What was done to a file.
@@ -42,7 +41,9 @@ impl FileExt for Small<'_> {
     }
 
     fn write_at(&self, buf: &[u8], offset: u64) -> io::Result<usize> {
-        self.calls.writes.set(self.calls.writes.get().wrapping_add(1));
+        self.calls
+            .writes
+            .set(self.calls.writes.get().wrapping_add(1));
         if offset >= self.room {
             return Err(io::Error::from(ErrorKind::StorageFull));
         }
@@ -61,7 +62,9 @@ impl OpenFile for Small<'_> {
     }
 
     fn sync_all(&self) -> io::Result<()> {
-        self.calls.whole_syncs.set(self.calls.whole_syncs.get().wrapping_add(1));
+        self.calls
+            .whole_syncs
+            .set(self.calls.whole_syncs.get().wrapping_add(1));
         self.file.sync_all()
     }
 
@@ -105,7 +108,10 @@ fn what_is_gathered_is_read_back(rt: HostRuntime) -> Result<(), Fail> {
     disk.write_at(5, b"!")?;
     disk.sync()?;
     drop(disk);
-    assert_eq!(rt; fs::read(&rt, "file_disk.gathered")?.as_slice(), b"aXYZe!".as_slice());
+    assert_eq!(rt;
+        fs::read(&rt, "file_disk.gathered")?.as_slice(),
+        b"aXYZe!".as_slice()
+    );
     let mut again = FileDisk::open(&rt, rt.alloc(), "file_disk.gathered")?;
     expect_at(&rt, &mut again, 4, b"e!")?;
     expect_at(&rt, &mut again, 6, b"")?;
@@ -124,7 +130,10 @@ fn one_that_is_read_is_not_written(rt: HostRuntime) -> Result<(), Fail> {
     assert_eq!(rt; disk.size(), Err(Failed));
     assert_eq!(rt; disk.read(0, &mut [0; 1]), Err(Failed));
     drop(disk);
-    assert_eq!(rt; fs::read(&rt, "file_disk.read")?.as_slice(), b"abcdef".as_slice());
+    assert_eq!(rt;
+        fs::read(&rt, "file_disk.read")?.as_slice(),
+        b"abcdef".as_slice()
+    );
     fs::remove_file(&rt, "file_disk.read")?;
     Ok(())
 }
@@ -163,15 +172,36 @@ fn reason(answer: Result<FileDisk<File>, OpenStop>) -> Option<ErrorKind> {
 #[test]
 fn what_is_no_file_is_refused(rt: HostRuntime) -> Result<(), Fail> {
     for path in [".", "/dev/null", "/dev/full"] {
-        assert!(rt; matches!(FileDisk::create(&rt, rt.alloc(), path), Err(OpenStop::NotFile)));
-        assert!(rt; matches!(FileDisk::open(&rt, rt.alloc(), path), Err(OpenStop::NotFile)));
-        assert!(rt; matches!(FileDisk::open_to_read(&rt, rt.alloc(), path), Err(OpenStop::NotFile)));
+        assert!(rt;
+            matches!(
+                FileDisk::create(&rt, rt.alloc(), path),
+                Err(OpenStop::NotFile)
+            )
+        );
+        assert!(rt;
+            matches!(
+                FileDisk::open(&rt, rt.alloc(), path),
+                Err(OpenStop::NotFile)
+            )
+        );
+        assert!(rt;
+            matches!(
+                FileDisk::open_to_read(&rt, rt.alloc(), path),
+                Err(OpenStop::NotFile)
+            )
+        );
     }
     let missing = "file_disk.none";
     let found = Some(ErrorKind::NotFound);
     assert_eq!(rt; reason(FileDisk::open(&rt, rt.alloc(), missing)), found);
-    assert_eq!(rt; reason(FileDisk::open_to_read(&rt, rt.alloc(), missing)), found);
-    assert_eq!(rt; reason(FileDisk::create(&rt, rt.alloc(), "file_disk.none/store")), found);
+    assert_eq!(rt;
+        reason(FileDisk::open_to_read(&rt, rt.alloc(), missing)),
+        found
+    );
+    assert_eq!(rt;
+        reason(FileDisk::create(&rt, rt.alloc(), "file_disk.none/store")),
+        found
+    );
     Ok(())
 }
 
@@ -198,7 +228,12 @@ fn thousands_of_writes_are_one(rt: HostRuntime) -> Result<(), Fail> {
     disk.write_at(1, large.as_slice())?;
     assert_eq!(rt; calls.writes.get(), 4);
     assert_eq!(rt; disk.size(), Ok(ROOM as u64 + 2));
-    expect_at(&rt, &mut disk, 0, b"b\x07\x07\x07\x07\x07\x07\x07\x07\x07\x07\x07\x07\x07\x07\x07")?;
+    expect_at(
+        &rt,
+        &mut disk,
+        0,
+        b"b\x07\x07\x07\x07\x07\x07\x07\x07\x07\x07\x07\x07\x07\x07\x07",
+    )?;
     drop(disk);
     fs::remove_file(&rt, "file_disk.many")?;
     Ok(())
@@ -222,11 +257,28 @@ fn a_new_file_and_its_folder_are_synced(rt: HostRuntime) -> Result<(), Fail> {
     let mut disk = FileDisk::new(rt.alloc(), file, Some(folder), true, 0)?;
     disk.write_at(0, b"a line of twenty-two.\n")?;
     disk.sync()?;
-    assert_eq!(rt; (calls.writes.get(), calls.syncs.get(), calls.whole_syncs.get()), (4, 0, 2));
+    assert_eq!(rt;
+        (
+            calls.writes.get(),
+            calls.syncs.get(),
+            calls.whole_syncs.get()
+        ),
+        (4, 0, 2)
+    );
     disk.sync()?;
-    assert_eq!(rt; (calls.writes.get(), calls.syncs.get(), calls.whole_syncs.get()), (4, 1, 2));
+    assert_eq!(rt;
+        (
+            calls.writes.get(),
+            calls.syncs.get(),
+            calls.whole_syncs.get()
+        ),
+        (4, 1, 2)
+    );
     drop(disk);
-    assert_eq!(rt; fs::read(&rt, "file_disk.new")?.as_slice(), b"a line of twenty-two.\n".as_slice());
+    assert_eq!(rt;
+        fs::read(&rt, "file_disk.new")?.as_slice(),
+        b"a line of twenty-two.\n".as_slice()
+    );
     fs::remove_file(&rt, "file_disk.new")?;
     Ok(())
 }

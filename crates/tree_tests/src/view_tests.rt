@@ -134,13 +134,7 @@ fn made(alloc: Global, steps: &[Step]) -> Result<Subvol<Mark>, Stop> {
 }
 
 // Whether the subvolume that these steps make is shown as these lines.
-fn shows(
-    alloc: Global,
-    name: &[u8],
-    key: Key,
-    steps: &[Step],
-    lines: &[u8],
-) -> Result<bool, Fail> {
+fn shows(alloc: Global, name: &[u8], key: Key, steps: &[Step], lines: &[u8]) -> Result<bool, Fail> {
     let mut out = MemSink::new(alloc);
     let answer = show(alloc, name, key, &made(alloc, steps)?, &mut out);
     Ok(answer == Outcome::Done && out.bytes() == lines)
@@ -213,7 +207,10 @@ fn cut_list(alloc: Global, call: u64) -> Result<(u64, Outcome), Fail> {
 #[test]
 fn a_fault_of_the_output_is_answered(rt: HostRuntime) -> Result<(), Fail> {
     assert_eq!(rt; cut_list(rt.alloc(), 1)?, (0, Outcome::OutputFault));
-    assert_eq!(rt; cut_list(rt.alloc(), 2)?, (TWO_PART_LINES.len() as u64, Outcome::Done));
+    assert_eq!(rt;
+        cut_list(rt.alloc(), 2)?,
+        (TWO_PART_LINES.len() as u64, Outcome::Done)
+    );
     Ok(())
 }
 

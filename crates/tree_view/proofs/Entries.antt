@@ -105,6 +105,21 @@ next_key {K = K} {X = X} R total key next m found = by_entry (entry_after R key 
     by_entry None is none = cc
     by_entry (Some e) is some = let same : next ≡ e.0 = cc in (e.1, subst (λ (k : K). IsNextAbove R key m (k, e.1)) (sym same) (next_above R total key m e is))
 
+-- The same with the value that was looked up at that key.
+pub next_with : {K X : Type 0} (R : K → K → Ordering) (total : IsTotalOrder R) (key next : K) (m : Map K X) (x : X) → Some next ≡ option_map (λ e. e.0) (entry_after R key m) → Some x ≡ value_at R next m
+    → IsNextAbove R key m (next, x)
+next_with {X = X} R total key next m x found valued =
+    let k = next_key R total key next m found in
+    let there : Some x ≡ Some k.0 = valued ∙ k.1.value in
+    let same : k.0 ≡ x = cc in
+    subst (λ (y : X). IsNextAbove R key m (next, y)) same k.1
+
+pub has_value : {K X : Type 0} (R : K → K → Ordering) (total : IsTotalOrder R) (key next : K) (m : Map K X) → Some next ≡ option_map (λ e. e.0) (entry_after R key m) → None ≡ value_at R next m → ⊥
+has_value R total key next m found none =
+    let k = next_key R total key next m found in
+    let there : None ≡ Some k.0 = none ∙ k.1.value in
+    cc
+
 pub no_next : {K X : Type 0} (R : K → K → Ordering) (key : K) (m : Map K X) → None ≡ entry_after R key m → entries_above R key m ≡ []
 no_next R key m none = nothing_first (entries_above R key m) (sym none)
 

@@ -33,6 +33,12 @@ stops_early a b old new first last before now outcome (why, (written, appends, f
     let all : IsFrontOf (old ++ (a ++ b)) (take front.count (old ++ a)) = part_front (old ++ (a ++ b)) [] (old ++ a) b front.count (sym (append_assoc old a b)) in
     (why, (written, appends, subst (λ (w : List ℕ). IsFrontOf (old ++ (a ++ b)) w) (sym front.written_is) all))
 
+-- The same of a text that begins with it.
+pub stops_whole : (all part rest old new : List ℕ) (first last : Option (List ℕ)) (before now : ℕ) (outcome : Outcome) → part ++ rest ≡ all → AddsText part old new first last before now (Err outcome)
+    → AddsText all old new first last before now (Err outcome)
+stops_whole all part rest old new first last before now outcome whole stops =
+    subst (λ (l : List ℕ). AddsText l old new first last before now (Err outcome)) whole (stops_early part rest old new first last before now outcome stops)
+
 -- The second does, or is added too.
 pub then_adds : (a b old mid new : List ℕ) (first then last : Option (List ℕ)) (before now late : ℕ) (result : Result (Unit {0}) Outcome) → TextAdded a old mid first then → now ≡ before
     → AddsText b mid new then last now late result → AddsText (a ++ b) old new first last before late result
@@ -47,6 +53,10 @@ then_adds a b old mid new first then last before now late (Err outcome) x steady
         subst (λ (w : List ℕ). IsFrontOf (old ++ (a ++ b)) (x.sent ++ w)) (sym front.written_is) all,
       ),
     )
+
+pub then_stops : (a b old mid new : List ℕ) (first then last : Option (List ℕ)) (before now late : ℕ) (outcome : Outcome) → TextAdded a old mid first then → now ≡ before
+    → AddsText b mid new then last now late (Err outcome) → AddsText (a ++ b) old new first last before late (Err outcome)
+then_stops a b old mid new first then last before now late outcome x steady stops = then_adds a b old mid new first then last before now late (Err outcome) x steady stops
 
 -- A line was gathered, and then what was gathered is written where it is much.
 pub line_added : (text old mid new : List ℕ) (first last : Option (List ℕ)) (before now : ℕ) (result : Result (Unit {0}) Outcome) → mid ≡ old ++ text → AddsText [] mid new first last before now result
@@ -135,4 +145,3 @@ stop_caused text new first last before now ended.InputFault (why, wrote) = absur
 stop_caused text new first last before now (ended.InputTooLong file) (why, wrote) = absurd why
 stop_caused text new first last before now (ended.TooMuch sum) (why, wrote) = absurd why
 stop_caused text new first last before now (ended.InputChanged file place) (why, wrote) = absurd why
-

@@ -55,12 +55,7 @@ fn push_parent(parent: Option<Key>, to: &mut Blob) -> Result<(), AllocError>
 }
 
 // The line of a subvolume: its name, its key, and the number that its next inode would get.
-pub(crate) fn push_subvol(
-    name: &[u8],
-    key: Key,
-    next: u64,
-    to: &mut Blob,
-) -> Result<(), AllocError>
+pub(crate) fn push_subvol(name: &[u8], key: Key, next: u64, to: &mut Blob) -> Result<(), AllocError>
     ensures pushed { OnOk result (to.new ≡ to.old ++ subvol_line name.now (key_of key) next) }
 {
     to.push_all(b"subvol")?;

@@ -14,8 +14,8 @@ loop-next-init g c = record { steady = refl; printed = λ ordered lawful. printe
 pub returns-in_err-write_name-clause-added : goal.returns-in_err-write_name-clause-added
 returns-in_err-write_name-clause-added g c = λ ordered lawful.
     let at = next_above named_cmp named_cmp_total _ c.args.tree.now.names ((c.in-Some.next, c.in-Some.name.now), c.in-Some.ino) (sym c.in-Some.ensures) in
-    handed_on _ _ _ _ _ _ _ c.from_residual.result _ c.from_residual.ensures.1
-    (printed_stops _ _ (name_line ((c.in-Some.next, c.in-Some.name.now), c.in-Some.ino)) _ _ c.loop-next.text.bytes _ _ _ _ _ (g.O.Sink.faults c.loop-next.out) _ _
+    handed_on _ _ c.write_name.new.text.bytes _ _ _ _ c.from_residual.result _ c.from_residual.ensures.1
+    (printed_stops _ _ (name_line ((c.in-Some.next, c.in-Some.name.now), c.in-Some.ino)) _ _ c.loop-next.text.bytes c.write_name.new.text.bytes _ _ _ _ (g.O.Sink.faults c.loop-next.out) _ _
     (lines_next name_line _ _ _ (at.above ordered)) c.loop-next.invariant.steady c.in_err-write_name.ensures.added (c.loop-next.invariant.printed ordered lawful))
 
 pub loop-next-smaller : goal.loop-next-smaller
