@@ -1,0 +1,4 @@
+pub mod Entries
+pub mod LineByField
+pub mod ShownParts
+pub mod Texts
