@@ -1,0 +1,11 @@
+pub mod FrameRuns
+pub mod Keeping
+pub mod Marks
+pub mod Opened
+pub mod Pushes
+pub mod Receiving
+pub mod Spelled
+pub mod StandingGroups
+pub mod Beginning
+pub mod Editing
+pub mod EditRuns

@@ -1,0 +1,44 @@
+use Rattle.std.proofs.Common.{ℕ, List, [], ◌∷◌, ◌++◌, ◌⊎◌, inl, inr, sym, ◌∙◌, ◌≡◌, ap, subst}
+use Rattle.send_model.specs.Spelling.{canonical}
+use Rattle.store_model.specs.Image.{Header, HasGroups, sealed}
+use Rattle.send_commands.specs.Meaning.{meaning_of}
+use Rattle.group_log.specs.Journal.{Rests, Grows}
+use Rattle.sx_base.specs.Crash.{LeavesOnly}
+use Rattle.sx_base.proofs.DiskMoments.{begins, joins, weakens}
+use Rattle.group_log.proofs.GatedGroups.{rests_has}
+use Rattle.store_journal.specs.Holding.{edits_head}
+use Rattle.store_journal.proofs.groups.write_head.Goals as goal
+
+pub returns-in_err-spell_mark-clause-any_moment : goal.returns-in_err-spell_mark-clause-any_moment
+returns-in_err-spell_mark-clause-any_moment g c tells header bodies rests =
+    begins c.args.disk.now (λ image. g.met.D.Disk.only_now c.args.disk.now image tells) (λ image is. inl (rests_has header bodies c.args.log.now _ _ rests image is))
+
+pub returns-in_err-write_group-clause-any_moment : goal.returns-in_err-write_group-clause-any_moment
+returns-in_err-write_group-clause-any_moment g c tells header bodies rests =
+    let same : c.as_slice.result.now ≡ 4 ∷ canonical 1 (meaning_of c.args.head.now) = c.as_slice.ensures.bytes ∙ c.in_ok-spell_mark.ensures.spelled in
+    subst (λ (l : List ℕ). LeavesOnly g.D.Disk.moment g.D.Disk.left_since c.args.disk.now c.write_group.new.disk (λ image. HasGroups header bodies image ⊎ HasGroups header (bodies ++ sealed l ∷ []) image)) same
+    (c.write_group.ensures.any_moment tells header bodies rests)
+
+pub returns-in_err-start_group-clause-any_moment : goal.returns-in_err-start_group-clause-any_moment
+returns-in_err-start_group-clause-any_moment g c tells header bodies rests =
+    let same : c.as_slice.result.now ≡ 4 ∷ canonical 1 (meaning_of c.args.head.now) = c.as_slice.ensures.bytes ∙ c.in_ok-spell_mark.ensures.spelled in
+    let P : List ℕ → List ℕ → Type 0 = λ l image. HasGroups header bodies image ⊎ HasGroups header (bodies ++ sealed l ∷ []) image in
+    let written = c.in_ok-write_group.ensures.rests tells header bodies rests in
+    subst (λ (l : List ℕ). LeavesOnly g.D.Disk.moment g.D.Disk.left_since c.args.disk.now c.start_group.new.disk (P l)) same
+    (joins (c.write_group.ensures.any_moment tells header bodies rests) (weakens (c.start_group.ensures.any_moment tells header _ written) (λ image has. inr has)))
+
+pub returns-clause-any_moment : goal.returns-clause-any_moment
+returns-clause-any_moment g c tells header bodies rests =
+    let same : c.as_slice.result.now ≡ 4 ∷ canonical 1 (meaning_of c.args.head.now) = c.as_slice.ensures.bytes ∙ c.in_ok-spell_mark.ensures.spelled in
+    let P : List ℕ → List ℕ → Type 0 = λ l image. HasGroups header bodies image ⊎ HasGroups header (bodies ++ sealed l ∷ []) image in
+    let written = c.in_ok-write_group.ensures.rests tells header bodies rests in
+    subst (λ (l : List ℕ). LeavesOnly g.D.Disk.moment g.D.Disk.left_since c.args.disk.now c.start_group.new.disk (P l)) same
+    (joins (c.write_group.ensures.any_moment tells header bodies rests) (weakens (c.start_group.ensures.any_moment tells header _ written) (λ image has. inr has)))
+
+pub returns-clause-grows : goal.returns-clause-grows
+returns-clause-grows g c tells header bodies rests =
+    let same : c.as_slice.result.now ≡ 4 ∷ canonical 1 (meaning_of c.args.head.now) = c.as_slice.ensures.bytes ∙ c.in_ok-spell_mark.ensures.spelled in
+    let written = c.in_ok-write_group.ensures.rests tells header bodies rests in
+    let grown = c.in_ok-start_group.ensures.grows tells header _ written in
+    subst (λ (l : List ℕ). Grows header (bodies ++ sealed l ∷ []) (edits_head c.args.uuid c.args.version) c.start_group.new.log (g.D.Disk.seen c.start_group.new.disk) (g.D.Disk.pending c.start_group.new.disk)) same
+    (subst (λ (l : List ℕ). Grows header (bodies ++ sealed c.as_slice.result.now ∷ []) l c.start_group.new.log (g.D.Disk.seen c.start_group.new.disk) (g.D.Disk.pending c.start_group.new.disk)) c.edits_head.ensures grown)

@@ -1,0 +1,23 @@
+-- The checksum is that of the bytes so far.
+use Rattle.std.specs.Prelude.{◌≡◌, ◌-◌, ◌≤◌, length, take, drop}
+use Rattle.send_model.specs.Checksum.{crc_of}
+use Rattle.sx_base.specs.Disk.{IsAsBefore, IsImage}
+use Rattle.sx_base.specs.Crash.{LeavesOnly}
+use Rattle.store_journal.proofs.scrubbing.sum_of.Given as goal
+
+abbrev pub decreases-loop-at : goal.decreases-loop-at
+decreases-loop-at g l = l.to - l.at
+
+abbrev pub invariant-loop-at : goal.invariant-loop-at
+invariant-loop-at g l =
+    let D = g.D.Disk in
+    record {
+      begun : l.from ≤ l.at;
+      within : l.at ≤ l.to;
+      piece : length l.piece ≡ 8192;
+      len : D.len l.disk ≡ D.len l.fn.disk;
+      same : D.tells → IsAsBefore D.seen D.pending l.fn.disk l.disk;
+      any_moment : D.tells → LeavesOnly D.moment D.left_since l.fn.disk l.disk (IsImage (D.pending l.fn.disk));
+      later : D.faults l.fn.disk ≤ D.faults l.disk;
+      sum_is : D.tells → l.sum ≡ crc_of 0 (take (l.at - l.from) (drop l.from (D.seen l.fn.disk)));
+    }

@@ -1,0 +1,79 @@
+use Rattle.std.specs.Prelude.{◌≡◌, ℕ, ◌+◌, List, [], ◌∷◌, ◌++◌, length, Option, None, Some, Result, Ok, Err}
+use Rattle.std.specs.Option.{unwrap_or}
+use Rattle.std.proofs.Common.{sym, subst, ap, ◌∙◌, arith, refl}
+use Rattle.sx_base.proofs.DiskMoments.{begins, weakens}
+use Rattle.sx_base.specs.Refusals.{refusal_of}
+use Rattle.sx_base.specs.Answers.{MayChange}
+use Rattle.sx_base.specs.declared.stop.Stop.{Stop}
+use Rattle.send_model.specs.Refusal.{Refusal}
+use Rattle.send_model.specs.Spelling.{canonical_all, attributes_of}
+use Rattle.send_model.specs.Reading.{data_place}
+use Rattle.send_model.specs.Receive.{bytes_of}
+use Rattle.send_model.specs.Subvolume.{Subvolume}
+use Rattle.send_model.specs.Store.{Store, edit_part}
+use Rattle.extent_map.specs.Pieces.{run_cells}
+use Rattle.send_commands.specs.Meaning.{meaning_of}
+use Rattle.send_commands.specs.Writing.{data_at}
+use Rattle.clone_resolve.specs.Steps.{data_len}
+use Rattle.group_log.proofs.GatedGroups.{grows_has}
+use Rattle.store_journal.specs.declared.place.Place.{Place}
+use Rattle.store_journal.specs.Placing.{further}
+use Rattle.store_journal.specs.Shown.{StoreState}
+use Rattle.store_journal.specs.Holding.{as_runs, bodies_of, edits_head, Builds}
+use Rattle.store_journal.proofs.Keeping.{edit_builds}
+use Rattle.store_journal.proofs.Editing.{is_edited, short_data, near_data, edit_same, short_enough}
+use Rattle.store_journal.proofs.store.Store.edit.Given.{Over}
+use Rattle.store_journal.proofs.store.Store.edit.Goals as goal
+
+pub overflow_add-place : goal.overflow_add-place
+overflow_add-place g c =
+    let far = near_data c.args.version (meaning_of c.args.c.now) c.requires.edit.1 in
+    omega (arith, far, ap (λ (o : Option ℕ). unwrap_or o 0) c.data_place.ensures.place, c.unwrap_or.ensures, c.end.ensures, c.self.invariant, ap (λ (s : StoreState). s.log.size) c.self.view_is, ap (λ (s : StoreState). s.log.limit) c.self.view_is, c.requires.is_open.progress.room)
+
+pub edit-requires-clause-reach : goal.edit-requires-clause-reach
+edit-requires-clause-reach g c =
+    let far = near_data c.args.version (meaning_of c.args.c.now) c.requires.edit.1 in
+    let short = short_data c.args.version (meaning_of c.args.c.now) c.requires.edit.1 in
+    omega (arith, far, short, ap (λ (o : Option ℕ). unwrap_or o 0) c.data_place.ensures.place, c.unwrap_or.ensures, c.end.ensures, c.self.invariant, ap (λ (s : StoreState). s.log.size) c.self.view_is, ap (λ (s : StoreState). s.log.limit) c.self.view_is, c.requires.is_open.progress.room)
+
+pub returns-in-Err-Refused-clause-edited : goal.returns-in-Err-Refused-clause-edited
+returns-in-Err-Refused-clause-edited g c =
+    let said = subst (λ (why : Stop). MayChange {A = Unit {0}} (Err why) c.args.part.now.subvolume c.edit.new.part.subvolume (edit_part None (run_cells further (record { at = c.end.result + c.unwrap_or.result }) (data_len (meaning_of c.args.c.now))) c.self.inside.core c.args.part.now (meaning_of c.args.c.now))) c.in-Err-Refused.field-0-is c.in-Err-Refused.ensures.edited in (
+      edit_same c.args.version (meaning_of c.args.c.now) c.self.inside.core c.args.self.now.core c.args.part.now (c.end.result + c.unwrap_or.result) c.end.result c.args.self.now.log.size c.unwrap_or.result (Err (refusal_of c.in-Err-Refused.refusal))
+          (ap (λ (s : StoreState). s.core) c.self.view_is) (c.end.ensures ∙ ap (λ (s : StoreState). s.log.size) c.self.view_is) (c.unwrap_or.ensures ∙ ap (λ (o : Option ℕ). unwrap_or o 0) c.data_place.ensures.place) refl said.0,
+      said.1,
+    )
+
+pub returns-in-Err-Refused-clause-any_moment : goal.returns-in-Err-Refused-clause-any_moment
+returns-in-Err-Refused-clause-any_moment g c tells header groups commands builds =
+    begins c.args.disk.now (λ image. g.met.D.Disk.only_now c.args.disk.now image tells) (grows_has header (bodies_of groups) _ _ _ _ builds.grows)
+
+pub returns-in-Err-NoMemory-clause-any_moment : goal.returns-in-Err-NoMemory-clause-any_moment
+returns-in-Err-NoMemory-clause-any_moment g c tells header groups commands builds =
+    begins c.args.disk.now (λ image. g.met.D.Disk.only_now c.args.disk.now image tells) (grows_has header (bodies_of groups) _ _ _ _ builds.grows)
+
+pub returns-in-Ok-write_edit-clause-edited : goal.returns-in-Ok-write_edit-clause-edited
+returns-in-Ok-write_edit-clause-edited g c =
+    edit_same c.args.version (meaning_of c.args.c.now) c.self.inside.core c.args.self.now.core c.args.part.now (c.end.result + c.unwrap_or.result) c.end.result c.args.self.now.log.size c.unwrap_or.result (Ok c.edit.new.part.subvolume)
+    (ap (λ (s : StoreState). s.core) c.self.view_is) (c.end.ensures ∙ ap (λ (s : StoreState). s.log.size) c.self.view_is) (c.unwrap_or.ensures ∙ ap (λ (o : Option ℕ). unwrap_or o 0) c.data_place.ensures.place) refl c.in-Ok.ensures.edited
+
+pub returns-in-Ok-write_edit-clause-builds : goal.returns-in-Ok-write_edit-clause-builds
+returns-in-Ok-write_edit-clause-builds g c tells header groups commands builds =
+    let seen = g.D.Disk.seen c.args.disk.now in
+    let pending = g.D.Disk.pending c.args.disk.now in
+    let was = subst (λ (s : StoreState). Builds header groups c.args.version commands c.args.part.now s seen pending) (sym c.self.view_is) builds in
+    let size : c.self.inside.log.size ≡ length seen = ap (λ (s : StoreState). s.log.size) c.self.view_is ∙ sym c.requires.is_open.progress.size ∙ g.met.D.Disk.sized c.args.disk.now tells in
+    edit_builds header groups c.args.version commands c.args.part.now c.edit.new.part _ _ seen _ pending _ was (meaning_of c.args.c.now) c.requires.edit size c.edit.ensures.key
+    (edit_same c.args.version (meaning_of c.args.c.now) c.self.inside.core c.self.inside.core c.args.part.now (c.end.result + c.unwrap_or.result) c.end.result c.self.inside.log.size c.unwrap_or.result (Ok c.edit.new.part.subvolume)
+    refl c.end.ensures (c.unwrap_or.ensures ∙ ap (λ (o : Option ℕ). unwrap_or o 0) c.data_place.ensures.place) refl c.in-Ok.ensures.edited)
+    refl c.in-Ok-write_edit.ensures.gate (c.in-Ok-write_edit.ensures.grows tells header (bodies_of groups) _ was.grows)
+
+pub returns-in-Ok-write_edit-clause-any_moment : goal.returns-in-Ok-write_edit-clause-any_moment
+returns-in-Ok-write_edit-clause-any_moment g c tells header groups commands builds =
+    let was = subst (λ (s : StoreState). Builds header groups c.args.version commands c.args.part.now s (g.D.Disk.seen c.args.disk.now) (g.D.Disk.pending c.args.disk.now)) (sym c.self.view_is) builds in
+    c.write_edit.ensures.any_moment tells header (bodies_of groups) _ was.grows
+
+pub returns-in-Err-clause-any_moment : goal.returns-in-Err-clause-any_moment
+returns-in-Err-clause-any_moment g c tells header groups commands builds =
+    let was = subst (λ (s : StoreState). Builds header groups c.args.version commands c.args.part.now s (g.D.Disk.seen c.args.disk.now) (g.D.Disk.pending c.args.disk.now)) (sym c.self.view_is) builds in
+    c.write_edit.ensures.any_moment tells header (bodies_of groups) _ was.grows

@@ -1,0 +1,9 @@
+pub mod Answers
+pub mod Filling
+pub mod Fronts
+pub mod Holding
+pub mod Opening
+pub mod Placing
+pub mod Received
+pub mod Shown
+pub mod Standing
