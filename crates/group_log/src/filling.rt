@@ -1,6 +1,6 @@
 // Reads that fill a whole buffer.
 ghost use Rattle.std.specs.Prelude.{◌≡◌, ℕ, slice_index, ◌+◌, ◌^◌, ◌<◌, ◌≤◌, length, take, drop, OnOk};
-ghost use Rattle.sx_base.specs.Causes.{HasCause};
+ghost use Rattle.sx_base.specs.Causes.{HasCause, Steady};
 ghost use Rattle.sx_base.specs.Disk.{IsAsBefore, IsImage};
 ghost use Rattle.sx_base.specs.Crash.{LeavesOnly};
 
@@ -18,6 +18,7 @@ pub(crate) fn fill<D: Disk>(disk: &mut D, at: u64, buf: &mut [u8]) -> Result<(),
     ensures any_moment { D.tells →
         LeavesOnly D.moment D.left_since disk.old disk.new (IsImage (D.pending disk.old)) }
     ensures cause { HasCause (D.faults disk.old) (D.faults disk.new) result }
+    ensures steady { Steady (D.faults disk.old) (D.faults disk.new) result }
 {
     let mut done = 0;
     while done < buf.len() {

@@ -75,7 +75,7 @@ const RESERVE: u64 = CHECKSUM + 1;
 
 impl Log {
     ghost use Rattle.std.specs.Prelude.{◌≡◌, ◌≢◌, ◌⊎◌, ℕ, ◌+◌, ◌^◌, ◌<◌, ◌≤◌, List, [], ◌∷◌, ◌++◌, length, take, drop, slice_index, Ok, Err, None, IfOk, OnOk, OnErr, IfErr, IsErrOf, IsErrAnd};
-    ghost use Rattle.sx_base.specs.Causes.{Rose};
+    ghost use Rattle.sx_base.specs.Causes.{Rose, Steady};
     ghost use Rattle.sx_base.specs.Disk.{Pending, IsAsBefore, IsImage, settled};
     ghost use Rattle.sx_base.specs.Crash.{LeavesOnly};
     ghost use Rattle.store_model.specs.Image.{Header, HasGroups, HasFault, IsCutShort, header_of, usual_header, sealed, reserve};
@@ -108,6 +108,7 @@ impl Log {
             LeavesOnly D.moment D.left_since disk.old disk.new (IsImage (D.pending disk.old)) }
 
         ensures later { D.faults disk.old ≤ D.faults disk.new }
+        ensures steady { Steady (D.faults disk.old) (D.faults disk.new) result }
     {
         let size = disk.size()?;
         if size != 0 {
@@ -135,6 +136,7 @@ impl Log {
         ensures any_moment { D.tells →
             LeavesOnly D.moment D.left_since disk.old disk.new (IsImage (D.pending disk.old)) }
         ensures later { D.faults disk.old ≤ D.faults disk.new }
+        ensures steady { Steady (D.faults disk.old) (D.faults disk.new) result }
     {
         Disk::sync(disk)?;
         let size = disk.size()?;
@@ -199,6 +201,7 @@ impl Log {
         ensures any_moment { D.tells →
             LeavesOnly D.moment D.left_since disk.old disk.new (IsImage (D.pending disk.old)) }
         ensures later { D.faults disk.old ≤ D.faults disk.new }
+        ensures steady { Steady (D.faults disk.old) (D.faults disk.new) result }
     {
         if self.stage != Stage::Reading {
             return Ok(None);
@@ -247,6 +250,7 @@ impl Log {
         ensures any_moment { D.tells →
             LeavesOnly D.moment D.left_since disk.old disk.new (IsImage (D.pending disk.old)) }
         ensures later { D.faults disk.old ≤ D.faults disk.new }
+        ensures steady { Steady (D.faults disk.old) (D.faults disk.new) result }
     {
         let _size = self.size;
         fill(disk, at, buf)?;
@@ -274,6 +278,7 @@ impl Log {
             IfErr result (IsFault (Rose (D.faults disk.old) (D.faults disk.new))) }
         ensures kept { OnErr result (self.new ≡ self.old) }
         ensures later { D.faults disk.old ≤ D.faults disk.new }
+        ensures steady { Steady (D.faults disk.old) (D.faults disk.new) result }
     {
         if self.limit.saturating_sub(self.gate) < GROUP_HEAD + RESERVE {
             return Err(LogStop::LogFull {
@@ -322,6 +327,7 @@ impl Log {
             IfErr result (IsFault (Rose (D.faults disk.old) (D.faults disk.new))) }
         ensures kept { OnErr result (self.new ≡ self.old) }
         ensures later { D.faults disk.old ≤ D.faults disk.new }
+        ensures steady { Steady (D.faults disk.old) (D.faults disk.new) result }
     {
         let at = self.size;
         let wanted = bytes.len() as u64;
@@ -357,6 +363,7 @@ impl Log {
         ensures fault { IfErr result (IsFault (Rose (D.faults disk.old) (D.faults disk.new))) }
         ensures kept { OnErr result (self.new ≡ self.old) }
         ensures later { D.faults disk.old ≤ D.faults disk.new }
+        ensures steady { Steady (D.faults disk.old) (D.faults disk.new) result }
     {
         let end = self.size;
         let len = end + CHECKSUM - self.gate - GROUP_HEAD;
@@ -389,6 +396,7 @@ impl Log {
         ensures fault { IfErr result (IsFault (Rose (D.faults disk.old) (D.faults disk.new))) }
         ensures kept { OnErr result (self.new ≡ self.old) }
         ensures later { D.faults disk.old ≤ D.faults disk.new }
+        ensures steady { Steady (D.faults disk.old) (D.faults disk.new) result }
     {
         disk.write_at(self.gate, &[OPEN])?;
         disk.sync()?;

@@ -1,4 +1,4 @@
-use Rattle.std.proofs.Common.{arith, rules, ◌+◌, ℕ, List, take, drop, ◌∙◌, ap, subst}
+use Rattle.std.proofs.Common.{arith, rules, refl, ◌+◌, ℕ, List, take, drop, ◌∙◌, ap, subst}
 use Rattle.sx_base.specs.Disk.{Pending, IsImage}
 use Rattle.sx_base.proofs.DiskMoments.{begins, goes_on}
 use Rattle.sx_base.proofs.FilledBuffers.{filled_more, length_filled}
@@ -12,7 +12,7 @@ loop-done-init g c = record {
   bytes = λ tells. search rules;
   same = λ tells. search rules;
   any_moment = λ tells. begins c.args.disk.now (λ image left. g.met.D.Disk.only_now c.args.disk.now image tells left) (λ image is. is);
-  faults = search rules;
+  steady = refl;
 }
 
 pub loop-done-preserved : goal.loop-done-preserved
@@ -28,5 +28,5 @@ loop-done-preserved g c =
       same = λ tells. record { seen = (c.read.ensures.same tells).seen ∙ (i.same tells).seen; pending = (c.read.ensures.same tells).pending ∙ (i.same tells).pending };
       any_moment = λ tells. goes_on (i.any_moment tells) c.read.ensures.passes tells
           (λ image is. subst (λ (p : Pending). IsImage p image) ((c.read.ensures.same tells).pending ∙ (i.same tells).pending) is);
-      faults = search rules;
+      steady = c.in_ok-done.ensures.steady ∙ i.steady;
     }

@@ -13,7 +13,7 @@ invariant-loop-done g l =
       bytes : D.tells → take l.done l.buf ≡ take l.done (drop l.at (D.seen l.fn.disk));
       same : D.tells → IsAsBefore D.seen D.pending l.fn.disk l.disk;
       any_moment : D.tells → LeavesOnly D.moment D.left_since l.fn.disk l.disk (IsImage (D.pending l.fn.disk));
-      faults : D.faults l.fn.disk ≤ D.faults l.disk;
+      steady : D.faults l.disk ≡ D.faults l.fn.disk;
     }
 
 abbrev pub decreases-loop-done : goal.decreases-loop-done
