@@ -23,9 +23,8 @@ use Rattle.clone_resolve.specs.Steps.{data_len}
 use Rattle.store_model.specs.Stored.{Content, Mark, Body, Drop, Group, body_bytes, IsEdit, IsContent, IsGroup, Putting, body_at, frames_at, taken, marked, resumed, edits_made, dropped, made, Makes}
 use Rattle.store_journal.specs.declared.place.Place.{Place}
 use Rattle.store_journal.specs.Shown.{StoreState}
-use Rattle.store_journal.specs.Holding.{as_runs, bodies_of, new_group, edits_head, HasThese, HasOneMore, Holds, Builds}
+use Rattle.store_journal.specs.Holding.{as_runs, bodies_of, new_group, edits_head, open_state, HasThese, HasOneMore, Holds, Builds}
 use Rattle.store_journal.specs.Answers.{groups_without}
-use Rattle.store_journal.specs.Opening.{open_state, one_made}
 use Rattle.store_journal.proofs.Pushes.{bodies_push, all_push, canonical_push, makes_push, edits_push, none_dropped}
 use Rattle.store_journal.proofs.Beginning.{begun_marks, begun_resumes}
 
@@ -157,13 +156,3 @@ drop_makes header groups store name seen new pending h there same =
     let one : (if has_name name store.core then Some (filter (λ e. not (bytes_eq e.name name)) store.core) else None) ≡ Some new =
     ap (λ (b : Bool). if b then Some (filter (λ e. not (bytes_eq e.name name)) store.core) else None) there ∙ ap (λ (s : Store (Option Place)). Some s) (sym same) in
     makes_push None as_runs header groups store.core new (new_group (Drop name)) store.log.gate h.makes h.rests.behind.place (new_is (Drop name) tt) one
-
--- One edit of an open part, taken or refused.
-pub one_taken : (version at : ℕ) (store : Store (Option Place)) (old new : Part (Option Place)) (c : Command) → new.key ≡ old.key → edit_part None (as_runs (data_place version at (attributes_of c)) (bytes_of c)) store old c ≡ Ok new.subvolume
-    → one_made version at c (open_state store old) ≡ Some (open_state store new)
-one_taken version at store old new c same e = ap (λ (s : Stepped (Option Place)). taken s) (edit_taken None (as_runs (data_place version at (attributes_of c)) (bytes_of c)) store old new c same e)
-
-pub one_refused : (version at : ℕ) (store : Store (Option Place)) (old : Part (Option Place)) (c : Command) (refusal : Refusal) → edit_part None (as_runs (data_place version at (attributes_of c)) (bytes_of c)) store old c ≡ Err refusal
-    → one_made version at c (open_state store old) ≡ None
-unfolding step_edit
-one_refused version at store old c refusal e = ap (λ (r : Result (Subvolume (Option Place)) Refusal). taken (edited store old r)) e

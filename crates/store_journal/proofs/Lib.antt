@@ -1,11 +1,8 @@
-pub mod FrameRuns
-pub mod Keeping
-pub mod Marks
-pub mod Opened
-pub mod Pushes
-pub mod Receiving
-pub mod Spelled
-pub mod StandingGroups
 pub mod Beginning
 pub mod Editing
-pub mod EditRuns
+pub mod Keeping
+pub mod KeptParts
+pub mod Pushes
+pub mod Resuming
+pub mod SaidInodes
+pub mod StandingGroups

@@ -1,5 +1,5 @@
 -- Which call of a journal meets its limit first, of several in a row.
-use Rattle.std.specs.Prelude.{◌≡◌, ◌⊎◌, ℕ, ◌+◌, List, [], ◌∷◌, Option, None, Some, Result, Ok, Err, ⊤, nat_lt, if◌then◌else◌}
+use Rattle.std.specs.Prelude.{◌≡◌, ◌⊎◌, ℕ, ◌+◌, List, [], ◌∷◌, ◌++◌, Option, None, Some, Result, Ok, Err, ⊤, nat_lt, if◌then◌else◌}
 use Rattle.store_model.specs.Image.{reserve}
 use Rattle.group_log.specs.declared.stops.LogStop.{LogStop}
 use Rattle.group_log.specs.declared.stops.LogStop.TheVariants.{LogFull}
@@ -63,9 +63,7 @@ IsNoRefusal (stop.Log why) = ⊤
 
 -- What a head asks for: a group of so many bytes, and the eighteen bytes in front of a group of edits.
 abbrev pub head_asks : ℕ → ℕ → List Asked
-head_asks gate len =
-    record { place = gate; wanted = 9 } ∷ record { place = gate + 9; wanted = len }
-    ∷ record { place = gate_behind gate len; wanted = 9 } ∷ record { place = gate_behind gate len + 9; wanted = 18 } ∷ []
+head_asks gate len = group_asks gate len ++ group_asks (gate_behind gate len) 18
 
 -- What one piece asks for.
 abbrev pub piece_asks : ℕ → ℕ → List Asked

@@ -3,7 +3,7 @@ use Rattle.std.specs.Prelude.{◌≡◌, ◌⊎◌, ℕ, true, List, [], ◌∷�
 use Rattle.extent_map.specs.Pieces.{run_cells}
 use Rattle.send_model.specs.Command.{Command}
 use Rattle.send_model.specs.Spelling.{canonical_all}
-use Rattle.send_model.specs.Store.{Part, State}
+use Rattle.send_model.specs.Store.{Store, Part, State}
 use Rattle.store_model.specs.Image.{Header, HasGroups}
 use Rattle.sx_base.specs.Disk.{Pending}
 use Rattle.group_log.specs.Journal.{Rests, Grows}
@@ -35,6 +35,10 @@ HasThese header groups image = HasGroups header (bodies_of groups) image
 abbrev pub HasOneMore : Header → List Group → Group → List ℕ → Type 0
 HasOneMore header groups group image = HasThese header groups image ⊎ HasThese header (groups ++ group ∷ []) image
 
+-- A part that is open.
+abbrev pub open_state : Store (Option Place) → Part (Option Place) → State (Option Place)
+open_state store part = record { store = store; part = Some part }
+
 -- The disk has these groups, and so has each image that a crash may leave; and they make the store's subvolumes.
 pub record Holds (header : Header) (groups : List Group) (store : StoreState) (seen : List ℕ) (pending : Pending) : Type 0 where
   pub rests : Rests header (bodies_of groups) store.log seen pending
@@ -47,4 +51,4 @@ pub record Builds (header : Header) (groups : List Group) (version : ℕ) (comma
   pub says : IsContent (Body part.key.uuid version commands)
   pub start : State (Option Place)
   pub begins : resumed store.core part.key.uuid ≡ Some start
-  pub becomes : edits_made None as_runs version (frames_at (body_at store.log.gate)) start commands ≡ Some (record { store = store.core; part = Some part })
+  pub becomes : edits_made None as_runs version (frames_at (body_at store.log.gate)) start commands ≡ Some (open_state store.core part)

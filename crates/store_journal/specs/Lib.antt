@@ -1,9 +1,8 @@
 pub mod Answers
 pub mod Filling
-pub mod Fronts
 pub mod Holding
-pub mod Opening
+pub mod Kept
 pub mod Placing
-pub mod Received
+pub mod Said
 pub mod Shown
 pub mod Standing

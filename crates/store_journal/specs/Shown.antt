@@ -1,11 +1,12 @@
 -- How a store's fields are seen.
 use Rattle.std.specs.Prelude.{◌≡◌, ℕ, Bool, true, Option, None, Some}
 use Rattle.std.specs.Option.{option_map}
-use Rattle.send_model.specs.Store.{Key, Store}
+use Rattle.send_model.specs.Store.{Key, Part, Store}
 use Rattle.group_log.specs.State.{LogState}
 use Rattle.group_log.specs.Journal.{IsAtRest, IsInProgress}
 use Rattle.subvol_catalog.specs.Entries.{key_of}
 use Rattle.store_journal.specs.declared.place.Place.{Place}
+use Rattle.store_journal.specs.Kept.{IsKept, AreKept}
 use Rattle.store_journal.specs.declared.store.Store.TheInside.{Inside}
 
 -- The subvolumes, over cells that are a place or zero; the journal; the key of the open part, if there is one; and whether the
@@ -30,8 +31,13 @@ pub record IsIdle (len : ℕ) (store : StoreState) : Type 0 where
   pub live : store.is_live ≡ true
   pub closed : store.open_part ≡ None
 
--- The store is live and the part of this key is open.
-pub record IsOpen (len : ℕ) (key : Key) (store : StoreState) : Type 0 where
+-- The store is live and this part is open; its bytes stand before the end of the disk.
+pub record IsOpen (len : ℕ) (part : Part (Option Place)) (store : StoreState) : Type 0 where
   pub progress : IsInProgress len store.log
   pub live : store.is_live ≡ true
-  pub open_is : store.open_part ≡ Some key
+  pub open_is : store.open_part ≡ Some part.key
+  pub kept : IsKept store.log.size part.subvolume
+
+-- The bytes of the complete subvolumes stand in the groups.
+abbrev pub IsInGroups : Inside → Type 0
+IsInGroups store = AreKept store.log.gate store.core

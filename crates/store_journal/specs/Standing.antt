@@ -1,12 +1,11 @@
 -- What it means that a disk has the groups of a store. This program's own.
-use Rattle.std.specs.Prelude.{◌≡◌, ℕ, List, Option, None}
+use Rattle.std.specs.Prelude.{ℕ, List, [], ◌∷◌, ◌++◌, Option, None}
 use Rattle.std.specs.Option.{option_map}
 use Rattle.send_model.specs.Store.{Store}
 use Rattle.send_model.specs.Cells.{recelled_store}
-use Rattle.store_model.specs.Image.{Header}
-use Rattle.store_model.specs.Stored.{Group, byte_of, Makes, StandsFor, StandsForNone}
+use Rattle.store_model.specs.Image.{Header, header_of, usual_header}
+use Rattle.store_model.specs.Stored.{Group, byte_of, Makes, StandsFor}
 use Rattle.store_journal.specs.declared.place.Place.{Place}
-use Rattle.store_journal.specs.Opening.{FailsAt}
 use Rattle.store_journal.specs.Holding.{as_runs, HasThese}
 
 -- The subvolumes with the bytes that an image has at their places.
@@ -17,6 +16,6 @@ with_bytes image core = recelled_store (byte_of image) (recelled_store (option_m
 abbrev pub GroupsStand : Type 0
 GroupsStand = (header : Header) (groups : List Group) (core : Store (Option Place)) (image : List ℕ) → HasThese header groups image → Makes None as_runs header.format groups core → StandsFor image (with_bytes image core)
 
--- An image in which a group is at fault behind groups that make a store stands for none, and this group is the one at fault.
-abbrev pub FaultsStand : Type 0
-FaultsStand = (image : List ℕ) (number : ℕ) → FailsAt image number → StandsForNone image number
+-- A new store stands for no entries.
+abbrev pub NewStands : Type 0
+NewStands = StandsFor (header_of usual_header ++ 0 ∷ []) []

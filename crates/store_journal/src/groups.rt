@@ -1,13 +1,13 @@
 // Groups that are written.
 ghost use Rattle.std.specs.Prelude.{◌≡◌, ◌⊎◌, ℕ, ◌+◌, ◌<◌, ◌≤◌, List, [], ◌∷◌, ◌++◌, length, None, Err, IfOk, OnOk, IfErr, OnErr};
-ghost use Rattle.sx_base.specs.Causes.{Rose};
+ghost use Rattle.sx_base.specs.Causes.{Rose, Steady};
 ghost use Rattle.sx_base.specs.Crash.{LeavesOnly};
 ghost use Rattle.send_model.specs.Spelling.{canonical, IsSpellable};
 ghost use Rattle.store_model.specs.Image.{Header, HasGroups, sealed};
 ghost use Rattle.send_commands.specs.Meaning.{meaning_of};
 ghost use Rattle.group_log.specs.Stopping.{IsFault};
 ghost use Rattle.group_log.specs.Journal.{IsAtRest, IsInProgress, Rests, Grows};
-ghost use Rattle.store_journal.specs.Filling.{first_full, group_asks, head_asks, piece_asks, gate_behind, IsStopOf, IfLog, IsNoRefusal};
+ghost use Rattle.store_journal.specs.Filling.{first_full, group_asks, piece_asks, gate_behind, IsStopOf, IfLog, IsNoRefusal};
 ghost use Rattle.store_journal.specs.Holding.{edits_head};
 ghost use Rattle.store_journal.specs.declared.stops.StoreStop.TheVariants as stop;
 
@@ -29,6 +29,7 @@ pub(crate) fn write_group<D: Disk>(log: &mut Log, disk: &mut D, bytes: &[u8]) ->
     requires { IsAtRest (D.len disk.old) log.old }
     ensures at_rest { OnOk result (IsAtRest (D.len disk.new) log.new) }
     ensures gate { OnOk result (log.new.gate ≡ gate_behind log.old.gate (length bytes.now)) }
+    ensures gate_kept { OnErr result (log.new.gate ≡ log.old.gate) }
     ensures limit { log.new.limit ≡ log.old.limit }
     ensures rests { D.tells → (header : Header) (bodies : List (List ℕ)) →
         Rests header bodies log.old (D.seen disk.old) (D.pending disk.old) →
@@ -43,6 +44,7 @@ pub(crate) fn write_group<D: Disk>(log: &mut Log, disk: &mut D, bytes: &[u8]) ->
     ensures fits { OnOk result
         (first_full log.old.limit (group_asks log.old.gate (length bytes.now)) ≡ None) }
     ensures later { D.faults disk.old ≤ D.faults disk.new }
+    ensures steady { Steady (D.faults disk.old) (D.faults disk.new) result }
 {
     log.body(disk)?;
     log.append(disk, bytes)?;
@@ -54,7 +56,7 @@ pub(crate) fn write_group<D: Disk>(log: &mut Log, disk: &mut D, bytes: &[u8]) ->
 pub(crate) fn start_group<D: Disk>(log: &mut Log, disk: &mut D, bytes: &[u8]) -> Result<(), LogStop>
     requires { IsAtRest (D.len disk.old) log.old }
     ensures in_progress { OnOk result (IsInProgress (D.len disk.new) log.new) }
-    ensures gate { OnOk result (log.new.gate ≡ log.old.gate) }
+    ensures gate { log.new.gate ≡ log.old.gate }
     ensures limit { log.new.limit ≡ log.old.limit }
     ensures grows { D.tells → (header : Header) (bodies : List (List ℕ)) →
         Rests header bodies log.old (D.seen disk.old) (D.pending disk.old) →
@@ -67,6 +69,7 @@ pub(crate) fn start_group<D: Disk>(log: &mut Log, disk: &mut D, bytes: &[u8]) ->
     ensures fits { OnOk result
         (first_full log.old.limit (group_asks log.old.gate (length bytes.now)) ≡ None) }
     ensures later { D.faults disk.old ≤ D.faults disk.new }
+    ensures steady { Steady (D.faults disk.old) (D.faults disk.new) result }
 {
     log.body(disk)?;
     log.append(disk, bytes)?;
@@ -106,22 +109,22 @@ pub(crate) fn spell_drop(name: &[u8], to: &mut Blob) -> Result<(), StoreStop>
     Ok(())
 }
 
-/// Publishes a group of a head and starts one for the edits of its part.
-pub(crate) fn write_head<D: Disk>(
+/// Publishes a group of a head.
+pub(crate) fn write_mark<D: Disk>(
     log: &mut Log,
     disk: &mut D,
     spelled: &mut Blob,
     head: &Command,
-    uuid: Uuid,
-    version: u8,
 ) -> Result<(), StoreStop>
     requires rest { IsAtRest (D.len disk.old) log.old }
     requires spellable { IsSpellable 1 (meaning_of head.now) }
-    ensures in_progress { OnOk result (IsInProgress (D.len disk.new) log.new) }
-    ensures grows { D.tells → (header : Header) (bodies : List (List ℕ)) →
+    ensures at_rest { OnOk result (IsAtRest (D.len disk.new) log.new) }
+    ensures gate { OnOk result (log.new.gate
+        ≡ gate_behind log.old.gate (1 + length (canonical 1 (meaning_of head.now)))) }
+    ensures rests { D.tells → (header : Header) (bodies : List (List ℕ)) →
         Rests header bodies log.old (D.seen disk.old) (D.pending disk.old) →
-        OnOk result (Grows header (bodies ++ sealed (4 ∷ canonical 1 (meaning_of head.now)) ∷ [])
-        (edits_head uuid version) log.new (D.seen disk.new) (D.pending disk.new)) }
+        OnOk result (Rests header (bodies ++ sealed (4 ∷ canonical 1 (meaning_of head.now)) ∷ [])
+        log.new (D.seen disk.new) (D.pending disk.new)) }
     ensures any_moment { D.tells → (header : Header) (bodies : List (List ℕ)) →
         Rests header bodies log.old (D.seen disk.old) (D.pending disk.old) →
         LeavesOnly D.moment D.left_since disk.old disk.new (λ image. HasGroups header bodies image
@@ -129,15 +132,16 @@ pub(crate) fn write_head<D: Disk>(
     ensures not_refused { IfErr result IsNoRefusal }
     ensures stops { IfLog result (IsStopOf (Rose (D.faults disk.old) (D.faults disk.new))
         log.old.limit (first_full log.old.limit
-        (head_asks log.old.gate (1 + length (canonical 1 (meaning_of head.now)))))) }
+        (group_asks log.old.gate (1 + length (canonical 1 (meaning_of head.now)))))) }
     ensures fits { OnOk result (first_full log.old.limit
-        (head_asks log.old.gate (1 + length (canonical 1 (meaning_of head.now)))) ≡ None) }
+        (group_asks log.old.gate (1 + length (canonical 1 (meaning_of head.now)))) ≡ None) }
+    ensures gate_kept { OnErr result (log.new.gate ≡ log.old.gate) }
     ensures limit { log.new.limit ≡ log.old.limit }
     ensures later { D.faults disk.old ≤ D.faults disk.new }
+    ensures steady { Steady (D.faults disk.old) (D.faults disk.new) result }
 {
     spell_mark(head, spelled)?;
     write_group(log, disk, spelled.as_slice())?;
-    start_group(log, disk, &edits_head(uuid, version))?;
     Ok(())
 }
 
@@ -152,7 +156,7 @@ pub(crate) fn write_edit<D: Disk>(
     requires open { IsInProgress (D.len disk.old) log.old }
     requires spellable { IsSpellable version (meaning_of c.now) }
     ensures in_progress { OnOk result (IsInProgress (D.len disk.new) log.new) }
-    ensures gate { OnOk result (log.new.gate ≡ log.old.gate) }
+    ensures gate { log.new.gate ≡ log.old.gate }
     ensures grows { D.tells → (header : Header) (bodies : List (List ℕ)) (body : List ℕ) →
         Grows header bodies body log.old (D.seen disk.old) (D.pending disk.old) →
         OnOk result (Grows header bodies (body ++ canonical version (meaning_of c.now)) log.new
@@ -168,6 +172,7 @@ pub(crate) fn write_edit<D: Disk>(
         (piece_asks log.old.size (length (canonical version (meaning_of c.now)))) ≡ None) }
     ensures limit { log.new.limit ≡ log.old.limit }
     ensures later { D.faults disk.old ≤ D.faults disk.new }
+    ensures steady { Steady (D.faults disk.old) (D.faults disk.new) result }
 {
     spelled.clear();
     encode(c, version, spelled)?;
@@ -179,6 +184,7 @@ pub(crate) fn write_edit<D: Disk>(
 pub(crate) fn publish<D: Disk>(log: &mut Log, disk: &mut D) -> Result<(), LogStop>
     requires { IsInProgress (D.len disk.old) log.old }
     ensures at_rest { OnOk result (IsAtRest (D.len disk.new) log.new) }
+    ensures gate { OnOk result (log.new.gate ≡ log.old.size + 4) }
     ensures rests { D.tells → (header : Header) (bodies : List (List ℕ)) (body : List ℕ) →
         Grows header bodies body log.old (D.seen disk.old) (D.pending disk.old) →
         OnOk result (Rests header (bodies ++ sealed body ∷ []) log.new
@@ -188,8 +194,10 @@ pub(crate) fn publish<D: Disk>(log: &mut Log, disk: &mut D) -> Result<(), LogSto
         LeavesOnly D.moment D.left_since disk.old disk.new (λ image. HasGroups header bodies image
         ⊎ HasGroups header (bodies ++ sealed body ∷ []) image) }
     ensures fault { IfErr result (IsFault (Rose (D.faults disk.old) (D.faults disk.new))) }
+    ensures gate_kept { OnErr result (log.new.gate ≡ log.old.gate) }
     ensures limit { log.new.limit ≡ log.old.limit }
     ensures later { D.faults disk.old ≤ D.faults disk.new }
+    ensures steady { Steady (D.faults disk.old) (D.faults disk.new) result }
 {
     log.prepare(disk)?;
     log.publish(disk)
@@ -204,6 +212,7 @@ pub(crate) fn write_drop<D: Disk>(
 ) -> Result<(), StoreStop>
     requires { IsAtRest (D.len disk.old) log.old }
     ensures at_rest { OnOk result (IsAtRest (D.len disk.new) log.new) }
+    ensures gate { OnOk result (log.new.gate ≡ gate_behind log.old.gate (1 + length name.now)) }
     ensures rests { D.tells → (header : Header) (bodies : List (List ℕ)) →
         Rests header bodies log.old (D.seen disk.old) (D.pending disk.old) →
         OnOk result (Rests header (bodies ++ sealed (6 ∷ name.now) ∷ []) log.new
@@ -218,8 +227,10 @@ pub(crate) fn write_drop<D: Disk>(
         (first_full log.old.limit (group_asks log.old.gate (1 + length name.now)))) }
     ensures fits { OnOk result
         (first_full log.old.limit (group_asks log.old.gate (1 + length name.now)) ≡ None) }
+    ensures gate_kept { OnErr result (log.new.gate ≡ log.old.gate) }
     ensures limit { log.new.limit ≡ log.old.limit }
     ensures later { D.faults disk.old ≤ D.faults disk.new }
+    ensures steady { Steady (D.faults disk.old) (D.faults disk.new) result }
 {
     spell_drop(name, spelled)?;
     write_group(log, disk, spelled.as_slice())?;

@@ -1,9 +1,9 @@
 // Laws that tie what a store keeps of a disk to what an image stands for. Each is the contract of a function that does nothing.
-ghost use Rattle.store_journal.specs.Standing.{GroupsStand, FaultsStand};
+ghost use Rattle.store_journal.specs.Standing.{GroupsStand, NewStands};
 
 /// An image that has the groups which make some subvolumes stands for these. So where a crash leaves the groups that there were, or
-/// these and one more, it leaves what stands for the subvolumes before or after. One in which a group is at fault stands for none.
+/// these and one more, it leaves what stands for the subvolumes before or after. A new store stands for no entries.
 pub fn groups_stand_for_subvolumes()
     ensures stand { GroupsStand }
-    ensures faults { FaultsStand }
+    ensures new { NewStands }
 {}

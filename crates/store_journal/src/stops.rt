@@ -1,7 +1,6 @@
 // Why a call of the store stops.
 ghost use Rattle.std.specs.Prelude.{◌≡◌};
 ghost use Rattle.store_journal.specs.declared.stops.StoreStop.TheVariants as stop;
-ghost use Rattle.store_journal.specs.declared.stops.ScrubStop.TheVariants as scrub;
 
 use group_log::LogStop;
 use std::alloc::AllocError;
@@ -35,35 +34,5 @@ impl From<LogStop> for StoreStop {
 
     fn from(log: LogStop) -> StoreStop {
         StoreStop::Log(log)
-    }
-}
-
-/// How many groups there are, and how many of them have no checksum.
-#[derive(Debug, Clone, Copy, PartialEq, Eq)]
-pub struct Scrub {
-    pub groups: u64,
-    pub unsealed: u64,
-}
-
-/// Why a scrub stops.
-#[derive(Debug, Drop, Error)]
-pub enum ScrubStop {
-    /// The journal stopped, or a group is at fault that is not damaged.
-    #[error("{0}")]
-    Log(LogStop),
-    /// A group has another checksum than the one that stands behind it.
-    #[error("damaged: group {group}")]
-    Damaged {
-        group: u64,
-        stored: u32,
-        computed: u32,
-    },
-}
-
-impl From<LogStop> for ScrubStop {
-    ghost from_gives = { λ l e. e ≡ scrub.Log l };
-
-    fn from(log: LogStop) -> ScrubStop {
-        ScrubStop::Log(log)
     }
 }
