@@ -26,7 +26,9 @@ use Rattle.store_journal.specs.Shown.{StoreState}
 use Rattle.store_journal.specs.Holding.{as_runs, bodies_of, new_group, edits_head, open_state, HasThese, HasOneMore, Holds, Builds}
 use Rattle.store_journal.specs.Answers.{groups_without}
 use Rattle.store_journal.proofs.Pushes.{bodies_push, all_push, canonical_push, makes_push, edits_push, none_dropped}
+use Rattle.store_journal.specs.Kept.{IsKept, AreKept}
 use Rattle.store_journal.proofs.Beginning.{begun_marks, begun_resumes}
+use Rattle.store_journal.proofs.KeptParts.{begun_kept, unfinished_kept}
 
 module _ (header : Header) (groups : List Group) where
   -- the bodies of one group more
@@ -71,27 +73,45 @@ module _ (header : Header) (groups : List Group) (store : StoreState) (c : Comma
       makes_push None as_runs header groups store.core new (new_group (Mark c)) store.log.gate h.makes h.rests.behind.place (new_is (Mark c) spellable)
       (begun_marks store.core new c head part is begins.0 begins.1 begins.2)
 
-  head_builds : (head : Head) (version : ℕ) (after : StoreState) (now : List ℕ) (known : Pending) → head_of c ≡ Some head → IsSpellable 1 c → is_version version ≡ true → Begins (Ok part) head store.core new → after.core ≡ new
-      → Grows header (bodies_of groups ++ sealed (4 ∷ canonical 1 c) ∷ []) (edits_head part.key.uuid version) after.log now known
-      → Builds header (groups ++ new_group (Mark c) ∷ []) version [] part after now known
-  unfolding edits_made canonical_all
-  head_builds head version after now known is spellable known_version begins same grows =
-      let size : length part.key.uuid ≡ 16 = ap (λ (k : Key). length k.uuid) begins.1 ∙ (head_uuid_fits 1 c head is spellable).0 in
-      record {
-        grows = subst (λ (l : List ℕ). Grows header (bodies_of (groups ++ new_group (Mark c) ∷ [])) l after.log now known) (sym (append-nil (edits_head part.key.uuid version)))
-            (more_grows header groups (new_group (Mark c)) (sealed (4 ∷ canonical 1 c)) (edits_head part.key.uuid version) now after.log known refl grows);
-        makes = subst (λ (s : Store (Option Place)). Makes None as_runs header.format (groups ++ new_group (Mark c) ∷ []) s) (sym same) (mark_makes head is spellable begins);
-        says = (size, known_version, tt);
-        start = record { store = after.core; part = Some part };
-        begins = begun_resumes store.core after.core head part begins.0 begins.1 (same ∙ begins.2);
-        becomes = refl;
-      }
+  head_holds : (head : Head) (after : StoreState) (now : List ℕ) (known : Pending) → head_of c ≡ Some head → IsSpellable 1 c → Begins (Ok part) head store.core new → after.core ≡ new
+      → Rests header (bodies_of groups ++ sealed (4 ∷ canonical 1 c) ∷ []) after.log now known → Holds header (groups ++ new_group (Mark c) ∷ []) after now known
+  head_holds head after now known is spellable begins same rests = record {
+    rests = more_rests header groups (new_group (Mark c)) (sealed (4 ∷ canonical 1 c)) now after.log known refl rests;
+    makes = subst (λ (s : Store (Option Place)). Makes None as_runs header.format (groups ++ new_group (Mark c) ∷ []) s) (sym same) (mark_makes head is spellable begins);
+  }
 
-  pub begin_builds : (o : Option Head) (version : ℕ) (after : StoreState) (now : List ℕ) (known : Pending) → head_of c ≡ o → IsTrue (is_some o) → IsSpellable 1 c → is_version version ≡ true → IfSome o (λ head. Begins (Ok part) head store.core new) → after.core ≡ new
-      → Grows header (bodies_of groups ++ sealed (4 ∷ canonical 1 c) ∷ []) (edits_head part.key.uuid version) after.log now known
-      → Builds header (groups ++ new_group (Mark c) ∷ []) version [] part after now known
-  begin_builds None version after now known is there spellable known_version begins same grows = cc
-  begin_builds (Some head) version after now known is there spellable known_version begins same grows = head_builds head version after now known is spellable known_version begins same grows
+  pub mark_holds : (o : Option Head) (after : StoreState) (now : List ℕ) (known : Pending) → head_of c ≡ o → IsTrue (is_some o) → IsSpellable 1 c → IfSome o (λ head. Begins (Ok part) head store.core new) → after.core ≡ new
+      → Rests header (bodies_of groups ++ sealed (4 ∷ canonical 1 c) ∷ []) after.log now known → Holds header (groups ++ new_group (Mark c) ∷ []) after now known
+  mark_holds None after now known is there spellable begins same rests = cc
+  mark_holds (Some head) after now known is there spellable begins same rests = head_holds head after now known is spellable begins same rests
+
+-- the part that a head begins is the one that its entry is taken up again as
+pub begun_again : (store new : Store (Option Place)) (c : Command) (o : Option Head) (part : Part (Option Place)) → head_of c ≡ o → IsTrue (is_some o) → IsSpellable 1 c → IfSome o (λ head. Begins (Ok part) head store new)
+    → (length part.key.uuid ≡ 16) × (resumed new part.key.uuid ≡ Some (open_state new part))
+begun_again store new c None part is there spellable begins = cc
+begun_again store new c (Some head) part is there spellable begins =
+    (ap (λ (k : Key). length k.uuid) begins.1 ∙ (head_uuid_fits 1 c head is spellable).0, begun_resumes store new head part begins.0 begins.1 begins.2)
+
+-- and it is kept, beside the others
+pub begun_are_kept : (end : ℕ) (store new : Store (Option Place)) (o : Option Head) (part : Part (Option Place)) → IsTrue (is_some o) → IfSome o (λ head. Begins (Ok part) head store new) → AreKept end store → IsKept end part.subvolume × AreKept end new
+begun_are_kept end store new None part there begins all = cc
+begun_are_kept end store new (Some head) part there begins all =
+    (begun_kept end store head part.subvolume all begins.0, subst (λ (s : Store (Option Place)). AreKept end s) (sym begins.2) (unfinished_kept end store head all))
+
+-- ---- a group of edits that begins
+
+pub start_builds : (header : Header) (groups : List Group) (version : ℕ) (part : Part (Option Place)) (store after : StoreState) (seen now : List ℕ) (pending known : Pending) → Holds header groups store seen pending
+    → length part.key.uuid ≡ 16 → is_version version ≡ true → resumed store.core part.key.uuid ≡ Some (open_state store.core part) → after.core ≡ store.core
+    → Grows header (bodies_of groups) (edits_head part.key.uuid version) after.log now known → Builds header groups version [] part after now known
+unfolding edits_made canonical_all
+start_builds header groups version part store after seen now pending known h sixteen known_version begins same grows = record {
+  grows = subst (λ (l : List ℕ). Grows header (bodies_of groups) l after.log now known) (sym (append-nil (edits_head part.key.uuid version))) grows;
+  makes = subst (λ (s : Store (Option Place)). Makes None as_runs header.format groups s) (sym same) h.makes;
+  says = (sixteen, known_version, tt);
+  start = open_state after.core part;
+  begins = subst (λ (s : Store (Option Place)). resumed s part.key.uuid ≡ Some (open_state s part)) (sym same) begins;
+  becomes = refl;
+}
 
 -- ---- an edit
 

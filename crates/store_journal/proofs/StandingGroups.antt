@@ -46,12 +46,6 @@ stand header groups core image has makes =
       makes = record { lawful = makes.lawful; made = made_in_places groups core makes.made };
     })
 
--- ---- a group at fault
-
-parts_fit : (xs : List (List ℕ)) (x : List ℕ) → AllByRecursion IsShort (xs ++ x ∷ []) → AllByRecursion IsShort xs × IsShort x
-parts_fit [] x all = (tt, all.0)
-parts_fit (y ∷ xs) x all = let more = parts_fit xs x all.1 in ((all.0, more.0), more.1)
-
 pub new_stands : NewStands
 unfolding made_all
 new_stands = record {

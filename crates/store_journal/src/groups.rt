@@ -157,6 +157,8 @@ pub(crate) fn write_edit<D: Disk>(
     requires spellable { IsSpellable version (meaning_of c.now) }
     ensures in_progress { OnOk result (IsInProgress (D.len disk.new) log.new) }
     ensures gate { log.new.gate ≡ log.old.gate }
+    ensures size { OnOk result (log.new.size
+        ≡ log.old.size + length (canonical version (meaning_of c.now))) }
     ensures grows { D.tells → (header : Header) (bodies : List (List ℕ)) (body : List ℕ) →
         Grows header bodies body log.old (D.seen disk.old) (D.pending disk.old) →
         OnOk result (Grows header bodies (body ++ canonical version (meaning_of c.now)) log.new

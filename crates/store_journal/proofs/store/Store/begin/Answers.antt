@@ -1,41 +1,30 @@
-use Rattle.std.proofs.Common.{◌≡◌, ℕ, List, [], ◌∷◌, ◌++◌, inl, sym, subst, ap, ◌∙◌}
-use Rattle.sx_base.proofs.DiskMoments.{begins, weakens}
-use Rattle.send_model.specs.Store.{Key, head_of}
-use Rattle.send_model.specs.Spelling.{canonical}
-use Rattle.store_model.specs.Image.{sealed}
-use Rattle.store_model.specs.Stored.{Mark}
+use Rattle.std.proofs.Common.{◌≡◌, ℕ, List, [], ◌∷◌, ◌++◌, ◌⊎◌, inl, inr, sym, subst, ap, ◌∙◌, refl}
+use Rattle.sx_base.specs.Crash.{LeavesOnly}
+use Rattle.sx_base.proofs.DiskMoments.{joins, weakens}
+use Rattle.store_model.specs.Image.{Header}
+use Rattle.store_model.specs.Stored.{Group, Mark}
 use Rattle.send_commands.specs.Meaning.{meaning_of}
-use Rattle.group_log.specs.Journal.{Grows}
-use Rattle.group_log.proofs.GatedGroups.{rests_has}
-use Rattle.store_journal.specs.Shown.{StoreState}
-use Rattle.store_journal.specs.Holding.{bodies_of, new_group, edits_head, Holds}
-use Rattle.store_journal.proofs.Keeping.{more_has, begin_builds}
+use Rattle.store_journal.specs.Holding.{new_group, HasOneMore, Holds}
+use Rattle.store_journal.proofs.store.Store.begin.Given.{Over}
+use Rattle.store_journal.proofs.store.Store.begin.Goals.{After-start}
 use Rattle.store_journal.proofs.store.Store.begin.Goals as goal
-use Rattle.std.proofs.Common.{refl}
 
-pub returns-in-Err-Refused-clause-any_moment : goal.returns-in-Err-Refused-clause-any_moment
-returns-in-Err-Refused-clause-any_moment g c tells header groups holds =
-    begins c.args.disk.now (λ image. g.met.D.Disk.only_now c.args.disk.now image tells) (λ image is. inl (rests_has header (bodies_of groups) _ _ _ holds.rests image is))
+-- With the group of the head there, a crash leaves it too, whether or not the next group began.
+moments : (g : Over) (c : After-start g) → g.D.Disk.tells → (header : Header) (groups : List Group) → Holds header groups c.args.self.now (g.D.Disk.seen c.args.disk.now) (g.D.Disk.pending c.args.disk.now)
+    → LeavesOnly g.D.Disk.moment g.D.Disk.left_since c.args.disk.now c.start.new.disk (HasOneMore header groups (new_group (Mark (meaning_of c.args.head.now))))
+moments g c tells header groups holds =
+    joins (c.mark.ensures.any_moment tells header groups holds)
+    (weakens (c.start.ensures.any_moment tells header _ (c.in_ok-part.ensures.holds tells header groups holds)) (λ image has. inr has))
 
-pub returns-in-Err-NoMemory-clause-any_moment : goal.returns-in-Err-NoMemory-clause-any_moment
-returns-in-Err-NoMemory-clause-any_moment g c tells header groups holds =
-    begins c.args.disk.now (λ image. g.met.D.Disk.only_now c.args.disk.now image tells) (λ image is. inl (rests_has header (bodies_of groups) _ _ _ holds.rests image is))
+pub returns-in_err-start-clause-any_moment : goal.returns-in_err-start-clause-any_moment
+returns-in_err-start-clause-any_moment g c = moments g (goal.at.returns-in_err-start-clause-any_moment g c).After-start
 
-pub returns-in-Ok-write_head-clause-builds : goal.returns-in-Ok-write_head-clause-builds
-returns-in-Ok-write_head-clause-builds g c tells header groups holds =
-    let seen = g.D.Disk.seen c.args.disk.now in
-    let pending = g.D.Disk.pending c.args.disk.now in
-    let was = subst (λ (s : StoreState). Holds header groups s seen pending) (sym c.self.view_is) holds in
-    let grown = c.in-Ok-write_head.ensures.grows tells header (bodies_of groups) was.rests in
-    begin_builds header groups _ (meaning_of c.args.head.now) c.in-Ok.part c.begin.new.self seen pending was (head_of (meaning_of c.args.head.now)) c.args.version _ _ _ refl c.requires.head c.requires.spellable c.requires.version c.in-Ok.ensures.begun refl
-    (subst (λ (u : List ℕ). Grows header (bodies_of groups ++ sealed (4 ∷ canonical 1 (meaning_of c.args.head.now)) ∷ []) (edits_head u c.args.version) c.write_head.new.log (g.D.Disk.seen c.write_head.new.disk) (g.D.Disk.pending c.write_head.new.disk)) (ap (λ (k : Key). k.uuid) c.key-key.ensures) grown)
+pub returns-clause-any_moment : goal.returns-clause-any_moment
+returns-clause-any_moment g c = moments g (goal.at.returns-clause-any_moment g c).After-start
 
-pub returns-in-Ok-write_head-clause-any_moment : goal.returns-in-Ok-write_head-clause-any_moment
-returns-in-Ok-write_head-clause-any_moment g c tells header groups holds =
-    let was = subst (λ (s : StoreState). Holds header groups s (g.D.Disk.seen c.args.disk.now) (g.D.Disk.pending c.args.disk.now)) (sym c.self.view_is) holds in
-    weakens (c.write_head.ensures.any_moment tells header (bodies_of groups) was.rests) (λ image has. more_has header groups (new_group (Mark (meaning_of c.args.head.now))) _ image refl has)
+pub returns-clause-still_open : goal.returns-clause-still_open
+returns-clause-still_open g c = c.in_ok-start.ensures.still_open c.in_ok-part.part (sym c.key.ensures) c.in_ok-part.ensures.kept
 
-pub returns-in-Err-clause-any_moment : goal.returns-in-Err-clause-any_moment
-returns-in-Err-clause-any_moment g c tells header groups holds =
-    let was = subst (λ (s : StoreState). Holds header groups s (g.D.Disk.seen c.args.disk.now) (g.D.Disk.pending c.args.disk.now)) (sym c.self.view_is) holds in
-    weakens (c.write_head.ensures.any_moment tells header (bodies_of groups) was.rests) (λ image has. more_has header groups (new_group (Mark (meaning_of c.args.head.now))) _ image refl has)
+pub returns-clause-builds : goal.returns-clause-builds
+returns-clause-builds g c tells header groups holds =
+    c.in_ok-start.ensures.builds tells header _ c.in_ok-part.part (c.in_ok-part.ensures.holds tells header groups holds) (sym c.key.ensures) c.in_ok-part.ensures.again.0 c.in_ok-part.ensures.again.1

@@ -1,4 +1,4 @@
-use Rattle.std.proofs.Common.{◌≡◌, ℕ, Bool, true, false, List, [], ◌∷◌, ◌++◌, inl, sym, subst, ap, ◌∙◌, refl}
+use Rattle.std.proofs.Common.{◌≡◌, ℕ, Bool, true, false, List, [], ◌∷◌, ◌++◌, inl, sym, subst, ap, ◌∙◌, refl, arith}
 use Rattle.sx_base.proofs.DiskMoments.{begins, weakens}
 use Rattle.send_model.specs.Store.{Store, has_name}
 use Rattle.store_model.specs.Stored.{Drop}
@@ -12,6 +12,9 @@ use Rattle.store_journal.specs.Holding.{bodies_of, new_group, Holds}
 use Rattle.store_journal.proofs.Pushes.{none_dropped}
 use Rattle.store_journal.proofs.Keeping.{more_has, more_rests, drop_makes}
 use Rattle.store_journal.proofs.store.Store.drop_name.Given.{Over}
+use Rattle.store_journal.specs.Kept.{AreKept}
+use Rattle.store_journal.proofs.KeptParts.{all_further, dropped_kept}
+use Rattle.store_journal.proofs.store.Store.drop_name.Goals.{After-drop_name}
 use Rattle.store_journal.proofs.store.Store.drop_name.Goals as goal
 
 pub returns-then-not-drop_name-clause-missing : goal.returns-then-not-drop_name-clause-missing
@@ -49,3 +52,21 @@ pub returns-in-Err-clause-any_moment : goal.returns-in-Err-clause-any_moment
 returns-in-Err-clause-any_moment g c tells header groups holds =
     let was = subst (λ (s : StoreState). Holds header groups s (g.D.Disk.seen c.args.disk.now) (g.D.Disk.pending c.args.disk.now)) (sym c.self.view_is) holds in
     weakens (c.write_drop.ensures.any_moment tells header (bodies_of groups) was.rests) (λ image has. more_has header groups (new_group (Drop c.args.name.now)) _ image refl has)
+
+-- The bytes of the others stand where they stood.
+module _ (g : Over) where
+  others : (c : After-drop_name g) → AreKept c.self.inside.log.gate c.drop_name.new.self
+  others c = subst (λ (s : Store (Option Place)). AreKept c.self.inside.log.gate s) (sym c.drop_name.ensures.dropped) (dropped_kept c.self.inside.log.gate c.args.name.now c.self.inside.core c.self.invariant)
+
+pub invariant_of-self : goal.invariant_of-self
+invariant_of-self g c = others g (goal.at.invariant_of-self g c).After-drop_name
+
+pub invariant_of-self-in-Ok : goal.invariant_of-self-in-Ok
+invariant_of-self-in-Ok g c =
+    let gate = c.in-Ok.ensures.gate in
+    all_further c.self.inside.log.gate c.write_drop.new.log.gate (omega (arith, gate)) c.drop_name.new.self (others g (goal.at.invariant_of-self-in-Ok g c).After-drop_name)
+
+pub invariant_of-self-in-Err : goal.invariant_of-self-in-Err
+invariant_of-self-in-Err g c =
+    let gate = c.in-Err.ensures.gate_kept in
+    all_further c.self.inside.log.gate c.write_drop.new.log.gate (omega (arith, gate)) c.drop_name.new.self (others g (goal.at.invariant_of-self-in-Err g c).After-drop_name)

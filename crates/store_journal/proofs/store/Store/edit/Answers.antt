@@ -10,7 +10,7 @@ use Rattle.send_model.specs.Spelling.{canonical_all, attributes_of}
 use Rattle.send_model.specs.Reading.{data_place}
 use Rattle.send_model.specs.Receive.{bytes_of}
 use Rattle.send_model.specs.Subvolume.{Subvolume}
-use Rattle.send_model.specs.Store.{Store, edit_part}
+use Rattle.send_model.specs.Store.{Key, Store, edit_part}
 use Rattle.extent_map.specs.Pieces.{run_cells}
 use Rattle.send_commands.specs.Meaning.{meaning_of}
 use Rattle.send_commands.specs.Writing.{data_at}
@@ -21,20 +21,21 @@ use Rattle.store_journal.specs.Placing.{further}
 use Rattle.store_journal.specs.Shown.{StoreState}
 use Rattle.store_journal.specs.Holding.{as_runs, bodies_of, edits_head, Builds}
 use Rattle.store_journal.proofs.Keeping.{edit_builds}
-use Rattle.store_journal.proofs.Editing.{is_edited, short_data, near_data, edit_same, short_enough}
+use Rattle.store_journal.proofs.KeptParts.{run_before, kept_further, all_further, edit_kept}
+use Rattle.store_journal.proofs.Editing.{data_in_frame, is_edited, short_data, near_data, edit_same, short_enough}
 use Rattle.store_journal.proofs.store.Store.edit.Given.{Over}
 use Rattle.store_journal.proofs.store.Store.edit.Goals as goal
 
 pub overflow_add-place : goal.overflow_add-place
 overflow_add-place g c =
     let far = near_data c.args.version (meaning_of c.args.c.now) c.requires.edit.1 in
-    omega (arith, far, ap (λ (o : Option ℕ). unwrap_or o 0) c.data_place.ensures.place, c.unwrap_or.ensures, c.end.ensures, c.self.invariant, ap (λ (s : StoreState). s.log.size) c.self.view_is, ap (λ (s : StoreState). s.log.limit) c.self.view_is, c.requires.is_open.progress.room)
+    omega (arith, far, ap (λ (o : Option ℕ). unwrap_or o 0) c.data_place.ensures.place, c.unwrap_or.ensures, c.end.ensures, ap (λ (s : StoreState). s.log.size) c.self.view_is, c.requires.is_open.progress.bounded, c.requires.is_open.progress.room)
 
 pub edit-requires-clause-reach : goal.edit-requires-clause-reach
 edit-requires-clause-reach g c =
     let far = near_data c.args.version (meaning_of c.args.c.now) c.requires.edit.1 in
     let short = short_data c.args.version (meaning_of c.args.c.now) c.requires.edit.1 in
-    omega (arith, far, short, ap (λ (o : Option ℕ). unwrap_or o 0) c.data_place.ensures.place, c.unwrap_or.ensures, c.end.ensures, c.self.invariant, ap (λ (s : StoreState). s.log.size) c.self.view_is, ap (λ (s : StoreState). s.log.limit) c.self.view_is, c.requires.is_open.progress.room)
+    omega (arith, far, short, ap (λ (o : Option ℕ). unwrap_or o 0) c.data_place.ensures.place, c.unwrap_or.ensures, c.end.ensures, ap (λ (s : StoreState). s.log.size) c.self.view_is, c.requires.is_open.progress.bounded, c.requires.is_open.progress.room)
 
 pub returns-in-Err-Refused-clause-edited : goal.returns-in-Err-Refused-clause-edited
 returns-in-Err-Refused-clause-edited g c =
@@ -77,3 +78,23 @@ pub returns-in-Err-clause-any_moment : goal.returns-in-Err-clause-any_moment
 returns-in-Err-clause-any_moment g c tells header groups commands builds =
     let was = subst (λ (s : StoreState). Builds header groups c.args.version commands c.args.part.now s (g.D.Disk.seen c.args.disk.now) (g.D.Disk.pending c.args.disk.now)) (sym c.self.view_is) builds in
     c.write_edit.ensures.any_moment tells header (bodies_of groups) _ was.grows
+
+-- The bytes that the edit puts stand in its frame.
+pub returns-in-Ok-write_edit-clause-still_open : goal.returns-in-Ok-write_edit-clause-still_open
+returns-in-Ok-write_edit-clause-still_open g c =
+    let was = c.requires.is_open in
+    let end : c.self.inside.log.size ≡ c.args.self.now.log.size = ap (λ (s : StoreState). s.log.size) c.self.view_is in
+    let gate : c.self.inside.log.gate ≡ c.args.self.now.log.gate = ap (λ (s : StoreState). s.log.gate) c.self.view_is in
+    let size = c.in-Ok-write_edit.ensures.size in
+    let far : ℕ = c.write_edit.new.log.size in
+    record {
+      progress = c.in-Ok-write_edit.ensures.in_progress;
+      live = ap (λ (s : StoreState). s.is_live) c.self.view_is ∙ was.live;
+      open_is = ap (λ (s : StoreState). s.open_part) c.self.view_is ∙ was.open_is ∙ ap (λ (k : Key). Some k) (sym c.edit.ensures.key);
+      kept = edit_kept far c.args.version (run_cells further (record { at = c.end.result + c.unwrap_or.result }) (data_len (meaning_of c.args.c.now))) c.self.inside.core c.args.part.now (meaning_of c.args.c.now) c.edit.new.part.subvolume c.requires.edit.1
+          (run_before (c.end.result + c.unwrap_or.result) (data_len (meaning_of c.args.c.now)) far
+          (omega (arith, size, c.end.ensures, c.unwrap_or.ensures, ap (λ (o : Option ℕ). unwrap_or o 0) c.data_place.ensures.place, data_in_frame c.args.version (meaning_of c.args.c.now))))
+          (all_further c.self.inside.log.gate far (omega (arith, size, end, gate, was.progress.begun)) c.self.inside.core c.self.invariant)
+          (kept_further c.args.self.now.log.size far (omega (arith, size, end)) c.args.part.now.subvolume was.kept)
+          c.in-Ok.ensures.edited;
+    }
