@@ -1,5 +1,5 @@
 -- A head that begins an entry, and the part that is taken up again from it.
-use Rattle.std.proofs.Common.{◌≡◌, ℕ, Bool, true, false, ◌&&◌, ◌||◌, List, [], ◌∷◌, ◌++◌, Option, None, Some, Result, Ok, Err, is_none, if◌then◌else◌, refl, sym, ◌∙◌, ap, subst}
+use Rattle.std.proofs.Common.{◌≡◌, ℕ, Bool, true, false, ◌&&◌, ◌||◌, List, [], ◌∷◌, ◌++◌, Option, None, Some, Result, Ok, Err, is_none, if◌then◌else◌, refl, sym, ◌∙◌, ap}
 use Rattle.std.specs.Str.{bytes_eq}
 use Rattle.std.specs.Option.{option_map}
 use Rattle.send_model.specs.Refusal.{Refusal, NoParent}
@@ -10,7 +10,7 @@ use Rattle.send_model.specs.Store.{Key, same_key, Head, Entry, Store, Part, Stat
 use Rattle.send_model.specs.Receive.{start_of}
 use Rattle.send_model.proofs.Stores.{bytes_eq_same}
 use Rattle.send_model.proofs.Merging.{begun_begins}
-use Rattle.store_model.specs.Stored.{taken, marked, is_unfinished, unfinished_at, started, resumed}
+use Rattle.store_model.specs.Stored.{taken, marked, unfinished_at, started, resumed}
 
 module _ {C : Type 0} where
   at_rest : (store : Store C) → store ≡ completed (start_of store)

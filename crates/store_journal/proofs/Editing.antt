@@ -1,12 +1,12 @@
 -- Edits of the open part: that they are edits, where their data stand, and that they are short.
-use Rattle.std.specs.Prelude.{◌≡◌, ℕ, ◌+◌, ◌-◌, ◌^◌, ◌<◌, ◌≤◌, ◌==◌, Bool, true, false, ◌&&◌, not, List, [], ◌∷◌, ◌++◌, length, Option, None, Some, Result, is_none, if◌then◌else◌}
+use Rattle.std.specs.Prelude.{◌≡◌, ℕ, ◌+◌, ◌^◌, ◌≤◌, ◌==◌, Bool, true, false, List, [], ◌++◌, length, Option, None, Some, Result, if◌then◌else◌}
 use Rattle.std.specs.Int.{w16, w32, to_le_bytes}
 use Rattle.std.specs.Option.{unwrap_or}
-use Rattle.std.proofs.Common.{refl, sym, ◌∙◌, ap, subst, arith, length-append, zero-le}
-use Rattle.send_model.specs.Attribute.{PATH, FILE_OFFSET, DATA, field_bytes, Number, HasRoom, takes_rest}
+use Rattle.std.proofs.Common.{refl, sym, ◌∙◌, ap, arith, length-append, zero-le}
+use Rattle.send_model.specs.Attribute.{PATH, FILE_OFFSET, DATA, field_bytes, Number, takes_rest}
 use Rattle.send_model.specs.Command.{Command, Subvol, Snapshot, Write, End, row, kind_of}
-use Rattle.send_model.specs.Spelling.{Attribute, length_bytes, attribute_bytes, body_of, attributes_of, frame_of, frame_checksum, canonical, greatest_body, IsSpellable}
-use Rattle.send_model.specs.Reading.{data_place, place_of, attribute_head}
+use Rattle.send_model.specs.Spelling.{Attribute, length_bytes, attribute_bytes, body_of, attributes_of, frame_of, frame_checksum, canonical, IsSpellable}
+use Rattle.send_model.specs.Reading.{data_place, attribute_head}
 use Rattle.send_model.specs.Receive.{bytes_of}
 use Rattle.send_model.specs.Refusal.{Refusal}
 use Rattle.send_model.specs.Subvolume.{Subvolume}

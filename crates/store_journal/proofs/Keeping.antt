@@ -1,31 +1,25 @@
 -- What a store keeps of a disk, call by call, over plain values.
-use Rattle.std.specs.Prelude.{◌≡◌, ◌⊎◌, ℕ, ◌+◌, Bool, true, false, not, List, [], ◌∷◌, ◌++◌, length, map, Option, None, Some, Result, Ok, Err, IfSome, IsTrue, is_some, if◌then◌else◌}
+use Rattle.std.specs.Prelude.{◌≡◌, ◌⊎◌, ℕ, ◌+◌, Bool, true, not, List, [], ◌∷◌, ◌++◌, length, Option, None, Some, Ok, IfSome, IsTrue, is_some, if◌then◌else◌}
 use Rattle.std.specs.Option.{option_map}
 use Rattle.std.specs.List.{filter}
 use Rattle.std.specs.Str.{bytes_eq}
-use Rattle.std.proofs.Common.{inl, inr, ⊎_elim, refl, sym, ap, subst, ◌∙◌, arith, length-append, append_assoc}
+use Rattle.std.proofs.Common.{inl, inr, refl, sym, ap, subst, ◌∙◌, arith, length-append, append_assoc}
 use Rattle.std.proofs.lemmas.List.{append-nil}
 use Rattle.sx_base.specs.Disk.{Pending}
-use Rattle.sx_base.specs.declared.stop.Stop.{Stop}
-use Rattle.send_model.specs.Refusal.{Refusal}
 use Rattle.send_model.specs.Command.{Command}
 use Rattle.send_model.specs.Spelling.{canonical, canonical_all, attributes_of, IsSpellable}
 use Rattle.send_model.specs.Reading.{is_version, data_place}
 use Rattle.send_model.specs.Receive.{bytes_of}
-use Rattle.send_model.specs.Subvolume.{Subvolume}
-use Rattle.send_model.specs.Store.{Key, Head, Store, Part, State, Stepped, has_name, head_of, begun, unfinished, with_contents, completed, edit_part, edited, step_edit}
+use Rattle.send_model.specs.Store.{Key, Head, Store, Part, State, Stepped, has_name, head_of, with_contents, completed, edit_part, edited, step_edit}
 use Rattle.store_model.specs.Image.{Header, HasGroups, sealed, front_of}
-use Rattle.send_model.proofs.LawfulStores.{head_uuid_fits}
 use Rattle.group_log.specs.State.{LogState}
-use Rattle.group_log.specs.Journal.{Rests, Grows, IsInProgress}
+use Rattle.group_log.specs.Journal.{Rests, Grows}
 use Rattle.clone_resolve.specs.Heads.{Begins}
-use Rattle.clone_resolve.specs.Steps.{data_len}
-use Rattle.store_model.specs.Stored.{Content, Mark, Body, Drop, Group, body_bytes, IsEdit, IsContent, IsGroup, Putting, body_at, frames_at, taken, marked, resumed, edits_made, dropped, made, Makes}
+use Rattle.store_model.specs.Stored.{Content, Mark, Body, Drop, Group, body_bytes, IsEdit, IsContent, IsGroup, body_at, frames_at, taken, resumed, edits_made, dropped, made, Makes}
 use Rattle.store_journal.specs.declared.place.Place.{Place}
 use Rattle.store_journal.specs.Shown.{StoreState}
-use Rattle.store_journal.specs.Holding.{as_runs, bodies_of, new_group, edits_head, open_state, HasThese, HasOneMore, Holds, Builds}
-use Rattle.store_journal.specs.Answers.{groups_without}
-use Rattle.store_journal.proofs.Pushes.{bodies_push, all_push, canonical_push, makes_push, edits_push, none_dropped}
+use Rattle.store_journal.specs.Holding.{as_runs, bodies_of, new_group, edits_head, open_state, HasOneMore, Holds, Builds}
+use Rattle.store_journal.proofs.Pushes.{bodies_push, all_push, canonical_push, makes_push, edits_push}
 use Rattle.store_journal.specs.Kept.{IsKept, AreKept}
 use Rattle.store_journal.proofs.Beginning.{begun_marks, begun_resumes}
 use Rattle.store_journal.proofs.KeptParts.{begun_kept, unfinished_kept}
@@ -86,11 +80,9 @@ module _ (header : Header) (groups : List Group) (store : StoreState) (c : Comma
   mark_holds (Some head) after now known is there spellable begins same rests = head_holds head after now known is spellable begins same rests
 
 -- the part that a head begins is the one that its entry is taken up again as
-pub begun_again : (store new : Store (Option Place)) (c : Command) (o : Option Head) (part : Part (Option Place)) → head_of c ≡ o → IsTrue (is_some o) → IsSpellable 1 c → IfSome o (λ head. Begins (Ok part) head store new)
-    → (length part.key.uuid ≡ 16) × (resumed new part.key.uuid ≡ Some (open_state new part))
-begun_again store new c None part is there spellable begins = cc
-begun_again store new c (Some head) part is there spellable begins =
-    (ap (λ (k : Key). length k.uuid) begins.1 ∙ (head_uuid_fits 1 c head is spellable).0, begun_resumes store new head part begins.0 begins.1 begins.2)
+pub begun_again : (store new : Store (Option Place)) (o : Option Head) (part : Part (Option Place)) → IsTrue (is_some o) → IfSome o (λ head. Begins (Ok part) head store new) → resumed new part.key.uuid ≡ Some (open_state new part)
+begun_again store new None part there begins = cc
+begun_again store new (Some head) part there begins = begun_resumes store new head part begins.0 begins.1 begins.2
 
 -- and it is kept, beside the others
 pub begun_are_kept : (end : ℕ) (store new : Store (Option Place)) (o : Option Head) (part : Part (Option Place)) → IsTrue (is_some o) → IfSome o (λ head. Begins (Ok part) head store new) → AreKept end store → IsKept end part.subvolume × AreKept end new

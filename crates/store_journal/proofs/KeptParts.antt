@@ -1,5 +1,5 @@
 -- Subvolumes that are kept stay so: what a part begins with, what an edit makes of it, and the others beside it.
-use Rattle.std.specs.Prelude.{◌≡◌, ℕ, zero, suc, ◌+◌, ◌<◌, ◌≤◌, Bool, true, false, not, List, [], ◌∷◌, ◌++◌, map, Option, None, Some, Result, Ok, Err, IfSome, cond, if◌then◌else◌}
+use Rattle.std.specs.Prelude.{◌≡◌, ℕ, zero, suc, ◌+◌, ◌≤◌, Bool, true, false, not, List, [], ◌∷◌, ◌++◌, map, Option, None, Some, Ok, IfSome, if◌then◌else◌}
 use Rattle.std.specs.List.{AllByRecursion, filter, range_with_len}
 use Rattle.std.specs.Str.{bytes_eq}
 use Rattle.std.proofs.Common.{refl, subst, arith}
@@ -9,8 +9,7 @@ use Rattle.send_model.specs.Chain.{found}
 use Rattle.send_model.specs.Command.{Command, Clone}
 use Rattle.send_model.specs.Spelling.{IsSpellable}
 use Rattle.send_model.specs.Subvolume.{Subvolume, root_alone}
-use Rattle.send_model.specs.Cells.{Holds}
-use Rattle.send_model.specs.Store.{Key, same_key, Head, Entry, Store, Part, State, find, start_from, begun, unfinished, with_contents, clone_source, edit_part}
+use Rattle.send_model.specs.Store.{Key, same_key, Head, Store, Part, State, find, start_from, begun, unfinished, with_contents, clone_source, edit_part}
 use Rattle.send_model.proofs.Fuel.{ok_same}
 use Rattle.send_model.proofs.Sorts.{same_inside}
 use Rattle.send_model.proofs.Merging.{begun_begins}
@@ -21,7 +20,6 @@ use Rattle.send_model.proofs.ElementLaws.{all_both}
 use Rattle.clone_resolve.proofs.TakenStates.{cells_weaker}
 use Rattle.store_journal.specs.declared.place.Place.{Place}
 use Rattle.store_journal.specs.Placing.{further}
-use Rattle.store_journal.specs.Said.{AllSaid}
 use Rattle.store_journal.specs.Kept.{StandsBefore, IsKept, AreKept}
 use Rattle.store_journal.proofs.SaidInodes.{alone_said, edit_said, clone_said}
 

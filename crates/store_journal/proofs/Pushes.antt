@@ -1,9 +1,8 @@
 -- One group more behind others, and one edit more.
-use Rattle.std.proofs.Common.{◌≡◌, ℕ, ◌+◌, Bool, true, false, not, ◌||◌, List, [], ◌∷◌, ◌++◌, length, map, flat_map, Option, None, Some, if◌then◌else◌, refl, sym, ◌∙◌, ap, subst, arith, length-append, append_assoc}
-use Rattle.std.specs.List.{AllByRecursion, filter, list_any}
+use Rattle.std.proofs.Common.{◌≡◌, ℕ, ◌+◌, Bool, true, false, not, ◌||◌, List, [], ◌∷◌, ◌++◌, length, map, flat_map, Option, None, Some, if◌then◌else◌, refl, sym, ◌∙◌, ap, arith, length-append, append_assoc}
+use Rattle.std.specs.List.{AllByRecursion, filter}
 use Rattle.std.specs.Str.{bytes_eq}
 use Rattle.std.proofs.lemmas.List.{append-nil}
-use Rattle.std.proofs.lemmas.Grind.{flat_map-append}
 use Rattle.send_model.specs.Command.{Command}
 use Rattle.send_model.specs.Spelling.{canonical, canonical_all, attributes_of}
 use Rattle.send_model.specs.Reading.{data_place}

@@ -1,5 +1,5 @@
 -- Inodes whose values a command can say stay such under edits that can be said, and under clones.
-use Rattle.std.specs.Prelude.{◌≡◌, ◌⊎◌, ℕ, ◌+◌, ◌%◌, ◌<◌, ◌==◌, ◌^◌, Bool, true, false, ◌&&◌, List, [], ◌∷◌, length, Option, None, Some, Result, Ok, Err, nat_le, is_some, is_none, cond, if◌then◌else◌}
+use Rattle.std.specs.Prelude.{◌≡◌, ℕ, ◌+◌, ◌<◌, ◌==◌, ◌^◌, Bool, true, false, ◌&&◌, List, [], ◌∷◌, length, Option, None, Some, Ok, nat_le, is_some, is_none, if◌then◌else◌}
 use Rattle.std.specs.declared.cmp.Ordering.{Ordering}
 use Rattle.std.specs.declared.cmp.Ordering.TheVariants.{Less, Equal, Greater}
 use Rattle.std.specs.Ordering.{nat_cmp}
@@ -8,15 +8,14 @@ use Rattle.std.specs.FinMap.Entries.{by_order}
 use Rattle.std.proofs.Common.{refl, subst, lit<}
 use Rattle.send_model.specs.Refusal.{BadPath, NoEntry, NotDirectory, NotFile, BadXattr, NoXattr, BadDevice, FileTooBig, BadFallocate, EntryThere, IsDirectory, NotEmpty, IntoItself, NoNumber}
 use Rattle.send_model.specs.Chain.{◌>>◌, refuse_if, found}
-use Rattle.send_model.specs.Attribute.{Time, takes_rest}
 use Rattle.send_model.specs.Command.{Command, MkFile, MkDir, MkNod, MkFifo, MkSock, Symlink, Rename, Link, Unlink, Rmdir, SetXattr, RemoveXattr, Write, Truncate, Chmod, Chown, Utimes, Fallocate, FileAttr, row}
 use Rattle.send_model.specs.Spelling.{IsSpellable}
 use Rattle.send_model.specs.Path.{path_names}
-use Rattle.send_model.specs.Map.{Map, bytes_cmp, with_value, without}
-use Rattle.send_model.specs.Subvolume.{NodeKind, SymbolicLink, Inode, Subvolume, Spot, epoch, new_inode, inode_at, is_directory, is_file, walk, spot, name_count, is_empty_directory, root_alone}
+use Rattle.send_model.specs.Map.{Map, bytes_cmp, with_value}
+use Rattle.send_model.specs.Subvolume.{NodeKind, Inode, Subvolume, Spot, epoch, new_inode, inode_at, is_directory, is_file, walk, spot, name_count, is_empty_directory, root_alone}
 use Rattle.send_model.specs.Edit.{greatest_end, allocation_of, fallocated, set_cells, change_inode, set_inode, add_inode, remove_name, remove_inode, take_name, move_name, at_spot, greatest_number, device_kind, make, make_device, link, unlink, rmdir, lies_below, can_replace, rename_onto, rename, change_at, is_xattr_name, set_xattr, has_xattr, remove_xattr, change_contents, fallocate, edit}
 use Rattle.send_model.specs.Exported.{IsMoment}
-use Rattle.send_model.specs.Clone.{Cloned, cloned, clone}
+use Rattle.send_model.specs.Clone.{cloned, clone}
 use Rattle.send_model.proofs.Fuel.{required, not_refused, tested, bound, ok_same}
 use Rattle.send_model.proofs.Keeping.{all_filtered, all_values_with, all_found}
 use Rattle.store_journal.specs.Said.{HasLength, IsSaid, AllSaid}

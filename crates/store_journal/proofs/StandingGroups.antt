@@ -1,21 +1,18 @@
 -- Groups over places of a disk, as groups over the numbers of places.
-use Rattle.std.specs.Prelude.{◌≡◌, ℕ, suc, ◌+◌, List, [], ◌∷◌, ◌++◌, length, map, flat_map, Option, None, Some}
+use Rattle.std.specs.Prelude.{◌≡◌, ℕ, List, [], ◌∷◌, length, map, Option, None, Some}
 use Rattle.std.specs.Option.{option_map}
 use Rattle.std.specs.List.{range_with_len}
-use Rattle.std.proofs.Common.{refl, sym, ap, subst, ◌∙◌, inr, lit<}
+use Rattle.std.proofs.Common.{refl, ap, ◌∙◌, inr, lit<}
 use Rattle.extent_map.specs.Pieces.{run_cells}
 use Rattle.send_model.specs.Store.{Store}
 use Rattle.send_model.specs.Cells.{recelled_store}
-use Rattle.store_model.specs.Image.{Header, usual_header}
-use Rattle.store_model.specs.Stored.{Group, body_bytes, as_places, as_bytes, byte_of, first_gate, body_at, made, made_all, Makes, Stands}
-use Rattle.store_model.proofs.CellRuns.{made-cells, made_all-cells, all_put_same}
-use Rattle.store_model.proofs.PlacedBytes.{groups_here, places_stand}
+use Rattle.store_model.specs.Image.{usual_header}
+use Rattle.store_model.specs.Stored.{Group, as_places, first_gate, made_all}
+use Rattle.store_model.proofs.CellRuns.{made_all-cells, all_put_same}
+use Rattle.store_model.proofs.PlacedBytes.{places_stand}
 use Rattle.store_journal.specs.declared.place.Place.{Place}
 use Rattle.store_journal.specs.Placing.{further}
-use Rattle.store_journal.specs.Holding.{as_runs, bodies_of, HasThese}
-use Rattle.group_log.proofs.GatedGroups.{front_push}
-use Rattle.std.proofs.lemmas.List.{append-nil}
-use Rattle.std.specs.List.{AllByRecursion}
+use Rattle.store_journal.specs.Holding.{as_runs}
 use Rattle.store_journal.specs.Standing.{GroupsStand, NewStands}
 
 pub number_of : Option Place → Option ℕ

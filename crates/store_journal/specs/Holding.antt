@@ -10,7 +10,7 @@ use Rattle.group_log.specs.Journal.{Rests, Grows}
 use Rattle.store_journal.specs.declared.place.Place.{Place}
 use Rattle.store_journal.specs.Placing.{further}
 use Rattle.store_journal.specs.Shown.{StoreState}
-use Rattle.store_model.specs.Stored.{Content, Mark, Body, Drop, Group, body_bytes, IsContent, Putting, body_at, frames_at, resumed, edits_made, Makes}
+use Rattle.store_model.specs.Stored.{Content, Body, Group, body_bytes, IsContent, Putting, body_at, frames_at, resumed, edits_made, Makes}
 
 -- The places of the bytes of a WRITE, as cells.
 abbrev pub as_runs : Putting (Option Place)

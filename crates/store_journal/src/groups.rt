@@ -90,7 +90,8 @@ pub(crate) fn spell_mark(head: &Command, to: &mut Blob) -> Result<(), StoreStop>
 
 /// The bytes in front of a group of edits.
 pub(crate) fn edits_head(uuid: Uuid, version: u8) -> [u8; 18]
-    ensures { result ≡ edits_head uuid version }
+    ensures spelled { result ≡ edits_head uuid version }
+    ensures sixteen { length uuid ≡ 16 }
 {
     let mut head = [EDITS; 18];
     head[1..17].copy_from_slice(uuid.as_bytes());

@@ -120,8 +120,8 @@ impl Store {
         ensures idle { OnOk result (IsIdle (D.len disk.new) self.new) }
 
         // Taken up again, the entry is this part.
-        ensures again { IfOk result (λ part. (length part.key.uuid ≡ 16)
-            × (resumed self.new.core part.key.uuid ≡ Some (open_state self.new.core part))) }
+        ensures again { IfOk result (λ part.
+            resumed self.new.core part.key.uuid ≡ Some (open_state self.new.core part)) }
         ensures kept { IfOk result (λ part. IsKept self.new.log.gate part.subvolume) }
         ensures gate { OnOk result (self.new.log.gate
             ≡ gate_behind self.old.log.gate (1 + length (canonical 1 (meaning_of head.now)))) }
@@ -178,7 +178,7 @@ impl Store {
         ensures builds { D.tells → (header : Header) (groups : List Group)
             (part : model_store.Part (Option here.Place)) →
             Holds header groups self.old (D.seen disk.old) (D.pending disk.old) →
-            part.key ≡ key_of key → length part.key.uuid ≡ 16 →
+            part.key ≡ key_of key →
             resumed self.old.core part.key.uuid ≡ Some (open_state self.old.core part) →
             OnOk result (Builds header groups version [] part self.new
             (D.seen disk.new) (D.pending disk.new)) }

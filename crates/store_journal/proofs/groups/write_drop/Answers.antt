@@ -1,5 +1,5 @@
-use Rattle.std.proofs.Common.{ℕ, List, [], ◌∷◌, ◌++◌, ◌⊎◌, inl, sym, ◌∙◌, ◌≡◌, subst}
-use Rattle.store_model.specs.Image.{Header, HasGroups, sealed}
+use Rattle.std.proofs.Common.{ℕ, List, [], ◌∷◌, ◌++◌, ◌⊎◌, inl, ◌∙◌, ◌≡◌, subst}
+use Rattle.store_model.specs.Image.{HasGroups, sealed}
 use Rattle.sx_base.specs.Crash.{LeavesOnly}
 use Rattle.sx_base.proofs.DiskMoments.{begins}
 use Rattle.group_log.proofs.GatedGroups.{rests_has}

@@ -1,7 +1,4 @@
-use Rattle.std.proofs.Common.{◌⊎◌, ℕ, List, ◌++◌, ◌∷◌, inl, []}
-use Rattle.sx_base.specs.Crash.{LeavesOnly}
-use Rattle.store_model.specs.Image.{Header, HasGroups, sealed}
-use Rattle.group_log.specs.Journal.{Rests}
+use Rattle.std.proofs.Common.{inl, []}
 use Rattle.sx_base.proofs.DiskMoments.{joins, weakens}
 use Rattle.store_journal.proofs.groups.write_group.Goals as goal
 

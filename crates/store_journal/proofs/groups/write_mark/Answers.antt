@@ -1,6 +1,6 @@
 use Rattle.std.proofs.Common.{ℕ, List, [], ◌∷◌, ◌++◌, ◌⊎◌, inl, ◌∙◌, ◌≡◌, subst}
 use Rattle.send_model.specs.Spelling.{canonical}
-use Rattle.store_model.specs.Image.{Header, HasGroups, sealed}
+use Rattle.store_model.specs.Image.{HasGroups, sealed}
 use Rattle.send_commands.specs.Meaning.{meaning_of}
 use Rattle.sx_base.specs.Crash.{LeavesOnly}
 use Rattle.sx_base.proofs.DiskMoments.{begins}

@@ -1,4 +1,4 @@
-use Rattle.std.proofs.Common.{◌≡◌, ℕ, List, [], ◌∷◌, ◌++◌, ◌⊎◌, inl, inr, sym, subst, ap, ◌∙◌, refl}
+use Rattle.std.proofs.Common.{List, inr, sym}
 use Rattle.sx_base.specs.Crash.{LeavesOnly}
 use Rattle.sx_base.proofs.DiskMoments.{joins, weakens}
 use Rattle.store_model.specs.Image.{Header}
@@ -27,4 +27,4 @@ returns-clause-still_open g c = c.in_ok-start.ensures.still_open c.in_ok-part.pa
 
 pub returns-clause-builds : goal.returns-clause-builds
 returns-clause-builds g c tells header groups holds =
-    c.in_ok-start.ensures.builds tells header _ c.in_ok-part.part (c.in_ok-part.ensures.holds tells header groups holds) (sym c.key.ensures) c.in_ok-part.ensures.again.0 c.in_ok-part.ensures.again.1
+    c.in_ok-start.ensures.builds tells header _ c.in_ok-part.part (c.in_ok-part.ensures.holds tells header groups holds) (sym c.key.ensures) c.in_ok-part.ensures.again

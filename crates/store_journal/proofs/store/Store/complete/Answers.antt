@@ -1,12 +1,10 @@
-use Rattle.std.proofs.Common.{◌≡◌, ℕ, List, [], ◌∷◌, ◌++◌, Option, None, sym, subst, ap, ◌∙◌, arith}
-use Rattle.send_model.specs.Store.{Store, with_contents}
-use Rattle.send_model.specs.Spelling.{canonical_all}
-use Rattle.store_model.specs.Image.{sealed}
+use Rattle.std.proofs.Common.{◌≡◌, ℕ, [], ◌∷◌, ◌++◌, Option, None, sym, subst, ap, arith}
+use Rattle.send_model.specs.Store.{Store}
 use Rattle.store_model.specs.Stored.{Body, Makes}
 use Rattle.sx_base.proofs.DiskMoments.{weakens}
 use Rattle.store_journal.specs.declared.place.Place.{Place}
 use Rattle.store_journal.specs.Shown.{StoreState}
-use Rattle.store_journal.specs.Holding.{as_runs, bodies_of, new_group, edits_head, Builds}
+use Rattle.store_journal.specs.Holding.{as_runs, bodies_of, new_group, Builds}
 use Rattle.store_journal.proofs.Keeping.{more_has, more_rests, edits_spelled, completes}
 use Rattle.store_journal.specs.Kept.{AreKept}
 use Rattle.store_journal.proofs.KeptParts.{kept_further, all_further, completed_kept}

@@ -1,4 +1,4 @@
-use Rattle.std.proofs.Common.{◌≡◌, ℕ, Bool, true, false, List, [], ◌∷◌, ◌++◌, inl, sym, subst, ap, ◌∙◌, refl, arith}
+use Rattle.std.proofs.Common.{◌≡◌, true, false, inl, sym, subst, ap, ◌∙◌, refl, arith}
 use Rattle.sx_base.proofs.DiskMoments.{begins, weakens}
 use Rattle.send_model.specs.Store.{Store, has_name}
 use Rattle.store_model.specs.Stored.{Drop}

@@ -1,29 +1,21 @@
-use Rattle.std.specs.Prelude.{◌≡◌, ℕ, ◌+◌, List, [], ◌∷◌, ◌++◌, length, Option, None, Some, Result, Ok, Err}
+use Rattle.std.specs.Prelude.{◌≡◌, ℕ, ◌+◌, length, Option, None, Some, Ok, Err}
 use Rattle.std.specs.Option.{unwrap_or}
 use Rattle.std.proofs.Common.{sym, subst, ap, ◌∙◌, arith, refl}
-use Rattle.sx_base.proofs.DiskMoments.{begins, weakens}
+use Rattle.sx_base.proofs.DiskMoments.{begins}
 use Rattle.sx_base.specs.Refusals.{refusal_of}
 use Rattle.sx_base.specs.Answers.{MayChange}
 use Rattle.sx_base.specs.declared.stop.Stop.{Stop}
-use Rattle.send_model.specs.Refusal.{Refusal}
-use Rattle.send_model.specs.Spelling.{canonical_all, attributes_of}
-use Rattle.send_model.specs.Reading.{data_place}
-use Rattle.send_model.specs.Receive.{bytes_of}
-use Rattle.send_model.specs.Subvolume.{Subvolume}
-use Rattle.send_model.specs.Store.{Key, Store, edit_part}
+use Rattle.send_model.specs.Store.{Key, edit_part}
 use Rattle.extent_map.specs.Pieces.{run_cells}
 use Rattle.send_commands.specs.Meaning.{meaning_of}
-use Rattle.send_commands.specs.Writing.{data_at}
 use Rattle.clone_resolve.specs.Steps.{data_len}
 use Rattle.group_log.proofs.GatedGroups.{grows_has}
-use Rattle.store_journal.specs.declared.place.Place.{Place}
 use Rattle.store_journal.specs.Placing.{further}
 use Rattle.store_journal.specs.Shown.{StoreState}
-use Rattle.store_journal.specs.Holding.{as_runs, bodies_of, edits_head, Builds}
+use Rattle.store_journal.specs.Holding.{bodies_of, Builds}
 use Rattle.store_journal.proofs.Keeping.{edit_builds}
 use Rattle.store_journal.proofs.KeptParts.{run_before, kept_further, all_further, edit_kept}
-use Rattle.store_journal.proofs.Editing.{data_in_frame, is_edited, short_data, near_data, edit_same, short_enough}
-use Rattle.store_journal.proofs.store.Store.edit.Given.{Over}
+use Rattle.store_journal.proofs.Editing.{data_in_frame, short_data, near_data, edit_same}
 use Rattle.store_journal.proofs.store.Store.edit.Goals as goal
 
 pub overflow_add-place : goal.overflow_add-place

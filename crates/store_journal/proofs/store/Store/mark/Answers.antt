@@ -1,4 +1,4 @@
-use Rattle.std.proofs.Common.{◌≡◌, ℕ, List, [], ◌∷◌, ◌++◌, inl, sym, subst, ap, ◌∙◌, refl, arith}
+use Rattle.std.proofs.Common.{inl, sym, subst, refl, arith}
 use Rattle.sx_base.proofs.DiskMoments.{begins, weakens}
 use Rattle.send_model.specs.Store.{head_of}
 use Rattle.store_model.specs.Stored.{Mark}
@@ -20,7 +20,7 @@ returns-in-Err-NoMemory-clause-any_moment g c tells header groups holds =
 
 pub returns-in-Ok-write_mark-clause-again : goal.returns-in-Ok-write_mark-clause-again
 returns-in-Ok-write_mark-clause-again g c =
-    begun_again c.self.inside.core c.begin.new.self (meaning_of c.args.head.now) (head_of (meaning_of c.args.head.now)) c.in-Ok.part refl c.requires.head c.requires.spellable c.in-Ok.ensures.begun
+    begun_again c.self.inside.core c.begin.new.self (head_of (meaning_of c.args.head.now)) c.in-Ok.part c.requires.head c.in-Ok.ensures.begun
 
 pub returns-in-Ok-write_mark-clause-holds : goal.returns-in-Ok-write_mark-clause-holds
 returns-in-Ok-write_mark-clause-holds g c tells header groups holds =

@@ -1,4 +1,4 @@
-use Rattle.std.proofs.Common.{◌≡◌, ℕ, List, Option, Some, sym, subst, ap, ◌∙◌, refl, arith}
+use Rattle.std.proofs.Common.{◌≡◌, ℕ, List, length, Some, sym, subst, ap, ◌∙◌, arith}
 use Rattle.send_model.specs.Store.{Key}
 use Rattle.group_log.specs.Journal.{Grows}
 use Rattle.store_journal.specs.Shown.{StoreState}
@@ -19,14 +19,14 @@ returns-in-Ok-clause-still_open g c part key kept =
     }
 
 pub returns-in-Ok-clause-builds : goal.returns-in-Ok-clause-builds
-returns-in-Ok-clause-builds g c tells header groups part holds key sixteen again =
+returns-in-Ok-clause-builds g c tells header groups part holds key again =
     let seen = g.D.Disk.seen c.args.disk.now in
     let pending = g.D.Disk.pending c.args.disk.now in
     let grown = c.in-Ok.ensures.grows tells header (bodies_of groups) (subst (λ (s : StoreState). Holds header groups s seen pending) (sym c.self.view_is) holds).rests in
     let now : List ℕ = g.D.Disk.seen c.start_group.new.disk in
-    start_builds header groups c.args.version part c.args.self.now _ seen now pending (g.D.Disk.pending c.start_group.new.disk) holds sixteen c.requires.version again (ap (λ (s : StoreState). s.core) c.self.view_is)
+    start_builds header groups c.args.version part c.args.self.now _ seen now pending (g.D.Disk.pending c.start_group.new.disk) holds (ap (λ (k : Key). length k.uuid) key ∙ c.edits_head.ensures.sixteen) c.requires.version again (ap (λ (s : StoreState). s.core) c.self.view_is)
     (subst (λ (u : List ℕ). Grows header (bodies_of groups) (edits_head u c.args.version) c.start_group.new.log now (g.D.Disk.pending c.start_group.new.disk)) (ap (λ (k : Key). k.uuid) (sym key))
-    (subst (λ (l : List ℕ). Grows header (bodies_of groups) l c.start_group.new.log now (g.D.Disk.pending c.start_group.new.disk)) c.edits_head.ensures grown))
+    (subst (λ (l : List ℕ). Grows header (bodies_of groups) l c.start_group.new.log now (g.D.Disk.pending c.start_group.new.disk)) c.edits_head.ensures.spelled grown))
 
 pub returns-in-Ok-clause-any_moment : goal.returns-in-Ok-clause-any_moment
 returns-in-Ok-clause-any_moment g c tells header groups holds =
