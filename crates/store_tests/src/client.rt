@@ -1,6 +1,6 @@
 // A caller of the store, which shows that its contract is one to build on: parts are received edit by edit, one after the other, and
 // what is said of all of them follows from what the store says of each call.
-ghost use Rattle.std.specs.Prelude.{◌≡◌, ℕ, List, ◌++◌, All, OnOk, IsTrue, is_some, map};
+ghost use Rattle.std.specs.Prelude.{◌≡◌, ℕ, true, List, ◌++◌, All, OnOk, IsTrue, is_some, map};
 ghost use Rattle.send_model.specs.Spelling.{IsSpellable};
 ghost use Rattle.send_model.specs.Reading.{is_version};
 ghost use Rattle.send_model.specs.Store.{head_of};
@@ -61,38 +61,40 @@ pub(crate) fn receive_one<D: Disk>(
     Ok(())
 }
 
-/// Receives two parts, the second behind the first.
+/// Receives two parts with frames of one version, the second behind the first.
 pub(crate) fn receive_two<D: Disk>(
     store: &mut Store,
     disk: &mut D,
-    first: (&Command, &[Command]),
-    second: (&Command, &[Command]),
+    head: &Command,
+    edits: &[Command],
+    next_head: &Command,
+    next_edits: &[Command],
     version: u32,
 ) -> Result<(), StoreStop>
     requires idle { IsIdle (D.len disk.old) store.old }
+    requires head { IsTrue (is_some (head_of (meaning_of head.now))) }
+    requires spellable { IsSpellable 1 (meaning_of head.now) }
+    requires edits { All (λ c. IsEdit version (meaning_of c)) edits.now }
+    requires next_head { IsTrue (is_some (head_of (meaning_of next_head.now))) }
+    requires next_spellable { IsSpellable 1 (meaning_of next_head.now) }
+    requires next_edits { All (λ c. IsEdit version (meaning_of c)) next_edits.now }
     requires version { is_version version ≡ true }
-    requires head { IsTrue (is_some (head_of (meaning_of first.0.now))) }
-    requires spellable { IsSpellable 1 (meaning_of first.0.now) }
-    requires edits { All (λ c. IsEdit version (meaning_of c)) first.1.now }
-    requires second_head { IsTrue (is_some (head_of (meaning_of second.0.now))) }
-    requires second_spellable { IsSpellable 1 (meaning_of second.0.now) }
-    requires second_edits { All (λ c. IsEdit version (meaning_of c)) second.1.now }
     ensures idle { OnOk result (IsIdle (D.len disk.new) store.new) }
     ensures holds { D.tells → (header : Header) (groups : List Group) →
         Holds header groups store.old (D.seen disk.old) (D.pending disk.old) →
         OnOk result (Holds header
-        ((groups ++ part_groups (meaning_of first.0.now) version (map meaning_of first.1.now))
-        ++ part_groups (meaning_of second.0.now) version (map meaning_of second.1.now))
+        ((groups ++ part_groups (meaning_of head.now) version (map meaning_of edits.now))
+        ++ part_groups (meaning_of next_head.now) version (map meaning_of next_edits.now))
         store.new (D.seen disk.new) (D.pending disk.new)) }
 
     // Since the call began each image has the earlier groups and the first of the four, however many.
     ensures any_moment { D.tells → (header : Header) (groups : List Group) →
         Holds header groups store.old (D.seen disk.old) (D.pending disk.old) →
         LeavesOnly D.moment D.left_since disk.old disk.new (HasFirst header groups
-        (part_groups (meaning_of first.0.now) version (map meaning_of first.1.now)
-        ++ part_groups (meaning_of second.0.now) version (map meaning_of second.1.now))) }
+        (part_groups (meaning_of head.now) version (map meaning_of edits.now)
+        ++ part_groups (meaning_of next_head.now) version (map meaning_of next_edits.now))) }
     ensures steady { Steady (D.faults disk.old) (D.faults disk.new) result }
 {
-    receive_one(store, disk, first.0, first.1, version)?;
-    receive_one(store, disk, second.0, second.1, version)
+    receive_one(store, disk, head, edits, version)?;
+    receive_one(store, disk, next_head, next_edits, version)
 }

@@ -27,6 +27,7 @@ loop-edit-init g c = record {
   still_open = c.in_ok-part.ensures.still_open;
   uuid = head_uuid (meaning_of c.args.head.now) (head_of (meaning_of c.args.head.now)) c.in_ok-part.part _ _ refl c.requires.head c.in_ok-part.ensures.begun;
   builds = λ tells header groups holds. c.in_ok-part.ensures.builds tells header groups holds;
+  steady = c.in_ok-part.ensures.steady;
   any_moment = λ tells header groups holds. weakens (c.begin.ensures.any_moment tells header groups holds) (λ image has. first_one header groups _ _ image has);
 }
 
@@ -48,6 +49,7 @@ loop-edit-preserved g c =
     record {
       still_open = c.in_ok-edit.ensures.still_open;
       uuid = ap (λ (k : Key). k.uuid) c.edit.ensures.key ∙ before.uuid;
+      steady = c.in_ok-edit.ensures.steady ∙ before.steady;
       builds = λ tells header groups holds.
           subst (λ (l : List Command). Builds header (groups ++ new_group (Mark (meaning_of c.args.head.now)) ∷ []) c.args.version l c.edit.new.part c.edit.new.self (g.D.Disk.seen c.edit.new.disk) (g.D.Disk.pending c.edit.new.disk)) next
           (c.in_ok-edit.ensures.builds tells header _ _ (before.builds tells header groups holds));
