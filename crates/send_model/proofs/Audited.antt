@@ -34,10 +34,10 @@ limited_is number (bytes ∷ files) e = one (is_too_long number bytes) (reads nu
     one false items (Faulty verdict) f more = refl
 
 -- The answer, by what a run refused and by how reading stopped.
-abbrev answer_of : Option Verdict → Stop → Due
+abbrev pub answer_of : Option Verdict → Stop → Due
 answer_of refused stop = elim refused [ Some verdict ↦ RefusedAt verdict | None ↦ stop_due stop ]
 
-answer_is : (refused : Option Verdict) (ending : Ending) → answer_of refused (stop_of ending) ≡ refused_due (first_of refused (fault_of ending))
+pub answer_is : (refused : Option Verdict) (ending : Ending) → answer_of refused (stop_of ending) ≡ refused_due (first_of refused (fault_of ending))
 answer_is (Some verdict) ending = refl
 answer_is None Whole = refl
 answer_is None (Faulty verdict) = refl
@@ -52,7 +52,7 @@ audit_is_receiving store guards files none =
 
 -- ---- where a file is too long
 
-long_answer : (refused : Option Verdict) (n : ℕ) → answer_of refused (AtLimit n) ≡ or_due (option_map RefusedAt (first_of refused None)) (TooLong n)
+pub long_answer : (refused : Option Verdict) (n : ℕ) → answer_of refused (AtLimit n) ≡ or_due (option_map RefusedAt (first_of refused None)) (TooLong n)
 long_answer (Some verdict) n = refl
 long_answer None n = refl
 

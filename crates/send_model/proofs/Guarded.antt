@@ -6,13 +6,13 @@ use Rattle.std.proofs.lemmas.Bool.{ltb-false}
 use Rattle.std.proofs.lemmas.List.Sums.{sum_by-cons}
 use Rattle.send_model.specs.Refusal.{Refusal, Guarded}
 use Rattle.send_model.specs.Command.{Command, Write}
-use Rattle.send_model.specs.Reading.{Item, Reading, input}
+use Rattle.send_model.specs.Reading.{Item, input}
 use Rattle.send_model.specs.Store.{After, State}
 use Rattle.send_model.specs.Receive.{Ran, run_by, then_run, bytes_of, start_of, fault_of}
 use Rattle.send_model.specs.Order.{commands_of}
 use Rattle.send_model.specs.Counts.{literal}
 use Rattle.send_model.specs.Guards.{GuardSpec, MostBytes, MostCommands, NoDevices, MostEnd, Guard, new_guard, guard_refuses, guard_after, refused_from, guarded, looked, Watched, watched_step, receive_watched, receive_under}
-use Rattle.send_model.specs.GuardLaws.{IsWithin, AcceptedIsWithin}
+use Rattle.send_model.specs.GuardLaws.{IsWithin, AcceptedReadingIsWithin, AcceptedIsWithin}
 use Rattle.send_model.proofs.Guarding.{after_looks, looks_are, no_fault, does_step}
 
 -- ---- one guard
@@ -117,10 +117,13 @@ all_within : (specs : List GuardSpec) (cs : List Command) → AllByRecursion (λ
 all_within [] cs a = tt
 all_within (spec ∷ specs) cs a = (within_limits spec cs a.0, all_within specs cs a.1)
 
-pub accepted_is_within : AcceptedIsWithin
-unfolding receive_under receive_watched
-accepted_is_within store specs files t =
-    let reading : Reading = input files in
+pub accepted_reading_is_within : AcceptedReadingIsWithin
+unfolding receive_watched
+accepted_reading_is_within store specs reading t =
     let w : Watched (State ℕ) = record { guards = map new_guard specs; state = start_of store } in
     let none = no_fault (Runs w reading.items).refused (fault_of reading.end) t in
     all_within specs (commands_of reading.items) (allowed reading.items w none.0)
+
+pub accepted_is_within : AcceptedIsWithin
+unfolding receive_under
+accepted_is_within store specs files t = accepted_reading_is_within store specs (input files) t

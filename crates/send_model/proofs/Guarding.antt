@@ -2,11 +2,11 @@
 use Rattle.std.specs.Prelude.{◌≡◌, ℕ, List, [], ◌∷◌, Option, None, Some}
 use Rattle.std.proofs.Common.{refl, sym, ap, subst, ◌∙◌}
 use Rattle.send_model.specs.Refusal.{Refusal}
-use Rattle.send_model.specs.Reading.{Item, Verdict, Reading, input}
+use Rattle.send_model.specs.Reading.{Item, Verdict, input}
 use Rattle.send_model.specs.Store.{After, State, step}
 use Rattle.send_model.specs.Receive.{Ran, run_by, run_items, then_run, byte_cells, first_of, fault_of, with_fault, start_of, receive_items}
 use Rattle.send_model.specs.Guards.{Guard, Watched, watched, guarded, looked, refused_from, watched_step, receive_watched, receive_under}
-use Rattle.send_model.specs.GuardLaws.{watched_run, NoGuardsChangeNothing, AllowedIsAccepted}
+use Rattle.send_model.specs.GuardLaws.{watched_run, NoGuardsOnReadings, NoGuardsChangeNothing, AllowedReadingIsAccepted, AllowedIsAccepted}
 
 -- What follows an item without guards.
 then_watched : {S : Type 0} (item : Item) (after : After S) (rest : Ran S) → then_run item (watched [] after) (watched_run [] rest) ≡ watched_run [] (then_run item after rest)
@@ -73,22 +73,27 @@ allowed_run S does w (item ∷ items) t =
 abbrev pub does_step : State ℕ → Item → After (State ℕ)
 does_step s item = step 0 (byte_cells item) s item.command
 
+pub no_guards_on_readings : NoGuardsOnReadings
+unfolding receive_watched receive_items run_items
+no_guards_on_readings store reading = ap (λ (r : Ran (Watched (State ℕ))). with_fault r reading.end) (no_guards_run (State ℕ) does_step (start_of store) reading.items)
+
 pub no_guards_change_nothing : NoGuardsChangeNothing
-unfolding receive_under receive_watched receive_items run_items
-no_guards_change_nothing store files =
-    let reading : Reading = input files in
-    ap (λ (r : Ran (Watched (State ℕ))). with_fault r reading.end) (no_guards_run (State ℕ) does_step (start_of store) reading.items)
+unfolding receive_under
+no_guards_change_nothing store files = no_guards_on_readings store (input files)
 
 pub no_fault : (a b : Option Verdict) → first_of a b ≡ None → (a ≡ None) × (b ≡ None)
 no_fault None b e = (refl, e)
 no_fault (Some v) b e = cc
 
-pub allowed_is_accepted : AllowedIsAccepted
-unfolding receive_under receive_watched receive_items run_items
-allowed_is_accepted store guards files t =
-    let reading : Reading = input files in
+pub allowed_reading_is_accepted : AllowedReadingIsAccepted
+unfolding receive_watched receive_items run_items
+allowed_reading_is_accepted store guards reading t =
     let w : Watched (State ℕ) = record { guards = guards; state = start_of store } in
     let ran : Ran (Watched (State ℕ)) = run_by (watched_step does_step) w reading.items in
     let none = no_fault ran.refused (fault_of reading.end) t in
     ap (λ (r : Ran (State ℕ)). with_fault r reading.end) (allowed_run (State ℕ) does_step w reading.items none.0)
     ∙ ap (λ (o : Option Verdict). record { state = ran.state.state; refused = o }) none.1
+
+pub allowed_is_accepted : AllowedIsAccepted
+unfolding receive_under
+allowed_is_accepted store guards files t = allowed_reading_is_accepted store guards (input files) t

@@ -78,6 +78,18 @@ pub mod LawfulStores
 mod BaseReceives
 pub mod Dues
 mod HeadlineExample
+pub mod Thinning
+pub mod ThinnedRuns
+pub mod ThinnedTraces
+pub mod ThinnedLaws
+mod ThinnedExamples
+pub mod SourceLaws
+pub mod Renaming
+pub mod RenamedFiles
+mod RenamedAudits
+pub mod RenamedByFile
+mod RenamedExamples
+mod NamedFiles
 pub mod Exporting
 mod ReceivableExamples
 pub mod EightFiles

@@ -97,15 +97,21 @@ stop_due (AtFault verdict) = RefusedAt verdict
 stop_due (AtLimit file) = TooLong file
 
 -- Each command as it is read, under guards; so a refusal comes before a later file that is too long.
-unfoldable pub audit_due : Store ℕ → List Guard → List (List ℕ) → Due
-audit_due store guards files = let read = limited_from 1 files in
+abbrev pub audit_due_of : Store ℕ → List Guard → Limited → Due
+audit_due_of store guards read =
     let start : Watched (State ℕ) = record { guards = guards; state = start_of store } in
     let ran : Ran (Watched (State ℕ)) = run_by (watched_step (λ s item. step 0 (byte_cells item) s item.command)) start read.items in
     elim ran.refused [ Some verdict ↦ RefusedAt verdict | None ↦ stop_due read.stop ]
 
+unfoldable pub audit_due : Store ℕ → List Guard → List (List ℕ) → Due
+audit_due store guards files = audit_due_of store guards (limited_from 1 files)
+
 -- What it prints where all is accepted: the parts and the commands of all files.
+abbrev pub accepted_line_of : List Item → List ℕ
+accepted_line_of items = codes "accepted " ++ decimal (length (heads items)) ++ 0x20 ∷ decimal (length items) ++ 0x0a ∷ []
+
 unfoldable pub accepted_line : List (List ℕ) → List ℕ
-accepted_line files = let items = (input files).items in codes "accepted " ++ decimal (length (heads items)) ++ 0x20 ∷ decimal (length items) ++ 0x0a ∷ []
+accepted_line files = accepted_line_of (input files).items
 
 -- ---- dump and export
 

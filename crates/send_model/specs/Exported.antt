@@ -59,10 +59,14 @@ byte_step state item = step 0 (byte_cells item) state item.command
 abbrev pub separated_items : Store ℕ → List Item → List Item
 separated_items store items = separated_by byte_step (exporting store) items
 
+-- All that is written of items: what stands before the first command that is refused.
+abbrev pub exported_of : Store ℕ → List Item → List ℕ
+exported_of store items = exported_from true (separated_items store items)
+
 -- All that is written of files: what stands before the first command that is refused, before a fault of reading, or before the limit
 -- of a file that is too long.
 unfoldable pub exported : Store ℕ → List (List ℕ) → List ℕ
-exported store files = exported_from true (separated_items store (limited_from 1 files).items)
+exported store files = exported_of store (limited_from 1 files).items
 
 -- ---- what it promises
 

@@ -3,10 +3,10 @@ use Rattle.std.specs.Prelude.{◌≡◌, ◌≤◌, ℕ, false, List, [], ◌∷
 use Rattle.std.specs.List.{AllByRecursion}
 use Rattle.std.specs.Option.{option_map}
 use Rattle.send_model.specs.Command.{Command}
-use Rattle.send_model.specs.Reading.{Whole, input}
+use Rattle.send_model.specs.Reading.{Reading, Whole, input}
 use Rattle.send_model.specs.Lengths.{limit, too_long}
 use Rattle.send_model.specs.Store.{Store}
-use Rattle.send_model.specs.Receive.{Ran, byte_cells, receive}
+use Rattle.send_model.specs.Receive.{Ran, byte_cells, receive_of, receive}
 use Rattle.send_model.specs.Order.{commands_of}
 use Rattle.send_model.specs.Counts.{literal}
 use Rattle.send_model.specs.Guards.{GuardSpec, MostBytes, MostCommands, NoDevices, MostEnd, Guard, new_guard, seen, end_of, is_device, is_above, Watched, receive_watched, receive_under}
@@ -17,11 +17,18 @@ use Rattle.send_model.specs.LengthLaws.{IsFirstLong}
 abbrev pub watched_run : {S : Type 0} → List Guard → Ran S → Ran (Watched S)
 watched_run guards r = record { state = record { guards = guards; state = r.state }; refused = r.refused }
 
--- Receiving without guards is receiving.
+-- Receiving what was read without guards is receiving it; and so it is of files.
+abbrev pub NoGuardsOnReadings : Type 0
+NoGuardsOnReadings = (store : Store ℕ) (reading : Reading) → receive_watched 0 byte_cells store [] reading ≡ watched_run [] (receive_of store reading)
+
 abbrev pub NoGuardsChangeNothing : Type 0
 NoGuardsChangeNothing = (store : Store ℕ) (files : List (List ℕ)) → receive_under store [] files ≡ watched_run [] (receive store files)
 
 -- What is accepted under guards is accepted without them, and leads to the same state.
+abbrev pub AllowedReadingIsAccepted : Type 0
+AllowedReadingIsAccepted = (store : Store ℕ) (guards : List Guard) (reading : Reading) → (receive_watched 0 byte_cells store guards reading).refused ≡ None
+    → receive_of store reading ≡ record { state = (receive_watched 0 byte_cells store guards reading).state.state; refused = None }
+
 abbrev pub AllowedIsAccepted : Type 0
 AllowedIsAccepted = (store : Store ℕ) (guards : List Guard) (files : List (List ℕ)) → (receive_under store guards files).refused ≡ None
     → receive store files ≡ record { state = (receive_under store guards files).state.state; refused = None }
@@ -35,6 +42,10 @@ IsWithin NoDevices commands = AllByRecursion (λ c. is_device (seen c) ≡ false
 IsWithin (MostEnd most) commands = AllByRecursion (λ c. is_above most (end_of (seen c)) ≡ false) commands
 
 -- What is accepted under guards is within the limits of each.
+abbrev pub AcceptedReadingIsWithin : Type 0
+AcceptedReadingIsWithin = (store : Store ℕ) (specs : List GuardSpec) (reading : Reading) → (receive_watched 0 byte_cells store (map new_guard specs) reading).refused ≡ None
+    → AllByRecursion (λ spec. IsWithin spec (commands_of reading.items)) specs
+
 abbrev pub AcceptedIsWithin : Type 0
 AcceptedIsWithin = (store : Store ℕ) (specs : List GuardSpec) (files : List (List ℕ)) → (receive_under store (map new_guard specs) files).refused ≡ None
     → AllByRecursion (λ spec. IsWithin spec (commands_of (input files).items)) specs

@@ -27,6 +27,10 @@ pub mod Generated
 pub mod Headline
 pub mod Lawful
 pub mod Due
+pub mod Thinned
+pub mod Renamed
+pub mod Sources
+pub mod NamedWords
 pub mod LengthLaws
 pub mod Words
 pub mod Receivable

@@ -10,7 +10,7 @@ use Rattle.send_model.specs.Command.{Command, Subvol, Snapshot, MkFile, MkDir, M
 use Rattle.send_model.specs.Subvolume.{Subvolume, walk, is_file}
 use Rattle.send_model.specs.Edit.{greatest_end, written_at, overwritten, allocation_of, fallocated, change_inode, set_cells}
 use Rattle.send_model.specs.Clone.{cells_of, is_aligned, overlap}
-use Rattle.send_model.specs.Store.{Store, Part, State, After, Stepped, head_of, key_of, step, edited, clone_source}
+use Rattle.send_model.specs.Store.{Store, Part, State, After, Stepped, key_of, step, edited, clone_source}
 use Rattle.send_model.specs.Receive.{bytes_of}
 
 -- The path of the file that a command writes to through the file that is kept open. TRUNCATE and all others go by their path alone.
@@ -65,8 +65,30 @@ open_after opened part None = opened
 open_after opened part (Some path) = elim (kept_at opened (Some path)) [ Some ino ↦ opened | None ↦ opened_at part path ]
 
 abbrev pub opened_after : {C : Type 0} → Option Opened → Option (Part C) → Command → Option Opened
+opened_after opened part (Subvol uuid ctransid path) = None
+opened_after opened part (Snapshot uuid ctransid path clone_uuid clone_ctransid) = None
+opened_after opened part (MkFile path) = opened
+opened_after opened part (MkDir path) = opened
+opened_after opened part (MkNod mode rdev path) = opened
+opened_after opened part (MkFifo path) = opened
+opened_after opened part (MkSock path) = opened
+opened_after opened part (Symlink path path_link) = opened
+opened_after opened part (Rename path path_to) = opened
+opened_after opened part (Link path path_link) = opened
+opened_after opened part (Unlink path) = opened
+opened_after opened part (Rmdir path) = opened
+opened_after opened part (SetXattr name value path) = opened
+opened_after opened part (RemoveXattr name path) = opened
+opened_after opened part (Write path offset bytes) = open_after opened part (written_path (Write path offset bytes))
+opened_after opened part (Clone path offset clone_uuid clone_ctransid clone_path clone_offset clone_len) = open_after opened part (written_path (Clone path offset clone_uuid clone_ctransid clone_path clone_offset clone_len))
+opened_after opened part (Truncate size path) = opened
+opened_after opened part (Chmod mode path) = opened
+opened_after opened part (Chown uid gid path) = opened
+opened_after opened part (Utimes mtime atime path) = opened
 opened_after opened part End = None
-opened_after opened part command = elim (head_of command) [ Some head ↦ None | None ↦ open_after opened part (written_path command) ]
+opened_after opened part (UpdateExtent size path offset) = opened
+opened_after opened part (Fallocate size path offset mode) = open_after opened part (written_path (Fallocate size path offset mode))
+opened_after opened part (FileAttr path flags) = opened
 
 -- ---- the receiver's step
 
@@ -88,7 +110,27 @@ edit_open zero_cell put store part ino (Clone path offset clone_uuid clone_ctran
   require (nat_le (offset + len) greatest_end) FileTooBig
   refuse_if (bytes_eq clone_uuid part.key.uuid && (source_ino == ino) && overlap offset from len) Overlap
   Ok (change_inode ino (set_cells (overwritten zero_cell offset (take len (drop from (cells_of other source_ino))))) part.subvolume)
-edit_open zero_cell put store part ino command = Ok part.subvolume
+edit_open zero_cell put store part ino (Subvol uuid ctransid path) = Ok part.subvolume
+edit_open zero_cell put store part ino (Snapshot uuid ctransid path clone_uuid clone_ctransid) = Ok part.subvolume
+edit_open zero_cell put store part ino (MkFile path) = Ok part.subvolume
+edit_open zero_cell put store part ino (MkDir path) = Ok part.subvolume
+edit_open zero_cell put store part ino (MkNod mode rdev path) = Ok part.subvolume
+edit_open zero_cell put store part ino (MkFifo path) = Ok part.subvolume
+edit_open zero_cell put store part ino (MkSock path) = Ok part.subvolume
+edit_open zero_cell put store part ino (Symlink path path_link) = Ok part.subvolume
+edit_open zero_cell put store part ino (Rename path path_to) = Ok part.subvolume
+edit_open zero_cell put store part ino (Link path path_link) = Ok part.subvolume
+edit_open zero_cell put store part ino (Unlink path) = Ok part.subvolume
+edit_open zero_cell put store part ino (Rmdir path) = Ok part.subvolume
+edit_open zero_cell put store part ino (SetXattr name value path) = Ok part.subvolume
+edit_open zero_cell put store part ino (RemoveXattr name path) = Ok part.subvolume
+edit_open zero_cell put store part ino (Truncate size path) = Ok part.subvolume
+edit_open zero_cell put store part ino (Chmod mode path) = Ok part.subvolume
+edit_open zero_cell put store part ino (Chown uid gid path) = Ok part.subvolume
+edit_open zero_cell put store part ino (Utimes mtime atime path) = Ok part.subvolume
+edit_open zero_cell put store part ino End = Ok part.subvolume
+edit_open zero_cell put store part ino (UpdateExtent size path offset) = Ok part.subvolume
+edit_open zero_cell put store part ino (FileAttr path flags) = Ok part.subvolume
 
 abbrev pub step_open : {C : Type 0} → C → List C → State C → ℕ → Command → Stepped C
 step_open zero_cell put state ino command = elim state.part [

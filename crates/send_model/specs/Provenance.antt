@@ -240,11 +240,14 @@ place_after place len = record place { offset = place.offset + len }
 
 -- A piece before others: literal bytes join, and so do carried blocks that follow each other in one file.
 abbrev pub join_piece : Piece → List Piece → List Piece
+join_piece (Literal at bytes) [] = Literal at bytes ∷ []
 join_piece (Literal at bytes) (Literal at' bytes' ∷ rest) = Literal at (bytes ++ bytes') ∷ rest
+join_piece (Literal at bytes) (Carried at' place' len' ∷ rest) = Literal at bytes ∷ Carried at' place' len' ∷ rest
+join_piece (Carried at place len) [] = Carried at place len ∷ []
+join_piece (Carried at place len) (Literal at' bytes' ∷ rest) = Carried at place len ∷ Literal at' bytes' ∷ rest
 join_piece (Carried at place len) (Carried at' place' len' ∷ rest) =
     if same_place (place_after place len) place' then Carried at place (len + len') ∷ rest
     else Carried at place len ∷ Carried at' place' len' ∷ rest
-join_piece piece rest = piece ∷ rest
 
 abbrev pub pieces_from : Store ℕ → ℕ → List (List Traced) → List Piece
 pieces_from store at [] = []

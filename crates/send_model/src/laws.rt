@@ -5,15 +5,20 @@ ghost use Rattle.send_model.specs.Reading.{Item, Reading, is_version};
 ghost use Rattle.send_model.specs.Subvolume.{Subvolume, IsLawful, root_alone};
 ghost use Rattle.send_model.specs.Edit.{edit};
 ghost use Rattle.send_model.specs.Clone.{clone};
-ghost use Rattle.send_model.specs.Store.{Key, Store, State};
+ghost use Rattle.send_model.specs.Store.{Key, Entry, Store, State};
 ghost use Rattle.send_model.specs.Provenance.{Traced};
-ghost use Rattle.send_model.specs.GuardLaws.{NoGuardsChangeNothing, AllowedIsAccepted, AcceptedIsWithin, AuditIsReceiving, AuditStopsAtLimit};
+ghost use Rattle.send_model.specs.GuardLaws.{NoGuardsChangeNothing, AllowedIsAccepted, AcceptedIsWithin, AuditIsReceiving, AuditStopsAtLimit, NoGuardsOnReadings, AllowedReadingIsAccepted, AcceptedReadingIsWithin};
 ghost use Rattle.send_model.specs.Due.{IsJudgedOf, IsJudged};
 ghost use Rattle.send_model.specs.LengthLaws.{FilesAreMeasured, NamedIsFirstLong, FirstLongIsNamed, UnnamedIsWithin, WithinIsUnnamed, NamedStopsReading, StoppedIsNamed, ReadToTheLimit};
 ghost use Rattle.send_model.specs.Lawful.{KeepsLawfulness, EditsKeepSayable, ReceivedIsLawful, FilesLeaveLawful, LawfulFindsSayable, LawfulAllSayable, LawfulStoresHold};
 ghost use Rattle.send_model.specs.Receivable.{ReceivableSpells, ReceivableRises};
 ghost use Rattle.send_model.specs.Exported.{CanExportOver, ExportedIsSame, ReceivedCanExport};
 ghost use Rattle.send_model.specs.Separated.{NeutralChangesNothing, TouchIsNeutral, DetourIsNeutral, FreeNameIsFree, SteadyIsPlain, SeparatedIsReceived, SeparatedCountsSame};
+ghost use Rattle.send_model.specs.Thinned.{LeavesOutContents, LooksAtNamed, AlikeIsSame, LooksOutside, LeastIsEnough, AlikeOutside};
+ghost use Rattle.send_model.specs.Renamed.{Names, KeepsAllElse, ChangesHeadsAlone, RenamedOneByOne, FileHasOneName, HasNewName, BadNameStands, RenamedIsWritable, RenamedIsWhole, RenamedFilesHold, RenamedLeaveLawful};
+ghost use Rattle.send_model.specs.Words.{Request};
+ghost use Rattle.send_model.specs.Sources.{SaysOfFiles, NoNamesChangeNothing, RenamedAuditIsReceiving, RenamedAuditStopsAtLimit, ThinnedEnds};
+ghost use Rattle.send_model.specs.NamedWords.{PlainFilesAreGiven, GivenNamesFit, ShortNamesAreGiven};
 ghost use Rattle.send_model.specs.Laws.{SpelledIsRead, SpelledIsFront, FrameHasOneReading, ReadWasSpelled, RulesWereSpelled, DataIsThere, CanonicalSpells, SpelledIsSpellable, SecondSaysMore, AreInner, StreamIsRead, CutIsUnfinished, EditLooksAtItsPart, StepKeepsCells, FirstPathsAreLeast, AreCounted, ItemsHold, ItemsSpelled, FrontsAreWritable, ReadingsHold, PlainReadingsHold, FilesAreWhole, FilesHold, PlainFilesHold, BaseCanReceive, BaseReceives, ChainIsLawful};
 
 /// Whatever spells a command is read as that command, whatever follows it, and spells no other; what is read was spelled. So it is
@@ -101,13 +106,16 @@ pub fn first_paths_are_least<C>()
 /// Guards add refusals to a run and nothing else: without guards it is the plain run, and what is accepted under guards is
 /// accepted without them and leads to the same state. It is within the limits of each guard. The answer that is due to an audit is
 /// that of receiving under its guards, where no file is too long; and where one is, the first refusal of what stands before its
-/// limit, and else that the file is too long.
+/// limit, and else that the file is too long. The first three are so of whatever was read too.
 pub fn guards_only_refuse()
     ensures none { NoGuardsChangeNothing }
     ensures allowed { AllowedIsAccepted }
     ensures within { AcceptedIsWithin }
     ensures audited { AuditIsReceiving }
     ensures limited { AuditStopsAtLimit }
+    ensures none_read { NoGuardsOnReadings }
+    ensures allowed_read { AllowedReadingIsAccepted }
+    ensures within_read { AcceptedReadingIsWithin }
 {}
 
 /// A file is too long where all bytes that are read at the most are there, and are read whole or are cut short; one that is
@@ -164,4 +172,47 @@ pub fn answers_are_judged()
 /// parts follow each other.
 pub fn generated_chains_are_lawful()
     ensures lawful { ChainIsLawful }
+{}
+
+/// Composing looks at no contents of a base but those of the keys that the commands name: over two bases with the same entries, and the
+/// same contents at these keys, the verdict, the answer that is due, the composed commands and all counts are the same. Over a base
+/// without the parts the keys outside are enough, and all that is promised of a composed stream, and all that compose answers, is the same.
+pub fn composing_looks_at_what_is_named<S>()
+    ensures contents { (keep : Key → Bool) (store : List (Entry S))
+        → LeavesOutContents keep store }
+    ensures named { LooksAtNamed }
+    ensures alike { AlikeIsSame }
+    ensures outside { LooksOutside }
+    ensures least { LeastIsEnough }
+    ensures alike_outside { AlikeOutside }
+    ensures ends { ThinnedEnds }
+{}
+
+/// What words say of files is what they say of what was read of them.
+pub fn words_speak_of_readings()
+    ensures files { (request : Request) (base : Store ℕ) (files : List (List ℕ))
+        → SaysOfFiles request base files }
+{}
+
+/// Names that are given with files stand in place of those of their heads, and change nothing else: no key, no order of parts, no version
+/// and no count. A name that is no lawful one is refused at the head. The headline holds of the reading with these names, and an audit is
+/// receiving it under guards. What is received leaves a lawful store. Without names nothing changes, and words without names are files.
+/// Each name that words give is one that an attribute has room for, and each such name can be given.
+pub fn parts_may_have_other_names<C>()
+    ensures none { NoNamesChangeNothing }
+    ensures rest { (names : Names) (items : List Item) → KeepsAllElse names items }
+    ensures heads { (names : Names) (item : Item) → ChangesHeadsAlone names item }
+    ensures one_by_one { RenamedOneByOne }
+    ensures file { FileHasOneName }
+    ensures head { HasNewName }
+    ensures bad { BadNameStands C }
+    ensures writable { RenamedIsWritable }
+    ensures whole { RenamedIsWhole }
+    ensures files { RenamedFilesHold }
+    ensures audits { RenamedAuditIsReceiving }
+    ensures limited { RenamedAuditStopsAtLimit }
+    ensures lawful { RenamedLeaveLawful }
+    ensures words { PlainFilesAreGiven }
+    ensures fit { GivenNamesFit }
+    ensures short { ShortNamesAreGiven }
 {}

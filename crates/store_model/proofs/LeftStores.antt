@@ -4,28 +4,19 @@ use Rattle.std.proofs.Common.{refl, sym, ap, subst, ◌∙◌}
 use Rattle.send_model.specs.Refusal.{Refusal}
 use Rattle.send_model.specs.Spelling.{canonical}
 use Rattle.send_model.specs.Reading.{Item}
-use Rattle.send_model.specs.Store.{Head, Store, State, After, head_of, completed, step}
-use Rattle.send_model.specs.Receive.{Ran, run_by, then_run, verdict_of, byte_cells, start_of}
+use Rattle.send_model.specs.Store.{Head, Store, State, After, head_of, completed}
+use Rattle.send_model.specs.Receive.{run_by, then_run, verdict_of, byte_cells, start_of}
 use Rattle.send_model.specs.Guards.{Watched, guarded, looked, watched_step, receive_watched, receive_under}
 use Rattle.send_model.specs.Due.{RefusedAt, limited_from, stop_due}
 use Rattle.store_model.specs.States.{IsBetween, complete_behind, received}
-use Rattle.store_model.specs.StoreDue.{StoreDue, Ends, LogFull, first_full, pieces_from, end_behind, item_pieces, place_after, left_full, left_from, receive_from, or_store_due, receive_due, receive_left}
-use Rattle.store_model.specs.StoreWords.{LeftIsPassed, LeftIsState, LeftIsReceived}
+use Rattle.store_model.specs.Dues.{Due, Ends, LogFull, first_full, pieces_from, end_behind, item_pieces, place_after, left_full, left_from, receive_from, or_due, receive_due, receive_left}
+use Rattle.store_model.specs.Requests.{LeftIsPassed, LeftIsState, LeftIsReceived}
 use Rattle.send_model.proofs.Sorts.{same_inside}
 use Rattle.send_model.proofs.Guarding.{after_looks, looks_are}
-use Rattle.store_model.proofs.WrittenGroups.{head_fact}
+use Rattle.store_model.proofs.WrittenGroups.{does, run_from, head_fact}
 use Rattle.store_model.proofs.StoreAnswers.{full_is}
-use Rattle.store_model.proofs.PassedStates.{Goes, IsOn, goes_twice, between_goes, own_between, completed_on, completes, step_on, run_on, start_closed, more_states}
+use Rattle.store_model.proofs.PassedStates.{Goes, IsOn, goes_twice, between_goes, own_between, IsPassed, on_way, completed_on, completes, step_on, run_on, start_closed, more_states}
 use Rattle.store_model.proofs.ReadFronts.{limited_is_front}
-
-abbrev does : State ℕ → Item → After (State ℕ)
-does s item = step 0 (byte_cells item) s item.command
-
-abbrev run_from : Watched (State ℕ) → List Item → Ran (Watched (State ℕ))
-run_from w items = run_by (watched_step does) w items
-
-abbrev IsPassed : Store ℕ → Store ℕ → Store ℕ → Type 0
-IsPassed start end left = IsBetween (complete_behind start left) start end left
 
 module _ (limit : ℕ) (start : Store ℕ) where
   -- where there is no room for an item that no guard refuses
@@ -42,9 +33,9 @@ module _ (limit : ℕ) (start : Store ℕ) where
       own : IsPassed start end after
       own =
           let next = step_on 0 (byte_cells item) start w.state.store w.state.part item.command on in
-          between_goes (complete_behind start after) start after end after goes (own_between start after (does w.state item).state.part next.0)
+          on_way start after (does w.state item).state.part end next.0 goes
 
-      one : (o : Option Head) → head_of item.command ≡ o → (full : Option StoreDue) → IsPassed start end (if is_some o then (elim full as (λ x. Store ℕ) [ Some due ↦ whole | None ↦ after ]) else after)
+      one : (o : Option Head) → head_of item.command ≡ o → (full : Option Due) → IsPassed start end (if is_some o then (elim full as (λ x. Store ℕ) [ Some due ↦ whole | None ↦ after ]) else after)
       one None is full = own
       one (Some head) is None = own
       one (Some head) is (Some due) =
@@ -74,7 +65,7 @@ module _ (limit : ℕ) (start : Store ℕ) where
         ]
       ]
 
-      taken : (o : Option Refusal) → (does w.state item).refusal ≡ o → (full : Option StoreDue) → (rest : Store ℕ)
+      taken : (o : Option Refusal) → (does w.state item).refusal ≡ o → (full : Option Due) → (rest : Store ℕ)
           → IsPassed start (run_from (record { guards = looked w.guards item.command; state = (does w.state item).state }) items).state.state.store rest
           → IsPassed start (then_run item (record { state = record { guards = looked w.guards item.command; state = (does w.state item).state }; refusal = o }) (run_from (record { guards = looked w.guards item.command; state = (does w.state item).state }) items)).state.state.store
           (elim o as (λ x. Store ℕ) [
@@ -105,7 +96,7 @@ left_is_passed limit gate store guards files =
 
 -- ---- where there was room
 
-abbrev HasRoom : ℕ → Option StoreDue → Type 0
+abbrev HasRoom : ℕ → Option Due → Type 0
 HasRoom limit ended = (end wanted : ℕ) → ended ≡ Some (LogFull end wanted limit) → ⊥
 
 left_received : (limit place : ℕ) (w : Watched (State ℕ)) (items : List Item) → HasRoom limit (receive_from limit place w items) → left_from limit place w items ≡ (run_from w items).state.state.store
@@ -120,10 +111,10 @@ left_received limit place w (item ∷ items) room =
     at : ℕ
     at = place_after w.state.part item.command place
 
-    one : (o : Option Refusal) (next : Watched (State ℕ)) (full : Option StoreDue) → first_full limit (item_pieces (place_after w.state.part item.command place) item) ≡ full
-        → HasRoom limit (elim o as (λ x. Option StoreDue) [
+    one : (o : Option Refusal) (next : Watched (State ℕ)) (full : Option Due) → first_full limit (item_pieces (place_after w.state.part item.command place) item) ≡ full
+        → HasRoom limit (elim o as (λ x. Option Due) [
           | Some refusal ↦ Some (Ends (RefusedAt (verdict_of item refusal)))
-          | None ↦ elim full as (λ x. Option StoreDue) [ Some due ↦ Some due | None ↦ receive_from limit (end_behind (place_after w.state.part item.command place) (item_pieces (place_after w.state.part item.command place) item)) next items ]
+          | None ↦ elim full as (λ x. Option Due) [ Some due ↦ Some due | None ↦ receive_from limit (end_behind (place_after w.state.part item.command place) (item_pieces (place_after w.state.part item.command place) item)) next items ]
         ])
         → (HasRoom limit (receive_from limit (end_behind (place_after w.state.part item.command place) (item_pieces (place_after w.state.part item.command place) item)) next items)
         → left_from limit (end_behind (place_after w.state.part item.command place) (item_pieces (place_after w.state.part item.command place) item)) next items ≡ (run_from next items).state.state.store)
@@ -144,7 +135,7 @@ left_is_received limit gate store guards files due is =
     let w : Watched (State ℕ) = record { guards = guards; state = start_of store } in
     left_received limit gate w (limited_from 1 files).items (one (receive_from limit gate w (limited_from 1 files).items) is)
   where
-    one : (ended : Option StoreDue) → or_store_due ended (Ends (stop_due (limited_from 1 files).stop)) ≡ Ends due → HasRoom limit ended
+    one : (ended : Option Due) → or_due ended (Ends (stop_due (limited_from 1 files).stop)) ≡ Ends due → HasRoom limit ended
     one None q end wanted e = cc
     one (Some d) q end wanted e = not_both (sym (same_inside e) ∙ q)
       where

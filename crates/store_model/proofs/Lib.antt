@@ -8,7 +8,7 @@ pub mod LawfulGroups
 mod StoredExamples
 pub mod PassedStates
 mod CompleteLines
-mod StoreDueExamples
+mod DueExamples
 pub mod SaidBodies
 pub mod Decided
 pub mod ScrubLaws

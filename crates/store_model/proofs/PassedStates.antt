@@ -154,7 +154,7 @@ module _ {C : Type 0} where
   abbrev pub Leads : Store C → State C → State C → Type 0
   Leads start old new = IsOn start new.store new.part × Goes start old.store new.store
 
-  entered_on : (start store : Store C) (head : Head) (r : Result (Subvolume C) Refusal) → begun store head ≡ r → IsClosed start store → Leads start (record { store = store; part = None }) (entered store head r).state
+  pub entered_on : (start store : Store C) (head : Head) (r : Result (Subvolume C) Refusal) → begun store head ≡ r → IsClosed start store → Leads start (record { store = store; part = None }) (entered store head r).state
   entered_on start store head (Err refusal) e on = (on, record { before = on.complete; after = on.complete; old_is = on.is; new_is = on.is; later = later_same on.complete })
   entered_on start store head (Ok s) e on =
       let b = begun_begins store head s e in
@@ -167,7 +167,7 @@ module _ {C : Type 0} where
   stays start store None on = record { before = on.complete; after = on.complete; old_is = on.is; new_is = on.is; later = later_same on.complete }
   stays start store (Some part) on = let all : Store C = on.complete ++ on.last ∷ [] in record { before = all; after = all; old_is = on.is; new_is = on.is; later = later_same all }
 
-  edited_on : (start store : Store C) (part : Part C) (r : Result (Subvolume C) Refusal) → IsOpen start store part → Leads start (record { store = store; part = Some part }) (edited store part r).state
+  pub edited_on : (start store : Store C) (part : Part C) (r : Result (Subvolume C) Refusal) → IsOpen start store part → Leads start (record { store = store; part = Some part }) (edited store part r).state
   edited_on start store part (Err refusal) on = (on, stays start store (Some part) on)
   edited_on start store part (Ok s) on = (record { complete = on.complete; last = on.last; is = on.is; are = on.are; is_open = on.is_open; own = on.own; new = on.new }, stays start store (Some part) on)
 
@@ -260,6 +260,13 @@ module _ {C : Type 0} where
         enough = omega (arith, ap length count);
         is = inr (on.is ∙ sym (append_assoc start on.complete (on.last ∷ [])) ∙ ap (λ (e : Entry (Subvolume C)). (start ++ on.complete) ++ e ∷ []) same);
       }
+
+  -- A store on the way to an end, with all parts complete that are complete in it.
+  abbrev pub IsPassed : Store C → Store C → Store C → Type 0
+  IsPassed start end now = IsBetween (complete_behind start now) start end now
+
+  pub on_way : (start store : Store C) (part : Option (Part C)) (end : Store C) → IsOn start store part → Goes start store end → IsPassed start end store
+  on_way start store part end on goes = between_goes (complete_behind start store) start store end store goes (own_between start store part on)
 
   -- ---- items
 

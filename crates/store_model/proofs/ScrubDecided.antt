@@ -11,7 +11,7 @@ use Rattle.send_model.specs.Checksum.{crc_of}
 use Rattle.store_model.specs.Image.{Header, IsHeader, HasHeader, IsCutShort, IsShort, header_of, front_of, group_of}
 use Rattle.send_model.specs.Due.{DoneWhole}
 use Rattle.store_model.specs.Scrub.{IsKind, IsWhole, unsealed, IsDamaged, IsNone, FailsWith, HasBody, scrub_line}
-use Rattle.store_model.specs.StoreDue.{StoreDue, Ends, NotStore, Damaged, IsScrubDue}
+use Rattle.store_model.specs.Dues.{Due, Ends, NotStore, Damaged, IsScrubDue}
 use Rattle.store_model.specs.StoreLaws.{EachImageIsScrubbed}
 use Rattle.send_model.proofs.Canonical.{bytes_at as byte_at}
 use Rattle.send_model.proofs.Sound.{bytes_drop}
@@ -74,7 +74,7 @@ body_found format (kind ∷ rest) are = one (kind_decided format kind) (cases_lt
 -- ---- groups
 
 abbrev IsFound : List ℕ → Type 0
-IsFound image = (due : StoreDue) × (written : List ℕ) × IsScrubDue image due written
+IsFound image = (due : Due) × (written : List ℕ) × IsScrubDue image due written
 
 -- one body more
 bodies_more : (bodies : List (List ℕ)) (body : List ℕ) → flat_map group_of (bodies ++ body ∷ []) ≡ flat_map group_of bodies ++ group_of body

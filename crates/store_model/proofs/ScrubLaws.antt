@@ -10,7 +10,7 @@ use Rattle.send_model.specs.Checksum.{crc_of}
 use Rattle.store_model.specs.Image.{Header, IsHeader, HasHeader, IsCutShort, IsShort, header_of, front_of, group_of, sealed}
 use Rattle.store_model.specs.Stored.{Content, Mark, Body, Drop, Group, number_of, content_bytes, body_bytes, IsGroup}
 use Rattle.store_model.specs.StoreLaws.{OneScrub, StoredIsWhole}
-use Rattle.store_model.specs.StoreDue.{Ends, NotStore, Missing, LogFull, StoreThere, Damaged}
+use Rattle.store_model.specs.Dues.{Ends, NotStore, Missing, LogFull, StoreThere, Damaged}
 use Rattle.store_model.specs.Scrub.{scrub_line, IsKind, body_with, IsWhole, unsealed, IsScrubbed, IsDamaged, IsNone, FailsWith, HasBody, IsDamagedAt, IsNoStoreAt}
 use Rattle.send_model.proofs.ChecksumLaws.{crc_of-below}
 use Rattle.send_model.proofs.Canonical.{bytes_at as byte_at}

@@ -108,7 +108,7 @@ mark_stands = record {
 }
 
 -- with its Body it is complete
-a_stands : StandsFor (mark_bytes ++ body_part ++ 0 ∷ []) (a_with (Some (one_file (codes "hi") (codes "x" ∷ []))) ∷ [])
+pub a_stands : StandsFor (mark_bytes ++ body_part ++ 0 ∷ []) (a_with (Some (one_file (codes "hi") (codes "x" ∷ []))) ∷ [])
 unfolding begin_a edits_of_a mark_bytes body_part stored_words a_with
 a_stands = record {
   header = usual_header;
@@ -210,7 +210,7 @@ old_stands = record {
 -- ---- faults
 
 -- no header
-empty_fails : StandsForNone [] 0
+pub empty_fails : StandsForNone [] 0
 empty_fails has = absurd (omega (arith, ap length has.bytes, length-append (header_of has.header) has.rest))
 
 -- no gate behind a header, and behind two groups

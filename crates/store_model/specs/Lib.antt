@@ -6,8 +6,8 @@ pub mod StoreLines
 pub mod Scrub
 pub mod Written
 pub mod Stops
-pub mod StoreDue
-pub mod StoreWords
+pub mod Dues
+pub mod Requests
 pub mod StoreLaws
 pub mod Turns
 pub mod TurnLaws

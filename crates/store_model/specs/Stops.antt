@@ -1,6 +1,6 @@
 -- What stands where receiving ends before its answer: at a fault of a device, for want of memory, or where a crash ends it. This program's
 -- own.
-use Rattle.std.specs.Prelude.{◌≡◌, ℕ, List, [], ◌++◌, map}
+use Rattle.std.specs.Prelude.{◌≡◌, ◌≤◌, ℕ, List, [], ◌++◌, map}
 use Rattle.std.specs.List.{AllByRecursion}
 use Rattle.send_model.specs.Attribute.{IsBytes}
 use Rattle.send_model.specs.Reading.{input}
@@ -8,7 +8,7 @@ use Rattle.send_model.specs.Store.{Store}
 use Rattle.send_model.specs.Guards.{Guard}
 use Rattle.store_model.specs.Image.{HasGroups}
 use Rattle.store_model.specs.Stored.{Group, body_bytes, StandsFor}
-use Rattle.store_model.specs.States.{HasNumbers, received_lines, IsAcknowledged}
+use Rattle.store_model.specs.States.{complete_behind, HasNumbers, received_lines, lines_in, IsAcknowledged}
 use Rattle.store_model.specs.Written.{groups_of}
 
 -- Behind the groups that were there stand the first of those that receiving writes. The image stands for a store that receiving passes
@@ -38,3 +38,12 @@ AllIsOnTheWay = (before image : List ℕ) (guards : List Guard) (files : List (L
     → HasNumbers store → AllByRecursion IsBytes files
     → HasGroups stands.header (map body_bytes (stands.groups ++ groups_of store guards (input files).items)) image
     → IsOnTheWay before guards files store (received_lines store guards files) image
+
+-- And so is each with the first of the groups, which stands for one of the states, as long as no more lines were written than parts are
+-- complete in it.
+abbrev pub FirstIsOnTheWay : Type 0
+FirstIsOnTheWay = (before image : List ℕ) (guards : List Guard) (files : List (List ℕ)) (store : Store ℕ) (stands : StandsFor before store) (first more : List Group)
+    → AllByRecursion IsBytes files → groups_of store guards (input files).items ≡ first ++ more → HasGroups stands.header (map body_bytes (stands.groups ++ first)) image
+    → (now : Store ℕ) × StandsFor image now
+    × ((written unwritten : List ℕ) → received_lines store guards files ≡ written ++ unwritten → lines_in written ≤ complete_behind store now
+    → IsOnTheWay before guards files store written image)

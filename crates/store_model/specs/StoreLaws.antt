@@ -7,7 +7,7 @@ use Rattle.send_model.specs.Cells.{recelled_store}
 use Rattle.send_model.specs.Lawful.{IsLawfulStore}
 use Rattle.store_model.specs.States.{HasNumbers}
 use Rattle.store_model.specs.Scrub.{IsScrubbed}
-use Rattle.store_model.specs.StoreDue.{StoreDue, IsScrubDue}
+use Rattle.store_model.specs.Dues.{Due, IsScrubDue}
 use Rattle.store_model.specs.Image.{Header, front_of}
 use Rattle.store_model.specs.Stored.{Group, body_bytes, IsGroup, Putting, as_places, byte_of, made, body_at, made_all, Makes, Stands, StandsFor, StandsForNone}
 
@@ -63,7 +63,7 @@ OneMoreIsMade C = (zero_cell : C) (put : Putting C) (header : Header) (groups : 
 
 -- Scrub has one answer.
 abbrev pub OneScrub : Type 0
-OneScrub = (image : List ℕ) (due other : StoreDue) (written output : List ℕ) → IsBytes image → IsScrubDue image due written → IsScrubDue image other output
+OneScrub = (image : List ℕ) (due other : Due) (written output : List ℕ) → IsBytes image → IsScrubDue image due written → IsScrubDue image other output
     → (due ≡ other) × (written ≡ output)
 
 -- Where an image stands for a store, it finds all groups whole.
@@ -72,4 +72,4 @@ StoredIsWhole = (image : List ℕ) (store : Store ℕ) → StandsFor image store
 
 -- And it has one for each image of bytes.
 abbrev pub EachImageIsScrubbed : Type 0
-EachImageIsScrubbed = (image : List ℕ) → IsBytes image → (due : StoreDue) × (written : List ℕ) × IsScrubDue image due written
+EachImageIsScrubbed = (image : List ℕ) → IsBytes image → (due : Due) × (written : List ℕ) × IsScrubDue image due written

@@ -11,7 +11,7 @@ use Rattle.send_model.specs.Receive.{byte_cells, start_of}
 use Rattle.send_model.specs.Guards.{Guard, Watched, watched_step, guarded}
 use Rattle.send_model.specs.Counts.{is_end}
 use Rattle.store_model.specs.Stored.{IsGroup, Mark, Body, Group, is_edit, made_all, as_bytes}
-use Rattle.store_model.specs.States.{received}
+use Rattle.store_model.specs.States.{IsBetween, complete_behind, received}
 
 -- The part that is being received, as its Body will say it.
 pub record Begun : Type 0 where
@@ -71,6 +71,13 @@ groups_of store guards items = groups_from (record { guards = guards; state = st
 abbrev pub WrittenIsReceived : Type 0
 WrittenIsReceived = (gate : ℕ) (store : Store ℕ) (guards : List Guard) (items : List Item)
     → made_all 0 as_bytes gate store (groups_of store guards items) ≡ Some (received 0 byte_cells store guards items).state.state.store
+
+-- The first of them, however many, make a state on the way, with all parts complete that are complete in it.
+abbrev pub FirstGroupsAreStates : Type 0
+FirstGroupsAreStates = (gate : ℕ) (store : Store ℕ) (guards : List Guard) (items : List Item) (first more : List Group)
+    → groups_of store guards items ≡ first ++ more
+    → (now : Store ℕ) × (made_all 0 as_bytes gate store first ≡ Some now)
+    × IsBetween (complete_behind store now) store (received 0 byte_cells store guards items).state.state.store now
 
 -- Those of files of bytes can stand in an image of either format.
 abbrev pub WrittenIsLawful : Type 0

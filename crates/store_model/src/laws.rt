@@ -1,8 +1,8 @@
 // Laws that tie the definitions to what they mean. Each is the contract of a function that does nothing.
 ghost use Rattle.store_model.specs.StateLaws.{MoreItemsPassMore, BeginsWithTheStore, PassesWhatItLeaves, PassesWhatIsCompleted, FilesAreItems, BetweenHasThem, LimitedIsFront, LinesAreParts, FirstLinesStandWhole, ReceivedHasNumbers, PrintedAreParts};
-ghost use Rattle.store_model.specs.Stops.{NothingIsOnTheWay, AllIsOnTheWay};
-ghost use Rattle.store_model.specs.Written.{WrittenIsReceived, WrittenIsLawful};
-ghost use Rattle.store_model.specs.StoreWords.{OneStoreDue, ReceiveIsAudit, LeftIsPassed, LeftIsState, LeftIsReceived};
+ghost use Rattle.store_model.specs.Stops.{NothingIsOnTheWay, AllIsOnTheWay, FirstIsOnTheWay};
+ghost use Rattle.store_model.specs.Written.{WrittenIsReceived, FirstGroupsAreStates, WrittenIsLawful};
+ghost use Rattle.store_model.specs.Requests.{OneDue, ReceiveIsAudit, LeftIsPassed, LeftIsState, LeftIsReceived};
 ghost use Rattle.store_model.specs.StoreLaws.{BodyIsOneGroup, ImageIsOneStore, ImageIsNotBoth, OneGroupIsAtFault, EachImageIsDecided, StoredIsLawful, GroupsKeepCells, PlacesAreBytes, BytesHavePlaces, OneMoreIsMade, StoredHasNumbers, OneScrub, EachImageIsScrubbed, StoredIsWhole};
 ghost use Rattle.store_model.specs.TurnLaws.{TurnsAreOneByOne, PartsAreRead, FilesAreOneByOne, FilesAreInTurn, OneIsReceiving, AllAreOver, NoneIsLeftOpen, FilesLeaveNoneOpen, GroupsAreLawful, GroupsStand, LinesAreComplete, FrontsAreStates, FrontStatesAreStates, FrontGroupsAreStates, StatesAreOneByOne};
 
@@ -52,10 +52,10 @@ pub fn scrub_has_one_answer()
     ensures stored { StoredIsWhole }
 {}
 
-/// One answer is due to a word over a store. What is due to receiving is what is due to an audit over the same store, unless there is
+/// One answer is due to each word, on streams or over a store. What is due to receiving is what is due to an audit over the same store, unless there is
 /// no room for a group. The store that it leaves is one that receiving passes through and, where there was room, the one that it leaves.
 pub fn one_answer_is_due_over_a_store()
-    ensures one { OneStoreDue }
+    ensures one { OneDue }
     ensures receive { ReceiveIsAudit }
     ensures passed { LeftIsPassed }
     ensures state { LeftIsState }
@@ -63,13 +63,16 @@ pub fn one_answer_is_due_over_a_store()
 {}
 
 /// The groups that receiving writes behind those of a store, one Mark for each part that begins and one Body for each that is complete,
-/// make of it what receiving leaves. Those of files of bytes can stand in an image of either format. The image at entry is on the way,
-/// and so is the one that has them all.
+/// make of it what receiving leaves; and whatever the first of them make is a state on the way, with all parts complete that are complete
+/// in it. Those of files of bytes can stand in an image of either format. The image at entry is on the way, so is the one that has them
+/// all, and so is each that has the first of them, with no more lines written than parts are complete in it.
 pub fn written_groups_make_what_is_received()
     ensures received { WrittenIsReceived }
+    ensures states { FirstGroupsAreStates }
     ensures lawful { WrittenIsLawful }
     ensures nothing { NothingIsOnTheWay }
     ensures all { AllIsOnTheWay }
+    ensures first { FirstIsOnTheWay }
 {}
 
 /// After any turns of sessions the store has what receiving the completed parts one after the other, in the order of their completion,

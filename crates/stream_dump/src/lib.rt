@@ -15,3 +15,4 @@ pub use dumping::dump;
 pub use file_writing::{PIECE, finish, send, write_file};
 pub use gathering::Gathered;
 pub use item_form::ItemForm;
+pub use numbers::{push_decimal, push_octal, push_time, push_uuid};

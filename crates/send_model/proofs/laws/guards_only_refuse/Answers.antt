@@ -1,5 +1,5 @@
-use Rattle.send_model.proofs.Guarding.{no_guards_change_nothing, allowed_is_accepted}
-use Rattle.send_model.proofs.Guarded.{accepted_is_within}
+use Rattle.send_model.proofs.Guarding.{no_guards_change_nothing, allowed_is_accepted, no_guards_on_readings, allowed_reading_is_accepted}
+use Rattle.send_model.proofs.Guarded.{accepted_is_within, accepted_reading_is_within}
 use Rattle.send_model.proofs.Audited.{audit_is_receiving, audit_stops_at_limit}
 use Rattle.send_model.proofs.laws.guards_only_refuse.Goals as goal
 
@@ -17,3 +17,12 @@ returns-clause-audited c = audit_is_receiving
 
 pub returns-clause-limited : goal.returns-clause-limited
 returns-clause-limited c = audit_stops_at_limit
+
+pub returns-clause-none_read : goal.returns-clause-none_read
+returns-clause-none_read c = no_guards_on_readings
+
+pub returns-clause-allowed_read : goal.returns-clause-allowed_read
+returns-clause-allowed_read c = allowed_reading_is_accepted
+
+pub returns-clause-within_read : goal.returns-clause-within_read
+returns-clause-within_read c = accepted_reading_is_within

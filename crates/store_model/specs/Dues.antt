@@ -1,5 +1,5 @@
--- The one answer that is due to a word over a store, where no device fails and memory is there: by the image of the store, the word's
--- name and path, and the files. The order of answers is this program's own.
+-- The one answer that is due to a word, where no device fails and memory is there: over a store by its image, the word's name and path,
+-- and the files. The order of answers is this program's own.
 use Rattle.std.specs.Prelude.{◌≡◌, ℕ, ◌+◌, ◌-◌, ◌==◌, List, [], ◌∷◌, ◌++◌, length, map, Option, None, Some, Ok, Err, nat_lt, codes, is_some, if◌then◌else◌}
 use Rattle.std.specs.Str.{bytes_eq}
 use Rattle.send_model.specs.Command.{Command}
@@ -11,56 +11,55 @@ use Rattle.send_model.specs.Receive.{verdict_of, byte_cells, start_of}
 use Rattle.send_model.specs.Guards.{Guard, Watched, watched_step}
 use Rattle.send_model.specs.Counts.{is_end}
 use Rattle.send_model.specs.Printed.{escaped}
-use Rattle.send_model.specs.Answer.{and_field, and_number, line, eight_digits, verdict_text}
-use Rattle.send_model.specs.Due.{Due, DoneWhole, RefusedAt, TooLong, TooMuch, limited_from, stop_due}
+use Rattle.send_model.specs.Answer as answers
+use Rattle.send_model.specs.Answer.{Answer, Done, Refused, InputTooLong, TooMuch, and_field, and_number, line, eight_digits}
+use Rattle.send_model.specs.Due as dues
+use Rattle.send_model.specs.Due.{DoneWhole, RefusedAt, TooLong, limited_from, stop_due}
 use Rattle.store_model.specs.Image.{limit_of, reserve, front_of}
 use Rattle.store_model.specs.Stored.{body_bytes, is_edit, StandsFor, StandsForNone}
 use Rattle.store_model.specs.States.{lines_behind}
 use Rattle.store_model.specs.StoreLines.{shown}
 use Rattle.store_model.specs.Scrub.{IsScrubbed, IsDamagedAt, IsNoStoreAt, scrub_line}
 
--- An answer: one that files decide too, or that there is no store, no such entry or file, no room, a store already, or a group whose
+-- An answer: one that files decide alone, or that there is no store, no such entry or file, no room, a store already, or a group whose
 -- checksum is that of other bytes.
-pub data StoreDue : Type 0 where
-  Ends : Due → StoreDue
-  NotStore : (group : ℕ) → StoreDue
-  Missing : (what : List ℕ) → StoreDue
-  LogFull : (end wanted limit : ℕ) → StoreDue
-  StoreThere : (size : ℕ) → StoreDue
-  Damaged : (group stored computed : ℕ) → StoreDue
+pub data Due : Type 0 where
+  Ends : dues.Due → Due
+  NotStore : (group : ℕ) → Due
+  Missing : (what : List ℕ) → Due
+  LogFull : (end wanted limit : ℕ) → Due
+  StoreThere : (size : ℕ) → Due
+  Damaged : (group stored computed : ℕ) → Due
 
-abbrev pub due_status : Due → ℕ
-due_status DoneWhole = 0
-due_status (RefusedAt verdict) = 1
-due_status (TooMuch sum) = 9
-due_status (TooLong file) = 11
+-- How a run answers what files decide.
+abbrev pub answered : dues.Due → Answer
+answered DoneWhole = Done
+answered (RefusedAt verdict) = Refused verdict
+answered (TooLong file) = InputTooLong file
+answered (dues.TooMuch sum) = TooMuch sum
 
-unfoldable pub store_status : StoreDue → ℕ
-store_status (Ends due) = due_status due
-store_status (NotStore group) = 6
-store_status (Missing what) = 8
-store_status (LogFull end wanted limit) = 10
-store_status (StoreThere size) = 12
-store_status (Damaged group stored computed) = 14
+-- Its status.
+unfoldable pub status_of : Due → ℕ
+status_of (Ends due) = answers.status_of (answered due)
+status_of (NotStore group) = 6
+status_of (Missing what) = 8
+status_of (LogFull end wanted limit) = 10
+status_of (StoreThere size) = 12
+status_of (Damaged group stored computed) = 14
 
-abbrev pub due_note : Due → List ℕ
-due_note DoneWhole = []
-due_note (RefusedAt verdict) = line (verdict_text verdict)
-due_note (TooMuch sum) = line (codes "too much" ++ and_number sum)
-due_note (TooLong file) = line (codes "input too long" ++ and_number file)
-
-unfoldable pub store_note : StoreDue → List ℕ
-store_note (Ends due) = due_note due
-store_note (NotStore group) = line (codes "not a store" ++ and_number group)
-store_note (Missing what) = line (codes "missing" ++ and_field (escaped what))
-store_note (LogFull end wanted limit) = line (codes "log full" ++ and_number end ++ and_number wanted ++ and_number limit)
-store_note (StoreThere size) = line (codes "store there" ++ and_number size)
-store_note (Damaged group stored computed) = line (codes "damaged" ++ and_number group ++ and_field (eight_digits stored) ++ and_field (eight_digits computed))
+-- Its line on standard error.
+unfoldable pub note_of : Due → List ℕ
+note_of (Ends due) = answers.note_of (answered due)
+note_of (NotStore group) = line (codes "not a store" ++ and_number group)
+note_of (Missing what) = line (codes "missing" ++ and_field (escaped what))
+note_of (LogFull end wanted limit) = line (codes "log full" ++ and_number end ++ and_number wanted ++ and_number limit)
+note_of (StoreThere size) = line (codes "store there" ++ and_number size)
+note_of (Damaged group stored computed) = line (codes "damaged" ++ and_number group ++ and_field (eight_digits stored) ++ and_field (eight_digits computed))
 
 -- ---- words that open the store
 
 -- Opening comes first: what is due over the store that the image stands for, or that it stands for none.
-abbrev pub OverStore : List ℕ → (Store ℕ → StoreDue → Type 0) → StoreDue → Type 0
+abbrev pub OverStore : List ℕ → (Store ℕ → Due → Type 0) → Due → Type 0
 OverStore image over (NotStore group) = StandsForNone image group
 OverStore image over (Ends due) = (store : Store ℕ) × StandsFor image store × over store (Ends due)
 OverStore image over (Missing what) = (store : Store ℕ) × StandsFor image store × over store (Missing what)
@@ -82,17 +81,17 @@ unfoldable pub file_at : {C : Type 0} → List ℕ → Subvolume C → Option (L
 file_at path s = elim (walk s path) [ Err refusal ↦ None | Ok ino ↦ if is_file s ino then file_of s (inode_at s ino) else None ]
 
 -- Where something is missing, that; else all was done.
-abbrev pub unless_missing : {A : Type 0} → List ℕ → Option A → StoreDue
+abbrev pub unless_missing : {A : Type 0} → List ℕ → Option A → Due
 unless_missing what None = Missing what
 unless_missing what (Some found) = Ends DoneWhole
 
-abbrev pub list_due : Store ℕ → StoreDue
+abbrev pub list_due : Store ℕ → Due
 list_due store = Ends DoneWhole
 
-abbrev pub show_due : List ℕ → Store ℕ → StoreDue
+abbrev pub show_due : List ℕ → Store ℕ → Due
 show_due name store = unless_missing name (complete_named name store)
 
-abbrev pub cat_due : List ℕ → List ℕ → Store ℕ → StoreDue
+abbrev pub cat_due : List ℕ → List ℕ → Store ℕ → Due
 cat_due name path store = elim (complete_named name store) [ None ↦ Missing name | Some found ↦ unless_missing path (file_at path found.1) ]
 
 -- What they print.
@@ -108,7 +107,7 @@ cat_output name path store = elim (complete_named name store) [
 -- ---- room
 
 -- The first of some pieces, each of so many bytes at a place, behind which there is no room for a checksum and a gate.
-unfoldable pub first_full : ℕ → List (ℕ × ℕ) → Option StoreDue
+unfoldable pub first_full : ℕ → List (ℕ × ℕ) → Option Due
 first_full limit [] = None
 first_full limit (piece ∷ pieces) = if nat_lt limit (piece.0 + piece.1 + reserve) then Some (LogFull piece.0 piece.1 limit) else first_full limit pieces
 
@@ -144,7 +143,7 @@ place_after (Some part) command place = if is_edit command then place else place
 -- ---- receive
 
 -- The first item that ends receiving under guards, where the next bytes come at a place: it is refused, or there is no room for it.
-unfoldable pub receive_from : ℕ → ℕ → Watched (State ℕ) → List Item → Option StoreDue
+unfoldable pub receive_from : ℕ → ℕ → Watched (State ℕ) → List Item → Option Due
 receive_from limit place w [] = None
 receive_from limit place w (item ∷ items) =
     let after : After (Watched (State ℕ)) = watched_step (λ s i. step 0 (byte_cells i) s i.command) w item in
@@ -178,22 +177,22 @@ left_from limit place w (item ∷ items) =
       ]
     ]
 
-abbrev pub or_store_due : Option StoreDue → StoreDue → StoreDue
-or_store_due None other = other
-or_store_due (Some due) other = due
+abbrev pub or_due : Option Due → Due → Due
+or_due None other = other
+or_due (Some due) other = due
 
 -- Files, received under guards into a store whose closed gate stands at a place: each command as it is read, and last the end of
 -- reading.
-unfoldable pub receive_due : ℕ → ℕ → Store ℕ → List Guard → List (List ℕ) → StoreDue
+unfoldable pub receive_due : ℕ → ℕ → Store ℕ → List Guard → List (List ℕ) → Due
 receive_due limit gate store guards files = let read = limited_from 1 files in
-    or_store_due (receive_from limit gate (record { guards = guards; state = start_of store }) read.items) (Ends (stop_due read.stop))
+    or_due (receive_from limit gate (record { guards = guards; state = start_of store }) read.items) (Ends (stop_due read.stop))
 
 -- The store that it leaves.
 unfoldable pub receive_left : ℕ → ℕ → Store ℕ → List Guard → List (List ℕ) → Store ℕ
 receive_left limit gate store guards files = left_from limit gate (record { guards = guards; state = start_of store }) (limited_from 1 files).items
 
 -- The same by the image of the store.
-abbrev pub IsReceiveDue : List ℕ → List Guard → List (List ℕ) → Store ℕ → StoreDue → Type 0
+abbrev pub IsReceiveDue : List ℕ → List Guard → List (List ℕ) → Store ℕ → Due → Type 0
 IsReceiveDue image guards files store due = (stands : StandsFor image store)
     × (due ≡ receive_due (limit_of stands.header) (length (front_of stands.header (map body_bytes stands.groups))) store guards files)
 
@@ -207,22 +206,22 @@ ReceiveSays before guards files store written image = (stands : StandsFor before
 -- ---- drop
 
 -- No entry has the name, or there is no room for the group.
-unfoldable pub drop_due : ℕ → ℕ → List ℕ → Store ℕ → StoreDue
+unfoldable pub drop_due : ℕ → ℕ → List ℕ → Store ℕ → Due
 drop_due limit gate name store =
-    if has_name name store then or_store_due (first_full limit (pieces_from gate (9 ∷ (1 + length name) ∷ []))) (Ends DoneWhole) else Missing name
+    if has_name name store then or_due (first_full limit (pieces_from gate (9 ∷ (1 + length name) ∷ []))) (Ends DoneWhole) else Missing name
 
-abbrev pub IsDropDue : List ℕ → List ℕ → Store ℕ → StoreDue → Type 0
+abbrev pub IsDropDue : List ℕ → List ℕ → Store ℕ → Due → Type 0
 IsDropDue image name store due = (stands : StandsFor image store)
     × (due ≡ drop_due (limit_of stands.header) (length (front_of stands.header (map body_bytes stands.groups))) name store)
 
 -- ---- words that do not open it
 
 -- A new store is made where there is nothing.
-unfoldable pub init_due : List ℕ → StoreDue
+unfoldable pub init_due : List ℕ → Due
 init_due image = if length image == 0 then Ends DoneWhole else StoreThere (length image)
 
 -- Scrub finds the groups whole, or one at fault.
-abbrev pub IsScrubDue : List ℕ → StoreDue → List ℕ → Type 0
+abbrev pub IsScrubDue : List ℕ → Due → List ℕ → Type 0
 IsScrubDue image (Ends due) written = (due ≡ DoneWhole) × ((groups : ℕ) × (plain : ℕ) × IsScrubbed image groups plain × (written ≡ scrub_line groups plain))
 IsScrubDue image (NotStore group) written = IsNoStoreAt image group × (written ≡ [])
 IsScrubDue image (Damaged group stored computed) written = IsDamagedAt image group stored computed × (written ≡ [])

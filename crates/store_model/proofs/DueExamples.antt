@@ -10,24 +10,26 @@ use Rattle.send_model.specs.Store.{Entry}
 use Rattle.send_model.specs.Subvolume.{Subvolume}
 use Rattle.send_model.specs.Receive.{byte_cells, run_by, run_items, start_of}
 use Rattle.send_model.specs.Guards.{guard_refuses, guard_after, refused_from, looked, receive_watched, receive_under}
-use Rattle.send_model.specs.Lengths.{is_too_long}
+use Rattle.send_model.specs.Lengths.{is_too_long, too_long, too_long_from}
+use Rattle.send_model.specs.Answer as answers
 use Rattle.send_model.specs.Answer.{kept_values, eight_digits, verdict_text}
-use Rattle.send_model.specs.Due.{DoneWhole, RefusedAt, limited_from}
+use Rattle.send_model.specs.Due.{DoneWhole, RefusedAt, TooLong, TooMuch, due_from, limited_from, audit_due, accepted_line, file_due}
 use Rattle.store_model.specs.Image.{usual_header}
 use Rattle.store_model.specs.States.{complete_line, lines_behind, received_lines, left_by}
 use Rattle.store_model.specs.StoreLines.{entry_line, listed, inode_line, xattr_line, name_line, shown}
 use Rattle.store_model.specs.Scrub.{IsNoStoreAt, IsScrubbed, IsDamagedAt, scrub_line}
-use Rattle.store_model.specs.StoreDue.{left_from, receive_left, NotStore, Ends, Missing, LogFull, StoreThere, Damaged, store_status, store_note, complete_named, file_at, show_due, cat_due, cat_output, show_output, first_full, receive_from, receive_due, drop_due, init_due}
+use Rattle.store_model.specs.Dues.{left_from, receive_left, NotStore, Ends, Missing, LogFull, StoreThere, Damaged, status_of, note_of, complete_named, file_at, show_due, cat_due, cat_output, show_output, first_full, receive_from, receive_due, drop_due, init_due}
 use Rattle.send_model.specs.Spelling.{canonical, frame_of, attributes_of, attribute_bytes, body_of}
-use Rattle.send_model.specs.Words.{guards_and_files}
-use Rattle.store_model.specs.StoreWords.{StoreRequest, InitStore, DropEntry, ReceiveFiles, ListStore, ShowEntry, CatFile, ScrubStore, store_request_of}
+use Rattle.send_model.specs.Words as streams
+use Rattle.send_model.specs.Words.{Compose, Audit, Dump, Export, guards_and_files}
+use Rattle.store_model.specs.Requests.{Request, OfStreams, InitStore, DropEntry, ReceiveFiles, ListStore, ShowEntry, CatFile, ScrubStore, over_store, request_of, IsDue, Says}
 use Rattle.send_model.specs.Guards.{MostBytes, MostCommands, NoDevices, new_guard, guard_of}
 use Rattle.send_model.proofs.ExampleWords.{key, composing_words, hexadecimal, uuid, one_file, items}
 use Rattle.send_model.proofs.ReadingExamples.{second_stream, first_stream}
-use Rattle.store_model.proofs.StoredExamples.{old_image, stored_words, new_image, mark_bytes, body_part, a_with, b_complete, usual}
+use Rattle.store_model.proofs.StoredExamples.{old_image, stored_words, new_image, mark_bytes, body_part, a_with, a_stands, b_complete, empty_fails, usual}
 
 unfoldable due_words : Unit {0}
-unfolding digits kept_values stored_words escaped escaped_byte is_plain hex_digit uuid_text time_text complete_line lines_behind entry_line listed inode_line xattr_line name_line shown scrub_line store_status store_note complete_named file_at first_full receive_from receive_due left_from receive_left drop_due init_due run_by guard_refuses guard_after refused_from looked receive_watched receive_under is_too_long limited_from eight_digits verdict_text refusal_number refusal_name
+unfolding digits kept_values stored_words escaped escaped_byte is_plain hex_digit uuid_text time_text complete_line lines_behind entry_line listed inode_line xattr_line name_line shown scrub_line status_of note_of answers.status_of answers.note_of complete_named file_at first_full receive_from receive_due left_from receive_left drop_due init_due run_by guard_refuses guard_after refused_from looked receive_watched receive_under is_too_long limited_from eight_digits verdict_text refusal_number refusal_name
 due_words = tt
 
 abbrev a_complete : Entry (Subvolume ℕ)
@@ -63,7 +65,7 @@ no_room : receive_due 0 20 [] [] (first_stream ∷ []) ≡ LogFull 20 9 0
 unfolding due_words first_stream
 no_room = refl
 
-no_room_note : store_note (LogFull 20 9 0) ≡ codes "log full 20 9 0" ++ 10 ∷ []
+no_room_note : note_of (LogFull 20 9 0) ≡ codes "log full 20 9 0" ++ 10 ∷ []
 unfolding due_words
 no_room_note = refl
 
@@ -134,7 +136,7 @@ missing : (show_due (codes "zz") (a_complete ∷ []) ≡ Missing (codes "zz")) �
 unfolding due_words a_with
 missing = (refl, refl)
 
-missing_note : (store_note (Missing (codes "zz")) ≡ codes "missing zz" ++ 10 ∷ []) × (store_status (Missing (codes "zz")) ≡ 8)
+missing_note : (note_of (Missing (codes "zz")) ≡ codes "missing zz" ++ 10 ∷ []) × (status_of (Missing (codes "zz")) ≡ 8)
 unfolding due_words
 missing_note = (refl, refl)
 
@@ -157,15 +159,16 @@ second_shown = (refl, refl)
 
 -- ---- statuses and notes
 
-statuses : map store_status (Ends DoneWhole ∷ NotStore 3 ∷ Missing (codes "zz") ∷ LogFull 123 3969 4096 ∷ StoreThere 21 ∷ Damaged 1 2 3 ∷ []) ≡ 0 ∷ 6 ∷ 8 ∷ 10 ∷ 12 ∷ 14 ∷ []
+statuses : map status_of (Ends DoneWhole ∷ Ends (TooMuch 5) ∷ Ends (TooLong 2) ∷ NotStore 3 ∷ Missing (codes "zz") ∷ LogFull 123 3969 4096 ∷ StoreThere 21 ∷ Damaged 1 2 3 ∷ [])
+    ≡ 0 ∷ 9 ∷ 11 ∷ 6 ∷ 8 ∷ 10 ∷ 12 ∷ 14 ∷ []
 unfolding due_words
 statuses = refl
 
-notes : (store_note (NotStore 3) ≡ codes "not a store 3" ++ 10 ∷ []) × (store_note (LogFull 123 3969 4096) ≡ codes "log full 123 3969 4096" ++ 10 ∷ []) × (store_note (Ends DoneWhole) ≡ [])
+notes : (note_of (Ends (TooMuch 5)) ≡ codes "too much 5" ++ 10 ∷ []) × (note_of (Ends (TooLong 2)) ≡ codes "input too long 2" ++ 10 ∷ []) × (note_of (NotStore 3) ≡ codes "not a store 3" ++ 10 ∷ []) × (note_of (LogFull 123 3969 4096) ≡ codes "log full 123 3969 4096" ++ 10 ∷ []) × (note_of (Ends DoneWhole) ≡ [])
 unfolding due_words
-notes = (refl, refl, refl)
+notes = (refl, refl, refl, refl, refl)
 
-refused_note : (store_note (receive_due (2 ^ 40) 160 (a_complete ∷ []) [] (first_stream ∷ [])) ≡ codes "refused 1 1 17 11 NameThere" ++ 10 ∷ []) × (store_status (receive_due (2 ^ 40) 160 (a_complete ∷ []) [] (first_stream ∷ [])) ≡ 1)
+refused_note : (note_of (receive_due (2 ^ 40) 160 (a_complete ∷ []) [] (first_stream ∷ [])) ≡ codes "refused 1 1 17 11 NameThere" ++ 10 ∷ []) × (status_of (receive_due (2 ^ 40) 160 (a_complete ∷ []) [] (first_stream ∷ [])) ≡ 1)
 unfolding due_words first_stream a_with
 refused_note = (refl, refl)
 
@@ -176,8 +179,12 @@ no_line = refl
 
 -- ---- words
 
-words : List (List ℕ) → Option StoreRequest
-words = store_request_of
+words : List (List ℕ) → Option Request
+words = request_of
+
+unfoldable word_words : Unit {0}
+unfolding words request_of over_store streams.request_of guards_and_files guard_of digits
+word_words = tt
 
 asked : (words (codes "init" ∷ codes "st" ∷ []) ≡ Some (InitStore 1))
     × (words (codes "drop" ∷ codes "st" ∷ codes "a" ∷ []) ≡ Some (DropEntry 1 2))
@@ -186,7 +193,7 @@ asked : (words (codes "init" ∷ codes "st" ∷ []) ≡ Some (InitStore 1))
     × (words (codes "cat" ∷ codes "st" ∷ codes "a" ∷ codes "x" ∷ []) ≡ Some (CatFile 1 2 3))
     × (words (codes "scrub" ∷ codes "st" ∷ []) ≡ Some (ScrubStore 1))
     × (words (codes "receive" ∷ codes "guard:bytes=8" ∷ codes "guard:nodev" ∷ codes "st" ∷ codes "f" ∷ []) ≡ Some (ReceiveFiles (MostBytes 8 ∷ NoDevices ∷ []) 3 4))
-unfolding words store_request_of guards_and_files guard_of digits
+unfolding word_words
 asked = (refl, refl, refl, refl, refl, refl, refl)
 
 not_asked : (words (codes "init" ∷ []) ≡ None)
@@ -194,12 +201,69 @@ not_asked : (words (codes "init" ∷ []) ≡ None)
     × (words (codes "cat" ∷ codes "st" ∷ codes "a" ∷ []) ≡ None)
     × (words (codes "receive" ∷ codes "st" ∷ []) ≡ None)
     × (words [] ≡ None)
-unfolding words store_request_of guards_and_files guard_of digits
+unfolding word_words
 not_asked = (refl, refl, refl, refl, refl)
+
+-- the words on streams are those that they are
+on_streams : (words (codes "compose" ∷ codes "st" ∷ codes "f" ∷ codes "g" ∷ []) ≡ Some (OfStreams (Compose 1 2)))
+    × (words (codes "audit" ∷ codes "guard:nodev" ∷ codes "none" ∷ codes "f" ∷ []) ≡ Some (OfStreams (Audit (NoDevices ∷ []) 2 3)))
+    × (words (codes "export" ∷ codes "st" ∷ codes "f" ∷ []) ≡ Some (OfStreams (Export 1 2)))
+    × (words (codes "dump" ∷ codes "f" ∷ []) ≡ Some (OfStreams (Dump 1)))
+unfolding word_words
+on_streams = (refl, refl, refl, refl)
+
+-- over no store, whatever the image is; over the one that has the part, which is there already; to compose without it; and over none
+unfoldable stream_words : Unit {0}
+unfolding due_words first_stream a_with streams.due audit_due too_long too_long_from due_from
+stream_words = tt
+
+abbrev image_of_a : List ℕ
+image_of_a = mark_bytes ++ body_part ++ 0 ∷ []
+
+over_none : (image : List ℕ) → IsDue (OfStreams (Audit [] 1 2)) (codes "audit" ∷ codes "none" ∷ codes "f" ∷ []) image (first_stream ∷ []) (Ends DoneWhole)
+unfolding stream_words
+over_none image = refl
+
+twice_over_none : (image : List ℕ) → IsDue (OfStreams (Audit [] 1 2)) (codes "audit" ∷ codes "none" ∷ codes "f" ∷ codes "f" ∷ []) image (first_stream ∷ first_stream ∷ [])
+    (Ends (RefusedAt (record { file = 2; command = 1; offset = 17; refusal = NameThere })))
+unfolding stream_words
+twice_over_none image = refl
+
+-- a word without a store does not look at one
+dumped : (image : List ℕ) → IsDue (OfStreams (Dump 1)) (codes "dump" ∷ codes "f" ∷ []) image (first_stream ∷ []) (Ends DoneWhole)
+unfolding stream_words file_due
+dumped image = refl
+
+over_a : IsDue (OfStreams (Audit [] 1 2)) (codes "audit" ∷ codes "st" ∷ codes "f" ∷ []) image_of_a (first_stream ∷ [])
+    (Ends (RefusedAt (record { file = 1; command = 1; offset = 17; refusal = NameThere })))
+unfolding stream_words
+over_a = (a_complete ∷ [], a_stands, refl)
+
+composed_over_a : IsDue (OfStreams (Compose 1 2)) (codes "compose" ∷ codes "st" ∷ codes "f" ∷ []) image_of_a (first_stream ∷ []) (Ends DoneWhole)
+unfolding stream_words
+composed_over_a = (a_complete ∷ [], a_stands, refl)
+
+exported_over_a : IsDue (OfStreams (Export 1 2)) (codes "export" ∷ codes "st" ∷ codes "f" ∷ []) image_of_a (first_stream ∷ [])
+    (Ends (RefusedAt (record { file = 1; command = 1; offset = 17; refusal = NameThere })))
+unfolding stream_words
+exported_over_a = (a_complete ∷ [], a_stands, refl)
+
+-- and what is written then; nothing where there is no store
+accepted_over_none : (image : List ℕ) → Says (OfStreams (Audit [] 1 2)) (codes "audit" ∷ codes "none" ∷ codes "f" ∷ []) image (first_stream ∷ []) (Ends DoneWhole)
+    (codes "accepted 1 4" ++ 10 ∷ []) image
+unfolding stream_words streams.whole_of accepted_line
+accepted_over_none image = (refl, refl)
+
+refused_over_a : Says (OfStreams (Audit [] 1 2)) (codes "audit" ∷ codes "st" ∷ codes "f" ∷ []) image_of_a (first_stream ∷ [])
+    (Ends (RefusedAt (record { file = 1; command = 1; offset = 17; refusal = NameThere }))) [] image_of_a
+refused_over_a = (refl, (λ s stands. refl, λ group none. refl))
+
+over_no_image : IsDue (OfStreams (Audit [] 1 2)) (codes "audit" ∷ codes "st" ∷ codes "f" ∷ []) [] (first_stream ∷ []) (NotStore 0)
+over_no_image = empty_fails
 
 -- ---- init
 
-there_already : (init_due [] ≡ Ends DoneWhole) × (init_due new_image ≡ StoreThere 21) × (store_note (StoreThere 21) ≡ codes "store there 21" ++ 10 ∷ [])
+there_already : (init_due [] ≡ Ends DoneWhole) × (init_due new_image ≡ StoreThere 21) × (note_of (StoreThere 21) ≡ codes "store there 21" ++ 10 ∷ [])
 unfolding due_words new_image
 there_already = (refl, refl, refl)
 
@@ -332,7 +396,7 @@ damaged = record {
   };
 }
 
-damaged_note : store_note (Damaged 1 0xa704c7e4 0xb4543410) ≡ codes "damaged 1 a704c7e4 b4543410" ++ 10 ∷ []
+damaged_note : note_of (Damaged 1 0xa704c7e4 0xb4543410) ≡ codes "damaged 1 a704c7e4 b4543410" ++ 10 ∷ []
 unfolding due_words
 damaged_note = refl
 
