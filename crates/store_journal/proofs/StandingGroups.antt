@@ -10,10 +10,11 @@ use Rattle.store_model.specs.Image.{usual_header}
 use Rattle.store_model.specs.Stored.{Group, as_places, first_gate, made_all}
 use Rattle.store_model.proofs.CellRuns.{made_all-cells, all_put_same}
 use Rattle.store_model.proofs.PlacedBytes.{places_stand}
+use Rattle.group_log.proofs.GatedGroups.{rests_has, grows_has}
 use Rattle.store_journal.specs.declared.place.Place.{Place}
 use Rattle.store_journal.specs.Placing.{further}
-use Rattle.store_journal.specs.Holding.{as_runs}
-use Rattle.store_journal.specs.Standing.{GroupsStand, NewStands}
+use Rattle.store_journal.specs.Holding.{as_runs, bodies_of}
+use Rattle.store_journal.specs.Standing.{GroupsStand, NewStands, HoldsStands, BuildsStands}
 
 pub number_of : Option Place → Option ℕ
 number_of place = option_map (λ p. p.at) place
@@ -51,3 +52,10 @@ new_stands = record {
   has = record { gate = 0; rest = []; closed = λ e. cc; bytes = refl; lawful = record { format = inr refl; number_fits = lit< tt }; lengths_fit = tt };
   makes = record { lawful = tt; made = refl };
 }
+
+pub holds_stands : HoldsStands
+holds_stands header groups store seen image pending h is = stand header groups store.core image (rests_has header (bodies_of groups) store.log seen pending h.rests image is) h.makes
+
+pub builds_stands : BuildsStands
+builds_stands header groups version commands part store seen image pending b is =
+    stand header groups store.core image (grows_has header (bodies_of groups) _ store.log seen pending b.grows image is) b.makes

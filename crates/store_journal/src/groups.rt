@@ -57,6 +57,7 @@ pub(crate) fn start_group<D: Disk>(log: &mut Log, disk: &mut D, bytes: &[u8]) ->
     requires { IsAtRest (D.len disk.old) log.old }
     ensures in_progress { OnOk result (IsInProgress (D.len disk.new) log.new) }
     ensures gate { log.new.gate ≡ log.old.gate }
+    ensures size { OnOk result (log.new.size ≡ log.old.gate + 9 + length bytes.now) }
     ensures limit { log.new.limit ≡ log.old.limit }
     ensures grows { D.tells → (header : Header) (bodies : List (List ℕ)) →
         Rests header bodies log.old (D.seen disk.old) (D.pending disk.old) →

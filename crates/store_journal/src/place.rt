@@ -4,7 +4,7 @@ use extent_map::Origin;
 /// The place of a byte on the disk.
 #[derive(Debug, Clone, Copy, PartialEq, Eq)]
 pub struct Place {
-    pub(crate) at: u64,
+    pub at: u64,
 }
 
 impl Origin for Place {

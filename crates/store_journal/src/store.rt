@@ -1,5 +1,5 @@
 // The store.
-ghost use Rattle.std.specs.Prelude.{◌≡◌, ℕ, ◌+◌, ◌<◌, ◌≤◌, true, false, Option, List, [], ◌∷◌, ◌++◌, length, None, Some, Ok, IfOk, OnOk, IfErr, OnErr, IsErrAnd, IfSome, IsTrue, is_some};
+ghost use Rattle.std.specs.Prelude.{◌≡◌, ℕ, ◌+◌, ◌<◌, ◌≤◌, true, false, Option, List, [], ◌∷◌, ◌++◌, length, None, Some, Ok, IfOk, OnOk, IfErr, OnErr, IsErrAnd, IfSome, IsTrue, is_some, if◌then◌else◌};
 ghost use Rattle.send_model.specs.Command as model_command;
 ghost use Rattle.send_model.specs.Spelling.{attributes_of, canonical, IsSpellable};
 ghost use Rattle.send_model.specs.Reading.{is_version, data_place};
@@ -172,6 +172,9 @@ impl Store {
         requires idle { IsIdle (D.len disk.old) self.old }
         requires version { is_version version ≡ true }
         ensures core { self.new.core ≡ self.old.core }
+        ensures gate { self.new.log.gate ≡ self.old.log.gate }
+        ensures size { OnOk result (self.new.log.size ≡ self.new.log.gate + 27) }
+        ensures limit { self.new.log.limit ≡ self.old.log.limit }
         ensures still_open { (part : model_store.Part (Option here.Place)) → part.key ≡ key_of key →
             IsKept self.old.log.gate part.subvolume →
             OnOk result (IsOpen (D.len disk.new) part self.new) }
@@ -225,6 +228,10 @@ impl Store {
         ensures begun { IfSome (head_of (meaning_of head.now))
             (λ h. BeginsIn result h self.old.core self.new.core) }
         ensures still_open { IfOk result (λ part. IsOpen (D.len disk.new) part self.new) }
+        ensures gate { OnOk result (self.new.log.gate
+            ≡ gate_behind self.old.log.gate (1 + length (canonical 1 (meaning_of head.now)))) }
+        ensures size { OnOk result (self.new.log.size ≡ self.new.log.gate + 27) }
+        ensures limit { self.new.log.limit ≡ self.old.log.limit }
 
         // Where the disk tells, it has the group of the head then, and the part is the one that the group of its edits makes.
         ensures builds { D.tells → (header : Header) (groups : List Group) →
@@ -272,6 +279,9 @@ impl Store {
             resumed self.old.core uuid ≡ Some (open_state self.old.core part)) }
         ensures core { self.new.core ≡ self.old.core }
         ensures still_open { IfOk result (λ part. IsOpen (D.len disk.new) part self.new) }
+        ensures gate { self.new.log.gate ≡ self.old.log.gate }
+        ensures size { OnOk result (self.new.log.size ≡ self.new.log.gate + 27) }
+        ensures limit { self.new.log.limit ≡ self.old.log.limit }
         ensures builds { D.tells → (header : Header) (groups : List Group) →
             Holds header groups self.old (D.seen disk.old) (D.pending disk.old) →
             IfOk result (λ part. Builds header groups version [] part self.new
@@ -325,6 +335,10 @@ impl Store {
             (bytes_of (meaning_of c.now))) self.old.core part.old (meaning_of c.now)) }
         ensures core { self.new.core ≡ self.old.core }
         ensures still_open { OnOk result (IsOpen (D.len disk.new) part.new self.new) }
+        ensures gate { self.new.log.gate ≡ self.old.log.gate }
+        ensures size { OnOk result (self.new.log.size
+            ≡ self.old.log.size + length (canonical version (meaning_of c.now))) }
+        ensures limit { self.new.log.limit ≡ self.old.log.limit }
         ensures builds { D.tells →
             (header : Header) (groups : List Group) (commands : List model_command.Command) →
             Builds header groups version commands part.old self.old
@@ -377,6 +391,8 @@ impl Store {
         ensures core { OnOk result
             (self.new.core ≡ with_contents part.key.uuid part.subvolume self.old.core) }
         ensures idle { OnOk result (IsIdle (D.len disk.new) self.new) }
+        ensures gate { OnOk result (self.new.log.gate ≡ self.old.log.size + 4) }
+        ensures limit { self.new.log.limit ≡ self.old.log.limit }
         ensures holds { D.tells → (header : Header) (groups : List Group) (version : ℕ)
             (commands : List model_command.Command) →
             Builds header groups version commands part self.old
@@ -414,6 +430,8 @@ impl Store {
     /// Leaves the entry of the open part unfinished, and forgets the group of its edits. Calls no disk, and takes no memory.
     pub fn abandon(&mut self, part: Part<Place>)
         ensures core { self.new.core ≡ self.old.core }
+        ensures gate { self.new.log.gate ≡ self.old.log.gate }
+        ensures limit { self.new.log.limit ≡ self.old.log.limit }
         ensures live { self.new.is_live ≡ self.old.is_live }
         ensures idle { (len : ℕ) → IsOpen len part self.old → IsIdle len self.new }
         ensures holds { (header : Header) (groups : List Group) (version : ℕ)
@@ -436,6 +454,9 @@ impl Store {
         ensures there { IfOk result (λ there. there ≡ has_name name.now self.old.core) }
         ensures core { OnOk result (self.new.core ≡ without_name name.now self.old.core) }
         ensures idle { OnOk result (IsIdle (D.len disk.new) self.new) }
+        ensures gate { IfOk result (λ there. self.new.log.gate ≡ (if there
+            then gate_behind self.old.log.gate (1 + length name.now) else self.old.log.gate)) }
+        ensures limit { self.new.log.limit ≡ self.old.log.limit }
         ensures missing { result ≡ Ok false →
             (self.new ≡ self.old) × (disk.new ≡ disk.old) }
         ensures holds { D.tells → (header : Header) (groups : List Group) →
