@@ -1,0 +1,34 @@
+-- What it means that a disk has the groups of a store. This program's own.
+use Rattle.std.specs.Prelude.{ℕ, List, [], ◌∷◌, ◌++◌, Option, None}
+use Rattle.std.specs.Option.{option_map}
+use Rattle.send_model.specs.Command.{Command}
+use Rattle.send_model.specs.Store.{Store, Part}
+use Rattle.sx_base.specs.Disk.{Pending, IsImage}
+use Rattle.send_model.specs.Cells.{recelled_store}
+use Rattle.store_model.specs.Image.{Header, header_of, usual_header}
+use Rattle.store_model.specs.Stored.{Group, byte_of, Makes, StandsFor}
+use Rattle.store_journal.specs.declared.place.Place.{Place}
+use Rattle.store_journal.specs.Shown.{StoreState}
+use Rattle.store_journal.specs.Holding.{as_runs, HasThese, Holds, Builds}
+
+-- The subvolumes with the bytes that an image has at their places.
+abbrev pub with_bytes : List ℕ → Store (Option Place) → Store ℕ
+with_bytes image core = recelled_store (byte_of image) (recelled_store (option_map (λ place. place.at)) core)
+
+-- An image that has the groups which make the subvolumes stands for these, with its bytes.
+abbrev pub GroupsStand : Type 0
+GroupsStand = (header : Header) (groups : List Group) (core : Store (Option Place)) (image : List ℕ) → HasThese header groups image → Makes None as_runs header.format groups core → StandsFor image (with_bytes image core)
+
+-- A new store stands for no entries.
+abbrev pub NewStands : Type 0
+NewStands = StandsFor (header_of usual_header ++ 0 ∷ []) []
+
+-- Where a store holds groups, each image that a crash may leave stands for its subvolumes; so it is while a part is open, whose entry
+-- is among them, unfinished.
+abbrev pub HoldsStands : Type 0
+HoldsStands = (header : Header) (groups : List Group) (store : StoreState) (seen image : List ℕ) (pending : Pending)
+    → Holds header groups store seen pending → IsImage pending image → StandsFor image (with_bytes image store.core)
+
+abbrev pub BuildsStands : Type 0
+BuildsStands = (header : Header) (groups : List Group) (version : ℕ) (commands : List Command) (part : Part (Option Place)) (store : StoreState) (seen image : List ℕ) (pending : Pending)
+    → Builds header groups version commands part store seen pending → IsImage pending image → StandsFor image (with_bytes image store.core)
