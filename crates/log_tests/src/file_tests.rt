@@ -92,20 +92,29 @@ fn expect_at<D: Disk>(rt: &impl Abort, disk: &mut D, at: u64, bytes: &[u8]) -> R
     Ok(())
 }
 
+// Writes a small piece that begins within the disk or at its end.
+fn put<D: Disk>(disk: &mut D, at: u64, piece: &[u8]) -> Result<(), Failed> {
+    let size = disk.size()?;
+    if at > size || at > 1 << 40 || piece.len() > 1 << 30 {
+        return Err(Failed);
+    }
+    disk.write_at(at, piece)
+}
+
 #[test]
 fn what_is_gathered_is_read_back(rt: HostRuntime) -> Result<(), Fail> {
     let mut disk = FileDisk::create(&rt, rt.alloc(), "file_disk.gathered")?;
-    disk.write_at(0, b"abc")?;
-    disk.write_at(3, b"def")?;
+    put(&mut disk, 0, b"abc")?;
+    put(&mut disk, 3, b"def")?;
     assert_eq!(rt; disk.size(), Ok(6));
     expect_at(&rt, &mut disk, 0, b"abcdef")?;
-    disk.write_at(1, b"XY")?;
-    disk.write_at(3, b"Z")?;
+    put(&mut disk, 1, b"XY")?;
+    put(&mut disk, 3, b"Z")?;
     expect_at(&rt, &mut disk, 2, b"YZef")?;
-    disk.write_at(6, b"ghi")?;
+    put(&mut disk, 6, b"ghi")?;
     disk.cut(5)?;
     assert_eq!(rt; disk.size(), Ok(5));
-    disk.write_at(5, b"!")?;
+    put(&mut disk, 5, b"!")?;
     disk.sync()?;
     drop(disk);
     assert_eq!(rt;
@@ -216,16 +225,16 @@ fn thousands_of_writes_are_one(rt: HostRuntime) -> Result<(), Fail> {
     };
     let mut disk = FileDisk::new(rt.alloc(), file, None, true, 0)?;
     for place in 0..5_000u64 {
-        disk.write_at(10 * place, b"0123456789")?;
+        put(&mut disk, 10 * place, b"0123456789")?;
     }
     assert_eq!(rt; calls.writes.get(), 0);
     disk.sync()?;
     assert_eq!(rt; (calls.writes.get(), calls.syncs.get()), (1, 1));
     let large = vec![in rt.alloc(); 7; ROOM + 1]?;
-    disk.write_at(50_000, b"a")?;
-    disk.write_at(0, b"b")?;
+    put(&mut disk, 50_000, b"a")?;
+    put(&mut disk, 0, b"b")?;
     assert_eq!(rt; calls.writes.get(), 2);
-    disk.write_at(1, large.as_slice())?;
+    put(&mut disk, 1, large.as_slice())?;
     assert_eq!(rt; calls.writes.get(), 4);
     assert_eq!(rt; disk.size(), Ok(ROOM as u64 + 2));
     expect_at(
