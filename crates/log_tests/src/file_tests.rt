@@ -101,6 +101,15 @@ fn put<D: Disk>(disk: &mut D, at: u64, piece: &[u8]) -> Result<(), Failed> {
     disk.write_at(at, piece)
 }
 
+// Cuts a disk that is as long.
+fn cut_to<D: Disk>(disk: &mut D, size: u64) -> Result<(), Failed> {
+    let now = disk.size()?;
+    if size > now {
+        return Err(Failed);
+    }
+    disk.cut(size)
+}
+
 #[test]
 fn what_is_gathered_is_read_back(rt: HostRuntime) -> Result<(), Fail> {
     let mut disk = FileDisk::create(&rt, rt.alloc(), "file_disk.gathered")?;
@@ -112,7 +121,7 @@ fn what_is_gathered_is_read_back(rt: HostRuntime) -> Result<(), Fail> {
     put(&mut disk, 3, b"Z")?;
     expect_at(&rt, &mut disk, 2, b"YZef")?;
     put(&mut disk, 6, b"ghi")?;
-    disk.cut(5)?;
+    cut_to(&mut disk, 5)?;
     assert_eq!(rt; disk.size(), Ok(5));
     put(&mut disk, 5, b"!")?;
     disk.sync()?;
