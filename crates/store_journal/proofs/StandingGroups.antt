@@ -11,9 +11,10 @@ use Rattle.store_model.specs.Stored.{Group, as_places, first_gate, made_all}
 use Rattle.store_model.proofs.CellRuns.{made_all-cells, all_put_same}
 use Rattle.store_model.proofs.PlacedBytes.{places_stand}
 use Rattle.group_log.proofs.GatedGroups.{rests_has, grows_has}
-use Rattle.store_journal.specs.declared.place.Place.{Place}
-use Rattle.store_journal.specs.Placing.{further}
-use Rattle.store_journal.specs.Holding.{as_runs, bodies_of}
+use Rattle.store_groups.specs.declared.place.Place.{Place}
+use Rattle.store_groups.specs.Placing.{further}
+use Rattle.store_groups.specs.Taking.{as_runs}
+use Rattle.store_journal.specs.Holding.{bodies_of}
 use Rattle.store_journal.specs.Standing.{GroupsStand, NewStands, HoldsStands, BuildsStands}
 
 pub number_of : Option Place → Option ℕ

@@ -7,9 +7,10 @@ use Rattle.sx_base.specs.Disk.{Pending, IsImage}
 use Rattle.send_model.specs.Cells.{recelled_store}
 use Rattle.store_model.specs.Image.{Header, header_of, usual_header}
 use Rattle.store_model.specs.Stored.{Group, byte_of, Makes, StandsFor}
-use Rattle.store_journal.specs.declared.place.Place.{Place}
+use Rattle.store_groups.specs.declared.place.Place.{Place}
 use Rattle.store_journal.specs.Shown.{StoreState}
-use Rattle.store_journal.specs.Holding.{as_runs, HasThese, Holds, Builds}
+use Rattle.store_groups.specs.Taking.{as_runs}
+use Rattle.store_journal.specs.Holding.{HasThese, Holds, Builds}
 
 -- The subvolumes with the bytes that an image has at their places.
 abbrev pub with_bytes : List ℕ → Store (Option Place) → Store ℕ

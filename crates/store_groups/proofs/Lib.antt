@@ -1,0 +1,5 @@
+pub mod Beginning
+pub mod Editing
+pub mod KeptParts
+pub mod Resuming
+pub mod SaidInodes
