@@ -1,3 +1,5 @@
 pub mod Keeping
+pub mod Opened
 pub mod Pushes
+pub mod ReadFiles
 pub mod StandingGroups

@@ -12,6 +12,10 @@ use Rattle.store_journal.specs.Shown.{StoreState}
 use Rattle.store_groups.specs.Taking.{as_runs}
 use Rattle.store_journal.specs.Holding.{HasThese, Holds, Builds}
 
+-- The byte of a cell: that at its place in an image, or zero.
+abbrev pub place_byte : List ℕ → Option Place → ℕ
+place_byte image cell = byte_of image (option_map (λ place. place.at) cell)
+
 -- The subvolumes with the bytes that an image has at their places.
 abbrev pub with_bytes : List ℕ → Store (Option Place) → Store ℕ
 with_bytes image core = recelled_store (byte_of image) (recelled_store (option_map (λ place. place.at)) core)

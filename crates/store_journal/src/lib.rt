@@ -3,6 +3,7 @@
 
 mod groups;
 mod laws;
+mod reading;
 mod store;
 
 pub use laws::groups_stand_for_subvolumes;
