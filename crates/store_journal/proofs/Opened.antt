@@ -1,5 +1,5 @@
 -- Groups that are read one after the other while a store is opened.
-use Rattle.std.specs.Prelude.{◌≡◌, ◌≢◌, ℕ, ◌+◌, ◌≤◌, true, false, List, [], ◌∷◌, ◌++◌, length, take, drop, Option, None, Some, Result, Ok, Err, IfErr, OnErr}
+use Rattle.std.specs.Prelude.{◌≡◌, ℕ, ◌+◌, true, false, List, [], ◌∷◌, ◌++◌, length, take, drop, Option, None, Some}
 use Rattle.std.specs.Int.{w64, to_le_bytes}
 use Rattle.std.specs.List.{AllByRecursion}
 use Rattle.std.proofs.Common.{inl, inr, refl, sym, ap, subst, ◌∙◌, arith, length-append, append_assoc}
@@ -98,7 +98,7 @@ module _ (header : Header) (groups : List Group) (log : LogState) (seen : List �
         bad_stands header groups core seen (group_of next.body ++ next.reads.rest) makes behind next.reads.behind.lawful fits.0 place.number next.body next.reads.rest
         (omega (arith, n, length-bodies_of groups)) fits.1 refl
         (λ g is same. ap (λ (k : ℕ). made None as_runs k core g.content) (sym place_is)
-            ∙ bad g (subst (λ (k : ℕ). IsGroup k g) (sym next.reads.behind.format) is) (same ∙ sym body_there))
+        ∙ bad g (subst (λ (k : ℕ). IsGroup k g) (sym next.reads.behind.format) is) (same ∙ sym body_there))
 
 -- ---- stops of the journal, handed on
 

@@ -3,7 +3,7 @@ use Rattle.std.specs.Prelude.{◌≡◌, ℕ, zero, suc, ◌+◌, ◌-◌, ◌<�
 use Rattle.std.specs.List.{AllByRecursion, range_with_len}
 use Rattle.std.specs.Option.{option_map}
 use Rattle.std.proofs.Common.{refl, sym, ap, ap₂, subst, ◌∙◌, arith}
-use Rattle.std.proofs.lemmas.List.{length-map, length-take, length-drop, get_or-take, get_or-drop, take-map, drop-map}
+use Rattle.std.proofs.lemmas.List.{length-take, length-drop, get_or-take, get_or-drop, take-map, drop-map}
 use Rattle.std.proofs.lemmas.List.FromFn.{fill_by_all}
 use lib.ListN.{replicate}
 use Rattle.send_model.specs.Subvolume.{Inode, Subvolume, inode_at}
@@ -34,9 +34,6 @@ number cell = option_map (λ p. p.at) cell
 -- ---- the cells of a file
 
 module _ {C : Type 0} (store : Store C) (key : Key) (ino : ℕ) where
-  pub none_there : None ≡ find store key → file_cells store key ino ≡ []
-  none_there e = ap (λ (o : Option (Subvolume C)). elim o as (λ x. List C) [ None ↦ [] | Some t ↦ cells_of t ino ]) (sym e)
-
   pub some_there : (s : Subvolume C) (cells : List C) → Some s ≡ find store key → cells_of s ino ≡ cells → file_cells store key ino ≡ cells
   some_there s cells e c = ap (λ (o : Option (Subvolume C)). elim o as (λ x. List C) [ None ↦ [] | Some t ↦ cells_of t ino ]) (sym e) ∙ c
 
@@ -90,15 +87,15 @@ file_before end size core key ino fits all = one (find core key) (found_kept end
 -- ---- a buffer
 
 -- some bytes of the cells of a file are those of its bytes from the same place on
-pub range_bytes : (image : List ℕ) (cells : List Cell) (bytes new : List ℕ) (at n : ℕ) → bytes ≡ map (place_byte image) cells → length new ≡ n → new ≡ map (place_byte image) (cells_between at n cells) → new ≡ take (length new) (drop at bytes)
+range_bytes : (image : List ℕ) (cells : List Cell) (bytes new : List ℕ) (at n : ℕ) → bytes ≡ map (place_byte image) cells → length new ≡ n → new ≡ map (place_byte image) (cells_between at n cells) → new ≡ take (length new) (drop at bytes)
 unfolding cells_between
 range_bytes image cells bytes new at n b long e =
     e ∙ sym (take-map (place_byte image) n (drop at cells)) ∙ ap (take n) (sym (drop-map (place_byte image) at cells)) ∙ ap₂ (λ (m : ℕ) (x : List ℕ). take m (drop at x)) (sym long) (sym b)
 
--- none of them
-pub no_bytes : (new bytes : List ℕ) (at : ℕ) → length new ≡ 0 → new ≡ take (length new) (drop at bytes)
-no_bytes [] bytes at none = refl
-no_bytes (b ∷ new) bytes at none = absurd (omega (arith, none))
+pub range_read : {E : Type 0} (image : List ℕ) (cells : List Cell) (bytes new : List ℕ) (at n : ℕ) (result : Result (Unit {0}) E) → bytes ≡ map (place_byte image) cells → length new ≡ n
+    → OnOk result (new ≡ map (place_byte image) (cells_between at n cells)) → OnOk result (new ≡ take (length new) (drop at bytes))
+range_read image cells bytes new at n (Ok done) b long e = range_bytes image cells bytes new at n b long e
+range_read image cells bytes new at n (Err stop) b long e = tt
 
 read_range : (image : List ℕ) (at len : ℕ) → at + len ≤ length image → take len (drop at image) ≡ map (λ k. get_or image (at + k) 0) (range_with_len 0 len)
 read_range image at len fits = fill_by_all (λ k. get_or image (at + k) 0) (take len (drop at image)) len 0
@@ -108,7 +105,7 @@ read_range image at len fits = fill_by_all (λ k. get_or image (at + k) 0) (take
 pub hole_filled : (image : List ℕ) (origin : Cell) (len : ℕ) (new : List ℕ) → origin ≡ None → new ≡ replicate len 0 → new ≡ map (place_byte image) (piece_cells further origin len)
 hole_filled image origin len new is zeros = zeros ∙ sym (hole_bytes further (place_byte image) refl len) ∙ ap (λ (o : Cell). map (place_byte image) (piece_cells further o len)) (sym is)
 
-pub run_filled : (image : List ℕ) (origin : Cell) (place : Place) (len : ℕ) (new : List ℕ) → origin ≡ Some place → place.at + len ≤ length image → length new ≡ len → new ≡ take (length new) (drop place.at image) → new ≡ map (place_byte image) (piece_cells further origin len)
+run_filled : (image : List ℕ) (origin : Cell) (place : Place) (len : ℕ) (new : List ℕ) → origin ≡ Some place → place.at + len ≤ length image → length new ≡ len → new ≡ take (length new) (drop place.at image) → new ≡ map (place_byte image) (piece_cells further origin len)
 run_filled image origin place len new is fits long filled =
     filled ∙ ap (λ (n : ℕ). take n (drop place.at image)) long ∙ read_range image place.at len fits ∙ sym (run_bytes further (place_byte image) place len)
     ∙ ap (λ (o : Cell). map (place_byte image) (piece_cells further o len)) (sym is)

@@ -87,8 +87,8 @@ module _ (header : Header) (groups : List Group) (core : Store (Option Place)) (
       is ∙ ap (λ (l : List ℕ). front ++ l) (split ∙ ap (λ (l : List ℕ). l ++ others) (ap group_of (sym same) ∙ sym (append-nil (group_of (body_bytes g))))) in
       made-cells (byte_of image) None as_places as_bytes (body_at (length front)) (recelled_store number_of core) g.content (groups_here header.format image front others (length front) (g ∷ []) (lawful, tt) refl here).0
       ∙ ap (option_map (recelled_store (byte_of image)))
-          (made-cells number_of None as_runs as_places (body_at (length front)) core g.content (all_put_same number_of None as_runs as_places runs_are_places (length front) (g ∷ [])).0
-          ∙ ap (option_map (recelled_store number_of)) none)
+      (made-cells number_of None as_runs as_places (body_at (length front)) core g.content (all_put_same number_of None as_runs as_places runs_are_places (length front) (g ∷ [])).0
+      ∙ ap (option_map (recelled_store number_of)) none)
 
   -- so an image with a fault behind them stands for no store
   module _ (lawful : IsHeader header) (fits : AllByRecursion IsShort (bodies_of groups)) where

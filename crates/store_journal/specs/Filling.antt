@@ -1,12 +1,9 @@
 -- Which call of a journal meets its limit first, of several in a row.
-use Rattle.std.specs.Prelude.{◌≡◌, ◌⊎◌, ℕ, ◌+◌, List, [], ◌∷◌, ◌++◌, Option, None, Some, Result, Ok, Err, ⊤, nat_lt, if◌then◌else◌}
+use Rattle.std.specs.Prelude.{◌≡◌, ◌⊎◌, ℕ, ◌+◌, List, [], ◌∷◌, ◌++◌, Option, None, Some, nat_lt, if◌then◌else◌}
 use Rattle.store_model.specs.Image.{reserve}
 use Rattle.group_log.specs.declared.stops.LogStop.{LogStop}
 use Rattle.group_log.specs.declared.stops.LogStop.TheVariants.{LogFull}
 use Rattle.group_log.specs.Stopping.{IsFault}
-use Rattle.store_groups.specs.declared.stops.StoreStop.{StoreStop}
-use Rattle.store_groups.specs.declared.stops.StoreStop.TheVariants as stop
-use Rattle.sx_base.specs.declared.refusal.Refusal.{Refusal}
 
 -- Bytes that are asked for at a place.
 pub record Asked : Type 0 where

@@ -1,8 +1,8 @@
 -- When a disk fits what a store keeps of it. Of a disk that tells nothing only the size has to fit.
-use Rattle.std.specs.Prelude.{◌≡◌, ◌⊎◌, ℕ, true, List, [], ◌∷◌, ◌++◌, length, map, Option, None, Some}
+use Rattle.std.specs.Prelude.{◌≡◌, ◌⊎◌, ℕ, true, List, [], ◌∷◌, ◌++◌, map, Option, None, Some}
 use Rattle.send_model.specs.Command.{Command}
 use Rattle.send_model.specs.Spelling.{canonical_all}
-use Rattle.send_model.specs.Store.{Store, Part, State}
+use Rattle.send_model.specs.Store.{Part, State}
 use Rattle.store_model.specs.Image.{Header, HasGroups}
 use Rattle.sx_base.specs.Disk.{Pending}
 use Rattle.group_log.specs.Journal.{Rests, Grows}

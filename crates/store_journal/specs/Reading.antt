@@ -1,5 +1,5 @@
 -- The bytes of files that are read from a disk.
-use Rattle.std.specs.Prelude.{◌≡◌, ℕ, ◌≤◌, List, [], Option, None, Some}
+use Rattle.std.specs.Prelude.{◌≡◌, ℕ, ◌≤◌, List, [], None, Some}
 use Rattle.send_model.specs.Clone.{cells_of}
 use Rattle.send_model.specs.Store.{Key, Store, find}
 use Rattle.store_journal.specs.Shown.{StoreState}

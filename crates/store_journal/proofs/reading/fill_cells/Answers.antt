@@ -1,8 +1,7 @@
-use Rattle.std.proofs.Common.{◌≡◌, ℕ, ◌+◌, ◌-◌, ◌<◌, ◌≤◌, ◌^◌, List, map, length, refl, sym, ap, subst, ◌∙◌, arith, rules}
+use Rattle.std.proofs.Common.{◌+◌, ◌-◌, ◌<◌, ◌≤◌, ◌^◌, length, refl, sym, subst, ◌∙◌, arith, rules}
 use Rattle.sx_base.specs.Disk.{Pending, IsImage}
 use Rattle.sx_base.proofs.DiskMoments.{begins, joins, weakens}
 use Rattle.extent_map.specs.Cells.{cells_between}
-use Rattle.extent_map.specs.Pieces.{piece_cells}
 use Rattle.extent_map.proofs.CellLists.{length-between}
 use Rattle.extent_map.proofs.PieceByPiece.{next_within, left_after, filled_more, filled_all, mid_length}
 use Rattle.store_groups.specs.Placing.{further}

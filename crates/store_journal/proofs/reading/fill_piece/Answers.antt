@@ -1,8 +1,7 @@
-use Rattle.std.specs.Prelude.{◌+◌, ◌≤◌, Option, Some, IfSome, Result, Ok, Err, OnOk}
-use Rattle.std.proofs.Common.{◌≡◌, length, take, drop, map, sym, subst, arith}
-use Rattle.sx_base.proofs.DiskMoments.{begins}
+use Rattle.std.specs.Prelude.{◌+◌, ◌≤◌, Option, IfSome}
+use Rattle.std.proofs.Common.{length, subst, arith}
 use Rattle.store_groups.specs.declared.place.Place.{Place}
-use Rattle.store_journal.proofs.ReadFiles.{hole_filled, run_filled, piece_filled}
+use Rattle.store_journal.proofs.ReadFiles.{hole_filled, piece_filled}
 use Rattle.store_journal.proofs.reading.fill_piece.Goals as goal
 
 pub returns-in-None-clause-filled : goal.returns-in-None-clause-filled

@@ -8,11 +8,11 @@ use Rattle.store_journal.proofs.Opened.{HasRead}
 use Rattle.store_journal.proofs.store.Store.open.Given as goal
 
 -- Each group lies behind the one before it.
-abbrev pub decreases-loop-log : goal.decreases-loop-log
-decreases-loop-log g l = l.log.size - l.log.gate
+abbrev pub decreases-loop-window : goal.decreases-loop-window
+decreases-loop-window g l = l.log.size - l.log.gate
 
-abbrev pub invariant-loop-log : goal.invariant-loop-log
-invariant-loop-log g l =
+abbrev pub invariant-loop-window : goal.invariant-loop-window
+invariant-loop-window g l =
     let D = g.D.Disk in
     record {
       reading : IsReading (D.len l.disk) l.log;
