@@ -1,5 +1,5 @@
 -- Edits whose frames stand one after the other, and bytes that are the frames of none.
-use Rattle.std.specs.Prelude.{◌≡◌, ℕ, ◌+◌, ◌-◌, ◌<◌, ◌≤◌, Bool, true, false, List, [], ◌∷◌, ◌++◌, length, take, drop, Option, None, Some}
+use Rattle.std.specs.Prelude.{◌≡◌, ℕ, ◌+◌, ◌-◌, ◌<◌, ◌≤◌, Bool, true, false, List, [], ◌∷◌, ◌++◌, length, take, drop, Option, None, Some, Result, Ok, Err}
 use Rattle.std.specs.List.{AllByRecursion}
 use Rattle.std.specs.Int.{w16, w32, to_le_bytes}
 use Rattle.std.proofs.Common.{inl, inr, ⊎_elim, refl, sym, ap, subst, ◌∙◌, arith, length-append, append_assoc, length-take, take-take}
@@ -10,14 +10,16 @@ use Rattle.send_model.specs.Command.{Command, row, kind_of}
 use Rattle.send_model.specs.Spelling.{canonical, canonical_all, attributes_of, body_of, frame_of, frame_checksum, greatest_body, IsSpellable}
 use Rattle.send_model.specs.Reading.{data_place}
 use Rattle.send_model.specs.Receive.{bytes_of}
-use Rattle.send_model.specs.Store.{Store, Part, State, step_edit}
+use Rattle.send_model.specs.Refusal.{Refusal}
+use Rattle.send_model.specs.Subvolume.{Subvolume}
+use Rattle.send_model.specs.Store.{Store, Part, State, Stepped, edit_part, edited, step_edit}
 use Rattle.send_model.proofs.Streams.{canonical_long}
 use Rattle.send_model.proofs.ElementLaws.{all_both}
 use Rattle.store_model.proofs.OneSaying.{frame_one}
 use Rattle.store_model.specs.Stored.{is_edit, IsEdit, taken, edits_made}
 use Rattle.store_groups.specs.declared.place.Place.{Place}
 use Rattle.store_groups.specs.Fronts.{IsInFront, FindsFront}
-use Rattle.store_groups.specs.Taking.{as_runs}
+use Rattle.store_groups.specs.Taking.{as_runs, open_state}
 use Rattle.store_groups.specs.Edits.{one_made, AreEdits, AreBadEdits, TookFront, IsRefusedFront, TakesFront}
 use Rattle.store_groups.specs.Aheads.{greatest_frame}
 
@@ -29,6 +31,25 @@ canonical_join : (version : ℕ) (cs ds : List Command) → canonical_all versio
 unfolding canonical_all
 canonical_join version [] ds = refl
 canonical_join version (c ∷ cs) ds = ap (λ (l : List ℕ). canonical version c ++ l) (canonical_join version cs ds) ∙ sym (append_assoc (canonical version c) (canonical_all version cs) (canonical_all version ds))
+
+-- ---- one edit of an open part, taken or refused
+
+one_step : {C : Type 0} (zero_cell : C) (put : List C) (store : Store C) (old new : Part C) (c : Command) → new.key ≡ old.key → edit_part zero_cell put store old c ≡ Ok new.subvolume
+    → step_edit zero_cell put (record { store = store; part = Some old }) c ≡ record { state = record { store = store; part = Some new }; refusal = None }
+unfolding step_edit
+one_step zero_cell put store old new c same e =
+    ap (edited store old) e ∙ (λ i. record { state = record { store = store; part = Some (record { key = sym same i; subvolume = new.subvolume }) }; refusal = None })
+
+pub one_taken : (version at : ℕ) (store : Store (Option Place)) (old new : Part (Option Place)) (c : Command) → new.key ≡ old.key → edit_part None (as_runs (data_place version at (attributes_of c)) (bytes_of c)) store old c ≡ Ok new.subvolume
+    → one_made version at c (open_state store old) ≡ Some (open_state store new)
+one_taken version at store old new c same e = ap (λ (s : Stepped (Option Place)). taken s) (one_step None (as_runs (data_place version at (attributes_of c)) (bytes_of c)) store old new c same e)
+
+pub one_refused : (version at : ℕ) (store : Store (Option Place)) (old : Part (Option Place)) (c : Command) (refusal : Refusal) → edit_part None (as_runs (data_place version at (attributes_of c)) (bytes_of c)) store old c ≡ Err refusal
+    → one_made version at c (open_state store old) ≡ None
+unfolding step_edit
+one_refused version at store old c refusal e = ap (λ (r : Result (Subvolume (Option Place)) Refusal). taken (edited store old r)) e
+
+-- ---- edits one after the other
 
 module _ (version : ℕ) where
   abbrev S : Type 0
