@@ -4,6 +4,8 @@ pub mod Editing
 mod FrameRuns
 pub mod KeptParts
 mod Marks
+mod Refilled
 pub mod Resuming
 pub mod SaidInodes
+mod ShownFrames
 mod Spelled
