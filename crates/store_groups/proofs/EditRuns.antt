@@ -130,7 +130,7 @@ module _ (version : ℕ) where
       ap (λ (o : Option S). elim o as (λ x. Option S) [ None ↦ None | Some next ↦ edits_made None as_runs version (at + length (canonical version d)) next ds ]) none
 
   -- no frame is in front
-  canonical_short : (c : Command) → IsSpellable version c → length (canonical version c) ≤ greatest_frame
+  pub canonical_short : (c : Command) → IsSpellable version c → length (canonical version c) ≤ greatest_frame
   unfolding canonical frame_of
   canonical_short c s =
       let body : List ℕ = body_of version (attributes_of c) in

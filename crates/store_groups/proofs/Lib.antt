@@ -2,6 +2,8 @@ pub mod Beginning
 mod EditRuns
 pub mod Editing
 mod FrameRuns
+mod GroupBodies
+mod GroupContents
 pub mod KeptParts
 mod Marks
 mod Refilled

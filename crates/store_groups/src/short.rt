@@ -1,7 +1,8 @@
 // Groups that a window has whole: a head, or a name that is dropped.
-ghost use Rattle.std.specs.Prelude.{◌≡◌, ◌≢◌, ℕ, ◌+◌, ◌≤◌, Some, None, true, length, IfOk, if◌then◌else◌};
+ghost use Rattle.std.specs.Prelude.{◌≡◌, ◌≢◌, ◌↔◌, ℕ, ◌+◌, ◌≤◌, Some, None, true, length, IfOk, IsTrue, if◌then◌else◌};
 ghost use Rattle.std.specs.Int.{w32, to_le_bytes};
 ghost use Rattle.std.specs.Str.{bytes_eq};
+ghost use Rattle.send_model.specs.Checksum.{crc_of};
 ghost use Rattle.send_commands.specs.Meaning.{meaning_of};
 ghost use Rattle.store_model.specs.Stored.{marked};
 ghost use Rattle.store_groups.specs.Kept.{AreKept};
@@ -31,10 +32,18 @@ pub(crate) fn take_short(
         IfOk result (λ t. t ≡ true → AreKept end core.new) }
 {
     let (front, last) = body.split_at(body.len() - seal_len(tag.is_sealed) as usize);
-    if tag.is_sealed && !is_sum(last, update(0, front)) {
+    if !is_right(tag.is_sealed, front, last) {
         return Ok(false);
     }
     take_content(alloc, core, tag.kind, &front[1..])
+}
+
+// Whether the checksum behind bytes is theirs, if they have one.
+fn is_right(is_sealed: bool, front: &[u8], last: &[u8]) -> bool
+    ensures { IsTrue result
+        ↔ (is_sealed ≡ true → last.now ≡ to_le_bytes w32 (crc_of 0 front.now)) }
+{
+    !is_sealed || is_sum(last, update(0, front))
 }
 
 // Takes what such a group says.
