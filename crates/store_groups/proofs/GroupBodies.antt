@@ -149,3 +149,51 @@ module _ (is_sealed : Bool) (at len end : ℕ) (seen : List ℕ) (there : at + l
   -- too short for a UUID and a version
   pub short_there : end - at < 18 → length (drop 1 (in_front is_sealed body)) < 17
   short_there few = omega (arith, few, length-drop 1 (in_front is_sealed body), ap length front_there, length-take (end - at) (drop at seen))
+
+  -- where a window shows its first bytes
+  module _ (window : List ℕ) (count : ℕ) (shows : take count window ≡ take count (drop at seen)) (eighteen : 18 ≤ count) (room : count ≤ length window) where
+    first_shown : take 18 window ≡ take 18 (drop at seen)
+    first_shown = sym (take-take 18 count window eighteen) ∙ ap (take 18) shows ∙ take-take 18 count (drop at seen) eighteen
+
+    pub head_size : length (take 17 (drop 1 window)) ≡ 17
+    head_size = omega (arith, length-take 17 (drop 1 window), length-drop 1 window, room, eighteen)
+
+    head_shown : take 17 (drop 1 window) ≡ drop 1 (take 18 (drop at seen))
+    head_shown = sym (drop-take 1 17 window) ∙ ap (drop 1) first_shown
+
+    pub shown_behind : take (count - 18) (drop 18 window) ≡ take (count - 18) (drop (at + 18) seen)
+    shown_behind =
+        let parts : count ≡ 18 + (count - 18) = omega (arith, eighteen) in
+        let after : (l : List ℕ) → take (count - 18) (drop 18 l) ≡ drop 18 (take count l) = λ l. sym (drop-take 18 (count - 18) l) ∙ ap (λ (n : ℕ). drop 18 (take n l)) (sym parts) in
+        after window ∙ ap (drop 18) shows ∙ sym (after (drop at seen)) ∙ ap (take (count - 18)) (drop-drop 18 at seen)
+
+    module _ (long : 18 ≤ end - at) where
+      abbrev frames : List ℕ
+      frames = take (end - (at + 18)) (drop (at + 18) seen)
+
+      step : at + 18 - at ≡ 18
+      step = omega arith
+
+      whole : take (end - at) (drop at seen) ≡ take (at + 18 - at) (drop at seen) ++ frames
+      whole = two_parts at (at + 18) end seen (omega arith) (omega (arith, long))
+
+      head_first : take (at + 18 - at) (drop at seen) ≡ take 18 (drop at seen)
+      head_first = ap (λ (n : ℕ). take n (drop at seen)) step
+
+      pub content_parts : drop 1 (in_front is_sealed body) ≡ take 17 (drop 1 window) ++ frames
+      content_parts =
+          ap (drop 1) (front_there ∙ whole ∙ ap (λ (l : List ℕ). l ++ frames) head_first)
+          ∙ drop-append-le 1 (take 18 (drop at seen)) frames (omega (arith, length-take 18 (drop at seen), length-drop at seen, there, long, ends, begun))
+          ∙ ap (λ (l : List ℕ). l ++ frames) (sym head_shown)
+
+      sum_joined : crc_of (crc_of 0 (take 18 window)) frames ≡ crc_of 0 (take (end - at) (drop at seen))
+      sum_joined =
+          ap (λ (l : List ℕ). crc_of (crc_of 0 l) frames) (first_shown ∙ sym head_first)
+          ∙ sums_join at (at + 18) end seen (omega arith) (omega (arith, long)) 0
+
+      -- the checksum of the group by that of its head and its frames
+      pub right_sum : (at + len ≡ end + 4 → take 4 (drop end seen) ≡ to_le_bytes w32 (crc_of (crc_of 0 (take 18 window)) frames)) → SealIsRight is_sealed body
+      right_sum right = sum_there (λ far. right far ∙ ap (λ (n : ℕ). to_le_bytes w32 n) sum_joined)
+
+      pub sum_right : SealIsRight is_sealed body → at + len ≡ end + 4 → take 4 (drop end seen) ≡ to_le_bytes w32 (crc_of (crc_of 0 (take 18 window)) frames)
+      sum_right right far = sum_back right far ∙ ap (λ (n : ℕ). to_le_bytes w32 n) (sym sum_joined)

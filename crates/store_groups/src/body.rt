@@ -74,6 +74,7 @@ pub(crate) fn take_body<D: Disk>(
     ensures later { D.faults disk.old ≤ D.faults disk.new }
     ensures steady { Steady (D.faults disk.old) (D.faults disk.new) result }
 {
+    let _size = log.size();
     let stop = group.at + group.len;
     let end = stop - seal_len(tag.is_sealed);
     if end - group.at < BODY_HEAD as u64 {
