@@ -1,5 +1,5 @@
 -- What a group says, told by its first byte, its length and its checksum.
-use Rattle.std.specs.Prelude.{◌≡◌, ℕ, suc, ◌+◌, ◌-◌, ◌<◌, ◌≤◌, ◌==◌, Bool, true, false, not, ◌||◌, List, [], ◌∷◌, ◌++◌, length, take, drop, nat_le, Option, None, Some, if◌then◌else◌}
+use Rattle.std.specs.Prelude.{◌≡◌, ℕ, suc, ◌+◌, ◌-◌, ◌<◌, ◌≤◌, ◌==◌, Bool, true, false, not, ◌||◌, List, [], ◌∷◌, ◌++◌, length, take, drop, nat_le, slice_index_or, Option, None, Some, if◌then◌else◌}
 use Rattle.std.specs.List.{filter}
 use Rattle.std.specs.Str.{bytes_eq}
 use Rattle.std.specs.Int.{w32, to_le_bytes}
@@ -181,3 +181,12 @@ empty_group format at old new group lawful same =
 pub behind_taken : (tag : Tag) (at : ℕ) (body : List ℕ) (old new : Store (Option Place)) (t : Bool) → SealIsRight tag.is_sealed body → TakesContent tag.kind at (drop 1 (in_front tag.is_sealed body)) old new t → TakesBehind tag at body old new t
 behind_taken tag at body old new true right made = (right, made)
 behind_taken tag at body old new false right bad = λ _. bad
+
+-- the first byte, in a window that begins with a group's first bytes
+pub byte_first : (window other bytes : List ℕ) (count len : ℕ) → window ≡ take count bytes → 0 < count → 0 < len → len ≤ length bytes → take len bytes ≡ slice_index_or (window ++ other) 0 0 ∷ drop 1 (take len bytes)
+byte_first window other [] count len is some more fits = absurd (omega (arith, more, fits))
+byte_first window other (x ∷ bytes) count len is some more fits =
+    let front : window ≡ x ∷ take (count - 1) bytes = is ∙ ap (λ (n : ℕ). take n (x ∷ bytes)) (let e : count ≡ suc (count - 1) = omega (arith, some) in e) in
+    let whole : take len (x ∷ bytes) ≡ x ∷ take (len - 1) bytes = ap (λ (n : ℕ). take n (x ∷ bytes)) (let e : len ≡ suc (len - 1) = omega (arith, more) in e) in
+    let byte : slice_index_or (window ++ other) 0 0 ≡ x = ap (λ (l : List ℕ). slice_index_or (l ++ other) 0 0) front in
+    whole ∙ (λ i. sym byte i ∷ drop 1 (sym whole i))
