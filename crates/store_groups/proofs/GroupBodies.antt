@@ -20,6 +20,7 @@ use Rattle.store_groups.specs.Edits.{AreEdits, AreBadEdits}
 use Rattle.store_groups.specs.Bodies.{FindsHead}
 use Rattle.store_groups.specs.Contents.{seal_len, in_front, behind, SealIsRight, MakesContent, IsBadContent, TakesBehind}
 use Rattle.store_groups.proofs.FrameRuns.{two_parts, sums_join}
+use Rattle.store_groups.proofs.GroupContents.{first_of}
 
 -- ---- what edits say
 
@@ -30,12 +31,7 @@ fronts_same a b x y size same = (
   sym (drop_at a x (length b) size) ∙ ap (drop (length b)) same ∙ drop_at b y (length b) refl,
 )
 
-first_of : List ℕ → ℕ
-first_of [] = 0
-first_of (x ∷ xs) = x
-
 one_same : (x y : ℕ) → x ∷ [] ≡ y ∷ [] → x ≡ y
-unfolding first_of
 one_same x y same = ap first_of same
 
 module _ (at : ℕ) (bytes : List ℕ) (old : Store (Option Place)) where

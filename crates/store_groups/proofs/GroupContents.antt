@@ -99,12 +99,11 @@ one_number : (a b : Bool) (j k : Kind) → number_for a j ≡ number_for b k →
 one_number a b j k same =
     (sym (sealed_back a j) ∙ ap (λ (n : ℕ). sealed_in n) same ∙ sealed_back b k, sym (kind_back a j) ∙ ap (λ (n : ℕ). kind_in n) same ∙ kind_back b k)
 
-first_of : List ℕ → ℕ
+abbrev pub first_of : List ℕ → ℕ
 first_of [] = 0
 first_of (x ∷ xs) = x
 
 first_is : (is_sealed : Bool) (n : ℕ) (bytes : List ℕ) → first_of (if is_sealed then sealed (n ∷ bytes) else n ∷ bytes) ≡ n
-unfolding first_of
 first_is true n bytes = refl
 first_is false n bytes = refl
 
@@ -133,7 +132,6 @@ front_first byte n body is some =
 
 module _ (format at byte : ℕ) (body : List ℕ) (old new : Store (Option Place)) (is : body ≡ byte ∷ drop 1 body) where
   number_is : (group : Group) → body_bytes group ≡ body → number_of group.is_sealed group.content ≡ byte
-  unfolding first_of
   number_is group same = sym (first_is group.is_sealed (number_of group.is_sealed group.content) (content_bytes group.content)) ∙ ap first_of (same ∙ is)
 
   -- no group of the format begins so

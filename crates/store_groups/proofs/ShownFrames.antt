@@ -66,8 +66,8 @@ module _ (frames : Frames) (ahead : Ahead) (window : List ℕ) (s u : State (Opt
   pub shown_bad : (seen : List ℕ) → Shows seen window ahead → IsFilled frames.stop ahead → TakesFront frames.version ahead.at bytes s u None → AreBadEdits frames.version ahead.at (frames_from frames ahead.at seen) s
   shown_bad seen shows filled bad =
       let there : length (take count (drop ahead.at seen)) ≡ count = ap length (sym (known seen shows)) ∙ size in
-      let some : 0 < count = elim filled [ | inl all ↦ omega (arith, all, few, begun, ends) | inr much ↦ omega (arith, much, few, begun) ] in
-      let long : count < frames.end - ahead.at → greatest_frame ≤ count = λ less. elim filled [ | inl all ↦ omega (arith, all, few, less, ends) | inr much ↦ omega (arith, much, few, less) ] in
+      let some : 0 < count = elim filled [ inl all ↦ omega (arith, all, few, begun, ends) | inr much ↦ omega (arith, much, few, begun) ] in
+      let long : count < frames.end - ahead.at → greatest_frame ≤ count = λ less. elim filled [ inl all ↦ omega (arith, all, few, less, ends) | inr much ↦ omega (arith, much, few, less) ] in
       front_bad frames.version ahead.at count (frames.end - ahead.at) (drop ahead.at seen) s (omega (arith, few)) u
       (omega (arith, some, there))
       (λ less. subst (λ (n : ℕ). greatest_frame ≤ n) (sym there) (long less))

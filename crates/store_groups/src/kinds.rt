@@ -2,7 +2,7 @@
 ghost use Rattle.std.specs.Prelude.{◌≡◌, Some, None, false, nat_eq, if◌then◌else◌};
 ghost use Rattle.store_groups.specs.Contents.{FindsKind, seal_len};
 
-/// What a group does: it begins an entry, it completes one, or it drops one.
+// What a group does: it begins an entry, it completes one, or it drops one.
 #[derive(Debug, Clone, Copy, PartialEq, Eq)]
 pub(crate) enum Kind {
     Mark,
@@ -10,14 +10,14 @@ pub(crate) enum Kind {
     Drop,
 }
 
-/// What the first byte of a group says: what the group does, and whether it ends with a checksum.
+// What the first byte of a group says: what the group does, and whether it ends with a checksum.
 #[derive(Debug, Clone, Copy)]
 pub(crate) struct Tag {
     pub(crate) kind: Kind,
     pub(crate) is_sealed: bool,
 }
 
-/// What the first byte of a group says in a journal of a format, none where no group of the format begins so.
+// What the first byte of a group says in a journal of a format, none where no group of the format begins so.
 pub(crate) fn kind_of(format: u32, byte: u8) -> Option<Tag>
     ensures found { FindsKind format byte result }
 {
@@ -25,9 +25,18 @@ pub(crate) fn kind_of(format: u32, byte: u8) -> Option<Tag>
         1 => without_seal(format, Kind::Mark),
         2 => without_seal(format, Kind::Body),
         3 => without_seal(format, Kind::Drop),
-        4 => Some(Tag { kind: Kind::Mark, is_sealed: true }),
-        5 => Some(Tag { kind: Kind::Body, is_sealed: true }),
-        6 => Some(Tag { kind: Kind::Drop, is_sealed: true }),
+        4 => Some(Tag {
+            kind: Kind::Mark,
+            is_sealed: true,
+        }),
+        5 => Some(Tag {
+            kind: Kind::Body,
+            is_sealed: true,
+        }),
+        6 => Some(Tag {
+            kind: Kind::Drop,
+            is_sealed: true,
+        }),
         _ => None,
     }
 }

@@ -1,4 +1,5 @@
 use Rattle.std.specs.Prelude.{◌≡◌, ℕ, ◌+◌, ◌-◌, ◌<◌, ◌≤◌, Bool, true, false, List, ◌∷◌, ◌++◌, length, take, drop, slice_index_or, Option, None, Some, Result, Ok, Err, IfOk}
+use Rattle.std.proofs.lemmas.Result.{IfOk-weaker}
 use Rattle.std.proofs.Common.{rules, sym, ap, subst, ◌∙◌, arith, length-take, length-drop}
 use Rattle.std.proofs.lemmas.List.{take_at}
 use Rattle.store_groups.specs.declared.kinds.Kind.TheVariants as kind
@@ -9,10 +10,6 @@ use Rattle.store_groups.proofs.KeptParts.{all_further}
 use Rattle.store_groups.proofs.opening.take_kept.Given.{Over}
 use Rattle.store_groups.proofs.opening.take_kept.Goals.{In_ok-read, In-Some}
 use Rattle.store_groups.proofs.opening.take_kept.Goals as goal
-
-for_each : {T E : Type 0} {P Q : T → Type 0} (r : Result T E) → IfOk r P → ((t : T) → P t → Q t) → IfOk r Q
-for_each (Ok t) p f = f t p
-for_each (Err e) p f = tt
 
 seal_few : (is_sealed : Bool) → seal_len is_sealed ≤ 4
 seal_few true = omega arith
@@ -54,9 +51,10 @@ returns-then-eq-clause-taken g c tells =
     let first = slice_index_or (c.read.new.buf ++ drop c.min-count.result c.args.window.now) 0 0 in
     let fits : 1 + seal_len tag.is_sealed ≤ length body = omega (arith, c.if-group-seal_len.false, c.seal_len.ensures, whole g at.In_ok-read tells) in
     let same = (c.read.ensures.same tells).seen in
-    for_each c.take_body.result (c.take_body.ensures.taken tells)
+    IfOk-weaker c.take_body.result _ _
     (λ t took. group_taken c.args.log.now.format group.at first body c.args.core.now c.take_body.new.core (byte g at.In_ok-read tells) tag (found g at.In-Some) t fits
     (subst (λ (l : List ℕ). TakesBehind tag group.at (take group.len (drop group.at l)) c.args.core.now c.take_body.new.core t) same took))
+    (c.take_body.ensures.taken tells)
 
 pub returns-then-group-clause-taken : goal.returns-then-group-clause-taken
 returns-then-group-clause-taken g c tells =

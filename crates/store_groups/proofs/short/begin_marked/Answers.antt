@@ -20,13 +20,13 @@ returns-then-not-is_some-clause-begun c =
 pub returns-in-Ok-clause-begun : goal.returns-in-Ok-clause-begun
 returns-in-Ok-clause-begun c =
     marks c.args.core.now (meaning_of c.args.command.now) (head_of (meaning_of c.args.command.now)) c.in-Ok._part c.begin.new.self refl
-      (ap (λ o. is_some o) (sym c.head_of.ensures) ∙ is_some_map _ c.head_of.result ∙ sym c.is_some.ensures ∙ c.if-not-is_some.false) c.in-Ok.ensures.begun
+    (ap (λ o. is_some o) (sym c.head_of.ensures) ∙ is_some_map _ c.head_of.result ∙ sym c.is_some.ensures ∙ c.if-not-is_some.false) c.in-Ok.ensures.begun
 
 pub returns-in-Err-Refused-clause-begun : goal.returns-in-Err-Refused-clause-begun
 returns-in-Err-Refused-clause-begun c =
     not_marked c.args.core.now (meaning_of c.args.command.now) (head_of (meaning_of c.args.command.now)) c.in-Err-Refused.field-0-0 c.begin.new.self refl
-      (ap (λ o. is_some o) (sym c.head_of.ensures) ∙ is_some_map _ c.head_of.result ∙ sym c.is_some.ensures ∙ c.if-not-is_some.false)
-      (subst (λ (why : Stop). IfSome (head_of (meaning_of c.args.command.now)) (λ h. Begins (Err why) h c.args.core.now c.begin.new.self)) c.in-Err-Refused.field-0-is c.in-Err-Refused.ensures.begun)
+    (ap (λ o. is_some o) (sym c.head_of.ensures) ∙ is_some_map _ c.head_of.result ∙ sym c.is_some.ensures ∙ c.if-not-is_some.false)
+    (subst (λ (why : Stop). IfSome (head_of (meaning_of c.args.command.now)) (λ h. Begins (Err why) h c.args.core.now c.begin.new.self)) c.in-Err-Refused.field-0-is c.in-Err-Refused.ensures.begun)
 
 pub returns-in-Ok-clause-kept : goal.returns-in-Ok-clause-kept
 returns-in-Ok-clause-kept c end all taken =

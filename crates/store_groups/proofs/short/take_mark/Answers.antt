@@ -1,4 +1,5 @@
 use Rattle.std.specs.Prelude.{◌≡◌, ℕ, List, length, Option, None, Some, Bool, Result, Ok, Err, IfOk}
+use Rattle.std.proofs.lemmas.Result.{IfOk-weaker}
 use Rattle.std.proofs.Common.{refl, sym, ap, subst, ◌∙◌}
 use Rattle.send_commands.specs.Meaning.{meaning_of}
 use Rattle.store_groups.specs.declared.front.Front.{Front}
@@ -6,10 +7,6 @@ use Rattle.store_groups.specs.Fronts.{FindsFront}
 use Rattle.store_groups.specs.Contents.{TakesContent}
 use Rattle.store_groups.proofs.Marks.{no_mark, long_mark, mark_taken}
 use Rattle.store_groups.proofs.short.take_mark.Goals as goal
-
-for_each : {T E : Type 0} {P Q : T → Type 0} (r : Result T E) → IfOk r P → ((t : T) → P t → Q t) → IfOk r Q
-for_each (Ok t) p f = f t p
-for_each (Err e) p f = tt
 
 pub returns-in_default-clause-taken : goal.returns-in_default-clause-taken
 returns-in_default-clause-taken c at = no_mark at c.args.bytes.now c.args.core.now c.args.core.now (subst (λ (o : Option Front). FindsFront 1 c.args.bytes.now o) c.in_default.is c.in_ok-front.ensures.found)
@@ -22,5 +19,6 @@ returns-then-front-bytes-clause-taken c at =
 pub returns-clause-taken : goal.returns-clause-taken
 returns-clause-taken c at =
     let front = subst (λ (o : Option Front). FindsFront 1 c.args.bytes.now o) c.in-Some.is c.in_ok-front.ensures.found in
-    for_each c.begin_marked.result c.begin_marked.ensures.begun
+    IfOk-weaker c.begin_marked.result _ _
     (λ t e. mark_taken at c.args.bytes.now c.args.core.now c.begin_marked.new.core (meaning_of c.in-Some.front.command) c.in-Some.front.len front t c.if-front-bytes.false e)
+    c.begin_marked.ensures.begun
