@@ -7,14 +7,13 @@ use Rattle.std.proofs.lemmas.Bool.{cases_lt}
 use Rattle.std.proofs.lemmas.List.{append-nil, take-append-drop, take-append-le, take_at}
 use Rattle.std.proofs.Math.Seq.{take-add}
 use Rattle.send_model.specs.Command.{Command, row, kind_of}
-use Rattle.send_model.specs.Spelling.{canonical, canonical_all, attributes_of, body_of, frame_of, frame_checksum, greatest_body, IsSpellable}
+use Rattle.send_model.specs.Spelling.{canonical, canonical_all, attributes_of, body_of, frame_of, frame_checksum, IsSpellable}
 use Rattle.send_model.specs.Reading.{data_place}
 use Rattle.send_model.specs.Receive.{bytes_of}
 use Rattle.send_model.specs.Refusal.{Refusal}
 use Rattle.send_model.specs.Subvolume.{Subvolume}
 use Rattle.send_model.specs.Store.{Store, Part, State, Stepped, edit_part, edited, step_edit}
 use Rattle.send_model.proofs.Streams.{canonical_long}
-use Rattle.send_model.proofs.ElementLaws.{all_both}
 use Rattle.store_model.proofs.OneSaying.{frame_one}
 use Rattle.store_model.specs.Stored.{is_edit, IsEdit, taken, edits_made}
 use Rattle.store_groups.specs.declared.place.Place.{Place}

@@ -1,5 +1,5 @@
 -- A group of edits, by the places of its parts on a disk.
-use Rattle.std.specs.Prelude.{◌≡◌, ℕ, suc, ◌+◌, ◌-◌, ◌<◌, ◌≤◌, Bool, true, false, List, [], ◌∷◌, ◌++◌, length, take, drop, Option, None, Some, if◌then◌else◌}
+use Rattle.std.specs.Prelude.{◌≡◌, ℕ, ◌+◌, ◌-◌, ◌<◌, ◌≤◌, Bool, true, false, List, [], ◌∷◌, ◌++◌, length, take, drop, Option, None, Some}
 use Rattle.std.specs.List.{AllByRecursion}
 use Rattle.std.specs.Option.{option_map}
 use Rattle.std.specs.Int.{w32, to_le_bytes}
@@ -8,17 +8,15 @@ use Rattle.std.proofs.lemmas.List.{take_at, drop_at, drop-take, drop-append-le}
 use Rattle.send_model.specs.Checksum.{crc_of}
 use Rattle.send_model.specs.Command.{Command}
 use Rattle.send_model.specs.Spelling.{canonical_all}
-use Rattle.send_model.specs.Reading.{is_version}
 use Rattle.send_model.specs.Store.{Store, Part, State, with_contents, completed}
-use Rattle.store_model.specs.Stored.{Content, Mark, Body, Drop, IsEdit, IsContent, content_bytes, frames_at, resumed, edits_made, made}
+use Rattle.store_model.specs.Stored.{Mark, Body, Drop, IsEdit, IsContent, frames_at, resumed, edits_made, made}
 use Rattle.store_groups.specs.declared.place.Place.{Place}
 use Rattle.store_groups.specs.declared.kinds.Kind.TheVariants as kind
-use Rattle.store_groups.specs.declared.kinds.Tag.{Tag}
 use Rattle.store_groups.specs.declared.body.BodyHead.{BodyHead}
 use Rattle.store_groups.specs.Taking.{as_runs, open_state}
 use Rattle.store_groups.specs.Edits.{AreEdits, AreBadEdits}
 use Rattle.store_groups.specs.Bodies.{FindsHead}
-use Rattle.store_groups.specs.Contents.{seal_len, in_front, behind, SealIsRight, MakesContent, IsBadContent, TakesBehind}
+use Rattle.store_groups.specs.Contents.{seal_len, in_front, behind, SealIsRight, MakesContent, IsBadContent}
 use Rattle.store_groups.proofs.FrameRuns.{two_parts, sums_join}
 use Rattle.store_groups.proofs.GroupContents.{first_of}
 

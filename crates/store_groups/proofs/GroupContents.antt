@@ -6,22 +6,20 @@ use Rattle.std.specs.Int.{w32, to_le_bytes}
 use Rattle.std.proofs.Common.{refl, sym, ap, subst, ◌∙◌, arith, length-append, length-take}
 use Rattle.std.proofs.lemmas.List.{take_all, take_at, drop_at, take-append-drop}
 use Rattle.send_model.specs.Checksum.{crc_of}
-use Rattle.send_model.specs.Command.{Command}
-use Rattle.send_model.specs.Spelling.{IsSpellable, canonical}
 use Rattle.send_model.specs.Store.{Entry, Store, has_name}
 use Rattle.send_model.proofs.PathLaws.{is_name_length}
 use Rattle.send_model.proofs.Stores.{bytes_eq_true}
 use Rattle.store_model.specs.Image.{sealed}
-use Rattle.store_model.specs.Stored.{Content, Mark, Body, Drop, Group, IsContent, IsGroup, number_of, content_bytes, body_bytes, dropped, made}
+use Rattle.store_model.specs.Stored.{Content, Mark, Body, Drop, Group, number_of, content_bytes, body_bytes, dropped, made}
 use Rattle.subvol_catalog.specs.Entries.{AreNamed}
 use Rattle.subvol_catalog.specs.Admission.{without_name}
 use Rattle.store_groups.specs.declared.place.Place.{Place}
 use Rattle.store_groups.specs.declared.kinds.Kind.{Kind}
 use Rattle.store_groups.specs.declared.kinds.Kind.TheVariants as kind
 use Rattle.store_groups.specs.declared.kinds.Tag.{Tag}
-use Rattle.store_groups.specs.Taking.{as_runs, TakesGroup}
+use Rattle.store_groups.specs.Taking.{TakesGroup}
 use Rattle.store_groups.specs.Aheads.{greatest_frame}
-use Rattle.store_groups.specs.Contents.{kind_meant, number_for, FindsKind, seal_len, in_front, behind, SealIsRight, MakesContent, IsBadContent, TakesContent, TakesBehind}
+use Rattle.store_groups.specs.Contents.{kind_meant, number_for, FindsKind, seal_len, in_front, SealIsRight, IsBadContent, TakesContent, TakesBehind}
 use Rattle.store_groups.proofs.EditRuns.{canonical_short}
 
 -- ---- a name that is dropped

@@ -1,5 +1,5 @@
 -- Heads that are taken while groups are read.
-use Rattle.std.specs.Prelude.{◌≡◌, ℕ, ◌≤◌, Bool, true, false, List, [], ◌++◌, length, drop, Option, None, Some, Result, Err, Ok, IfSome, IsTrue, is_some, if◌then◌else◌}
+use Rattle.std.specs.Prelude.{◌≡◌, ℕ, Bool, true, false, List, [], ◌++◌, length, drop, Option, None, Some, Result, Err, Ok, IfSome, IsTrue, is_some, if◌then◌else◌}
 use Rattle.std.specs.Option.{option_map}
 use Rattle.std.proofs.Common.{refl, sym, ap, subst, ◌∙◌, arith, length-drop}
 use Rattle.std.proofs.lemmas.List.{append-nil, take-append-drop, take_all}
@@ -12,15 +12,14 @@ use Rattle.send_model.specs.Spelling.{canonical, IsSpellable}
 use Rattle.send_model.specs.Subvolume.{Subvolume}
 use Rattle.send_model.specs.Store.{Head, Part, Store, State, head_of, begun, entered, completed, step_head}
 use Rattle.send_model.specs.Receive.{start_of}
-use Rattle.store_model.specs.Stored.{Content, Mark, Body, Drop, IsContent, content_bytes, made, taken, marked}
+use Rattle.store_model.specs.Stored.{Mark, Body, Drop, made, taken, marked}
 use Rattle.store_model.proofs.OneSaying.{frame_one}
 use Rattle.clone_resolve.specs.Heads.{Begins}
 use Rattle.store_groups.specs.declared.place.Place.{Place}
 use Rattle.store_groups.specs.declared.kinds.Kind.TheVariants as kind
-use Rattle.store_groups.specs.Taking.{as_runs}
 use Rattle.store_groups.specs.Kept.{AreKept}
 use Rattle.store_groups.specs.Fronts.{IsInFront, FindsFront}
-use Rattle.store_groups.specs.Contents.{kind_meant, IsBadContent, TakesContent}
+use Rattle.store_groups.specs.Contents.{IsBadContent, TakesContent}
 use Rattle.store_groups.proofs.Beginning.{begun_marks}
 use Rattle.store_groups.proofs.KeptParts.{unfinished_kept}
 

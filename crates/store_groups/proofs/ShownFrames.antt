@@ -1,6 +1,6 @@
 -- The next frame of those that a window shows.
-use Rattle.std.specs.Prelude.{◌≡◌, ◌⊎◌, ℕ, ◌+◌, ◌-◌, ◌<◌, ◌≤◌, List, length, take, drop, min, Option, None, Some}
-use Rattle.std.proofs.Common.{inl, inr, refl, sym, ap, subst, ◌∙◌, arith, length-drop, length-take, take-take, drop-drop}
+use Rattle.std.specs.Prelude.{◌≡◌, ◌⊎◌, ℕ, ◌+◌, ◌-◌, ◌<◌, ◌≤◌, List, length, take, drop, min, Option, None}
+use Rattle.std.proofs.Common.{inl, inr, sym, ap, subst, ◌∙◌, arith, length-drop, length-take, take-take, drop-drop}
 use Rattle.std.proofs.lemmas.List.{drop-take}
 use Rattle.send_model.specs.Checksum.{crc_of}
 use Rattle.send_model.specs.Store.{State}

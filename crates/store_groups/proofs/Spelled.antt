@@ -1,16 +1,14 @@
 -- A frame in front of bytes, as the canonical spelling of its command.
-use Rattle.std.specs.Prelude.{◌≡◌, ℕ, ◌+◌, ◌≤◌, List, [], ◌++◌, length, take, drop, Option, None, Some, Result, Ok, Err}
-use Rattle.std.proofs.Common.{refl, sym, ap, subst, ◌∙◌, arith, length-take, length-drop}
+use Rattle.std.specs.Prelude.{◌≡◌, ℕ, ◌+◌, List, [], ◌++◌, length, take, drop, None, Some, Ok, Err}
+use Rattle.std.proofs.Common.{refl, sym, ap, ◌∙◌, arith, length-take, length-drop}
 use Rattle.send_model.specs.Refusal.{Refusal}
 use Rattle.send_model.specs.Attribute.{IsBytes}
 use Rattle.send_model.specs.Command as meant
 use Rattle.send_model.specs.Command.{row, kind_of}
-use Rattle.send_model.specs.Spelling.{Attribute, body_of, attributes_of, canonical, Spells, IsSpellable}
+use Rattle.send_model.specs.Spelling.{body_of, attributes_of, canonical, Spells, IsSpellable}
 use Rattle.send_model.specs.Reading.{Frame, frame_at, attributes_at, command_of}
 use Rattle.send_model.proofs.Canonical.{attributes_lawful, wanted_there, spelled_read}
 use Rattle.send_model.proofs.Fuel.{ok_same}
-use Rattle.sx_base.specs.Refusals.{refusal_of}
-use Rattle.sx_base.specs.declared.refusal.Refusal as code
 use Rattle.tlv_frame.specs.Feeding.{unless_more}
 use Rattle.tlv_frame.specs.InFront.{IsFrame}
 use Rattle.tlv_frame.specs.declared.frame_head.FrameHead.{FrameHead}

@@ -90,7 +90,8 @@ fn is_edit(command: &Command) -> bool
 
 // The part of the unfinished entry of a UUID as it begins now. None where there is no such entry, or its parent is not found.
 pub(crate) fn resumed(core: &EditCore<Place>, uuid: Uuid) -> Result<Option<Part<Place>>, AllocError>
-    ensures resumed { IfOk result (λ part. option_map (open_state core.now) part ≡ resumed core.now uuid) }
+    ensures resumed { IfOk result
+        (λ part. option_map (open_state core.now) part ≡ resumed core.now uuid) }
     ensures kept { (end : ℕ) → AreKept end core.now →
         IfOk result (λ part. IfSome part (λ p. IsKept end p.subvolume)) }
 {

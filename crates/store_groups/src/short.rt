@@ -54,7 +54,8 @@ fn take_content(
     content: &[u8],
 ) -> Result<bool, AllocError>
     requires kind { kind ≢ kind_is.Body }
-    ensures taken { (at : ℕ) → IfOk result (TakesContent kind at content.now core.old core.new) }
+    ensures taken { (at : ℕ) →
+        IfOk result (TakesContent kind at content.now core.old core.new) }
     ensures kept { (end : ℕ) → AreKept end core.old →
         IfOk result (λ t. t ≡ true → AreKept end core.new) }
 {
@@ -67,7 +68,8 @@ fn take_content(
 
 // Takes a head, whose frame these bytes are. False where they are that of no head or it is refused.
 fn take_mark(alloc: Global, core: &mut EditCore<Place>, bytes: &[u8]) -> Result<bool, AllocError>
-    ensures taken { (at : ℕ) → IfOk result (TakesContent kind_is.Mark at bytes.now core.old core.new) }
+    ensures taken { (at : ℕ) →
+        IfOk result (TakesContent kind_is.Mark at bytes.now core.old core.new) }
     ensures kept { (end : ℕ) → AreKept end core.old →
         IfOk result (λ t. t ≡ true → AreKept end core.new) }
 {

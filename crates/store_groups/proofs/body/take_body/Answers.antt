@@ -1,19 +1,16 @@
-use Rattle.std.specs.Prelude.{◌≡◌, ◌⊎◌, ℕ, ◌+◌, ◌-◌, ◌≤◌, Bool, true, false, List, length, take, drop, min, Option, None, Some, IfSome}
+use Rattle.std.specs.Prelude.{◌≡◌, ℕ, ◌+◌, ◌-◌, ◌≤◌, Bool, true, false, List, length, take, drop, min, Option, IfSome}
 use Rattle.std.specs.Option.{option_map}
-use Rattle.std.specs.Int.{w32, to_le_bytes}
-use Rattle.std.proofs.Common.{refl, sym, ap, subst, ◌∙◌, arith}
+use Rattle.std.proofs.Common.{sym, ap, subst, ◌∙◌, arith}
 use Rattle.send_model.specs.Checksum.{crc_of}
 use Rattle.send_model.specs.Store.{Store, Part, State}
-use Rattle.store_model.specs.Stored.{resumed}
 use Rattle.store_groups.specs.declared.place.Place.{Place}
 use Rattle.store_groups.specs.declared.kinds.Kind.{Kind}
-use Rattle.store_groups.specs.declared.window.Ahead.{Ahead}
 use Rattle.store_groups.specs.declared.body.Frames.{Frames}
 use Rattle.store_groups.specs.declared.body.BodyHead.{BodyHead}
 use Rattle.store_groups.specs.Kept.{IsKept, AreKept}
 use Rattle.store_groups.specs.Taking.{open_state}
 use Rattle.store_groups.specs.Bodies.{FindsHead, TakesFrames}
-use Rattle.store_groups.specs.Contents.{seal_len, in_front, SealIsRight, MakesContent, IsBadContent}
+use Rattle.store_groups.specs.Contents.{seal_len, in_front, MakesContent, IsBadContent}
 use Rattle.store_groups.proofs.GroupBodies.{short_body, no_head, not_resumed, bad_edits, body_made, short_there, head_size, shown_behind, content_parts, right_sum, sum_right}
 use Rattle.store_groups.proofs.KeptParts.{all_further, completed_kept, kept_further}
 use Rattle.store_groups.proofs.body.take_body.Given.{Over}

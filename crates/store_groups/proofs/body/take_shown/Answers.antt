@@ -1,4 +1,4 @@
-use Rattle.std.specs.Prelude.{◌≡◌, ℕ, ◌+◌, ◌-◌, take, drop, Option, None, Some}
+use Rattle.std.specs.Prelude.{ℕ, ◌+◌, ◌-◌, take, drop, Option}
 use Rattle.std.proofs.Common.{subst}
 use Rattle.store_groups.specs.Taking.{open_state}
 use Rattle.store_groups.specs.Edits.{TakesFront}

@@ -1,4 +1,4 @@
-use Rattle.std.specs.Prelude.{Option, Result, Err, IfSome, is_some}
+use Rattle.std.specs.Prelude.{Err, IfSome, is_some}
 use Rattle.std.proofs.Common.{refl, sym, ap, subst, ◌∙◌}
 use Rattle.sx_base.specs.declared.stop.Stop.{Stop}
 use Rattle.clone_resolve.specs.Heads.{Resumes}

@@ -1,4 +1,4 @@
-use Rattle.std.specs.Prelude.{◌≡◌, ℕ, ◌+◌, List, length, Option, None, Some, Result, Ok, Err}
+use Rattle.std.specs.Prelude.{ℕ, ◌+◌, length, Option, None, Ok, Err}
 use Rattle.std.specs.Option.{unwrap_or}
 use Rattle.std.proofs.Common.{sym, subst, ap, ◌∙◌, arith, refl}
 use Rattle.sx_base.specs.Refusals.{refusal_of}
@@ -10,7 +10,7 @@ use Rattle.send_model.specs.Spelling.{canonical}
 use Rattle.send_commands.specs.Meaning.{meaning_of}
 use Rattle.clone_resolve.specs.Steps.{data_len}
 use Rattle.store_groups.specs.Placing.{further}
-use Rattle.store_groups.proofs.Editing.{is_edited, data_in_frame, edit_same}
+use Rattle.store_groups.proofs.Editing.{data_in_frame, edit_same}
 use Rattle.store_groups.proofs.EditRuns.{one_taken, one_refused}
 use Rattle.store_groups.proofs.KeptParts.{run_before, kept_further, all_further, edit_kept}
 use Rattle.store_groups.proofs.edits.take_edit.Goals as goal

@@ -1,4 +1,4 @@
-use Rattle.std.proofs.Common.{◌≡◌, ℕ, List, Option, None, Some, Ok, refl, sym, ◌∙◌, ap, subst}
+use Rattle.std.proofs.Common.{◌≡◌, ℕ, List, Option, Ok, ap, subst}
 use Rattle.std.specs.Prelude.{◌+◌, ◌-◌, take, drop}
 use Rattle.std.proofs.Common.{arith}
 use Rattle.send_model.proofs.ElementLaws.{all_take}

@@ -1,8 +1,8 @@
-use Rattle.std.specs.Prelude.{◌≡◌, Option, None, Some, Bool, true, false, is_none, is_some, Result, Err, IfSome, IsTrue}
+use Rattle.std.specs.Prelude.{◌≡◌, Option, None, Some, false, is_some, Err, IfSome}
 use Rattle.std.specs.Option.{option_map}
 use Rattle.std.proofs.Common.{refl, sym, ap, subst, ◌∙◌}
 use Rattle.sx_base.specs.declared.stop.Stop.{Stop}
-use Rattle.send_model.specs.Store.{Head, head_of}
+use Rattle.send_model.specs.Store.{head_of}
 use Rattle.send_commands.specs.Meaning.{meaning_of}
 use Rattle.clone_resolve.specs.Heads.{Begins}
 use Rattle.store_groups.proofs.Resuming.{is_some_map}

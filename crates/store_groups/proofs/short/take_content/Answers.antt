@@ -1,4 +1,4 @@
-use Rattle.std.specs.Prelude.{Bool, Option, IfOk}
+use Rattle.std.specs.Prelude.{Option, IfOk}
 use Rattle.std.proofs.Common.{sym, subst}
 use Rattle.send_model.specs.Store.{Store}
 use Rattle.store_groups.specs.declared.place.Place.{Place}

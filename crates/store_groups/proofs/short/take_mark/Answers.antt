@@ -1,10 +1,9 @@
-use Rattle.std.specs.Prelude.{◌≡◌, ℕ, List, length, Option, None, Some, Bool, Result, Ok, Err, IfOk}
+use Rattle.std.specs.Prelude.{Option}
 use Rattle.std.proofs.lemmas.Result.{IfOk-weaker}
-use Rattle.std.proofs.Common.{refl, sym, ap, subst, ◌∙◌}
+use Rattle.std.proofs.Common.{subst}
 use Rattle.send_commands.specs.Meaning.{meaning_of}
 use Rattle.store_groups.specs.declared.front.Front.{Front}
 use Rattle.store_groups.specs.Fronts.{FindsFront}
-use Rattle.store_groups.specs.Contents.{TakesContent}
 use Rattle.store_groups.proofs.Marks.{no_mark, long_mark, mark_taken}
 use Rattle.store_groups.proofs.short.take_mark.Goals as goal
 

@@ -1,5 +1,5 @@
 use Rattle.std.specs.Prelude.{◌≡◌, ℕ, ◌+◌, ◌-◌, List, length, take, drop}
-use Rattle.std.proofs.Common.{rules, sym, ap, ◌∙◌, arith, length-drop, length-take}
+use Rattle.std.proofs.Common.{rules, sym, ap, ◌∙◌, arith}
 use borrow.Rule.Slice.PartMut.{put_mid}
 use Rattle.store_groups.proofs.Refilled.{moved_front, filled_up}
 use Rattle.store_groups.proofs.window.refill.Goals as goal
