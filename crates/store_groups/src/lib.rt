@@ -2,8 +2,13 @@
 //! dropped.
 #![tactic(auto)]
 
+mod body;
+mod edits;
+mod front;
+mod kinds;
 mod opening;
 mod place;
+mod short;
 mod stops;
 mod window;
 
