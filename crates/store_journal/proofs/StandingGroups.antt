@@ -8,15 +8,18 @@ use Rattle.extent_map.specs.Pieces.{run_cells}
 use Rattle.send_model.specs.Store.{Store}
 use Rattle.send_model.specs.Cells.{recelled_store}
 use Rattle.store_model.specs.Image.{Header, IsHeader, IsShort, IsCutShort, front_of, group_of, header_of, usual_header}
-use Rattle.store_model.specs.Stored.{Group, body_bytes, IsGroup, as_bytes, as_places, byte_of, first_gate, body_at, made, made_all, Makes, IsBadGroup, FailsBehind, StandsForNone}
+use Rattle.store_model.specs.Stored.{Group, body_bytes, IsGroup, as_bytes, as_places, byte_of, first_gate, body_at, made, made_all, Makes, Stands, IsBadGroup, FailsBehind, StandsForNone}
 use Rattle.store_model.proofs.CellRuns.{made-cells, made_all-cells, all_put_same}
+use Rattle.store_model.proofs.OneStore.{one_store}
 use Rattle.store_model.proofs.PlacedBytes.{groups_here, places_stand}
-use Rattle.group_log.proofs.GatedGroups.{rests_has, grows_has}
+use Rattle.group_log.proofs.GatedGroups.{has_closed, rests_has, grows_has}
 use Rattle.store_groups.specs.declared.place.Place.{Place}
 use Rattle.store_groups.specs.Placing.{further}
 use Rattle.store_groups.specs.Taking.{as_runs}
-use Rattle.store_journal.specs.Holding.{bodies_of}
-use Rattle.store_journal.specs.Standing.{with_bytes, GroupsStand, NewStands, HoldsStands, BuildsStands}
+use Rattle.store_journal.specs.Holding.{bodies_of, Holds}
+use Rattle.store_journal.specs.Shown.{StoreState}
+use Rattle.sx_base.specs.Disk.{Pending}
+use Rattle.store_journal.specs.Standing.{with_bytes, GroupsStand, NewStands, HoldsStands, BuildsStands, HoldsOne, StoresHaveSize}
 
 pub number_of : Option Place → Option ℕ
 number_of place = option_map (λ p. p.at) place
@@ -61,6 +64,23 @@ holds_stands header groups store seen image pending h is = stand header groups s
 pub builds_stands : BuildsStands
 builds_stands header groups version commands part store seen image pending b is =
     stand header groups store.core image (grows_has header (bodies_of groups) _ store.log seen pending b.grows image is) b.makes
+
+-- one store is held
+holds_place : (header : Header) (groups : List Group) (store : StoreState) (seen : List ℕ) (pending : Pending) → Holds header groups store seen pending → Stands None as_runs seen store.core
+holds_place header groups store seen pending h = record {
+  header = header;
+  groups = groups;
+  has = has_closed header (bodies_of groups) store.log h.rests.gate h.rests.rest seen h.rests.behind h.rests.closed h.rests.bytes;
+  makes = h.makes;
+}
+
+pub holds_one : HoldsOne
+holds_one header other groups others store again seen pending later h o =
+    one_store None as_runs seen again.core store.core (holds_place other others again seen later o) (holds_place header groups store seen pending h)
+
+pub have_size : StoresHaveSize
+have_size len part store (inl idle) = record { size = idle.rest.size; groups = omega (arith, idle.rest.whole) }
+have_size len part store (inr is_open) = record { size = is_open.progress.size; groups = omega (arith, is_open.progress.begun) }
 
 -- ---- groups in front of others, or of what is at fault
 

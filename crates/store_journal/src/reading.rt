@@ -23,6 +23,17 @@ use subvol_catalog::Key;
 use sx_base::Disk;
 
 impl Store {
+    /// How many bytes a file of a complete subvolume has, by its inode number; 0 where there is no such subvolume or inode. Takes
+    /// no memory.
+    pub fn file_len(&self, key: Key, ino: u64) -> u64
+        ensures { result ≡ length (file_cells self.now.core (key_of key) ino) }
+    {
+        match contents_of(self.core(), key, ino) {
+            Some(contents) => contents.size(),
+            None => 0,
+        }
+    }
+
     /// Fills the buffer with the bytes of a file of a complete subvolume, by its inode number, from the place `at` of the file on,
     /// counted in bytes. Where the file has holes they are zero. Takes no memory. `DiskFault` only.
     pub fn read_range<D: Disk>(
