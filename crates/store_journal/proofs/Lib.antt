@@ -1,8 +1,5 @@
-pub mod Beginning
-pub mod Editing
 pub mod Keeping
-pub mod KeptParts
+pub mod Opened
 pub mod Pushes
-pub mod Resuming
-pub mod SaidInodes
+pub mod ReadFiles
 pub mod StandingGroups

@@ -4,8 +4,8 @@ use Rattle.send_model.specs.Refusal as meant
 use Rattle.send_model.specs.Subvolume.{Subvolume}
 use Rattle.send_model.specs.Store.{Head, Part, Store, begun, unfinished}
 use Rattle.sx_base.specs.Refusals.{refusal_of}
-use Rattle.store_journal.specs.declared.stops.StoreStop.{StoreStop}
-use Rattle.store_journal.specs.declared.stops.StoreStop.TheVariants as stop
+use Rattle.store_groups.specs.declared.stops.StoreStop.{StoreStop}
+use Rattle.store_groups.specs.declared.stops.StoreStop.TheVariants as stop
 use Rattle.store_model.specs.Stored.{Group, Drop}
 use Rattle.store_journal.specs.Holding.{new_group}
 

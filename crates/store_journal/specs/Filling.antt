@@ -1,12 +1,9 @@
 -- Which call of a journal meets its limit first, of several in a row.
-use Rattle.std.specs.Prelude.{◌≡◌, ◌⊎◌, ℕ, ◌+◌, List, [], ◌∷◌, ◌++◌, Option, None, Some, Result, Ok, Err, ⊤, nat_lt, if◌then◌else◌}
+use Rattle.std.specs.Prelude.{◌≡◌, ◌⊎◌, ℕ, ◌+◌, List, [], ◌∷◌, ◌++◌, Option, None, Some, nat_lt, if◌then◌else◌}
 use Rattle.store_model.specs.Image.{reserve}
 use Rattle.group_log.specs.declared.stops.LogStop.{LogStop}
 use Rattle.group_log.specs.declared.stops.LogStop.TheVariants.{LogFull}
 use Rattle.group_log.specs.Stopping.{IsFault}
-use Rattle.store_journal.specs.declared.stops.StoreStop.{StoreStop}
-use Rattle.store_journal.specs.declared.stops.StoreStop.TheVariants as stop
-use Rattle.sx_base.specs.declared.refusal.Refusal.{Refusal}
 
 -- Bytes that are asked for at a place.
 pub record Asked : Type 0 where
@@ -34,32 +31,6 @@ IsFullAt limit (Some a) why = why ≡ LogFull a.place a.wanted limit
 -- The disk failed, for which there is this cause, or the limit was met where it is met first.
 abbrev pub IsStopOf : Type 0 → ℕ → Option Asked → LogStop → Type 0
 IsStopOf cause limit full why = IsFullAt limit full why ⊎ IsFault cause why
-
--- What holds of a refusal, and of a stop of the journal.
-abbrev pub IfRefused : {T : Type 0} → Result T StoreStop → (Refusal → Type 0) → Type 0
-IfRefused (Ok x) P = ⊤
-IfRefused (Err (stop.Refused refusal)) P = P refusal
-IfRefused (Err stop.NoMemory) P = ⊤
-IfRefused (Err (stop.Log why)) P = ⊤
-
-abbrev pub IfLog : {T : Type 0} → Result T StoreStop → (LogStop → Type 0) → Type 0
-IfLog (Ok x) P = ⊤
-IfLog (Err (stop.Refused refusal)) P = ⊤
-IfLog (Err stop.NoMemory) P = ⊤
-IfLog (Err (stop.Log why)) P = P why
-
--- What holds of each other stop than a refusal.
-abbrev pub IfEnded : {T : Type 0} → Result T StoreStop → Type 0 → Type 0
-IfEnded (Ok x) P = ⊤
-IfEnded (Err (stop.Refused refusal)) P = ⊤
-IfEnded (Err stop.NoMemory) P = P
-IfEnded (Err (stop.Log why)) P = P
-
--- A stop that is no refusal.
-abbrev pub IsNoRefusal : StoreStop → Type 0
-IsNoRefusal (stop.Refused refusal) = ⊥
-IsNoRefusal stop.NoMemory = ⊤
-IsNoRefusal (stop.Log why) = ⊤
 
 -- What a head asks for: a group of so many bytes, and the eighteen bytes in front of a group of edits.
 abbrev pub head_asks : ℕ → ℕ → List Asked

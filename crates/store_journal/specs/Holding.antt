@@ -1,20 +1,15 @@
 -- When a disk fits what a store keeps of it. Of a disk that tells nothing only the size has to fit.
-use Rattle.std.specs.Prelude.{◌≡◌, ◌⊎◌, ℕ, true, List, [], ◌∷◌, ◌++◌, length, map, Option, None, Some}
-use Rattle.extent_map.specs.Pieces.{run_cells}
+use Rattle.std.specs.Prelude.{◌≡◌, ◌⊎◌, ℕ, true, List, [], ◌∷◌, ◌++◌, map, Option, None, Some}
 use Rattle.send_model.specs.Command.{Command}
 use Rattle.send_model.specs.Spelling.{canonical_all}
-use Rattle.send_model.specs.Store.{Store, Part, State}
+use Rattle.send_model.specs.Store.{Part, State}
 use Rattle.store_model.specs.Image.{Header, HasGroups}
 use Rattle.sx_base.specs.Disk.{Pending}
 use Rattle.group_log.specs.Journal.{Rests, Grows}
-use Rattle.store_journal.specs.declared.place.Place.{Place}
-use Rattle.store_journal.specs.Placing.{further}
+use Rattle.store_groups.specs.declared.place.Place.{Place}
+use Rattle.store_groups.specs.Taking.{as_runs, open_state}
 use Rattle.store_journal.specs.Shown.{StoreState}
-use Rattle.store_model.specs.Stored.{Content, Body, Group, body_bytes, IsContent, Putting, body_at, frames_at, resumed, edits_made, Makes}
-
--- The places of the bytes of a WRITE, as cells.
-abbrev pub as_runs : Putting (Option Place)
-as_runs place bytes = run_cells further (record { at = place }) (length bytes)
+use Rattle.store_model.specs.Stored.{Content, Body, Group, body_bytes, IsContent, body_at, frames_at, resumed, edits_made, Makes}
 
 abbrev pub bodies_of : List Group → List (List ℕ)
 bodies_of groups = map body_bytes groups
@@ -34,10 +29,6 @@ HasThese header groups image = HasGroups header (bodies_of groups) image
 -- It has these, or these and one more.
 abbrev pub HasOneMore : Header → List Group → Group → List ℕ → Type 0
 HasOneMore header groups group image = HasThese header groups image ⊎ HasThese header (groups ++ group ∷ []) image
-
--- A part that is open.
-abbrev pub open_state : Store (Option Place) → Part (Option Place) → State (Option Place)
-open_state store part = record { store = store; part = Some part }
 
 -- The disk has these groups, and so has each image that a crash may leave; and they make the store's subvolumes.
 pub record Holds (header : Header) (groups : List Group) (store : StoreState) (seen : List ℕ) (pending : Pending) : Type 0 where

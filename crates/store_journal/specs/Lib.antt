@@ -1,8 +1,7 @@
 pub mod Answers
 pub mod Filling
 pub mod Holding
-pub mod Kept
-pub mod Placing
-pub mod Said
+pub mod Opening
+pub mod Reading
 pub mod Shown
 pub mod Standing

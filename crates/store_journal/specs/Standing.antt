@@ -1,5 +1,5 @@
 -- What it means that a disk has the groups of a store. This program's own.
-use Rattle.std.specs.Prelude.{ℕ, List, [], ◌∷◌, ◌++◌, Option, None}
+use Rattle.std.specs.Prelude.{◌≡◌, ◌⊎◌, ℕ, List, [], ◌∷◌, ◌++◌, Option, None}
 use Rattle.std.specs.Option.{option_map}
 use Rattle.send_model.specs.Command.{Command}
 use Rattle.send_model.specs.Store.{Store, Part}
@@ -7,9 +7,15 @@ use Rattle.sx_base.specs.Disk.{Pending, IsImage}
 use Rattle.send_model.specs.Cells.{recelled_store}
 use Rattle.store_model.specs.Image.{Header, header_of, usual_header}
 use Rattle.store_model.specs.Stored.{Group, byte_of, Makes, StandsFor}
-use Rattle.store_journal.specs.declared.place.Place.{Place}
-use Rattle.store_journal.specs.Shown.{StoreState}
-use Rattle.store_journal.specs.Holding.{as_runs, HasThese, Holds, Builds}
+use Rattle.store_groups.specs.declared.place.Place.{Place}
+use Rattle.store_journal.specs.Shown.{StoreState, IsIdle, IsOpen}
+use Rattle.store_journal.specs.Reading.{HasSize}
+use Rattle.store_groups.specs.Taking.{as_runs}
+use Rattle.store_journal.specs.Holding.{HasThese, Holds, Builds}
+
+-- The byte of a cell: that at its place in an image, or zero.
+abbrev pub place_byte : List ℕ → Option Place → ℕ
+place_byte image cell = byte_of image (option_map (λ place. place.at) cell)
 
 -- The subvolumes with the bytes that an image has at their places.
 abbrev pub with_bytes : List ℕ → Store (Option Place) → Store ℕ
@@ -32,3 +38,12 @@ HoldsStands = (header : Header) (groups : List Group) (store : StoreState) (seen
 abbrev pub BuildsStands : Type 0
 BuildsStands = (header : Header) (groups : List Group) (version : ℕ) (commands : List Command) (part : Part (Option Place)) (store : StoreState) (seen image : List ℕ) (pending : Pending)
     → Builds header groups version commands part store seen pending → IsImage pending image → StandsFor image (with_bytes image store.core)
+
+-- What a disk gives is held for the subvolumes of one store, so a store that is opened again has those that it had.
+abbrev pub HoldsOne : Type 0
+HoldsOne = (header other : Header) (groups others : List Group) (store again : StoreState) (seen : List ℕ) (pending later : Pending)
+    → Holds header groups store seen pending → Holds other others again seen later → again.core ≡ store.core
+
+-- A store has its size on the disk, whether no part is open or one is.
+abbrev pub StoresHaveSize : Type 0
+StoresHaveSize = (len : ℕ) (part : Part (Option Place)) (store : StoreState) → IsIdle len store ⊎ IsOpen len part store → HasSize len store

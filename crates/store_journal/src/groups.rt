@@ -7,13 +7,14 @@ ghost use Rattle.store_model.specs.Image.{Header, HasGroups, sealed};
 ghost use Rattle.send_commands.specs.Meaning.{meaning_of};
 ghost use Rattle.group_log.specs.Stopping.{IsFault};
 ghost use Rattle.group_log.specs.Journal.{IsAtRest, IsInProgress, Rests, Grows};
-ghost use Rattle.store_journal.specs.Filling.{first_full, group_asks, piece_asks, gate_behind, IsStopOf, IfLog, IsNoRefusal};
+ghost use Rattle.store_journal.specs.Filling.{first_full, group_asks, piece_asks, gate_behind, IsStopOf};
+ghost use Rattle.store_groups.specs.Stopping.{IfLog, IsNoRefusal};
 ghost use Rattle.store_journal.specs.Holding.{edits_head};
-ghost use Rattle.store_journal.specs.declared.stops.StoreStop.TheVariants as stop;
+ghost use Rattle.store_groups.specs.declared.stops.StoreStop.TheVariants as stop;
 
-use crate::stops::StoreStop;
 use group_log::{Log, LogStop};
 use send_commands::{Command, encode};
+use store_groups::StoreStop;
 use sx_base::{Blob, Disk};
 use uuid::Uuid;
 

@@ -3,11 +3,9 @@
 
 mod groups;
 mod laws;
-mod place;
-mod stops;
+mod reading;
 mod store;
 
 pub use laws::groups_stand_for_subvolumes;
-pub use place::Place;
-pub use stops::StoreStop;
 pub use store::Store;
+pub use store_groups::{Place, StoreStop};

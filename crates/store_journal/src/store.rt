@@ -16,20 +16,23 @@ ghost use Rattle.store_model.specs.Image.{Header, header_of, usual_header};
 ghost use Rattle.store_model.specs.Stored.{Group, Mark, Body, Drop, IsEdit, resumed};
 ghost use Rattle.group_log.specs.Stopping.{IsFault, IsFaultOr};
 ghost use Rattle.group_log.specs.declared.stops.LogStop.TheVariants.{StoreThere};
-ghost use Rattle.store_journal.specs.declared.place.Place as here;
-ghost use Rattle.store_journal.specs.Filling.{first_full, group_asks, head_asks, piece_asks, gate_behind, IsStopOf, IfRefused, IfLog, IfEnded, IsNoRefusal};
-ghost use Rattle.store_journal.specs.Kept.{IsKept, AreKept};
+ghost use Rattle.store_groups.specs.declared.place.Place as here;
+ghost use Rattle.store_journal.specs.Filling.{first_full, group_asks, head_asks, piece_asks, gate_behind, IsStopOf};
+ghost use Rattle.store_groups.specs.Stopping.{IfRefused, IfLog, IfEnded, IsNoRefusal};
+ghost use Rattle.store_groups.specs.Kept.{IsKept, AreKept};
 ghost use Rattle.store_journal.specs.Shown.{IsIdle, IsOpen};
-ghost use Rattle.store_journal.specs.Holding.{as_runs, new_group, open_state, HasThese, HasOneMore, Holds, Builds};
+ghost use Rattle.store_groups.specs.Taking.{as_runs, open_state};
+ghost use Rattle.store_journal.specs.Holding.{new_group, HasThese, HasOneMore, Holds, Builds};
 ghost use Rattle.store_journal.specs.Answers.{BeginsIn, EditsIn, groups_without};
+ghost use Rattle.store_journal.specs.Opening.{OpenSays, IsOpenStop, HoldsSome};
 
 use crate::groups::{edits_head, publish, start_group, write_drop, write_edit, write_mark};
-use crate::place::Place;
-use crate::stops::StoreStop;
 use clone_resolve::{EditCore, Part};
 use group_log::{Log, LogStop};
 use send_commands::{Command, data_place};
+use std::alloc::Global;
 use std::marker::Model;
+use store_groups::{Place, StoreStop, Window, take_group};
 use subvol_catalog::Key;
 use sx_base::{Blob, Disk, Stop};
 use uuid::Uuid;
@@ -81,6 +84,48 @@ impl Store {
         Log::create(disk)
     }
 
+    /// Opens the store that stands on a disk: a sync, so that a crash leaves what is read from here on, and then group after group.
+    /// The store is live, and no part is open.
+    ///
+    /// # Errors
+    /// `NotStore` exactly where the bytes stand for no store: of group 0 where there is no whole and right header, else of the first
+    /// group that is cut short or makes nothing of the subvolumes before it. `DiskFault`. It refuses nothing.
+    pub fn open<D: Disk>(disk: &mut D, alloc: Global) -> Result<Store, StoreStop>
+        ensures idle { IfOk result (IsIdle (D.len disk.new)) }
+        ensures says { D.tells → OpenSays (D.seen disk.old) result }
+        ensures holds { D.tells →
+            IfOk result (HoldsSome (D.seen disk.new) (D.pending disk.new)) }
+        ensures durable { D.tells →
+            OnOk result (D.pending disk.new ≡ settled (D.seen disk.new)) }
+        ensures not_refused { IfErr result IsNoRefusal }
+        ensures stops { IfLog result (IsOpenStop (Rose (D.faults disk.old) (D.faults disk.new))) }
+        ensures len { D.len disk.new ≡ D.len disk.old }
+        ensures seen { D.tells → D.seen disk.new ≡ D.seen disk.old }
+
+        // At every moment a crash leaves what it could have left before.
+        ensures any_moment { D.tells →
+            LeavesOnly D.moment D.left_since disk.old disk.new (IsImage (D.pending disk.old)) }
+
+        ensures later { D.faults disk.old ≤ D.faults disk.new }
+        ensures steady { Steady (D.faults disk.old) (D.faults disk.new) result }
+    {
+        let mut log = Log::open(disk)?;
+        let mut core = EditCore::new(alloc);
+        let mut window = Window::new(alloc);
+        loop {
+            match log.next(disk)? {
+                None => return Ok(opened(alloc, core, log)),
+                Some(group) => {
+                    if !take_group(&log, disk, &mut core, group, &mut window)? {
+                        return Err(StoreStop::Log(LogStop::NotStore {
+                            group: group.number,
+                        }));
+                    }
+                }
+            }
+        }
+    }
+
     /// Whether the store may be written to: until a call that takes `&mut self` answers a stop of the journal or that there is no
     /// memory.
     pub fn live(&self) -> bool
@@ -103,6 +148,13 @@ impl Store {
         ensures kept { AreKept self.log.gate result }
     {
         self.core
+    }
+
+    // The journal.
+    pub(crate) fn log(&self) -> &Log
+        ensures { result.now ≡ self.now.log }
+    {
+        &self.log
     }
 
     /// Begins the entry of a head, and publishes a group of the head. The part is no open part: `reopen` starts the group of its
@@ -490,5 +542,20 @@ impl Store {
                 Err(stop)
             }
         }
+    }
+}
+
+// A store that opened: it is live, and no part is open.
+fn opened(alloc: Global, core: EditCore<Place>, log: Log) -> Store
+    requires { AreKept log.gate core }
+    ensures { result
+        ≡ record { core = core; log = log; open_part = None; is_live = true } }
+{
+    Store {
+        core,
+        log,
+        spelled: Blob::new(alloc),
+        open_part: None,
+        is_live: true,
     }
 }

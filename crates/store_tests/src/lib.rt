@@ -1,5 +1,13 @@
-//! Tests of the calls of `store_journal`. Nothing stands here but tests.
+//! Tests of the calls of `store_journal`, and callers of the store that they run. Nothing stands here but tests.
 #![tactic(auto)]
 
 #[cfg(test)]
+mod client;
+#[cfg(test)]
+mod crash_tests;
+#[cfg(test)]
 mod made_tests;
+#[cfg(test)]
+mod opened_tests;
+#[cfg(test)]
+mod streams;

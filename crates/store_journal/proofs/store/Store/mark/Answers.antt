@@ -7,7 +7,7 @@ use Rattle.group_log.proofs.GatedGroups.{rests_has}
 use Rattle.store_journal.specs.Shown.{StoreState}
 use Rattle.store_journal.specs.Holding.{bodies_of, new_group, Holds}
 use Rattle.store_journal.proofs.Keeping.{more_has, mark_holds, begun_again, begun_are_kept}
-use Rattle.store_journal.proofs.KeptParts.{all_further, kept_further}
+use Rattle.store_groups.proofs.KeptParts.{all_further, kept_further}
 use Rattle.store_journal.proofs.store.Store.mark.Goals as goal
 
 pub returns-in-Err-Refused-clause-any_moment : goal.returns-in-Err-Refused-clause-any_moment

@@ -18,7 +18,7 @@ use Rattle.send_model.specs.Exported.{IsMoment}
 use Rattle.send_model.specs.Clone.{cloned, clone}
 use Rattle.send_model.proofs.Fuel.{required, not_refused, tested, bound, ok_same}
 use Rattle.send_model.proofs.Keeping.{all_filtered, all_values_with, all_found}
-use Rattle.store_journal.specs.Said.{HasLength, IsSaid, AllSaid}
+use Rattle.store_groups.specs.Said.{HasLength, IsSaid, AllSaid}
 
 -- ---- values
 

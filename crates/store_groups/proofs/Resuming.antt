@@ -14,9 +14,9 @@ use Rattle.send_model.proofs.Stores.{bytes_eq_true}
 use Rattle.store_model.specs.Stored.{started, unfinished_at, resumed}
 use Rattle.clone_resolve.specs.Heads.{Resumes, is_unfinished}
 use Rattle.clone_resolve.specs.Heads as code_heads
-use Rattle.store_journal.specs.declared.place.Place.{Place}
-use Rattle.store_journal.specs.Kept.{IsKept, AreKept}
-use Rattle.store_journal.proofs.KeptParts.{start_kept}
+use Rattle.store_groups.specs.declared.place.Place.{Place}
+use Rattle.store_groups.specs.Kept.{IsKept, AreKept}
+use Rattle.store_groups.proofs.KeptParts.{start_kept}
 
 pub same_entry : {S : Type 0} (uuid : List ℕ) (store : List (Entry S)) → code_heads.unfinished_at uuid store ≡ unfinished_at uuid store
 unfolding unfinished_at

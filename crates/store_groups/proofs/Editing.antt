@@ -15,10 +15,10 @@ use Rattle.extent_map.specs.Pieces.{run_cells}
 use Rattle.send_commands.specs.Writing.{data_at, IsShortEnough, IfSecond}
 use Rattle.clone_resolve.specs.Steps.{data_len, done_by}
 use Rattle.clone_resolve.specs.declared.done.Done.TheVariants as done
-use Rattle.store_journal.specs.declared.place.Place.{Place}
-use Rattle.store_journal.specs.Placing.{further}
+use Rattle.store_groups.specs.declared.place.Place.{Place}
+use Rattle.store_groups.specs.Placing.{further}
 use Rattle.store_model.specs.Stored.{is_edit}
-use Rattle.store_journal.specs.Holding.{as_runs}
+use Rattle.store_groups.specs.Taking.{as_runs}
 
 pub is_edited : (c : Command) → is_edit c ≡ true → done_by c ≡ done.Edited
 is_edited (Subvol uuid ctransid path) e = cc

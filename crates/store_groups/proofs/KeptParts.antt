@@ -18,10 +18,10 @@ use Rattle.send_model.proofs.Redirected.{clone_command_holds}
 use Rattle.send_model.proofs.Keeping.{all_filtered}
 use Rattle.send_model.proofs.ElementLaws.{all_both}
 use Rattle.clone_resolve.proofs.TakenStates.{cells_weaker}
-use Rattle.store_journal.specs.declared.place.Place.{Place}
-use Rattle.store_journal.specs.Placing.{further}
-use Rattle.store_journal.specs.Kept.{StandsBefore, IsKept, AreKept}
-use Rattle.store_journal.proofs.SaidInodes.{alone_said, edit_said, clone_said}
+use Rattle.store_groups.specs.declared.place.Place.{Place}
+use Rattle.store_groups.specs.Placing.{further}
+use Rattle.store_groups.specs.Kept.{StandsBefore, IsKept, AreKept}
+use Rattle.store_groups.proofs.SaidInodes.{alone_said, edit_said, clone_said}
 
 abbrev Cell : Type 0
 Cell = Option Place

@@ -1,6 +1,6 @@
 -- Places on a disk, as origins of cells. Source: this program's own.
 use Rattle.std.proofs.Common.{◌≡◌, ℕ, ◌+◌, ◌-◌, ◌^◌, ◌≤◌, ap, arith, add-zero, add_assoc}
-use Rattle.store_journal.specs.declared.place.Place.{Place}
+use Rattle.store_groups.specs.declared.place.Place.{Place}
 
 -- How far a place can rise below 2^64.
 abbrev pub reach_of : Place → ℕ

@@ -4,8 +4,8 @@ use Rattle.std.specs.List.{AllByRecursion}
 use Rattle.send_model.specs.Cells.{Holds}
 use Rattle.send_model.specs.Subvolume.{Subvolume}
 use Rattle.send_model.specs.Store.{Store}
-use Rattle.store_journal.specs.declared.place.Place.{Place}
-use Rattle.store_journal.specs.Said.{AllSaid}
+use Rattle.store_groups.specs.declared.place.Place.{Place}
+use Rattle.store_groups.specs.Said.{AllSaid}
 
 -- A cell is zero, or its byte stands before a place.
 abbrev pub StandsBefore : ℕ → Option Place → Type 0

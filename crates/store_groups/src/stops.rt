@@ -1,6 +1,6 @@
 // Why a call of the store stops.
 ghost use Rattle.std.specs.Prelude.{◌≡◌};
-ghost use Rattle.store_journal.specs.declared.stops.StoreStop.TheVariants as stop;
+ghost use Rattle.store_groups.specs.declared.stops.StoreStop.TheVariants as stop;
 
 use group_log::LogStop;
 use std::alloc::AllocError;

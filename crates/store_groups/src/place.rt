@@ -8,7 +8,7 @@ pub struct Place {
 }
 
 impl Origin for Place {
-    ghost use Rattle.store_journal.specs.Placing.{reach_of, further, by_none, is_left, by_both};
+    ghost use Rattle.store_groups.specs.Placing.{reach_of, further, by_none, is_left, by_both};
 
     ghost reach = { reach_of };
 

@@ -1,0 +1,10 @@
+pub mod Aheads
+pub mod Bodies
+pub mod Contents
+pub mod Edits
+pub mod Fronts
+pub mod Kept
+pub mod Placing
+pub mod Said
+pub mod Stopping
+pub mod Taking

@@ -1,0 +1,136 @@
+// What no clause says: that a store opens, and what it has then.
+ghost use Rattle.std.specs.Prelude.{◌≡◌};
+ghost use Rattle.store_journal.specs.Reading.{HasSize};
+
+use crate::client::{open_again, read_back};
+use crate::streams::{FILE, NEW, OLD, image, key, receive_a, receive_b};
+use disk_model::MemDisk;
+use group_log::LogStop;
+use std::alloc::Global;
+use std::process::Abort;
+use std::test::Fail;
+use store_journal::{Store, StoreStop};
+use subvol_catalog::Key;
+use sx_base::{Disk, Refusal};
+
+// A range of a file has these bytes.
+fn expect_range<D: Disk>(
+    rt: &impl Abort,
+    store: &Store,
+    disk: &mut D,
+    key: Key,
+    at: u64,
+    bytes: &[u8],
+) -> Result<(), LogStop>
+    requires { HasSize (D.len disk.old) store.now }
+    ensures { D.len disk.new ≡ D.len disk.old }
+{
+    let mut buf = [7; 16];
+    assert!(rt; bytes.len() <= 16);
+    let back = &mut buf[..bytes.len()];
+    assert!(rt; read_back(store, disk, key, FILE, at, back)?);
+    assert_eq!(rt; &*back, bytes);
+    Ok(())
+}
+
+// The file of `a` has what was written, zeros beside it, and an end.
+fn expect_a<D: Disk>(rt: &impl Abort, store: &Store, disk: &mut D) -> Result<(), LogStop>
+    requires { HasSize (D.len disk.old) store.now }
+    ensures { D.len disk.new ≡ D.len disk.old }
+{
+    expect_range(rt, store, disk, key(b'A', 1), 0, b"\0\0\0hi\0\0")?;
+    expect_range(rt, store, disk, key(b'A', 1), 4094, b"\0\0end\0")?;
+    expect_range(rt, store, disk, key(b'A', 1), 4998, b"\0\0")?;
+    assert!(rt; !read_back(store, disk, key(b'A', 1), FILE, 4999, &mut [0; 2])?);
+    assert!(rt; !read_back(store, disk, key(b'A', 2), FILE, 0, &mut [0; 1])?);
+    Ok(())
+}
+
+// That of its snapshot has one byte more.
+fn expect_b<D: Disk>(rt: &impl Abort, store: &Store, disk: &mut D) -> Result<(), LogStop>
+    requires { HasSize (D.len disk.old) store.now }
+    ensures { D.len disk.new ≡ D.len disk.old }
+{
+    expect_range(rt, store, disk, key(b'B', 2), 0, b"\0\0!hi\0\0")?;
+    expect_range(rt, store, disk, key(b'B', 2), 4094, b"\0\0end\0")
+}
+
+// Receives two parts into a store with these bytes, opens it again, and drops one of them.
+fn receive_and_open(rt: &impl Abort, alloc: Global, start: &[u8]) -> Result<(), Fail> {
+    let mut disk = MemDisk::new(alloc, start)?;
+    let mut store = Store::open(&mut disk, alloc)?;
+    receive_a(rt, alloc, &mut store, &mut disk)?;
+    receive_b(rt, alloc, &mut store, &mut disk)?;
+    expect_a(rt, &store, &mut disk)?;
+    expect_b(rt, &store, &mut disk)?;
+    let mut again = open_again(&mut disk, alloc, &store)?;
+    assert_eq!(rt; again.core().catalog().len(), 2);
+    expect_a(rt, &again, &mut disk)?;
+    expect_b(rt, &again, &mut disk)?;
+    assert!(rt; again.drop_name(&mut disk, b"a")?);
+    assert!(rt; !again.drop_name(&mut disk, b"a")?);
+    let last = open_again(&mut disk, alloc, &again)?;
+    assert_eq!(rt; last.core().catalog().len(), 1);
+    expect_b(rt, &last, &mut disk)?;
+    Ok(())
+}
+
+#[test]
+fn two_parts_are_read_again(rt: HostRuntime) -> Result<(), Fail> {
+    let alloc = rt.alloc();
+    receive_and_open(&rt, alloc, &NEW)?;
+    receive_and_open(&rt, alloc, &OLD)
+}
+
+// The group at fault, or how many entries there are.
+fn judged(alloc: Global, bytes: &[u8]) -> Result<Result<u64, u64>, Fail> {
+    let mut disk = MemDisk::new(alloc, bytes)?;
+    match Store::open(&mut disk, alloc) {
+        Ok(store) => Ok(Ok(store.core().catalog().len() as u64)),
+        Err(StoreStop::Log(LogStop::NotStore { group })) => Ok(Err(group)),
+        Err(_) => Ok(Err(99)),
+    }
+}
+
+// The bytes of a store that has `a`.
+fn with_a(rt: &impl Abort, alloc: Global) -> Result<Vec<u8>, Fail> {
+    let mut disk = MemDisk::new(alloc, b"")?;
+    Store::create(&mut disk)?;
+    let mut store = Store::open(&mut disk, alloc)?;
+    receive_a(rt, alloc, &mut store, &mut disk)?;
+    image(alloc, &mut disk)
+}
+
+#[test]
+fn the_first_group_at_fault_is_named(rt: HostRuntime) -> Result<(), Fail> {
+    let alloc = rt.alloc();
+    let mut bytes = with_a(&rt, alloc)?;
+    let len = bytes.len();
+    assert!(rt; len == 222);
+    assert_eq!(rt; judged(alloc, &bytes)?, Ok(1));
+    assert_eq!(rt; judged(alloc, &bytes[..221])?, Err(3));
+    assert_eq!(rt; judged(alloc, &bytes[..200])?, Err(2));
+    assert_eq!(rt; judged(alloc, &bytes[..20])?, Err(1));
+    assert_eq!(rt; judged(alloc, &bytes[..19])?, Err(0));
+    bytes[200] = bytes[200] ^ 1;
+    assert_eq!(rt; judged(alloc, &bytes)?, Err(2));
+    bytes[30] = 3;
+    assert_eq!(rt; judged(alloc, &bytes)?, Err(1));
+    Ok(())
+}
+
+#[test]
+fn a_part_whose_name_is_there_is_refused(rt: HostRuntime) -> Result<(), Fail> {
+    let alloc = rt.alloc();
+    let mut disk = MemDisk::new(alloc, &NEW)?;
+    let mut store = Store::open(&mut disk, alloc)?;
+    receive_a(&rt, alloc, &mut store, &mut disk)?;
+    assert!(rt;
+        matches!(
+            receive_a(&rt, alloc, &mut store, &mut disk),
+            Err(StoreStop::Refused(Refusal::NameThere))
+        )
+    );
+    assert!(rt; store.live());
+    Ok(())
+}
