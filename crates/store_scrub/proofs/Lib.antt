@@ -1,0 +1,4 @@
+pub mod Bodies
+pub mod Groups
+pub mod Journals
+pub mod Sums
