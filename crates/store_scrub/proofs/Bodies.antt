@@ -1,47 +1,15 @@
 -- Bodies of groups, by their first byte and their last four.
-use Rattle.std.specs.Prelude.{◌≡◌, ◌≢◌, ℕ, suc, ◌-◌, ◌<◌, ◌≤◌, Bool, true, false, List, [], ◌∷◌, ◌++◌, length, take, drop, get_or, nat_lt}
+use Rattle.std.specs.Prelude.{◌≡◌, ◌≢◌, ℕ, suc, ◌-◌, ◌<◌, ◌≤◌, true, false, List, [], ◌∷◌, ◌++◌, length, take, drop, get_or}
 use Rattle.std.specs.Int.{w32, to_le_bytes, from_le_bytes}
-use Rattle.std.proofs.Common.{inl, inr, refl, sym, ap, subst, ◌∙◌, arith, length-drop}
+use Rattle.std.proofs.Common.{inl, inr, sym, ap, subst, ◌∙◌, arith, length-drop}
 use Rattle.std.proofs.lemmas.List.{take-append-drop}
 use Rattle.send_model.specs.Checksum.{crc_of}
 use Rattle.store_model.specs.Scrub.{IsKind, IsDamaged, IsNone}
 use Rattle.store_model.proofs.ScrubLaws.{with_seal, without_seal}
 use Rattle.store_scrub.specs.declared.kinds.GroupKind.{GroupKind}
-use Rattle.store_scrub.specs.declared.kinds.GroupKind.TheVariants.{Mark, Edits, Drop}
 use Rattle.store_scrub.specs.Numbers.{Names}
+use Rattle.store_scrub.proofs.KindNumbers.{known, new_above, old_below, sealed_by}
 use Rattle.store_scrub.specs.Found.{IsPlainOrSealed}
-
--- ---- kinds
-
--- a byte that names a kind is one of the format
-pub known : (format first : ℕ) (kind : GroupKind) (is_sealed : Bool) → Names format first kind is_sealed → IsKind format first
-known format first Mark true n = (omega (arith, n.is), omega (arith, n.is), λ below. absurd (omega (arith, n.is, below)))
-known format first Edits true n = (omega (arith, n.is), omega (arith, n.is), λ below. absurd (omega (arith, n.is, below)))
-known format first Drop true n = (omega (arith, n.is), omega (arith, n.is), λ below. absurd (omega (arith, n.is, below)))
-known format first Mark false n = (omega (arith, n.is), omega (arith, n.is), λ below. n.old refl)
-known format first Edits false n = (omega (arith, n.is), omega (arith, n.is), λ below. n.old refl)
-known format first Drop false n = (omega (arith, n.is), omega (arith, n.is), λ below. n.old refl)
-
--- those with a checksum are above 3
-pub new_above : (format first : ℕ) (kind : GroupKind) → Names format first kind true → 3 < first
-new_above format first Mark n = omega (arith, n.is)
-new_above format first Edits n = omega (arith, n.is)
-new_above format first Drop n = omega (arith, n.is)
-
-pub old_below : (format first : ℕ) (kind : GroupKind) → Names format first kind false → first < 4
-old_below format first Mark n = omega (arith, n.is)
-old_below format first Edits n = omega (arith, n.is)
-old_below format first Drop n = omega (arith, n.is)
-
-pub sealed_by : (format first : ℕ) (kind : GroupKind) (is_sealed : Bool) → Names format first kind is_sealed → is_sealed ≡ nat_lt 3 first
-sealed_by format first Mark true n = ap (nat_lt 3) (sym n.is)
-sealed_by format first Edits true n = ap (nat_lt 3) (sym n.is)
-sealed_by format first Drop true n = ap (nat_lt 3) (sym n.is)
-sealed_by format first Mark false n = ap (nat_lt 3) (sym n.is)
-sealed_by format first Edits false n = ap (nat_lt 3) (sym n.is)
-sealed_by format first Drop false n = ap (nat_lt 3) (sym n.is)
-
--- ---- bodies
 
 pub no_body : (format : ℕ) (body : List ℕ) → length body ≡ 0 → IsNone format body
 no_body format [] none = tt

@@ -19,7 +19,7 @@ pub enum ScrubStop {
     #[error("{0}")]
     Log(LogStop),
     /// The checksum that stands behind a group is not the one of its bytes.
-    #[error("damaged: group {group} has {stored} and not {computed}")]
+    #[error("damaged: group {group} {stored:08x} {computed:08x}")]
     Damaged {
         group: u64,
         stored: u32,

@@ -1,5 +1,7 @@
-//! Tests of the calls of `store_journal`. Nothing stands here but tests.
+//! Tests of the calls of `store_journal` and `store_scrub`. Nothing stands here but tests.
 #![tactic(auto)]
 
 #[cfg(test)]
 mod made_tests;
+#[cfg(test)]
+mod scrub_tests;
