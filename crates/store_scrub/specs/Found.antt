@@ -7,6 +7,7 @@ use Rattle.store_model.specs.Image.{Header}
 use Rattle.store_model.specs.Scrub.{IsWhole, IsDamaged, IsNone, IsDamagedAt, IsNoStoreAt, unsealed}
 use Rattle.group_log.specs.State.{LogState}
 use Rattle.group_log.specs.Journal.{Reads}
+use Rattle.group_log.specs.Stopping.{IsFault}
 use Rattle.group_log.specs.declared.stops.LogStop.{LogStop}
 use Rattle.group_log.specs.declared.stops.LogStop.TheVariants.{DiskFault, NotStore, LogFull, StoreThere}
 use Rattle.store_scrub.specs.declared.stops.ScrubStop.{ScrubStop}
@@ -51,15 +52,10 @@ abbrev pub IsBodyStop : ℕ → List ℕ → ℕ → ScrubStop → Type 0
 IsBodyStop format body number (Log why) = IsLogBodyStop format body number why
 IsBodyStop format body number (Damaged group stored computed) = (group ≡ number) × IsDamaged body stored computed
 
--- These four bytes are another checksum than this one, or the disk failed.
-abbrev pub IsFaultAlone : LogStop → Type 0
-IsFaultAlone DiskFault = Unit {0}
-IsFaultAlone (NotStore group) = ⊥
-IsFaultAlone (LogFull end wanted limit) = ⊥
-IsFaultAlone (StoreThere size) = ⊥
-
+-- Why a comparison of a checksum with these four bytes stops: the disk failed, or they are not this checksum. That they differ is said
+-- by `IsStop`.
 abbrev pub IsOther : ℕ → List ℕ → ℕ → ScrubStop → Type 0
-IsOther number seal sum (Log why) = IsFaultAlone why
+IsOther number seal sum (Log why) = IsFault (Unit {0}) why
 IsOther number seal sum (Damaged group stored computed) = (group ≡ number) × (stored ≡ from_le_bytes w32 seal) × (computed ≡ sum)
 
 -- All groups that were read so far are whole, and so many of them have no checksum.

@@ -23,9 +23,10 @@ const PIECE: usize = 16384;
 // The checksum at the end of a group.
 const CHECKSUM: u64 = 4;
 
-/// Goes through all groups of a journal, and looks at their kinds and checksums. Each byte is read once. `Damaged` at the first group
-/// with another checksum; of `Log` only `NotStore`, at the first group that is none, where the header counts as group 0, and `DiskFault`.
-/// Takes no memory, and changes no byte.
+/// Goes through all groups of a journal, and looks at their kinds and checksums, and not at what they say. It stops at
+/// the first group at fault: `Damaged` where it has another checksum, and `NotStore` where it is none, cut short or of no
+/// kind; the header counts as group 0. Besides, of `Log` only `DiskFault`. It reads each byte once, in pieces of 16 KiB
+/// on the stack, takes no memory and changes no byte.
 pub fn scrub<D: Disk>(disk: &mut D) -> Result<Scrub, ScrubStop>
     ensures scrubbed { D.tells → IfOk result
         (λ found. IsScrubbed (D.seen disk.old) found.groups found.unsealed) }
@@ -79,6 +80,7 @@ fn scrub_group<D: Disk>(
     ensures later { D.faults disk.old ≤ D.faults disk.new }
     ensures steady { Steady (D.faults disk.old) (D.faults disk.new) result }
 {
+    // The end of a group is a size that a disk can have.
     let _size = log.size();
     if group.len == 0 {
         return Err(none_at(group));
@@ -91,6 +93,7 @@ fn scrub_group<D: Disk>(
     let begun = group.at + first as u64;
     let end = group.at + group.len;
     if !sealed {
+        // Its other bytes are read, too: the disk may fail there.
         sum_of(log, disk, piece, 0, begun, end)?;
         return Ok(false);
     }
@@ -111,6 +114,7 @@ fn first_piece(len: u64) -> usize
     len.saturating_sub(CHECKSUM).clamp(1, PIECE as u64) as usize
 }
 
+// Why a scrub stops at a group that is none.
 fn none_at(group: GroupPlace) -> ScrubStop
     ensures { result ≡ stop.Log (NotStore group.number) }
 {
