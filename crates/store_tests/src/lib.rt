@@ -1,4 +1,4 @@
-//! Tests of the calls of `store_journal`, and callers of the store that they run. Nothing stands here but tests.
+//! Tests of the calls of `store_journal` and `store_scrub`, and callers of the store that they run. Nothing stands here but tests.
 #![tactic(auto)]
 
 #[cfg(test)]
@@ -9,5 +9,7 @@ mod crash_tests;
 mod made_tests;
 #[cfg(test)]
 mod opened_tests;
+#[cfg(test)]
+mod scrub_tests;
 #[cfg(test)]
 mod streams;
