@@ -21,12 +21,13 @@ use Rattle.extent_map.proofs.PieceByPiece.{run_bytes, hole_bytes}
 use Rattle.provenance.specs.declared.trace.Trace.{Trace}
 use Rattle.provenance.specs.declared.trace.Trace.TheVariants.{Fresh, Outside}
 use Rattle.provenance.specs.Traces.{advanced_by}
-use Rattle.clone_pieces.specs.Origins.{IsInInput}
+use Rattle.clone_pieces.specs.Origins.{IsInInput, AreAsLong}
 use Rattle.clone_pieces.specs.Filling.{byte_in, IsHadIn, PieceHad, PieceThere, FillEnd, AgainEnd}
 use Rattle.clone_pieces.specs.Redirecting.{RedirectChanged}
 use Rattle.clone_pieces.specs.declared.stops.SendStop.{SendStop}
 use Rattle.clone_pieces.specs.declared.stops.SendStop.TheVariants as stop
 use Rattle.clone_pieces.proofs.Told.{all_always, all_map, all_two, told_moved, name_at, count_names, told_file}
+use Rattle.clone_pieces.proofs.Lengths.{piece_as_long}
 
 -- ---- the cells of a piece
 
@@ -123,18 +124,18 @@ FilledTo held whole have buf files = by_piece.FilledTo (byte_in held files) whol
 
 -- ---- a turn of the loop
 
-module _ (told now : Option (List (List ℕ × List ℕ))) (names : List (List ℕ)) (held held' : meant.Key → ℕ → List ℕ) (same : now ≡ told) (kept : held' ≡ held)
+module _ (told now : Option (List (List ℕ × List ℕ))) (names : List (List ℕ)) (held held' : meant.Key → ℕ → List ℕ) (same : now ≡ told)
     (whole : List (Option Trace)) (have n : ℕ) (origin : Option Trace) (rest : List (Option Trace)) (is : drop have whole ≡ piece_cells advanced_by origin n ++ rest) (some : 0 < n) (size : ℕ) (size_is : size ≡ n) where
-  pub turn_had : (count : ℕ) → AllByRecursion (IsHadIn count held) whole → PieceHad count held' origin size
-  turn_had count all = subst (λ (h : meant.Key → ℕ → List ℕ). PieceHad count h origin size) (sym kept) (subst (λ (m : ℕ). PieceHad count held origin m) (sym size_is) (piece_had whole have n rest some count held origin is all))
+  pub turn_had : AreAsLong held' held → (count : ℕ) → AllByRecursion (IsHadIn count held) whole → PieceHad count held' origin size
+  turn_had long count all = piece_as_long count held' held long origin size (subst (λ (m : ℕ). PieceHad count held origin m) (sym size_is) (piece_had whole have n rest some count held origin is all))
 
   pub turn_there : IfAllTold told names (λ files. AllByRecursion (IsInInput files) whole) → IfAllTold now names (PieceThere origin size)
   turn_there there = told_moved now told names (PieceThere origin size) (sym same)
       (all_map told names (λ files. AllByRecursion (IsInInput files) whole) (PieceThere origin size) (λ files all. subst (λ (m : ℕ). PieceThere origin m files) (sym size_is) (piece_there whole have n rest some origin is files all)) there)
 
-  pub turn_filled : (k : ℕ) → k ≡ n → (old new : List ℕ) → have ≤ length old → IfAllTold told names (FilledTo held whole have old) → IfAllTold now names (FillEnd held' (piece_cells advanced_by origin size) new (Ok tt))
+  pub turn_filled : held' ≡ held → (k : ℕ) → k ≡ n → (old new : List ℕ) → have ≤ length old → IfAllTold told names (FilledTo held whole have old) → IfAllTold now names (FillEnd held' (piece_cells advanced_by origin size) new (Ok tt))
       → IfAllTold told names (FilledTo held whole (have + n) (put_mid have k old new))
-  turn_filled k k_is old new within so_far filled =
+  turn_filled kept k k_is old new within so_far filled =
       all_two told names (FilledTo held whole have old) (FillEnd held' (piece_cells advanced_by origin size) new (Ok tt)) (FilledTo held whole (have + n) (put_mid have k old new))
       (λ files before here. by_piece.filled_more advanced_by whole have n origin rest is (byte_in held files) old new k size k_is size_is within before
       (here ∙ ap (λ (h : meant.Key → ℕ → List ℕ). map (byte_in h files) (piece_cells advanced_by origin size)) kept))

@@ -2,6 +2,7 @@ pub mod LiteralBytes
 pub mod Short
 pub mod Flow
 pub mod Told
+pub mod Lengths
 pub mod Fills
 pub mod Chunks
 pub mod Literals

@@ -12,11 +12,12 @@ use Rattle.sx_base.specs.Calls.{IfAllTold}
 use Rattle.extent_map.specs.Cells.{cells_between}
 use Rattle.extent_map.proofs.CellLists.{length-between}
 use Rattle.provenance.specs.declared.trace.Trace.{Trace}
-use Rattle.clone_pieces.specs.Origins.{IsInInput}
+use Rattle.clone_pieces.specs.Origins.{IsInInput, AreAsLong}
 use Rattle.clone_pieces.specs.Filling.{byte_in, IsHadIn}
 use Rattle.clone_pieces.specs.Redirecting.{RedirectEnd}
 use Rattle.clone_pieces.specs.declared.stops.SendStop.{SendStop}
 use Rattle.clone_pieces.proofs.Told.{all_always, all_map, all_two, told_moved}
+use Rattle.clone_pieces.proofs.Lengths.{cells_as_long}
 use Rattle.clone_pieces.proofs.Chunks.{Written, written_none, written_more, written_stops, written_all, between_within, bytes_within}
 
 pub part_all : {C : Type 0} (P : C → Type 0) (from len done count : ℕ) (cells : List C) → done + count ≤ len → AllByRecursion P (cells_between from len cells) → AllByRecursion P (cells_between (from + done) count cells)
@@ -40,9 +41,9 @@ module _ (told : Option (List (List ℕ × List ℕ))) (names : List (List ℕ))
       subst (λ (n : ℕ). RedirectEnd out_old out_now old now (canonical_all version (writes_from n path offset (map (byte_in held files) (cells_between from len contents)))) (Ok tt)) l
       (written_all version path offset (map (byte_in held files) (cells_between from len contents)) done out_old out_now old now (omega (arith, l, all)) s)) stands
 
-  module _ (now_told : Option (List (List ℕ × List ℕ))) (held' : meant.Key → ℕ → List ℕ) (same : now_told ≡ told) (kept : held' ≡ held) (done count : ℕ) (more : done < len) (is : count ≡ min (len - done) 49_152) where
-    pub next_had : (number : ℕ) → AllByRecursion (IsHadIn number held) (cells_between from len contents) → AllByRecursion (IsHadIn number held') (cells_between (from + done) count contents)
-    next_had number all = subst (λ (h : meant.Key → ℕ → List ℕ). AllByRecursion (IsHadIn number h) (cells_between (from + done) count contents)) (sym kept)
+  module _ (now_told : Option (List (List ℕ × List ℕ))) (held' : meant.Key → ℕ → List ℕ) (same : now_told ≡ told) (done count : ℕ) (more : done < len) (is : count ≡ min (len - done) 49_152) where
+    pub next_had : AreAsLong held' held → (number : ℕ) → AllByRecursion (IsHadIn number held) (cells_between from len contents) → AllByRecursion (IsHadIn number held') (cells_between (from + done) count contents)
+    next_had long number all = cells_as_long number held' held long (cells_between (from + done) count contents)
         (part_all (IsHadIn number held) from len done count contents (omega (arith, more, is)) all)
 
     pub next_there : IfAllTold told names (λ files. AllByRecursion (IsInInput files) (cells_between from len contents)) → IfAllTold now_told names (λ files. AllByRecursion (IsInInput files) (cells_between (from + done) count contents))
@@ -51,15 +52,15 @@ module _ (told : Option (List (List ℕ × List ℕ))) (names : List (List ℕ))
         (λ files all. part_all (IsInInput files) from len done count contents (omega (arith, more, is)) all) there)
 
     -- The bytes of the next command.
-    next_bytes : (files : List (List ℕ)) → map (byte_in held' files) (cells_between (from + done) count contents) ≡ take count (drop done (map (byte_in held files) (cells_between from len contents)))
-    next_bytes files = ap (λ (h : meant.Key → ℕ → List ℕ). map (byte_in h files) (cells_between (from + done) count contents)) kept ∙ sym (bytes_within (byte_in held files) from len done count contents (omega (arith, more, is)))
+    next_bytes : held' ≡ held → (files : List (List ℕ)) → map (byte_in held' files) (cells_between (from + done) count contents) ≡ take count (drop done (map (byte_in held files) (cells_between from len contents)))
+    next_bytes kept files = ap (λ (h : meant.Key → ℕ → List ℕ). map (byte_in h files) (cells_between (from + done) count contents)) kept ∙ sym (bytes_within (byte_in held files) from len done count contents (omega (arith, more, is)))
 
-    module _ (out_old out_now out_next : Option (List ℕ)) (old now next : List ℕ) where
+    module _ (kept : held' ≡ held) (out_old out_now out_next : Option (List ℕ)) (old now next : List ℕ) where
       abbrev Next : Result (Unit {0}) SendStop → List (List ℕ) → Type 0
       Next result files = RedirectEnd out_now out_next now next (canonical version (Write path (offset + done) (map (byte_in held' files) (cells_between (from + done) count contents)))) result
 
       here : (result : Result (Unit {0}) SendStop) (files : List (List ℕ)) → Next result files → RedirectEnd out_now out_next now next (canonical version (Write path (offset + done) (take count (drop done (map (byte_in held files) (cells_between from len contents)))))) result
-      here result files n = subst (λ (bytes : List ℕ). RedirectEnd out_now out_next now next (canonical version (Write path (offset + done) bytes)) result) (next_bytes files) n
+      here result files n = subst (λ (bytes : List ℕ). RedirectEnd out_now out_next now next (canonical version (Write path (offset + done) bytes)) result) (next_bytes kept files) n
 
       pub stand_more : IfAllTold told names (Stand done out_old out_now old now) → IfAllTold now_told names (Next (Ok tt)) → IfAllTold told names (Stand (done + count) out_old out_next old next)
       stand_more stands goes = all_two told names (Stand done out_old out_now old now) (Next (Ok tt)) (Stand (done + count) out_old out_next old next)

@@ -1,5 +1,5 @@
 -- Writing what stands for a redirected clone, piece by piece.
-use Rattle.std.specs.Prelude.{◌≡◌, ℕ, ◌+◌, ◌<◌, ◌≤◌, List, [], ◌∷◌, ◌++◌, map, length, get_or, Option, Some, None, Result, Ok, Err}
+use Rattle.std.specs.Prelude.{◌≡◌, ℕ, ◌+◌, ◌≤◌, List, [], ◌∷◌, ◌++◌, map, length, get_or, Option, Some, None, Result, Ok, Err}
 use Rattle.std.specs.List.{AllByRecursion, flat_map}
 use Rattle.std.proofs.Common.{refl, sym, ap, ap₂, subst, ◌∙◌, arith, append_assoc, append-nil}
 use Rattle.std.proofs.lemmas.List.{length-map}
@@ -21,7 +21,7 @@ use Rattle.provenance.specs.declared.plan.Plan.TheVariants.{Carry}
 use Rattle.provenance.specs.Plans.{planned}
 use Rattle.provenance.specs.Traces.{place_of}
 use Rattle.provenance.specs.Cuts.{Cut, Run, Rest, AreEndsOf, IsCutAsMeant}
-use Rattle.clone_pieces.specs.Origins.{byte_of_trace, IsHad, IsInInput, AreHeld}
+use Rattle.clone_pieces.specs.Origins.{outside_cells, byte_of_trace, IsHad, IsInInput, AreAsLong, AreHeld}
 use Rattle.clone_pieces.specs.Seen.{seen}
 use Rattle.clone_pieces.specs.Sending.{GoesOut, PutEnd}
 use Rattle.clone_pieces.specs.Filling.{byte_in, IsHadIn}
@@ -31,6 +31,7 @@ use Rattle.clone_pieces.specs.declared.stops.SendStop.{SendStop}
 use Rattle.send_model.proofs.Tracing.{byte_of}
 use Rattle.clone_pieces.proofs.LiteralBytes.{again, pieces_again}
 use Rattle.clone_pieces.proofs.Told.{all_always, all_map, all_two, told_moved}
+use Rattle.clone_pieces.proofs.Lengths.{cells_as_long}
 use Rattle.clone_pieces.proofs.Flow.{goes_none, goes_then, stops_then, put_ends}
 use Rattle.clone_pieces.proofs.Literals.{part_all}
 use Rattle.clone_pieces.proofs.Rows.{InRow, pieces_row, CutRow, cut_end, seen_places, commands_are}
@@ -50,28 +51,28 @@ run_put told names base held contents version path offset plan key ino from len 
 
 -- ---- cells that are had
 
-had_in : (count : ℕ) (held : meant.Key → ℕ → List ℕ) (base : Store ℕ) → AreHeld held base → (cell : Option Trace) → IsHad count base cell → IsHadIn count held cell
-had_in count held base are None h = tt
-had_in count held base are (Some (Fresh file at)) h = h
-had_in count held base are (Some (Outside key ino at)) h = subst (λ (l : List ℕ). at < length l) (sym (are (key_of key) ino)) h
+had_in : (count : ℕ) (base : Store ℕ) (cell : Option Trace) → IsHad count base cell → IsHadIn count (outside_cells base) cell
+had_in count base None h = tt
+had_in count base (Some (Fresh file at)) h = h
+had_in count base (Some (Outside key ino at)) h = h
 
-all_had_in : (count : ℕ) (held : meant.Key → ℕ → List ℕ) (base : Store ℕ) → AreHeld held base → (cells : List (Option Trace)) → AllByRecursion (IsHad count base) cells → AllByRecursion (IsHadIn count held) cells
-all_had_in count held base are [] all = tt
-all_had_in count held base are (c ∷ cells) all = (had_in count held base are c all.0, all_had_in count held base are cells all.1)
+all_had_in : (count : ℕ) (base : Store ℕ) (cells : List (Option Trace)) → AllByRecursion (IsHad count base) cells → AllByRecursion (IsHadIn count (outside_cells base)) cells
+all_had_in count base [] all = tt
+all_had_in count base (c ∷ cells) all = (had_in count base c all.0, all_had_in count base cells all.1)
 
 rest_all : (P : Option Trace → Type 0) (contents : List (Option Trace)) (from total done : ℕ) (cut : Cut) (cuts : List Cut) → CutRow from done (cut ∷ cuts) total → AllByRecursion P (cells_between from total contents) → AllByRecursion P (rest_cells contents cut)
 rest_all P contents from total done (Run place len) cuts row all = tt
 rest_all P contents from total done (Rest at len) cuts row all =
     subst (λ (n : ℕ). AllByRecursion P (cells_between n len contents)) (sym row.0) (part_all P from total done len contents (cut_end from (done + len) total cuts row.1) all)
 
-module _ (told now : Option (List (List ℕ × List ℕ))) (names : List (List ℕ)) (held held' : meant.Key → ℕ → List ℕ) (same : now ≡ told) (kept : held' ≡ held)
+module _ (told now : Option (List (List ℕ × List ℕ))) (names : List (List ℕ)) (same : now ≡ told)
     (contents : List (Option Trace)) (from total done : ℕ) (cut : Cut) (left cuts : List Cut) (first : left ≡ cut ∷ cuts) (row : CutRow from done left total) where
   pub first_row : CutRow from done (cut ∷ cuts) total
   first_row = subst (λ (cs : List Cut). CutRow from done cs total) first row
 
-  pub plan_had : (count : ℕ) (base : Store ℕ) → AreHeld held base → AllByRecursion (IsHad count base) (cells_between from total contents) → AllByRecursion (IsHadIn count held') (rest_cells contents cut)
-  plan_had count base are all = subst (λ (h : meant.Key → ℕ → List ℕ). AllByRecursion (IsHadIn count h) (rest_cells contents cut)) (sym kept)
-      (all_had_in count held base are (rest_cells contents cut) (rest_all (IsHad count base) contents from total done cut cuts first_row all))
+  pub plan_had : (count : ℕ) (base : Store ℕ) (held : meant.Key → ℕ → List ℕ) → AreAsLong held (outside_cells base) → AllByRecursion (IsHad count base) (cells_between from total contents) → AllByRecursion (IsHadIn count held) (rest_cells contents cut)
+  plan_had count base held long all = cells_as_long count held (outside_cells base) long (rest_cells contents cut)
+      (all_had_in count base (rest_cells contents cut) (rest_all (IsHad count base) contents from total done cut cuts first_row all))
 
   pub plan_there : IfAllTold told names (λ files. AllByRecursion (IsInInput files) (cells_between from total contents)) → IfAllTold now names (λ files. AllByRecursion (IsInInput files) (rest_cells contents cut))
   plan_there there = told_moved now told names (λ files. AllByRecursion (IsInInput files) (rest_cells contents cut)) (sym same)

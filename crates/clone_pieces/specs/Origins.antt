@@ -29,6 +29,10 @@ IsInInput files None = Unit {0}
 IsInInput files (Some (Fresh file at)) = at < length (get_or files file [])
 IsInInput files (Some (Outside key ino at)) = Unit {0}
 
+-- As many bytes are held of each file as others are of it.
+abbrev pub AreAsLong : (held others : meant.Key → ℕ → List ℕ) → Type 0
+AreAsLong held others = (key : meant.Key) (ino : ℕ) → length (held key ino) ≡ length (others key ino)
+
 -- The bytes that are held of files are those of a base.
 abbrev pub AreHeld : (meant.Key → ℕ → List ℕ) → Store ℕ → Type 0
 AreHeld held base = (key : meant.Key) (ino : ℕ) → held key ino ≡ outside_cells base key ino

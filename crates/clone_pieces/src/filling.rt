@@ -8,7 +8,7 @@ ghost use Rattle.sx_base.specs.Causes.{Steady};
 ghost use Rattle.extent_map.specs.Cells.{cells_between};
 ghost use Rattle.extent_map.specs.Pieces.{piece_cells};
 ghost use Rattle.provenance.specs.Traces.{advanced_by};
-ghost use Rattle.clone_pieces.specs.Origins.{IsInInput};
+ghost use Rattle.clone_pieces.specs.Origins.{IsInInput, AreAsLong};
 ghost use Rattle.clone_pieces.specs.Filling.{IsHadIn, PieceHad, PieceThere, FillEnd, AgainEnd};
 ghost use Rattle.clone_pieces.specs.Redirecting.{RedirectCaused, RedirectChanged};
 
@@ -34,7 +34,8 @@ pub(crate) fn fill_cells<I: Inputs, B: OutsideBytes>(
         (λ files. AllByRecursion (IsInInput files)
         (cells_between from (length buf.old) contents.now)) }
     ensures same { I.told inputs.new ≡ I.told inputs.old }
-    ensures held { B.held bytes.new ≡ B.held bytes.old }
+    ensures sizes { AreAsLong (B.held bytes.new) (B.held bytes.old) }
+    ensures held { B.tells → B.held bytes.new ≡ B.held bytes.old }
     ensures later { I.faults inputs.old ≤ I.faults inputs.new }
     ensures steady { Steady (I.faults inputs.old) (I.faults inputs.new) result }
     ensures ends_later { I.ends inputs.old ≤ I.ends inputs.new }
@@ -45,7 +46,7 @@ pub(crate) fn fill_cells<I: Inputs, B: OutsideBytes>(
         (I.faults inputs.old + B.faults bytes.old) (I.faults inputs.new + B.faults bytes.new) 0 0
         result }
     ensures changed { RedirectChanged (map string_bytes files.now) (I.last_end inputs.new) result }
-    ensures filled { IfAllTold (I.told inputs.old) (map string_bytes files.now)
+    ensures filled { B.tells → IfAllTold (I.told inputs.old) (map string_bytes files.now)
         (FillEnd (B.held bytes.old) (cells_between from (length buf.old) contents.now) buf.new
         result) }
 {
@@ -72,7 +73,8 @@ fn fill_piece<I: Inputs, B: OutsideBytes>(
     requires there { IfAllTold (I.told inputs.old) (map string_bytes files.now)
         (PieceThere origin (length buf.old)) }
     ensures same { I.told inputs.new ≡ I.told inputs.old }
-    ensures held { B.held bytes.new ≡ B.held bytes.old }
+    ensures sizes { AreAsLong (B.held bytes.new) (B.held bytes.old) }
+    ensures held { B.tells → B.held bytes.new ≡ B.held bytes.old }
     ensures later { I.faults inputs.old ≤ I.faults inputs.new }
     ensures steady { Steady (I.faults inputs.old) (I.faults inputs.new) result }
     ensures ends_later { I.ends inputs.old ≤ I.ends inputs.new }
@@ -83,7 +85,7 @@ fn fill_piece<I: Inputs, B: OutsideBytes>(
         (I.faults inputs.old + B.faults bytes.old) (I.faults inputs.new + B.faults bytes.new) 0 0
         result }
     ensures changed { RedirectChanged (map string_bytes files.now) (I.last_end inputs.new) result }
-    ensures filled { IfAllTold (I.told inputs.old) (map string_bytes files.now)
+    ensures filled { B.tells → IfAllTold (I.told inputs.old) (map string_bytes files.now)
         (FillEnd (B.held bytes.old) (piece_cells advanced_by origin (length buf.old)) buf.new
         result) }
 {

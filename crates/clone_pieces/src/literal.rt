@@ -8,7 +8,7 @@ ghost use Rattle.send_model.specs.Composed.{writes_from};
 ghost use Rattle.sx_base.specs.Calls.{IfAllTold};
 ghost use Rattle.sx_base.specs.Causes.{Steady};
 ghost use Rattle.extent_map.specs.Cells.{cells_between};
-ghost use Rattle.clone_pieces.specs.Origins.{IsInInput};
+ghost use Rattle.clone_pieces.specs.Origins.{IsInInput, AreAsLong};
 ghost use Rattle.clone_pieces.specs.Filling.{byte_in, IsHadIn};
 ghost use Rattle.clone_pieces.specs.Redirecting.{RedirectEnd, RedirectCaused, RedirectChanged};
 ghost use Rattle.clone_pieces.specs.Sending.{PutEnd};
@@ -50,7 +50,8 @@ pub(crate) fn write_cells<I: Inputs, B: OutsideBytes, O: Sink>(
     requires there { IfAllTold (I.told inputs.old) (map string_bytes files.now)
         (λ files. AllByRecursion (IsInInput files) (cells_between from len contents.now)) }
     ensures same { I.told inputs.new ≡ I.told inputs.old }
-    ensures held { B.held bytes.new ≡ B.held bytes.old }
+    ensures sizes { AreAsLong (B.held bytes.new) (B.held bytes.old) }
+    ensures held { B.tells → B.held bytes.new ≡ B.held bytes.old }
     ensures later { I.faults inputs.old ≤ I.faults inputs.new }
     ensures steady { Steady (I.faults inputs.old) (I.faults inputs.new) result }
     ensures ends_later { I.ends inputs.old ≤ I.ends inputs.new }
@@ -63,7 +64,7 @@ pub(crate) fn write_cells<I: Inputs, B: OutsideBytes, O: Sink>(
         (I.faults inputs.old + B.faults bytes.old) (I.faults inputs.new + B.faults bytes.new)
         (O.faults out.old) (O.faults out.new) result }
     ensures changed { RedirectChanged (map string_bytes files.now) (I.last_end inputs.new) result }
-    ensures written { IfAllTold (I.told inputs.old) (map string_bytes files.now)
+    ensures written { B.tells → IfAllTold (I.told inputs.old) (map string_bytes files.now)
         (λ files. RedirectEnd (O.taken out.old) (O.taken out.new) pending.old pending.new
         (canonical_all version
         (writes_from len path.now offset
@@ -119,7 +120,8 @@ fn write_some<I: Inputs, B: OutsideBytes, O: Sink>(
     requires there { IfAllTold (I.told inputs.old) (map string_bytes files.now)
         (λ files. AllByRecursion (IsInInput files) (cells_between from len contents.now)) }
     ensures same { I.told inputs.new ≡ I.told inputs.old }
-    ensures held { B.held bytes.new ≡ B.held bytes.old }
+    ensures sizes { AreAsLong (B.held bytes.new) (B.held bytes.old) }
+    ensures held { B.tells → B.held bytes.new ≡ B.held bytes.old }
     ensures later { I.faults inputs.old ≤ I.faults inputs.new }
     ensures steady { Steady (I.faults inputs.old) (I.faults inputs.new) result }
     ensures ends_later { I.ends inputs.old ≤ I.ends inputs.new }
@@ -132,7 +134,7 @@ fn write_some<I: Inputs, B: OutsideBytes, O: Sink>(
         (I.faults inputs.old + B.faults bytes.old) (I.faults inputs.new + B.faults bytes.new)
         (O.faults out.old) (O.faults out.new) result }
     ensures changed { RedirectChanged (map string_bytes files.now) (I.last_end inputs.new) result }
-    ensures written { IfAllTold (I.told inputs.old) (map string_bytes files.now)
+    ensures written { B.tells → IfAllTold (I.told inputs.old) (map string_bytes files.now)
         (λ files. RedirectEnd (O.taken out.old) (O.taken out.new) pending.old pending.new
         (canonical version
         (Write path.now offset

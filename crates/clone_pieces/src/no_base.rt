@@ -34,6 +34,8 @@ impl Known for NoBase {
 }
 
 impl OutsideBytes for NoBase {
+    ghost tells = { Unit {0} };
+
     ghost held = { λ nothing key ino. [] };
 
     ghost faults = { λ nothing. 0 };

@@ -5,6 +5,7 @@ ghost use Rattle.send_model.specs.Store.{Store};
 ghost use Rattle.send_model.specs.Composed.{path_of};
 ghost use Rattle.subvol_catalog.specs.Entries.{key_of};
 ghost use Rattle.provenance.specs.Cuts.{AreEndsOf};
+ghost use Rattle.clone_pieces.specs.Origins.{AreAsLong};
 ghost use Rattle.sx_base.specs.Causes.{HasCause, Steady};
 
 use provenance::Ends;
@@ -33,6 +34,10 @@ pub trait Known: Ends {
 
 /// The bytes of the files of complete subvolumes.
 pub trait OutsideBytes {
+    /// Holds where reads give the bytes that are held. Of what does not tell, as files on a real disk, only their
+    /// lengths are known.
+    ghost tells: { Type 0 };
+
     /// The bytes of each file, by its subvolume and its inode number.
     ghost held: { Self → meant.Key → ℕ → List ℕ };
 
@@ -41,8 +46,9 @@ pub trait OutsideBytes {
     /// Fills the buffer with the bytes of a file from the place `at` on. `Failed` comes only where the count of faults rose.
     fn fill(&mut self, key: Key, ino: u64, at: u64, buf: &mut [u8]) -> Result<(), Failed>
         requires within { at + length buf.old ≤ length (held self.old (key_of key) ino) }
-        ensures same { held self.new ≡ held self.old }
-        ensures bytes { OnOk result
+        ensures sizes { AreAsLong (held self.new) (held self.old) }
+        ensures same { tells → held self.new ≡ held self.old }
+        ensures bytes { tells → OnOk result
             (buf.new ≡ take (length buf.new) (drop at (held self.old (key_of key) ino))) }
         ensures cause { HasCause (faults self.old) (faults self.new) result }
         ensures steady { Steady (faults self.old) (faults self.new) result };

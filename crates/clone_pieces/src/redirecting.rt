@@ -12,7 +12,7 @@ ghost use Rattle.subvol_catalog.specs.Entries.{key_of};
 ghost use Rattle.extent_map.specs.Cells.{cells_between};
 ghost use Rattle.provenance.specs.Traces.{place_in};
 ghost use Rattle.provenance.specs.Plans.{planned};
-ghost use Rattle.clone_pieces.specs.Origins.{IsHad, IsInInput, AreHeld};
+ghost use Rattle.clone_pieces.specs.Origins.{outside_cells, IsHad, IsInInput, AreAsLong, AreHeld};
 ghost use Rattle.clone_pieces.specs.Filling.{byte_in, IsHadIn};
 ghost use Rattle.clone_pieces.specs.Cutting.{cut_len, rest_len, rest_cells, StandsIn, IsNamed, cut_commands};
 ghost use Rattle.clone_pieces.specs.Redirecting.{seen_cells, pieces_spelled, RedirectEnd, RedirectCaused, RedirectChanged};
@@ -68,7 +68,8 @@ fn len_of(plan: &Plan) -> u64
     }
 }
 
-/// Writes what stands for a clone of `len` cells of `contents` from `from` on, to `path` at `offset`.
+/// Writes what stands for a clone of `len` cells of `contents` from `from` on, to `path` at `offset`. Which bytes these are
+/// is said where `bytes` tells.
 pub fn redirect<'a, I: Inputs, E: Known, B: OutsideBytes, O: Sink>(
     alloc: Global,
     path: &[u8],
@@ -90,11 +91,13 @@ pub fn redirect<'a, I: Inputs, E: Known, B: OutsideBytes, O: Sink>(
     requires end { offset + len < 2 ^ 63 }
     requires had { AllByRecursion (IsHad (length files.now) (E.base known.now))
         (cells_between from len contents.now) }
-    requires held { AreHeld (B.held bytes.old) (E.base known.now) }
+    requires sized { AreAsLong (B.held bytes.old) (outside_cells (E.base known.now)) }
+    requires held { B.tells → AreHeld (B.held bytes.old) (E.base known.now) }
     requires there { IfAllTold (I.told inputs.old) (map string_bytes files.now)
         (λ files. AllByRecursion (IsInInput files) (cells_between from len contents.now)) }
     ensures same { I.told inputs.new ≡ I.told inputs.old }
-    ensures held { B.held bytes.new ≡ B.held bytes.old }
+    ensures sizes { AreAsLong (B.held bytes.new) (B.held bytes.old) }
+    ensures held { B.tells → B.held bytes.new ≡ B.held bytes.old }
     ensures later { I.faults inputs.old ≤ I.faults inputs.new }
     ensures steady { Steady (I.faults inputs.old) (I.faults inputs.new) result }
     ensures ends_later { I.ends inputs.old ≤ I.ends inputs.new }
@@ -107,7 +110,7 @@ pub fn redirect<'a, I: Inputs, E: Known, B: OutsideBytes, O: Sink>(
         (I.faults inputs.old + B.faults bytes.old) (I.faults inputs.new + B.faults bytes.new)
         (O.faults out.old) (O.faults out.new) result }
     ensures changed { RedirectChanged (map string_bytes files.now) (I.last_end inputs.new) result }
-    ensures redirected { IfAllTold (I.told inputs.old) (map string_bytes files.now)
+    ensures redirected { B.tells → IfAllTold (I.told inputs.old) (map string_bytes files.now)
         (λ told. RedirectEnd (O.taken out.old) (O.taken out.new) pending.old pending.new
         (pieces_spelled version (E.base known.now) path.now offset
         (seen_cells told (E.base known.now) (cells_between from len contents.now))) result) }
@@ -161,7 +164,8 @@ fn write_plan<I: Inputs, E: Known, B: OutsideBytes, O: Sink>(
     requires there { IfAllTold (I.told inputs.old) (map string_bytes files.now)
         (λ files. AllByRecursion (IsInInput files) (rest_cells contents.now (planned plan))) }
     ensures same { I.told inputs.new ≡ I.told inputs.old }
-    ensures held { B.held bytes.new ≡ B.held bytes.old }
+    ensures sizes { AreAsLong (B.held bytes.new) (B.held bytes.old) }
+    ensures held { B.tells → B.held bytes.new ≡ B.held bytes.old }
     ensures later { I.faults inputs.old ≤ I.faults inputs.new }
     ensures steady { Steady (I.faults inputs.old) (I.faults inputs.new) result }
     ensures ends_later { I.ends inputs.old ≤ I.ends inputs.new }
@@ -174,7 +178,7 @@ fn write_plan<I: Inputs, E: Known, B: OutsideBytes, O: Sink>(
         (I.faults inputs.old + B.faults bytes.old) (I.faults inputs.new + B.faults bytes.new)
         (O.faults out.old) (O.faults out.new) result }
     ensures changed { RedirectChanged (map string_bytes files.now) (I.last_end inputs.new) result }
-    ensures written { IfAllTold (I.told inputs.old) (map string_bytes files.now)
+    ensures written { B.tells → IfAllTold (I.told inputs.old) (map string_bytes files.now)
         (λ told. RedirectEnd (O.taken out.old) (O.taken out.new) pending.old pending.new
         (canonical_all version
         (cut_commands (E.base known.now) (byte_in (B.held bytes.old) told) contents.now path.now

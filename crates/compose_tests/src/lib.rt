@@ -11,6 +11,8 @@ mod guard_tests;
 #[cfg(test)]
 mod piece_tests;
 #[cfg(test)]
+mod silent_tests;
+#[cfg(test)]
 mod step_tests;
 #[cfg(test)]
 mod streams;

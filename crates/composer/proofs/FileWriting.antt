@@ -56,7 +56,6 @@ pub record Stands (files : List (List ℕ)) (plan : Plan) (file : ℕ) (old : Ke
   appends : Appends out_old out_now sent
   last : IsLastPlace before place (last_item items)
   latest : now.latest ≡ first_of (last_head (heads items)) old.latest
-  there : AllCells (IsInInput files) now.state
   reached : reader.offset ≤ length bytes
 
 -- What is left ends as the file does.
@@ -75,9 +74,9 @@ pub alike_at_start : (told : Option (List (List ℕ × List ℕ))) (file : ℕ) 
 alike_at_start told file name spelled reader e = told_always told name (EndsAlike file reader) (λ bytes. ap (λ (r : Reading). r.end) (sym (left_fresh file spelled bytes)) ∙ ap (λ (r : Reader). (left r bytes).end) (sym e))
 
 pub stands_at_start : (told : Option (List (List ℕ × List ℕ))) (names : List (List ℕ)) (plan : Plan) (number file : ℕ) (name : List ℕ) (reader : Reader) (now : Kept) (out : Option (List ℕ)) (place : Place) → reader ≡ at_start file name
-    → IfAllTold told names (λ files. AllCells (IsInInput files) now.state) → IfAllTold told names (λ files. Stands files plan file now out reader now out place place (get_or files number []))
-stands_at_start told names plan number file name reader now out place e there =
-    all_map told names (λ files. AllCells (IsInInput files) now.state) (λ files. Stands files plan file now out reader now out place place (get_or files number [])) (λ files cells.
+    → IfAllTold told names (λ files. Stands files plan file now out reader now out place place (get_or files number []))
+stands_at_start told names plan number file name reader now out place e =
+    all_always told names (λ files. Stands files plan file now out reader now out place place (get_or files number [])) (λ files.
     subst (λ (r : Reader). Stands files plan file now out r now out place place (get_or files number [])) (sym e) (record {
       items = [];
       sent = [];
@@ -86,9 +85,8 @@ stands_at_start told names plan number file name reader now out place e there =
       appends = Appends-nil out;
       last = refl;
       latest = sym (latest_none now.latest);
-      there = cells;
       reached = omega (arith);
-    })) there
+    }))
 
 -- ---- the next item
 
@@ -104,18 +102,39 @@ alike_after told inputs file name old new f0 f1 o item e same name_is says alike
     told_both told name (IsNext old new item) (EndsAlike file old) (EndsAlike file new) (λ bytes n a. a ∙ ap (λ (r : Reading). r.end) n.left_is)
     (next_item told inputs name old new f0 f1 o item e same name_is says) alike
 
+-- ---- where the cells stand
+
+-- The cells so far stand in the files, and the reader in its own.
+abbrev pub InFiles : (number : ℕ) → Reader → Kept → List (List ℕ) → Type 0
+InFiles number reader now files = AllCells (IsInInput files) now.state × (reader.offset ≤ length (get_or files number []))
+
+pub in_files_at_start : (told : Option (List (List ℕ × List ℕ))) (names : List (List ℕ)) (number file : ℕ) (name : List ℕ) (reader : Reader) (now : Kept) → reader ≡ at_start file name
+    → IfAllTold told names (λ files. AllCells (IsInInput files) now.state) → IfAllTold told names (InFiles number reader now)
+in_files_at_start told names number file name reader now e there =
+    all_map told names (λ files. AllCells (IsInInput files) now.state) (InFiles number reader now) (λ files cells.
+    subst (λ (r : Reader). InFiles number r now files) (sym e) (cells, omega (arith))) there
+
+pub in_files_after : (told inputs : Option (List (List ℕ × List ℕ))) (names : List (List ℕ)) (number : ℕ) (old new : Reader) (now next : Kept) (item : read.Item) → inputs ≡ told → IfAllTold told names (λ files. IsNext old new item (get_or files number []))
+    → IfAllTold inputs names (λ files. AllCells (IsInInput files) next.state) → IfAllTold told names (InFiles number old now) → IfAllTold told names (InFiles number new next)
+in_files_after told inputs names number old new now next item same next_is there before =
+    all_two told names (λ files. AllCells (IsInInput files) next.state) (λ files. new.offset ≤ length (get_or files number [])) (InFiles number new next) (λ files cells reached. (cells, reached))
+    (all.told_moved told inputs names (λ files. AllCells (IsInInput files) next.state) same there)
+    (all_two told names (λ files. IsNext old new item (get_or files number [])) (InFiles number old now) (λ files. new.offset ≤ length (get_or files number [])) (λ files n b. n.reached b.1) next_is before)
+
+pub cells_in_files : (told : Option (List (List ℕ × List ℕ))) (names : List (List ℕ)) (number : ℕ) (reader : Reader) (now : Kept) → IfAllTold told names (InFiles number reader now) → IfAllTold told names (λ files. AllCells (IsInInput files) now.state)
+cells_in_files told names number reader now there = all_map told names (InFiles number reader now) (λ files. AllCells (IsInInput files) now.state) (λ files t. t.0) there
+
 -- The data of the next item stand in its file, and the cells so far in theirs.
-pub data_there : (told : Option (List (List ℕ × List ℕ))) (names : List (List ℕ)) (plan : Plan) (number file : ℕ) (c0 : Kept) (out0 : Option (List ℕ)) (old new : Reader) (now : Kept) (out_now : Option (List ℕ)) (before place : Place) (item : read.Item)
-    → file ≡ number + 1 → old.file ≡ file → IfAllTold told names (λ files. IsNext old new item (get_or files number [])) → IfAllTold told names (λ files. Stands files plan file c0 out0 old now out_now before place (get_or files number []))
+pub data_there : (told : Option (List (List ℕ × List ℕ))) (names : List (List ℕ)) (number file : ℕ) (old new : Reader) (now : Kept) (item : read.Item)
+    → file ≡ number + 1 → old.file ≡ file → IfAllTold told names (λ files. IsNext old new item (get_or files number [])) → IfAllTold told names (InFiles number old now)
     → IfAllTold told names (λ files. AllCells (IsInInput files) now.state × DataStand files (item_of file item))
-data_there told names plan number file c0 out0 old new now out_now before place item file_is old_file next stands =
-    all_two told names (λ files. IsNext old new item (get_or files number [])) (λ files. Stands files plan file c0 out0 old now out_now before place (get_or files number []))
-    (λ files. AllCells (IsInInput files) now.state × DataStand files (item_of file item))
-    (λ files n s. (
-      s.there,
-      data_stand files number (item_of file item) file_is (data_left old (get_or files number []) (item_of file item) (left new (get_or files number [])) s.reached
+data_there told names number file old new now item file_is old_file next there =
+    all_two told names (λ files. IsNext old new item (get_or files number [])) (InFiles number old now) (λ files. AllCells (IsInInput files) now.state × DataStand files (item_of file item))
+    (λ files n t. (
+      t.0,
+      data_stand files number (item_of file item) file_is (data_left old (get_or files number []) (item_of file item) (left new (get_or files number [])) t.1
           (n.left_is ∙ ap (λ (k : ℕ). with_item (item_of k item) (left new (get_or files number []))) old_file)),
-    )) next stands
+    )) next there
 
 -- ---- one more item
 
@@ -159,7 +178,7 @@ stands_after told inputs names plan number file c0 out0 old new now next out_now
     meant_item : Item
     meant_item = item_of file item
 
-    step : (files : List (List ℕ)) (bytes : List ℕ) → IsNext old new item bytes → ItemTaken plan (composing_of files plan.base now) (composing_of files plan.base next) meant_item out_now out_next → ItemKept files now next meant_item
+    step : (files : List (List ℕ)) (bytes : List ℕ) → IsNext old new item bytes → ItemTaken plan (composing_of files plan.base now) (composing_of files plan.base next) meant_item out_now out_next → ItemKept now next meant_item
         → Stands files plan file c0 out0 old now out_now before place bytes → Stands files plan file c0 out0 new next out_next before after bytes
     step files bytes n t k s = record {
       items = s.items ++ meant_item ∷ [];
@@ -168,8 +187,7 @@ stands_after told inputs names plan number file c0 out0 old new now next out_now
       all = one_more plan s.items meant_item (composing_of files plan.base c0) (composing_of files plan.base now) t.next (composing_of files plan.base next) s.sent t.sent s.all t.taken t.rest;
       appends = Appends-trans out0 out_now out_next s.sent t.sent s.appends t.appends;
       last = last_place s.items meant_item before after (is_place file item after at_item);
-      latest = k.latest ∙ ap (first_of (head_of meant_item.command)) s.latest ∙ latest_more s.items meant_item c0.latest;
-      there = k.there;
+      latest = k ∙ ap (first_of (head_of meant_item.command)) s.latest ∙ latest_more s.items meant_item c0.latest;
       reached = n.reached s.reached;
     }
 
@@ -194,7 +212,6 @@ file_ends told inputs names plan number file c0 out0 old new now out_now before 
       appends = s.appends;
       last = s.last;
       latest = s.latest;
-      there = s.there;
       fits = short_fits file bytes short;
     }
 

@@ -36,15 +36,13 @@ use Rattle.file_survey.proofs.AheadSteps.{ahead_start, ahead_input, ahead_whole,
 use Rattle.file_survey.proofs.FilesAhead.{ahead_file}
 use Rattle.file_survey.proofs.TooLong.{LongAhead, long_start, long_next, long_here}
 use Rattle.file_survey.proofs.Versions.{item_version, version_is}
-use Rattle.clone_pieces.specs.Origins.{IsInInput}
 use Rattle.clone_pieces.specs.declared.stops.SendStop.{SendStop}
 use Rattle.clone_pieces.specs.declared.stops.SendStop.TheVariants as stopped
 use Rattle.composer.specs.OverBase.{Plan, plan_for, Composing, at_start, Halt, Exceeds, halt_due, advance, advance_all, unsent, AreReady}
-use Rattle.send_model.specs.Cells.{AllCells}
 use Rattle.composer.specs.Kept.{Kept, composing_of}
 use Rattle.composer.specs.Taking.{EndEnd, is_at_last}
 use Rattle.composer.specs.Files.{plan_with, IsLastPlace, FileTaken, NextHalts, NextAbove, FileWhy, FileStops, ComposeEnds, outcome_in}
-use Rattle.clone_pieces.proofs.Told.{all_map, all_two}
+use Rattle.clone_pieces.proofs.Told.{all_always, all_map, all_two}
 use Rattle.composer.proofs.HandedOn.{answer_with}
 use Rattle.composer.proofs.LastHeads.{latest_none, latest_append, latest_alone}
 use Rattle.composer.proofs.FileWriting.{front_after}
@@ -93,16 +91,14 @@ pub record FilesStand (plan : Plan) (old : Kept) (out_old : Option (List ℕ)) (
   appends : Appends out_old out_now sent
   last : IsLastPlace before place (last_item items)
   latest : now.latest ≡ first_of (last_head (heads items)) old.latest
-  there : AllCells (IsInInput files) now.state
 
 none_taken : (plan : Plan) (now : Composing) → advance_all plan now [] ≡ Ok now
 unfolding advance_all
 none_taken plan now = refl
 
 -- Before the first file.
-pub files_start : (told : Option (List (List ℕ × List ℕ))) (names : List (List ℕ)) (plan : Plan) (now : Kept) (out : Option (List ℕ)) (place : Place) → IfAllTold told names (λ files. AllCells (IsInInput files) now.state)
-    → IfAllTold told names (FilesStand plan now out 0 now out place place)
-files_start told names plan now out place there = all_map told names (λ files. AllCells (IsInInput files) now.state) (FilesStand plan now out 0 now out place place) (λ files cells. record {
+pub files_start : (told : Option (List (List ℕ × List ℕ))) (names : List (List ℕ)) (plan : Plan) (now : Kept) (out : Option (List ℕ)) (place : Place) → IfAllTold told names (FilesStand plan now out 0 now out place place)
+files_start told names plan now out place = all_always told names (FilesStand plan now out 0 now out place place) (λ files. record {
   items = [];
   sent = [];
   ahead = ahead_start files;
@@ -111,13 +107,7 @@ files_start told names plan now out place there = all_map told names (λ files. 
   appends = Appends-nil out;
   last = refl;
   latest = sym (latest_none now.latest);
-  there = cells;
-}) there
-
--- The cells of what was composed so far stand in the files.
-pub files_there : (told : Option (List (List ℕ × List ℕ))) (names : List (List ℕ)) (plan : Plan) (old : Kept) (out0 : Option (List ℕ)) (number : ℕ) (now : Kept) (out_now : Option (List ℕ)) (before place : Place)
-    → IfAllTold told names (FilesStand plan old out0 number now out_now before place) → IfAllTold told names (λ files. AllCells (IsInInput files) now.state)
-files_there told names plan old out0 number now out_now before place s = all_map told names (FilesStand plan old out0 number now out_now before place) (λ files. AllCells (IsInInput files) now.state) (λ files x. x.there) s
+})
 
 last_item-more : (items : List Item) (item : Item) (more : List Item) → last_item (items ++ item ∷ more) ≡ last_item (item ∷ more)
 last_item-more [] item more = refl
@@ -169,7 +159,6 @@ module _ (plan : Plan) (old : Kept) (out0 : Option (List ℕ)) (number : ℕ) (n
         appends = Appends-trans out0 out_now out_next s.sent t.sent s.appends t.appends;
         last = last_place_more before place after s.items t.items s.last t.last;
         latest = t.latest ∙ ap (first_of (last_head (heads t.items))) s.latest ∙ latest_append s.items t.items old.latest;
-        there = t.there;
       }
 
 count_files : {Z : Type 0} (table : List (List ℕ × List ℕ)) (names : List (String Z)) → length (contents table (map string_bytes names)) ≡ length names

@@ -11,27 +11,27 @@ use Rattle.provenance.specs.declared.trace.Trace.{Trace}
 use Rattle.provenance.specs.declared.trace.Trace.TheVariants.{Fresh, Outside}
 use Rattle.provenance.specs.Traces.{place_of}
 use Rattle.file_survey.specs.Findings.{Surveyed}
-use Rattle.clone_pieces.specs.Origins.{IsHad, IsInInput, AreHeld, byte_of_trace}
+use Rattle.clone_pieces.specs.Origins.{outside_cells, IsHad, IsInInput, AreAsLong, AreHeld, byte_of_trace}
 use Rattle.clone_pieces.specs.Seen.{seen}
 use Rattle.composer.specs.OverBase.{Composing, at_start}
 use Rattle.composer.specs.Kept.{Kept, kept_at_start, composing_of}
 use Rattle.send_model.specs.Outside.{AllSayable}
 use Rattle.composer.specs.Files.{plan_with}
-use Rattle.clone_pieces.proofs.Told.{all_always}
+use Rattle.clone_pieces.proofs.Told.{all_always, all_map}
 
 -- Each cell of the base's subvolumes is traced to its own place.
-abbrev pub IsTraced : Store ℕ → Store (Option Trace) → Type 0
-IsTraced base core = (told : List (List ℕ)) → ◌≡◌ {A = Store Traced} (recelled_store (seen (byte_of_trace told base) place_of) core) (traced_store base)
+abbrev pub IsTraced : Store ℕ → Store (Option Trace) → List (List ℕ) → Type 0
+IsTraced base core told = ◌≡◌ {A = Store Traced} (recelled_store (seen (byte_of_trace told base) place_of) core) (traced_store base)
 
-starts_at : (files : List (List ℕ)) (base : Store ℕ) (survey : Surveyed) (core : Store (Option Trace)) → IsTraced base core → composing_of files base (kept_at_start core) ≡ at_start (plan_with base survey)
+starts_at : (files : List (List ℕ)) (base : Store ℕ) (survey : Surveyed) (core : Store (Option Trace)) → IsTraced base core files → composing_of files base (kept_at_start core) ≡ at_start (plan_with base survey)
 starts_at files base survey core traced =
     let at : Store Traced → Composing = λ s. record { state = record { store = s; part = None }; previous = None; current = None; begun = false; sum = 0; pending = [] } in
-    ap at (traced files)
+    ap at traced
 
-pub starts : (told : Option (List (List ℕ × List ℕ))) (names : List (List ℕ)) (base : Store ℕ) (survey : Surveyed) (core : Store (Option Trace)) (now : Kept) → now ≡ kept_at_start core → IsTraced base core
+pub starts : (told : Option (List (List ℕ × List ℕ))) (names : List (List ℕ)) (base : Store ℕ) (survey : Surveyed) (core : Store (Option Trace)) (now : Kept) → now ≡ kept_at_start core → IfAllTold told names (IsTraced base core)
     → IfAllTold told names (λ files. composing_of files base now ≡ at_start (plan_with base survey))
-starts told names base survey core now e traced = all_always told names (λ files. composing_of files base now ≡ at_start (plan_with base survey)) (λ files.
-    subst (λ (k : Kept). composing_of files base k ≡ at_start (plan_with base survey)) (sym e) (starts_at files base survey core traced))
+starts told names base survey core now e traced = all_map told names (IsTraced base core) (λ files. composing_of files base now ≡ at_start (plan_with base survey)) (λ files t.
+    subst (λ (k : Kept). composing_of files base k ≡ at_start (plan_with base survey)) (sym e) (starts_at files base survey core t)) traced
 
 -- Cells of which none comes from an input file: the same with any files.
 had_more : (n : ℕ) (base : Store ℕ) (x : Option Trace) → IsHad 0 base x → IsHad n base x
@@ -54,9 +54,13 @@ starts_there told names base core now e had = all_always told names (λ files. A
 
 -- ---- no base
 
-pub nothing_traced : (core : Store (Option Trace)) → core ≡ [] → IsTraced [] core
+pub nothing_traced : (told : Option (List (List ℕ × List ℕ))) (names : List (List ℕ)) (core : Store (Option Trace)) → core ≡ [] → IfAllTold told names (IsTraced [] core)
 unfolding traced_store
-nothing_traced core e told = subst (λ (s : Store (Option Trace)). ◌≡◌ {A = Store Traced} (recelled_store (seen (byte_of_trace told []) place_of) s) (traced_store [])) (sym e) refl
+nothing_traced told names core e = all_always told names (IsTraced [] core) (λ files. subst (λ (s : Store (Option Trace)). IsTraced [] s files) (sym e) refl)
+
+pub nothing_sized : AreAsLong (λ key ino. []) (outside_cells [])
+unfolding find
+nothing_sized key ino = refl
 
 pub nothing_held : AreHeld (λ key ino. []) []
 unfolding find

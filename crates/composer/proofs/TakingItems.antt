@@ -225,9 +225,9 @@ pub edit_ends : (files : List (List ℕ)) (base : Store ℕ) (survey : Surveyed)
     → survey.last ≡ Some last → head_of item.command ≡ None → Led old.state after put item.command
     → IsStepped files (plan_with base survey) old (record old { state = after }) item
     → AddEnd files base survey last.key (record old { state = after }) new item.command out_old out_new result
-    → new.state ≡ after → new.latest ≡ old.latest → AllCells (IsInInput files) after
+    → new.state ≡ after → new.latest ≡ old.latest
     → ItemEnd files (plan_with base survey) old new item out_old out_new result
-edit_ends files base survey last old after put new item out_old out_new result known edit led stepped adds state latest there = by_result result (adds old.state put led)
+edit_ends files base survey last old after put new item out_old out_new result known edit led stepped adds state latest = by_result result (adds old.state put led)
   where
     plan : Plan
     plan = plan_with base survey
@@ -266,7 +266,7 @@ edit_ends files base survey last old after put new item out_old out_new result k
     by_result : (r : Result (Unit {0}) Outcome) → AddsCommand base survey last.key now item.command (record old { state = after }) new out_old out_new r → ItemEnd files plan old new item out_old out_new r
     by_result (Ok done) a = (
       item_taken files plan old new item out_old out_new goes (sym a.1.0) a.1.1 (subst (GoesOut out_old out_new old.pending new.pending) (sym is_bytes) a.0),
-      record { there = subst (AllCells (IsInInput files)) (sym state) there; latest = goes.latest },
+      goes.latest,
     )
     by_result (Err (ended.TooMuch sum)) a = record { next = composing_of files base old; why = (refl, item_exceeds files plan old new item sum goes a.0 a.1.0); front = a.1.1 }
     by_result (Err ended.OutputFault) a = cut ended.OutputFault (λ next w. w) a
@@ -289,9 +289,9 @@ none_redirected parts current c e = refl
 -- Nothing is added.
 pub nothing_added : (files : List (List ℕ)) (base : Store ℕ) (survey : Surveyed) (old : Kept) (after : State (Option Trace)) (item : Item) (out : Option (List ℕ))
     → survey.last ≡ None → survey.parts ≡ [] → head_of item.command ≡ None → old.sum ≤ most_literal
-    → IsStepped files (plan_with base survey) old (record old { state = after }) item → AllCells (IsInInput files) after
+    → IsStepped files (plan_with base survey) old (record old { state = after }) item
     → ItemEnd files (plan_with base survey) old (record old { state = after }) item out out (Ok tt)
-nothing_added files base survey old after item out none parts edit low stepped there =
+nothing_added files base survey old after item out none parts edit low stepped =
     let plan : Plan = plan_with base survey in
     let now : Composing = composing_of files base old in
     let new : Kept = record old { state = after } in
@@ -302,7 +302,7 @@ nothing_added files base survey old after item out none parts edit low stepped t
     let bytes : bytes_added files plan old item ≡ [] = ap (λ (o : Option Head). added_with plan now o item.command) none in (
       item_taken files plan old new item out out (record { stepped = stepped; ordered = ordered; latest = latest }) (omega (arith, more)) low
           (record { sent = []; appends = Appends-nil out; rest = ap (λ (bs : List ℕ). old.pending ++ bs) bytes ∙ append-nil old.pending }),
-      record { there = there; latest = latest },
+      latest,
     )
   where
     no_break : (p : Option Key) → breaks_order p None || is_unforeseen None None ≡ false
@@ -326,10 +326,10 @@ in_order_then previous last o head b e s = ap (λ (x : Option Head). breaks_orde
 -- A head that begins its part.
 pub head_taken : (files : List (List ℕ)) (base : Store ℕ) (survey : Surveyed) (old new : Kept) (after : State (Option Trace)) (item : Item) (head : Head) (out : Option (List ℕ))
     → head_of item.command ≡ Some head → stands_out (option_map (λ h. h.key) old.latest) survey.last head ≡ false → old.sum ≤ most_literal
-    → IsStepped files (plan_with base survey) old (record old { state = after }) item → AllCells (IsInInput files) after
+    → IsStepped files (plan_with base survey) old (record old { state = after }) item
     → new ≡ record old { state = after; latest = Some head; pending = old.pending ++ begun_with survey.version (is_some old.latest) head survey.last }
     → ItemEnd files (plan_with base survey) old new item out out (Ok tt)
-head_taken files base survey old new after item head out is ordered low stepped there new_is =
+head_taken files base survey old new after item head out is ordered low stepped new_is =
     let plan : Plan = plan_with base survey in
     let now : Composing = composing_of files base old in
     let made : Kept = record old { state = after; latest = Some head; pending = old.pending ++ begun_with survey.version (is_some old.latest) head survey.last } in
@@ -339,7 +339,7 @@ head_taken files base survey old new after item head out is ordered low stepped 
     subst (λ (k : Kept). ItemEnd files plan old k item out out (Ok tt)) (sym new_is) (
       item_taken files plan old made item out out (record { stepped = stepped; ordered = in_order_then (option_map (λ h. h.key) old.latest) survey.last (head_of item.command) head false is ordered; latest = latest }) (omega (arith, more)) low
           (record { sent = []; appends = Appends-nil out; rest = ap (λ (bs : List ℕ). old.pending ++ bs) bytes }),
-      record { there = there; latest = latest },
+      latest,
     )
 
 -- One that stands out of order.

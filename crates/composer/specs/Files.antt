@@ -2,14 +2,12 @@
 use Rattle.std.specs.Prelude.{◌≡◌, ◌⊎◌, ⊤, ℕ, ◌<◌, true, false, List, [], Option, None, Some, Result, Ok, Err}
 use Rattle.std.specs.Io.KnownBytes.{Appends}
 use Rattle.send_model.specs.Reading.{Item, Reading, Whole, Faulty, reads, with_item}
-use Rattle.send_model.specs.Subvolume.{Subvolume}
-use Rattle.send_model.specs.Store.{Key, Store, find}
+use Rattle.send_model.specs.Store.{Store}
 use Rattle.send_model.specs.Receive.{first_of}
 use Rattle.send_model.specs.Order.{heads, last_item}
 use Rattle.send_model.specs.Composed.{last_head}
 use Rattle.send_model.specs.Due.{RefusedAt}
 use Rattle.send_model.specs.Lengths.{is_too_long}
-use Rattle.send_model.specs.Outside.{IsSayable}
 use Rattle.send_model.specs.Headline.{IsComposed}
 use Rattle.sx_base.specs.Calls.{Ends}
 use Rattle.sx_base.specs.Refusals.{verdict_meant}
@@ -19,8 +17,6 @@ use Rattle.send_model.specs.Words.{Compose}
 use Rattle.file_survey.specs.Findings.{Surveyed}
 use Rattle.file_survey.specs.Ahead.{then_reading}
 use Rattle.file_survey.specs.declared.places.Place.{Place}
-use Rattle.send_model.specs.Cells.{AllCells}
-use Rattle.clone_pieces.specs.Origins.{IsInInput}
 use Rattle.clone_pieces.specs.Sending.{AppendsFront}
 use Rattle.composer.specs.OverBase.{Plan, Composing, Halt, Exceeds, halt_due, advance, advance_all, unsent}
 use Rattle.composer.specs.Kept.{Kept, composing_of}
@@ -51,7 +47,6 @@ pub record FileTaken (files : List (List ℕ)) (plan : Plan) (file : ℕ) (old n
   pub appends : Appends out_old out_new sent
   pub last : IsLastPlace before place (last_item items)
   pub latest : new.latest ≡ first_of (last_head (heads items)) old.latest
-  pub there : AllCells (IsInInput files) new.state
   pub fits : is_too_long file bytes ≡ false
 
 -- The next item that is read is not taken.

@@ -13,8 +13,6 @@ use Rattle.sx_base.specs.Refusals.{verdict_meant}
 use Rattle.sx_base.specs.declared.outcome.Verdict.{Verdict}
 use Rattle.sx_base.specs.declared.outcome.Outcome.{Outcome}
 use Rattle.sx_base.specs.declared.outcome.Outcome.TheVariants as ended
-use Rattle.send_model.specs.Cells.{AllCells}
-use Rattle.clone_pieces.specs.Origins.{IsInInput}
 use Rattle.clone_pieces.specs.Sending.{AppendsFront}
 use Rattle.clone_pieces.specs.declared.stops.SendStop.{SendStop}
 use Rattle.clone_pieces.specs.declared.stops.SendStop.TheVariants as stop
@@ -58,13 +56,12 @@ pub record ItemStops (plan : Plan) (old : Composing) (item : Item) (outcome : Ou
   pub why : ItemWhy plan old next item outcome
   pub front : AppendsFront out_old out_new next.pending
 
--- What is kept after an item that is taken: all its cells stand in the files, and the head that came last is the item's, if it is one.
-pub record ItemKept (files : List (List ℕ)) (old new : Kept) (item : Item) : Type 0 where
-  pub there : AllCells (IsInInput files) new.state
-  pub latest : new.latest ≡ first_of (head_of item.command) old.latest
+-- After an item that is taken the head that came last is the item's, if it is one.
+abbrev pub ItemKept : Kept → Kept → Item → Type 0
+ItemKept old new item = new.latest ≡ first_of (head_of item.command) old.latest
 
 abbrev pub ItemEnd : List (List ℕ) → Plan → Kept → Kept → Item → Option (List ℕ) → Option (List ℕ) → Result (Unit {0}) Outcome → Type 0
-ItemEnd files plan old new item out_old out_new (Ok done) = ItemTaken plan (composing_of files plan.base old) (composing_of files plan.base new) item out_old out_new × ItemKept files old new item
+ItemEnd files plan old new item out_old out_new (Ok done) = ItemTaken plan (composing_of files plan.base old) (composing_of files plan.base new) item out_old out_new × ItemKept old new item
 ItemEnd files plan old new item out_old out_new (Err outcome) = ItemStops plan (composing_of files plan.base old) item outcome out_old out_new
 
 -- ---- causes

@@ -23,7 +23,7 @@ ghost use Rattle.cmd_reader.specs.Next.{item_of};
 ghost use Rattle.provenance.specs.declared.trace.Trace.{Trace};
 ghost use Rattle.clone_resolve.specs.Taken.{TakenFrom};
 ghost use Rattle.send_model.specs.Cells.{AllCells};
-ghost use Rattle.clone_pieces.specs.Origins.{IsHad, IsInInput, AreHeld};
+ghost use Rattle.clone_pieces.specs.Origins.{outside_cells, IsHad, IsInInput, AreAsLong, AreHeld};
 ghost use Rattle.clone_pieces.specs.Sending.{PutEnd};
 ghost use Rattle.clone_pieces.specs.Redirecting.{seen_cells};
 ghost use Rattle.composer.specs.Kept.{kept_at_start};
@@ -103,7 +103,8 @@ impl Composer {
 
     /// One item of the input file with this number, counted from 1, and the bytes of its frame as they came: where they are the
     /// canonical spelling that is due, they go out as they are. What it adds is written where much is pending; of a clone from an
-    /// earlier part what stands for it is written piece by piece, and the bytes of other pieces are read again.
+    /// earlier part what stands for it is written piece by piece, and the bytes of other pieces are read again. What is kept and
+    /// written then is said where `bytes` tells.
     ///
     /// # Errors
     /// The refusal of the item's command, or `NotConsecutive` at a head that does not name the part before it as its parent or
@@ -130,14 +131,18 @@ impl Composer {
         requires payload { item.now.data_at + length (bytes_of (meaning_of item.now.command))
             ≤ limit }
         requires had { AllCells (IsHad (length files.now) (E.base known.now)) self.old.state }
-        requires held { AreHeld (B.held bytes.old) (E.base known.now) }
+        requires sized { AreAsLong (B.held bytes.old) (outside_cells (E.base known.now)) }
+        requires held { B.tells → AreHeld (B.held bytes.old) (E.base known.now) }
         requires there { IfAllTold (I.told inputs.old) (map string_bytes files.now)
             (λ told. AllCells (IsInInput told) self.old.state
             × DataStand told (item_of file item.now)) }
         ensures had { OnOk result
             (AllCells (IsHad (length files.now) (E.base known.now)) self.new.state) }
+        ensures there { OnOk result (IfAllTold (I.told inputs.old) (map string_bytes files.now)
+            (λ told. AllCells (IsInInput told) self.new.state)) }
         ensures same { I.told inputs.new ≡ I.told inputs.old }
-        ensures held { B.held bytes.new ≡ B.held bytes.old }
+        ensures sizes { AreAsLong (B.held bytes.new) (B.held bytes.old) }
+        ensures held { B.tells → B.held bytes.new ≡ B.held bytes.old }
         ensures later { I.faults inputs.old ≤ I.faults inputs.new }
         ensures steady { Steady (I.faults inputs.old) (I.faults inputs.new) result }
         ensures ends_later { I.ends inputs.old ≤ I.ends inputs.new }
@@ -152,7 +157,7 @@ impl Composer {
         ensures stops { IfErr result IsStop }
         ensures changed { ErrFoundChanged (map string_bytes files.now) (I.last_end inputs.new)
             result }
-        ensures taken { IfAllTold (I.told inputs.old) (map string_bytes files.now)
+        ensures taken { B.tells → IfAllTold (I.told inputs.old) (map string_bytes files.now)
             (λ told. ItemEnd told (plan_with (E.base known.now) survey.now) self.old self.new
             (item_of file item.now) (O.taken out.old) (O.taken out.new) result) }
     {
@@ -261,13 +266,15 @@ impl Composer {
         requires fits { item.now.version ≤ survey.now.version }
         requires can_write { CanWrite item.now.version (meaning_of item.now.command) }
         requires had { AllCells (IsHad (length files.now) (E.base known.now)) self.old.state }
-        requires held { AreHeld (B.held bytes.old) (E.base known.now) }
+        requires sized { AreAsLong (B.held bytes.old) (outside_cells (E.base known.now)) }
+        requires held { B.tells → AreHeld (B.held bytes.old) (E.base known.now) }
         requires there { IfAllTold (I.told inputs.old) (map string_bytes files.now)
             (λ told. AllCells (IsInInput told) self.old.state) }
         ensures state { self.new.state ≡ self.old.state }
         ensures latest { self.new.latest ≡ self.old.latest }
         ensures same { I.told inputs.new ≡ I.told inputs.old }
-        ensures held { B.held bytes.new ≡ B.held bytes.old }
+        ensures sizes { AreAsLong (B.held bytes.new) (B.held bytes.old) }
+        ensures held { B.tells → B.held bytes.new ≡ B.held bytes.old }
         ensures later { I.faults inputs.old ≤ I.faults inputs.new }
         ensures steady { Steady (I.faults inputs.old) (I.faults inputs.new) result }
         ensures ends_later { I.ends inputs.old ≤ I.ends inputs.new }
@@ -282,7 +289,7 @@ impl Composer {
         ensures stops { IfErr result IsStop }
         ensures changed { ErrFoundChanged (map string_bytes files.now) (I.last_end inputs.new)
             result }
-        ensures added { IfAllTold (I.told inputs.old) (map string_bytes files.now)
+        ensures added { B.tells → IfAllTold (I.told inputs.old) (map string_bytes files.now)
             (λ told. AddEnd told (E.base known.now) survey.now (key_of last) self.old self.new
             (meaning_of item.now.command) (O.taken out.old) (O.taken out.new) result) }
     {
@@ -401,13 +408,15 @@ impl Composer {
             (key_of range.now.source) range.now.source_path.now range.now.from range.now.len }
         requires short { length range.now.path.now < 2 ^ 16 }
         requires had { AllCells (IsHad (length files.now) (E.base known.now)) self.old.state }
-        requires held { AreHeld (B.held bytes.old) (E.base known.now) }
+        requires sized { AreAsLong (B.held bytes.old) (outside_cells (E.base known.now)) }
+        requires held { B.tells → AreHeld (B.held bytes.old) (E.base known.now) }
         requires there { IfAllTold (I.told inputs.old) (map string_bytes files.now)
             (λ told. AllCells (IsInInput told) self.old.state) }
         ensures state { self.new.state ≡ self.old.state }
         ensures latest { self.new.latest ≡ self.old.latest }
         ensures same { I.told inputs.new ≡ I.told inputs.old }
-        ensures held { B.held bytes.new ≡ B.held bytes.old }
+        ensures sizes { AreAsLong (B.held bytes.new) (B.held bytes.old) }
+        ensures held { B.tells → B.held bytes.new ≡ B.held bytes.old }
         ensures later { I.faults inputs.old ≤ I.faults inputs.new }
         ensures steady { Steady (I.faults inputs.old) (I.faults inputs.new) result }
         ensures ends_later { I.ends inputs.old ≤ I.ends inputs.new }
@@ -422,7 +431,7 @@ impl Composer {
         ensures stops { IfErr result IsStop }
         ensures changed { ErrFoundChanged (map string_bytes files.now) (I.last_end inputs.new)
             result }
-        ensures added { IfAllTold (I.told inputs.old) (map string_bytes files.now)
+        ensures added { B.tells → IfAllTold (I.told inputs.old) (map string_bytes files.now)
             (λ told. (cells : List (Option Trace))
             → IsSourceOf cells self.old.state (key_of range.now.source) range.now.source_path.now
             → AddsRange (E.base known.now) survey.now.version range.now.path.now range.now.offset

@@ -6,7 +6,7 @@ ghost use Rattle.send_model.specs.Provenance.{traced_store};
 ghost use Rattle.send_model.specs.Receive.{start_of};
 ghost use Rattle.send_model.specs.Cells.{recelled_store, AllCells};
 ghost use Rattle.provenance.specs.Traces.{place_of};
-ghost use Rattle.clone_pieces.specs.Origins.{IsHad, IsInInput, AreHeld, byte_of_trace};
+ghost use Rattle.clone_pieces.specs.Origins.{outside_cells, IsHad, IsInInput, AreAsLong, AreHeld, byte_of_trace};
 ghost use Rattle.clone_pieces.specs.Seen.{seen};
 ghost use Rattle.file_survey.specs.Findings.{SurveyEnd};
 ghost use Rattle.sx_base.specs.Calls.{IfAllTold, CausedAgain, FoundChanged, ErrFoundChanged, Wrote, SteadyIfDone, IsStop};
@@ -66,7 +66,8 @@ pub fn compose<I: Inputs, O: Sink>(
 }
 
 /// The same over a base, after the survey of the files. `core` has the base's subvolumes, each cell traced to its own place
-/// there; `known` has their files' ends and paths, and `bytes` their bytes. The base has no part of the files.
+/// there; `known` has their files' ends and paths, and `bytes` their bytes. The base has no part of the files. What is written,
+/// and which outcome comes, is said where `bytes` tells. Where it does not, each failure has its cause all the same.
 pub fn compose_over<I: Inputs, E: Known, B: OutsideBytes, O: Sink>(
     alloc: Global,
     survey: &Survey,
@@ -80,13 +81,14 @@ pub fn compose_over<I: Inputs, E: Known, B: OutsideBytes, O: Sink>(
     requires some { files.now ≢ [] }
     requires surveyed { IfAllTold (I.told inputs.old) (map string_bytes files.now)
         (SurveyEnd (Ok survey.now)) }
-    requires traced { (told : List (List ℕ))
-        → recelled_store (seen (byte_of_trace told (E.base known.now)) place_of) core
-        ≡ traced_store (E.base known.now) }
+    requires traced { B.tells → IfAllTold (I.told inputs.old) (map string_bytes files.now)
+        (λ told. recelled_store (seen (byte_of_trace told (E.base known.now)) place_of) core
+        ≡ traced_store (E.base known.now)) }
     requires had { AllCells (IsHad 0 (E.base known.now)) (start_of core) }
-    requires held { AreHeld (B.held bytes.old) (E.base known.now) }
+    requires sized { AreAsLong (B.held bytes.old) (outside_cells (E.base known.now)) }
+    requires held { B.tells → AreHeld (B.held bytes.old) (E.base known.now) }
     requires apart { store_without survey.now.parts (E.base known.now) ≡ E.base known.now }
-    requires sayable { AllSayable (E.base known.now) }
+    requires sayable { B.tells → AllSayable (E.base known.now) }
     ensures same { I.told inputs.new ≡ I.told inputs.old }
     ensures steady { SteadyIfDone (I.faults inputs.old) (I.faults inputs.new) result }
     ensures ends_steady { SteadyIfDone (I.ends inputs.old) (I.ends inputs.new) result }
@@ -96,7 +98,7 @@ pub fn compose_over<I: Inputs, E: Known, B: OutsideBytes, O: Sink>(
         (I.faults inputs.old + B.faults bytes.old) (I.faults inputs.new + B.faults bytes.new)
         (O.faults out.old) (O.faults out.new) result }
     ensures changed { FoundChanged (map string_bytes files.now) (I.last_end inputs.new) result }
-    ensures ends { IfAllTold (I.told inputs.old) (map string_bytes files.now)
+    ensures ends { B.tells → IfAllTold (I.told inputs.old) (map string_bytes files.now)
         (λ told. Wrote (O.taken out.old) (O.taken out.new)
         (ComposeEnds (E.base known.now) told result)) }
 {
@@ -130,15 +132,16 @@ fn write_files<I: Inputs, E: Known, B: OutsideBytes, O: Sink>(
     requires some { files.now ≢ [] }
     requires surveyed { IfAllTold (I.told inputs.old) (map string_bytes files.now)
         (SurveyEnd (Ok survey.now)) }
-    requires start { IfAllTold (I.told inputs.old) (map string_bytes files.now)
+    requires start { B.tells → IfAllTold (I.told inputs.old) (map string_bytes files.now)
         (λ told. composing_of told (E.base known.now) composer.old
         ≡ at_start (plan_with (E.base known.now) survey.now)) }
     requires had { AllCells (IsHad (length files.now) (E.base known.now)) composer.old.state }
-    requires held { AreHeld (B.held bytes.old) (E.base known.now) }
+    requires sized { AreAsLong (B.held bytes.old) (outside_cells (E.base known.now)) }
+    requires held { B.tells → AreHeld (B.held bytes.old) (E.base known.now) }
     requires there { IfAllTold (I.told inputs.old) (map string_bytes files.now)
         (λ told. AllCells (IsInInput told) composer.old.state) }
     requires apart { store_without survey.now.parts (E.base known.now) ≡ E.base known.now }
-    requires sayable { AllSayable (E.base known.now) }
+    requires sayable { B.tells → AllSayable (E.base known.now) }
     ensures same { I.told inputs.new ≡ I.told inputs.old }
     ensures steady { Steady (I.faults inputs.old) (I.faults inputs.new) result }
     ensures ends_steady { Steady (I.ends inputs.old) (I.ends inputs.new) result }
@@ -149,7 +152,7 @@ fn write_files<I: Inputs, E: Known, B: OutsideBytes, O: Sink>(
         (O.faults out.old) (O.faults out.new) result }
     ensures stops { IfErr result IsStop }
     ensures changed { ErrFoundChanged (map string_bytes files.now) (I.last_end inputs.new) result }
-    ensures ends { IfAllTold (I.told inputs.old) (map string_bytes files.now)
+    ensures ends { B.tells → IfAllTold (I.told inputs.old) (map string_bytes files.now)
         (λ told. Wrote (O.taken out.old) (O.taken out.new)
         (ComposeEnds (E.base known.now) told (outcome_in result))) }
 {
@@ -185,13 +188,17 @@ fn write_file<I: Inputs, E: Known, B: OutsideBytes, O: Sink>(
 ) -> Result<Place, Outcome>
     requires numbered { number < length files.now }
     requires had { AllCells (IsHad (length files.now) (E.base known.now)) composer.old.state }
-    requires held { AreHeld (B.held bytes.old) (E.base known.now) }
+    requires sized { AreAsLong (B.held bytes.old) (outside_cells (E.base known.now)) }
+    requires held { B.tells → AreHeld (B.held bytes.old) (E.base known.now) }
     requires there { IfAllTold (I.told inputs.old) (map string_bytes files.now)
         (λ told. AllCells (IsInInput told) composer.old.state) }
     ensures had { OnOk result
         (AllCells (IsHad (length files.now) (E.base known.now)) composer.new.state) }
+    ensures there { OnOk result (IfAllTold (I.told inputs.old) (map string_bytes files.now)
+        (λ told. AllCells (IsInInput told) composer.new.state)) }
     ensures same { I.told inputs.new ≡ I.told inputs.old }
-    ensures held { B.held bytes.new ≡ B.held bytes.old }
+    ensures sizes { AreAsLong (B.held bytes.new) (B.held bytes.old) }
+    ensures held { B.tells → B.held bytes.new ≡ B.held bytes.old }
     ensures later { I.faults inputs.old ≤ I.faults inputs.new }
     ensures steady { Steady (I.faults inputs.old) (I.faults inputs.new) result }
     ensures ends_later { I.ends inputs.old ≤ I.ends inputs.new }
@@ -205,7 +212,7 @@ fn write_file<I: Inputs, E: Known, B: OutsideBytes, O: Sink>(
         (O.faults out.old) (O.faults out.new) result }
     ensures stops { IfErr result IsStop }
     ensures changed { ErrFoundChanged (map string_bytes files.now) (I.last_end inputs.new) result }
-    ensures wrote { IfAllTold (I.told inputs.old) (map string_bytes files.now)
+    ensures wrote { B.tells → IfAllTold (I.told inputs.old) (map string_bytes files.now)
         (λ told. FileEnd told (plan_with (E.base known.now) survey.now) (number + 1)
         composer.old composer.new (O.taken out.old) (O.taken out.new) before result
         (get_or told number [])) }

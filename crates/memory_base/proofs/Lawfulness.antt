@@ -6,16 +6,14 @@ use Rattle.std.specs.List.{AllByRecursion, list_any, filter}
 use Rattle.std.specs.Str.{bytes_eq}
 use Rattle.std.specs.FinMap.Entries.{below_all, is_sorted}
 use Rattle.std.proofs.Common.{refl, sym, ap, subst, ◌∙◌}
-use Rattle.std.proofs.lemmas.Bool.{true≢false}
 use Rattle.send_model.specs.Map.{Map, IsMap, bytes_cmp}
 use Rattle.send_model.specs.Subvolume.{Inode, Subvolume, IsSound, IsLawful, root, inode_at, name_count}
-use Rattle.send_model.specs.Store.{Key, same_key, Entry, Store, IsStore, has_uuid, find}
+use Rattle.send_model.specs.Store.{Entry, Store, IsStore, has_uuid, find}
 use Rattle.send_model.specs.Provenance.{inode_with}
 use Rattle.send_model.specs.Cells.{recelled}
-use Rattle.send_model.specs.Outside.{IsSayable, is_among, store_without}
-use Rattle.send_model.specs.Lawful.{HasSayable, IsLawfulEntry, IsLawfulStore}
-use Rattle.send_model.proofs.Sorts.{same_inside}
-use Rattle.send_model.proofs.Stores.{or_parts, bytes_eq_same, bytes_eq_true, same_key_same}
+use Rattle.send_model.specs.Outside.{is_among, store_without}
+use Rattle.send_model.specs.Lawful.{IsLawfulEntry, IsLawfulStore}
+use Rattle.send_model.proofs.Stores.{or_parts, same_key_same}
 use Rattle.send_model.proofs.MergingClones.{turned_false}
 use Rattle.send_model.proofs.Keeping.{all_filtered}
 use Rattle.send_model.proofs.CellMaps.{inode_at-cells, is_directory-cells, walk_names-cells}

@@ -227,6 +227,8 @@ impl OutsideBytes for StandingBytes<'_> {
     ghost use Rattle.clone_pieces.specs.Origins.{outside_cells};
     ghost use Rattle.memory_base.specs.Bases.{with_bytes};
 
+    ghost tells = { Unit {0} };
+
     ghost held = { λ s key ino. outside_cells (with_bytes s.bytes.now s.indexes.now) key ino };
 
     ghost faults = { λ s. 0 };

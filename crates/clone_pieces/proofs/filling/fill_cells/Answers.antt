@@ -5,6 +5,7 @@ use Rattle.extent_map.proofs.CellLists.{length-between}
 use Rattle.extent_map.proofs.PieceByPiece.{next_within, left_after, filled_all, mid_length}
 use Rattle.provenance.specs.Traces.{advanced_by}
 use Rattle.clone_pieces.proofs.Told.{all_map}
+use Rattle.clone_pieces.proofs.Lengths.{long_then}
 use Rattle.clone_pieces.proofs.Fills.{FilledTo, turn_had, turn_there, turn_filled}
 use Rattle.clone_pieces.specs.Filling.{byte_in, FillEnd}
 use Rattle.std.specs.Prelude.{Ok}
@@ -35,8 +36,8 @@ fill_piece-requires-clause-had g c =
     let i = c.loop-origin.invariant in
     let whole = cells_between c.args.from (length c.args.buf.now) c.args.contents.now in
     let r = fits g (goal.at.fill_piece-requires-clause-had g c).In-Some in
-    turn_had (g.I.Inputs.told c.args.inputs.now) (g.I.Inputs.told c.loop-origin.inputs) (map string_bytes c.args.files.now) (g.B.OutsideBytes.held c.args.bytes.now) (g.B.OutsideBytes.held c.loop-origin.bytes) i.same i.held
-    whole c.loop-origin.have c.in-Some.len c.in-Some.origin c.next.new.self (i.left ∙ s.2) s.0 _ (mid_length c.loop-origin.have c.in-Some.len c.loop-origin.buf (omega (arith, r, i.size))) (length c.args.files.now) c.requires.had
+    turn_had (g.I.Inputs.told c.args.inputs.now) (g.I.Inputs.told c.loop-origin.inputs) (map string_bytes c.args.files.now) (g.B.OutsideBytes.held c.args.bytes.now) (g.B.OutsideBytes.held c.loop-origin.bytes) i.same
+    whole c.loop-origin.have c.in-Some.len c.in-Some.origin c.next.new.self (i.left ∙ s.2) s.0 _ (mid_length c.loop-origin.have c.in-Some.len c.loop-origin.buf (omega (arith, r, i.size))) i.sizes (length c.args.files.now) c.requires.had
 
 pub fill_piece-requires-clause-there : goal.fill_piece-requires-clause-there
 fill_piece-requires-clause-there g c =
@@ -44,7 +45,7 @@ fill_piece-requires-clause-there g c =
     let i = c.loop-origin.invariant in
     let whole = cells_between c.args.from (length c.args.buf.now) c.args.contents.now in
     let r = fits g (goal.at.fill_piece-requires-clause-there g c).In-Some in
-    turn_there (g.I.Inputs.told c.args.inputs.now) (g.I.Inputs.told c.loop-origin.inputs) (map string_bytes c.args.files.now) (g.B.OutsideBytes.held c.args.bytes.now) (g.B.OutsideBytes.held c.loop-origin.bytes) i.same i.held
+    turn_there (g.I.Inputs.told c.args.inputs.now) (g.I.Inputs.told c.loop-origin.inputs) (map string_bytes c.args.files.now) (g.B.OutsideBytes.held c.args.bytes.now) (g.B.OutsideBytes.held c.loop-origin.bytes) i.same
     whole c.loop-origin.have c.in-Some.len c.in-Some.origin c.next.new.self (i.left ∙ s.2) s.0 _ (mid_length c.loop-origin.have c.in-Some.len c.loop-origin.buf (omega (arith, r, i.size))) c.requires.there
 
 pub loop-origin-preserved : goal.loop-origin-preserved
@@ -62,20 +63,21 @@ loop-origin-preserved g c =
       within = r;
       left = left_after advanced_by whole c.loop-origin.have c.in-Some.len c.in-Some.origin c.next.new.self (i.left ∙ s.2);
       same = e.same ∙ i.same;
-      held = e.held ∙ i.held;
+      sizes = long_then _ _ _ e.sizes i.sizes;
+      held = λ tells. e.held tells ∙ i.held tells;
       steady = e.steady ∙ i.steady;
       ends_steady = e.ends_steady ∙ i.ends_steady;
       bytes_steady = e.bytes_steady ∙ i.bytes_steady;
-      filled = turn_filled (g.I.Inputs.told c.args.inputs.now) (g.I.Inputs.told c.loop-origin.inputs) (map string_bytes c.args.files.now) (g.B.OutsideBytes.held c.args.bytes.now) (g.B.OutsideBytes.held c.loop-origin.bytes) i.same i.held
-          whole c.loop-origin.have c.in-Some.len c.in-Some.origin c.next.new.self (i.left ∙ s.2) s.0 _ mid (c.loop-origin.have + c.in-Some.len - c.loop-origin.have) (omega arith) c.loop-origin.buf c.fill_piece.new.buf
-          (omega (arith, i.within, i.size)) i.filled e.filled;
+      filled = λ tells. turn_filled (g.I.Inputs.told c.args.inputs.now) (g.I.Inputs.told c.loop-origin.inputs) (map string_bytes c.args.files.now) (g.B.OutsideBytes.held c.args.bytes.now) (g.B.OutsideBytes.held c.loop-origin.bytes) i.same
+          whole c.loop-origin.have c.in-Some.len c.in-Some.origin c.next.new.self (i.left ∙ s.2) s.0 _ mid (i.held tells) (c.loop-origin.have + c.in-Some.len - c.loop-origin.have) (omega arith) c.loop-origin.buf c.fill_piece.new.buf
+          (omega (arith, i.within, i.size)) (i.filled tells) (e.filled tells);
     }
 
 pub returns-clause-filled : goal.returns-clause-filled
-returns-clause-filled g c =
+returns-clause-filled g c tells =
     let i = c.loop-origin.invariant in
     let whole = cells_between c.args.from (length c.args.buf.now) c.args.contents.now in
     let l = length-between c.args.from (length c.args.buf.now) c.args.contents.now c.requires.within in
     let held = g.B.OutsideBytes.held c.args.bytes.now in
     all_map (g.I.Inputs.told c.args.inputs.now) (map string_bytes c.args.files.now) (FilledTo held whole c.loop-origin.have c.loop-origin.buf) (FillEnd held whole c.loop-origin.buf (Ok tt))
-    (λ files filled. filled_all (byte_in held files) whole c.loop-origin.have c.loop-origin.buf (i.left ∙ c.in-None.ensures.steps.0) (i.size ∙ sym l) filled) i.filled
+    (λ files filled. filled_all (byte_in held files) whole c.loop-origin.have c.loop-origin.buf (i.left ∙ c.in-None.ensures.steps.0) (i.size ∙ sym l) filled) (i.filled tells)

@@ -2,6 +2,7 @@ use Rattle.std.specs.String.{string_bytes}
 use Rattle.std.proofs.Common.{◌≡◌, ◌≤◌, length, drop, map}
 use Rattle.sx_base.specs.Calls.{IfAllTold}
 use Rattle.extent_map.specs.Cells.{cells_between}
+use Rattle.clone_pieces.specs.Origins.{AreAsLong}
 use Rattle.clone_pieces.proofs.Fills.{FilledTo}
 use Rattle.clone_pieces.proofs.filling.fill_cells.Given as goal
 
@@ -14,10 +15,11 @@ invariant-loop-origin g l = record {
   within : l.have ≤ length l.fn.buf;
   left : drop l.have (cells_between l.from (length l.fn.buf) l.contents) ≡ l.origin-iterator;
   same : g.I.Inputs.told l.inputs ≡ g.I.Inputs.told l.fn.inputs;
-  held : g.B.OutsideBytes.held l.bytes ≡ g.B.OutsideBytes.held l.fn.bytes;
+  sizes : AreAsLong (g.B.OutsideBytes.held l.bytes) (g.B.OutsideBytes.held l.fn.bytes);
+  held : g.B.OutsideBytes.tells → g.B.OutsideBytes.held l.bytes ≡ g.B.OutsideBytes.held l.fn.bytes;
   steady : g.I.Inputs.faults l.inputs ≡ g.I.Inputs.faults l.fn.inputs;
   ends_steady : g.I.Inputs.ends l.inputs ≡ g.I.Inputs.ends l.fn.inputs;
   bytes_steady : g.B.OutsideBytes.faults l.bytes ≡ g.B.OutsideBytes.faults l.fn.bytes;
-  filled : IfAllTold (g.I.Inputs.told l.fn.inputs) (map string_bytes l.fn.files)
+  filled : g.B.OutsideBytes.tells → IfAllTold (g.I.Inputs.told l.fn.inputs) (map string_bytes l.fn.files)
       (FilledTo (g.B.OutsideBytes.held l.fn.bytes) (cells_between l.from (length l.fn.buf) l.contents) l.have l.buf);
 }

@@ -10,11 +10,11 @@ read_part-requires-clause-range g c =
     (c.in-Some-Fresh.is ∙ ap Some c.in-Some-Fresh.field-0-is) c.requires.had c.index-files-file.is c.as_str.ensures.value _ c.requires.there
 
 pub returns-in-None-clause-filled : goal.returns-in-None-clause-filled
-returns-in-None-clause-filled g c =
+returns-in-None-clause-filled g c tells =
     zeroed _ (map string_bytes c.args.files.now) (g.B.OutsideBytes.held c.args.bytes.now) c.args.origin (length c.args.buf.now) c.fill.new.self c.in-None.is (c.fill.ensures.after (λ y e. e))
 
 pub returns-in-Some-Fresh-clause-filled : goal.returns-in-Some-Fresh-clause-filled
-returns-in-Some-Fresh-clause-filled g c =
+returns-in-Some-Fresh-clause-filled g c tells =
     again_filled c.args.files.now (g.B.OutsideBytes.held c.args.bytes.now) c.args.origin c.in-Some-Fresh.file c.in-Some-Fresh.at (length c.args.buf.now) c.index-files-file.result c.as_str.result.now
     (c.in-Some-Fresh.is ∙ ap Some c.in-Some-Fresh.field-0-is) c.requires.had c.index-files-file.is c.as_str.ensures.value _ c.read_part.new.buf c.read_part.result c.requires.there c.read_part.auto.buf c.read_part.ensures.filled
 
@@ -24,6 +24,6 @@ returns-in-Some-Fresh-clause-changed g c =
     (c.in-Some-Fresh.is ∙ ap Some c.in-Some-Fresh.field-0-is) c.requires.had c.index-files-file.is c.as_str.ensures.value _ c.read_part.result c.read_part.ensures.changed
 
 pub returns-in-Ok-clause-filled : goal.returns-in-Ok-clause-filled
-returns-in-Ok-clause-filled g c =
+returns-in-Ok-clause-filled g c tells =
     held_filled _ (map string_bytes c.args.files.now) (length c.args.files.now) (g.B.OutsideBytes.held c.args.bytes.now) c.args.origin c.in-Some-Outside.key c.in-Some-Outside.ino c.in-Some-Outside.at (length c.args.buf.now)
-    c.fill-in-Some-Outside.new.buf (c.in-Some-Outside.is ∙ ap Some c.in-Some-Outside.field-0-is) c.requires.had c.fill-in-Some-Outside.auto.buf c.in-Ok.ensures.bytes
+    c.fill-in-Some-Outside.new.buf (c.in-Some-Outside.is ∙ ap Some c.in-Some-Outside.field-0-is) c.requires.had c.fill-in-Some-Outside.auto.buf (c.in-Ok.ensures.bytes tells)

@@ -1,6 +1,7 @@
 use Rattle.std.specs.Prelude.{map}
 use Rattle.std.specs.String.{string_bytes}
 use Rattle.std.proofs.Common.{◌≡◌, ◌-◌, min, refl, ◌∙◌, arith}
+use Rattle.clone_pieces.proofs.Lengths.{long_then}
 use Rattle.clone_pieces.proofs.Literals.{next_had, next_there, stand_start, stand_more, stand_stops, stand_end}
 use Rattle.clone_pieces.proofs.literal.write_cells.Goals as goal
 
@@ -8,12 +9,13 @@ pub loop-done-init : goal.loop-done-init
 loop-done-init g c = record {
   within = omega arith;
   same = refl;
-  held = refl;
+  sizes = λ key ino. refl;
+  held = λ tells. refl;
   steady = refl;
   ends_steady = refl;
   bytes_steady = refl;
   out_steady = refl;
-  written = stand_start (g.I.Inputs.told c.args.inputs.now) (map string_bytes c.args.files.now) (g.B.OutsideBytes.held c.args.bytes.now) c.args.contents.now c.args.from c.args.len c.requires.within c.args.version c.args.path.now c.args.offset
+  written = λ tells. stand_start (g.I.Inputs.told c.args.inputs.now) (map string_bytes c.args.files.now) (g.B.OutsideBytes.held c.args.bytes.now) c.args.contents.now c.args.from c.args.len c.requires.within c.args.version c.args.path.now c.args.offset
       (g.O.Sink.taken c.args.out.now) c.args.pending.now;
 }
 
@@ -22,14 +24,14 @@ write_some-requires-clause-had g c =
     let i = c.loop-done.invariant in
     let is : c.min-count.result ≡ min (c.args.len - c.loop-done.done) 49_152 = omega arith in
     next_had (g.I.Inputs.told c.args.inputs.now) (map string_bytes c.args.files.now) (g.B.OutsideBytes.held c.args.bytes.now) c.args.contents.now c.args.from c.args.len c.requires.within c.args.version c.args.path.now c.args.offset
-    (g.I.Inputs.told c.loop-done.inputs) (g.B.OutsideBytes.held c.loop-done.bytes) i.same i.held c.loop-done.done c.min-count.result c.loop-done-test.true is _ c.requires.had
+    (g.I.Inputs.told c.loop-done.inputs) (g.B.OutsideBytes.held c.loop-done.bytes) i.same c.loop-done.done c.min-count.result c.loop-done-test.true is i.sizes _ c.requires.had
 
 pub write_some-requires-clause-there : goal.write_some-requires-clause-there
 write_some-requires-clause-there g c =
     let i = c.loop-done.invariant in
     let is : c.min-count.result ≡ min (c.args.len - c.loop-done.done) 49_152 = omega arith in
     next_there (g.I.Inputs.told c.args.inputs.now) (map string_bytes c.args.files.now) (g.B.OutsideBytes.held c.args.bytes.now) c.args.contents.now c.args.from c.args.len c.requires.within c.args.version c.args.path.now c.args.offset
-    (g.I.Inputs.told c.loop-done.inputs) (g.B.OutsideBytes.held c.loop-done.bytes) i.same i.held c.loop-done.done c.min-count.result c.loop-done-test.true is c.requires.there
+    (g.I.Inputs.told c.loop-done.inputs) (g.B.OutsideBytes.held c.loop-done.bytes) i.same c.loop-done.done c.min-count.result c.loop-done-test.true is c.requires.there
 
 pub loop-done-preserved : goal.loop-done-preserved
 loop-done-preserved g c =
@@ -39,25 +41,26 @@ loop-done-preserved g c =
     record {
       within = omega (arith, c.loop-done-test.true);
       same = e.same ∙ i.same;
-      held = e.held ∙ i.held;
+      sizes = long_then _ _ _ e.sizes i.sizes;
+      held = λ tells. e.held tells ∙ i.held tells;
       steady = e.steady ∙ i.steady;
       ends_steady = e.ends_steady ∙ i.ends_steady;
       bytes_steady = e.bytes_steady ∙ i.bytes_steady;
       out_steady = e.out_steady ∙ i.out_steady;
-      written = stand_more (g.I.Inputs.told c.args.inputs.now) (map string_bytes c.args.files.now) (g.B.OutsideBytes.held c.args.bytes.now) c.args.contents.now c.args.from c.args.len c.requires.within c.args.version c.args.path.now c.args.offset
-          (g.I.Inputs.told c.loop-done.inputs) (g.B.OutsideBytes.held c.loop-done.bytes) i.same i.held c.loop-done.done c.min-count.result c.loop-done-test.true is
-          (g.O.Sink.taken c.args.out.now) (g.O.Sink.taken c.loop-done.out) (g.O.Sink.taken c.write_some.new.out) c.args.pending.now c.loop-done.pending c.write_some.new.pending i.written e.written;
+      written = λ tells. stand_more (g.I.Inputs.told c.args.inputs.now) (map string_bytes c.args.files.now) (g.B.OutsideBytes.held c.args.bytes.now) c.args.contents.now c.args.from c.args.len c.requires.within c.args.version c.args.path.now c.args.offset
+          (g.I.Inputs.told c.loop-done.inputs) (g.B.OutsideBytes.held c.loop-done.bytes) i.same c.loop-done.done c.min-count.result c.loop-done-test.true is (i.held tells)
+          (g.O.Sink.taken c.args.out.now) (g.O.Sink.taken c.loop-done.out) (g.O.Sink.taken c.write_some.new.out) c.args.pending.now c.loop-done.pending c.write_some.new.pending (i.written tells) (e.written tells);
     }
 
 pub returns-in-Err-clause-written : goal.returns-in-Err-clause-written
-returns-in-Err-clause-written g c =
+returns-in-Err-clause-written g c tells =
     let i = c.loop-done.invariant in
     let is : c.min-count.result ≡ min (c.args.len - c.loop-done.done) 49_152 = omega arith in
     stand_stops (g.I.Inputs.told c.args.inputs.now) (map string_bytes c.args.files.now) (g.B.OutsideBytes.held c.args.bytes.now) c.args.contents.now c.args.from c.args.len c.requires.within c.args.version c.args.path.now c.args.offset
-    (g.I.Inputs.told c.loop-done.inputs) (g.B.OutsideBytes.held c.loop-done.bytes) i.same i.held c.loop-done.done c.min-count.result c.loop-done-test.true is
-    (g.O.Sink.taken c.args.out.now) (g.O.Sink.taken c.loop-done.out) (g.O.Sink.taken c.write_some.new.out) c.args.pending.now c.loop-done.pending c.write_some.new.pending c.write_some.new.pending c.in-Err.stop i.written c.in-Err.ensures.written
+    (g.I.Inputs.told c.loop-done.inputs) (g.B.OutsideBytes.held c.loop-done.bytes) i.same c.loop-done.done c.min-count.result c.loop-done-test.true is (i.held tells)
+    (g.O.Sink.taken c.args.out.now) (g.O.Sink.taken c.loop-done.out) (g.O.Sink.taken c.write_some.new.out) c.args.pending.now c.loop-done.pending c.write_some.new.pending c.write_some.new.pending c.in-Err.stop (i.written tells) (c.in-Err.ensures.written tells)
 
 pub returns-clause-written : goal.returns-clause-written
-returns-clause-written g c =
+returns-clause-written g c tells =
     stand_end (g.I.Inputs.told c.args.inputs.now) (map string_bytes c.args.files.now) (g.B.OutsideBytes.held c.args.bytes.now) c.args.contents.now c.args.from c.args.len c.requires.within c.args.version c.args.path.now c.args.offset
-    c.loop-done.done (g.O.Sink.taken c.args.out.now) (g.O.Sink.taken c.loop-done.out) c.args.pending.now c.loop-done.pending (omega (arith, c.loop-done-test.false)) c.loop-done.invariant.written
+    c.loop-done.done (g.O.Sink.taken c.args.out.now) (g.O.Sink.taken c.loop-done.out) c.args.pending.now c.loop-done.pending (omega (arith, c.loop-done-test.false)) (c.loop-done.invariant.written tells)

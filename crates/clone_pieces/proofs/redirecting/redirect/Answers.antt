@@ -8,6 +8,7 @@ use Rattle.provenance.specs.Traces.{place_in}
 use Rattle.provenance.specs.Plans.{planned}
 use Rattle.provenance.specs.Cuts.{Cut}
 use Rattle.clone_pieces.specs.Cutting.{cut_len, IsNamed}
+use Rattle.clone_pieces.proofs.Lengths.{long_then}
 use Rattle.clone_pieces.proofs.Rows.{CutRow, cuts_row, cuts_named, row_next, row_fits, row_stands}
 use Rattle.clone_pieces.proofs.Redirects.{plan_had, plan_there, Stands, stands_start, stands_more, stands_stop, stands_end}
 use Rattle.clone_pieces.proofs.redirecting.redirect.Given.{Over}
@@ -34,13 +35,14 @@ loop-plan-init g c =
       row = subst (λ (cs : List Cut). CutRow c.args.from 0 cs c.args.len) (sym is) (subst (λ (n : ℕ). CutRow c.args.from 0 cuts n) long (cuts_row base E right c.args.from cells cuts said.pieces));
       named = subst (λ (cs : List Cut). AllByRecursion (IsNamed E) cs) (sym (is ∙ said.cuts)) (cuts_named E c.args.from (map place_in cells));
       same = refl;
-      held = refl;
+      sizes = λ key ino. refl;
+      held = λ tells. refl;
       steady = refl;
       ends_steady = refl;
       bytes_steady = refl;
       out_steady = refl;
-      stands = subst (λ (cs : List Cut). IfAllTold told names (Stands told names base held c.args.contents.now c.args.from c.args.len c.args.version c.args.path.now c.args.offset 0 cs out out c.args.pending.now c.args.pending.now)) (sym is)
-          (stands_start told names base held c.args.contents.now c.args.from c.args.len c.args.version c.args.path.now c.args.offset E right c.requires.held cuts c.requires.within said.pieces out c.args.pending.now);
+      stands = λ tells. subst (λ (cs : List Cut). IfAllTold told names (Stands told names base held c.args.contents.now c.args.from c.args.len c.args.version c.args.path.now c.args.offset 0 cs out out c.args.pending.now c.args.pending.now)) (sym is)
+          (stands_start told names base held c.args.contents.now c.args.from c.args.len c.args.version c.args.path.now c.args.offset E right (c.requires.held tells) cuts c.requires.within said.pieces out c.args.pending.now);
     }
 
 -- The piece stands behind those that have gone out, and ends within the file.
@@ -65,13 +67,13 @@ write_plan-requires-clause-within g c =
 pub write_plan-requires-clause-had : goal.write_plan-requires-clause-had
 write_plan-requires-clause-had g c =
     let i = c.loop-plan.invariant in
-    plan_had (g.I.Inputs.told c.args.inputs.now) (g.I.Inputs.told c.loop-plan.inputs) (map string_bytes c.args.files.now) (g.B.OutsideBytes.held c.args.bytes.now) (g.B.OutsideBytes.held c.loop-plan.bytes) i.same i.held
-    c.args.contents.now c.args.from c.args.len c.loop-plan.done (planned c.in-Some.plan) c.loop-plan.plan-iterator c.next.new.self c.in-Some.ensures.steps i.row _ (g.E.Known.base c.args.known.now) c.requires.held c.requires.had
+    plan_had (g.I.Inputs.told c.args.inputs.now) (g.I.Inputs.told c.loop-plan.inputs) (map string_bytes c.args.files.now) i.same
+    c.args.contents.now c.args.from c.args.len c.loop-plan.done (planned c.in-Some.plan) c.loop-plan.plan-iterator c.next.new.self c.in-Some.ensures.steps i.row _ (g.E.Known.base c.args.known.now) (g.B.OutsideBytes.held c.loop-plan.bytes) (long_then _ _ _ i.sizes c.requires.sized) c.requires.had
 
 pub write_plan-requires-clause-there : goal.write_plan-requires-clause-there
 write_plan-requires-clause-there g c =
     let i = c.loop-plan.invariant in
-    plan_there (g.I.Inputs.told c.args.inputs.now) (g.I.Inputs.told c.loop-plan.inputs) (map string_bytes c.args.files.now) (g.B.OutsideBytes.held c.args.bytes.now) (g.B.OutsideBytes.held c.loop-plan.bytes) i.same i.held
+    plan_there (g.I.Inputs.told c.args.inputs.now) (g.I.Inputs.told c.loop-plan.inputs) (map string_bytes c.args.files.now) i.same
     c.args.contents.now c.args.from c.args.len c.loop-plan.done (planned c.in-Some.plan) c.loop-plan.plan-iterator c.next.new.self c.in-Some.ensures.steps i.row c.requires.there
 
 pub overflow_add-done : goal.overflow_add-done
@@ -97,24 +99,25 @@ loop-plan-preserved g c =
       row = subst (λ (n : ℕ). CutRow c.args.from (c.loop-plan.done + n) c.next.new.self c.args.len) long (row_next c.args.from c.loop-plan.done c.args.len (planned c.in-Some.plan) c.next.new.self row);
       named = (subst (λ (cs : List Cut). AllByRecursion (IsNamed E) cs) step i.named).1;
       same = e.same ∙ i.same;
-      held = e.held ∙ i.held;
+      sizes = long_then _ _ _ e.sizes i.sizes;
+      held = λ tells. e.held tells ∙ i.held tells;
       steady = e.steady ∙ i.steady;
       ends_steady = e.ends_steady ∙ i.ends_steady;
       bytes_steady = e.bytes_steady ∙ i.bytes_steady;
       out_steady = e.out_steady ∙ i.out_steady;
-      stands = subst (λ (n : ℕ). IfAllTold told names (Stands told names base held c.args.contents.now c.args.from c.args.len c.args.version c.args.path.now c.args.offset (c.loop-plan.done + n) c.next.new.self out next_out c.args.pending.now c.write_plan.new.pending)) long
-          (stands_more told names base held c.args.contents.now c.args.from c.args.len c.args.version c.args.path.now c.args.offset (g.I.Inputs.told c.loop-plan.inputs) (g.B.OutsideBytes.held c.loop-plan.bytes) i.same i.held
-          c.loop-plan.done c.loop-plan.plan-iterator (planned c.in-Some.plan) c.next.new.self step out (g.O.Sink.taken c.loop-plan.out) next_out c.args.pending.now c.loop-plan.pending c.write_plan.new.pending i.stands e.written);
+      stands = λ tells. subst (λ (n : ℕ). IfAllTold told names (Stands told names base held c.args.contents.now c.args.from c.args.len c.args.version c.args.path.now c.args.offset (c.loop-plan.done + n) c.next.new.self out next_out c.args.pending.now c.write_plan.new.pending)) long
+          (stands_more told names base held c.args.contents.now c.args.from c.args.len c.args.version c.args.path.now c.args.offset (g.I.Inputs.told c.loop-plan.inputs) (g.B.OutsideBytes.held c.loop-plan.bytes) i.same (i.held tells)
+          c.loop-plan.done c.loop-plan.plan-iterator (planned c.in-Some.plan) c.next.new.self step out (g.O.Sink.taken c.loop-plan.out) next_out c.args.pending.now c.loop-plan.pending c.write_plan.new.pending (i.stands tells) (e.written tells));
     }
 
 pub returns-in-Err-clause-redirected : goal.returns-in-Err-clause-redirected
-returns-in-Err-clause-redirected g c =
+returns-in-Err-clause-redirected g c tells =
     let i = c.loop-plan.invariant in
     stands_stop (g.I.Inputs.told c.args.inputs.now) (map string_bytes c.args.files.now) (g.E.Known.base c.args.known.now) (g.B.OutsideBytes.held c.args.bytes.now) c.args.contents.now c.args.from c.args.len c.args.version c.args.path.now c.args.offset
-    (g.I.Inputs.told c.loop-plan.inputs) (g.B.OutsideBytes.held c.loop-plan.bytes) i.same i.held c.loop-plan.done c.loop-plan.plan-iterator (planned c.in-Some.plan) c.next.new.self c.in-Some.ensures.steps
-    (g.O.Sink.taken c.args.out.now) (g.O.Sink.taken c.loop-plan.out) (g.O.Sink.taken c.write_plan.new.out) c.args.pending.now c.loop-plan.pending c.write_plan.new.pending c.write_plan.new.pending c.in-Err.stop i.stands c.in-Err.ensures.written
+    (g.I.Inputs.told c.loop-plan.inputs) (g.B.OutsideBytes.held c.loop-plan.bytes) i.same (i.held tells) c.loop-plan.done c.loop-plan.plan-iterator (planned c.in-Some.plan) c.next.new.self c.in-Some.ensures.steps
+    (g.O.Sink.taken c.args.out.now) (g.O.Sink.taken c.loop-plan.out) (g.O.Sink.taken c.write_plan.new.out) c.args.pending.now c.loop-plan.pending c.write_plan.new.pending c.write_plan.new.pending c.in-Err.stop (i.stands tells) (c.in-Err.ensures.written tells)
 
 pub returns-clause-redirected : goal.returns-clause-redirected
-returns-clause-redirected g c =
+returns-clause-redirected g c tells =
     stands_end (g.I.Inputs.told c.args.inputs.now) (map string_bytes c.args.files.now) (g.E.Known.base c.args.known.now) (g.B.OutsideBytes.held c.args.bytes.now) c.args.contents.now c.args.from c.args.len c.args.version c.args.path.now c.args.offset
-    c.loop-plan.done c.loop-plan.plan-iterator c.in-None.ensures.steps.0 (g.O.Sink.taken c.args.out.now) (g.O.Sink.taken c.loop-plan.out) c.args.pending.now c.loop-plan.pending c.loop-plan.invariant.stands
+    c.loop-plan.done c.loop-plan.plan-iterator c.in-None.ensures.steps.0 (g.O.Sink.taken c.args.out.now) (g.O.Sink.taken c.loop-plan.out) c.args.pending.now c.loop-plan.pending (c.loop-plan.invariant.stands tells)

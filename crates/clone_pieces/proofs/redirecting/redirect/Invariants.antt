@@ -3,6 +3,7 @@ use Rattle.std.specs.String.{string_bytes}
 use Rattle.std.proofs.Common.{◌≡◌, ◌+◌, map}
 use Rattle.sx_base.specs.Calls.{IfAllTold}
 use Rattle.extent_map.specs.Cells.{cells_between}
+use Rattle.clone_pieces.specs.Origins.{AreAsLong}
 use Rattle.clone_pieces.specs.Filling.{byte_in}
 use Rattle.clone_pieces.specs.Cutting.{IsNamed}
 use Rattle.clone_pieces.specs.Redirecting.{seen_cells, pieces_spelled}
@@ -18,12 +19,13 @@ invariant-loop-plan g l = record {
   row : CutRow l.from l.done l.plan-iterator l.len;
   named : AllByRecursion (IsNamed (g.E.Ends.ends l.known)) l.plan-iterator;
   same : g.I.Inputs.told l.inputs ≡ g.I.Inputs.told l.fn.inputs;
-  held : g.B.OutsideBytes.held l.bytes ≡ g.B.OutsideBytes.held l.fn.bytes;
+  sizes : AreAsLong (g.B.OutsideBytes.held l.bytes) (g.B.OutsideBytes.held l.fn.bytes);
+  held : g.B.OutsideBytes.tells → g.B.OutsideBytes.held l.bytes ≡ g.B.OutsideBytes.held l.fn.bytes;
   steady : g.I.Inputs.faults l.inputs ≡ g.I.Inputs.faults l.fn.inputs;
   ends_steady : g.I.Inputs.ends l.inputs ≡ g.I.Inputs.ends l.fn.inputs;
   bytes_steady : g.B.OutsideBytes.faults l.bytes ≡ g.B.OutsideBytes.faults l.fn.bytes;
   out_steady : g.O.Sink.faults l.out ≡ g.O.Sink.faults l.fn.out;
-  stands : IfAllTold (g.I.Inputs.told l.fn.inputs) (map string_bytes l.fn.files)
+  stands : g.B.OutsideBytes.tells → IfAllTold (g.I.Inputs.told l.fn.inputs) (map string_bytes l.fn.files)
       (λ files. Redirected (pieces_spelled l.version (g.E.Known.base l.known) l.path l.offset (seen_cells files (g.E.Known.base l.known) (cells_between l.from l.len l.contents))) l.version (g.E.Known.base l.known)
       (byte_in (g.B.OutsideBytes.held l.fn.bytes) files) l.contents l.path (l.offset + l.done) l.plan-iterator (g.O.Sink.taken l.fn.out) (g.O.Sink.taken l.out) l.fn.pending l.pending);
 }

@@ -5,7 +5,7 @@ use Rattle.composer.proofs.Starting.{starts, starts_had, starts_there}
 use Rattle.composer.proofs.whole.compose_over.Goals as goal
 
 pub write_files-requires-clause-start : goal.write_files-requires-clause-start
-write_files-requires-clause-start g c = starts _ (map string_bytes c.args.files.now) (g.E.Known.base c.args.known.now) c.args.survey.now c.args.core c.new-composer.result c.new-composer.ensures.start c.requires.traced
+write_files-requires-clause-start g c tells = starts _ (map string_bytes c.args.files.now) (g.E.Known.base c.args.known.now) c.args.survey.now c.args.core c.new-composer.result c.new-composer.ensures.start (c.requires.traced tells)
 
 pub write_files-requires-clause-had : goal.write_files-requires-clause-had
 write_files-requires-clause-had g c = starts_had (length c.args.files.now) (g.E.Known.base c.args.known.now) c.args.core c.new-composer.result c.new-composer.ensures.start c.requires.had

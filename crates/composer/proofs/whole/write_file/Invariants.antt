@@ -5,17 +5,18 @@ use Rattle.send_model.specs.Lengths.{limit}
 use Rattle.sx_base.specs.Calls.{IfAllTold}
 use Rattle.cmd_reader.specs.Places.{IfTold}
 use Rattle.cmd_reader.specs.Left.{HasAhead}
-use Rattle.clone_pieces.specs.Origins.{IsHad}
+use Rattle.clone_pieces.specs.Origins.{IsHad, AreAsLong}
 use Rattle.send_model.specs.Cells.{AllCells}
 use Rattle.composer.specs.Files.{plan_with}
-use Rattle.composer.proofs.FileWriting.{EndsAlike, Stands}
+use Rattle.composer.proofs.FileWriting.{EndsAlike, InFiles, Stands}
 use Rattle.composer.proofs.whole.write_file.Given as goal
 
 -- The items that were read were taken, the inputs tell the same files, what is held of the base is the same, and no count rose.
 abbrev pub invariant-loop-reader : goal.invariant-loop-reader
 invariant-loop-reader g l = record {
   same : g.I.Inputs.told l.inputs ≡ g.I.Inputs.told l.fn.inputs;
-  held : g.B.OutsideBytes.held l.bytes ≡ g.B.OutsideBytes.held l.fn.bytes;
+  sizes : AreAsLong (g.B.OutsideBytes.held l.bytes) (g.B.OutsideBytes.held l.fn.bytes);
+  held : g.B.OutsideBytes.tells → g.B.OutsideBytes.held l.bytes ≡ g.B.OutsideBytes.held l.fn.bytes;
   steady : g.I.Inputs.faults l.inputs ≡ g.I.Inputs.faults l.fn.inputs;
   ends_steady : g.I.Inputs.ends l.inputs ≡ g.I.Inputs.ends l.fn.inputs;
   bytes_steady : g.B.OutsideBytes.faults l.bytes ≡ g.B.OutsideBytes.faults l.fn.bytes;
@@ -23,7 +24,8 @@ invariant-loop-reader g l = record {
   file : l.reader.file ≡ l.fn.number + 1;
   name : l.reader.name ≡ get_or (map string_bytes l.fn.files) l.fn.number [];
   had : AllCells (IsHad (length l.fn.files) (g.E.Known.base l.fn.known)) l.composer.state;
-  stands : IfAllTold (g.I.Inputs.told l.fn.inputs) (map string_bytes l.fn.files) (λ files. Stands files (plan_with (g.E.Known.base l.fn.known) l.fn.survey) (l.fn.number + 1) l.fn.composer (g.O.Sink.taken l.fn.out) l.reader l.composer (g.O.Sink.taken l.out) l.fn.before l.place (get_or files l.fn.number []));
+  there : IfAllTold (g.I.Inputs.told l.fn.inputs) (map string_bytes l.fn.files) (InFiles l.fn.number l.reader l.composer);
+  stands : g.B.OutsideBytes.tells → IfAllTold (g.I.Inputs.told l.fn.inputs) (map string_bytes l.fn.files) (λ files. Stands files (plan_with (g.E.Known.base l.fn.known) l.fn.survey) (l.fn.number + 1) l.fn.composer (g.O.Sink.taken l.fn.out) l.reader l.composer (g.O.Sink.taken l.out) l.fn.before l.place (get_or files l.fn.number []));
   alike : IfTold (g.I.Inputs.told l.inputs) l.reader.name (EndsAlike (l.fn.number + 1) l.reader);
   ahead : IfTold (g.I.Inputs.told l.inputs) l.reader.name (HasAhead l.reader);
 }

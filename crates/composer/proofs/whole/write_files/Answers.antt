@@ -4,36 +4,38 @@ use Rattle.std.proofs.Common.{refl, sym, ◌∙◌, arith}
 use Rattle.clone_pieces.specs.Origins.{IsInInput}
 use Rattle.send_model.specs.Cells.{AllCells}
 use Rattle.composer.specs.Files.{plan_with}
+use Rattle.clone_pieces.proofs.Lengths.{long_then}
 use Rattle.clone_pieces.proofs.Told.{told_moved}
-use Rattle.composer.proofs.FilesWriting.{files_start, files_there, files_after, begun, files_stopped, files_empty, files_ended}
-use Rattle.composer.proofs.HandedOn.{answer_is, end_caused, end_unchanged, handed_steady, handed_stops}
+use Rattle.composer.proofs.FilesWriting.{files_start, files_after, begun, files_stopped, files_empty, files_ended}
+use Rattle.composer.proofs.HandedOn.{answer_is, end_caused, end_unchanged, handed_stops}
 use Rattle.composer.proofs.whole.write_files.Goals as goal
 
 pub loop-file-init : goal.loop-file-init
 loop-file-init g c = record {
   within = omega (arith);
   same = refl;
-  held = refl;
+  sizes = λ key ino. refl;
+  held = λ tells. refl;
   steady = refl;
   ends_steady = refl;
   bytes_steady = refl;
   out_steady = refl;
   had = c.requires.had;
-  stand = files_start (g.I.Inputs.told c.args.inputs.now) (map string_bytes c.args.files.now) (plan_with (g.E.Known.base c.args.known.now) c.args.survey.now) c.args.composer.now (g.O.Sink.taken c.args.out.now) c.start-place.result c.requires.there;
+  there = c.requires.there;
+  stand = λ tells. files_start (g.I.Inputs.told c.args.inputs.now) (map string_bytes c.args.files.now) (plan_with (g.E.Known.base c.args.known.now) c.args.survey.now) c.args.composer.now (g.O.Sink.taken c.args.out.now) c.start-place.result;
 }
 
 pub write_file-requires-clause-there : goal.write_file-requires-clause-there
 write_file-requires-clause-there g c =
     let i = c.loop-file.invariant in
-    told_moved (g.I.Inputs.told c.loop-file.inputs) (g.I.Inputs.told c.args.inputs.now) (map string_bytes c.args.files.now) (λ files. AllCells (IsInInput files) c.loop-file.composer.state) (sym i.same)
-    (files_there (g.I.Inputs.told c.args.inputs.now) (map string_bytes c.args.files.now) (plan_with (g.E.Known.base c.args.known.now) c.args.survey.now) c.args.composer.now _ c.loop-file.file c.loop-file.composer _ c.start-place.result c.loop-file.place i.stand)
+    told_moved (g.I.Inputs.told c.loop-file.inputs) (g.I.Inputs.told c.args.inputs.now) (map string_bytes c.args.files.now) (λ files. AllCells (IsInInput files) c.loop-file.composer.state) (sym i.same) i.there
 
 pub returns-in-Err-clause-ends : goal.returns-in-Err-clause-ends
-returns-in-Err-clause-ends g c =
+returns-in-Err-clause-ends g c tells =
     let i = c.loop-file.invariant in
     files_stopped _ _ c.args.files.now (g.E.Known.base c.args.known.now) c.args.survey.now c.args.composer.now _ c.loop-file.file c.loop-file.composer _ _ c.start-place.result c.loop-file.place c.in-Err.outcome
-    i.same c.loop-file-test.true (begun _ (map string_bytes c.args.files.now) (g.E.Known.base c.args.known.now) c.args.survey.now c.args.composer.now c.requires.apart c.requires.sayable c.requires.surveyed c.requires.start)
-    c.in-Err.ensures.wrote i.stand
+    i.same c.loop-file-test.true (begun _ (map string_bytes c.args.files.now) (g.E.Known.base c.args.known.now) c.args.survey.now c.args.composer.now c.requires.apart (c.requires.sayable tells) c.requires.surveyed (c.requires.start tells))
+    (c.in-Err.ensures.wrote tells) (i.stand tells)
 
 pub loop-file-preserved : goal.loop-file-preserved
 loop-file-preserved g c =
@@ -42,27 +44,29 @@ loop-file-preserved g c =
     record {
       within = omega (arith, c.loop-file-test.true);
       same = e.same ∙ i.same;
-      held = e.held ∙ i.held;
+      sizes = long_then _ _ _ e.sizes i.sizes;
+      held = λ tells. e.held tells ∙ i.held tells;
       steady = e.steady ∙ i.steady;
       ends_steady = e.ends_steady ∙ i.ends_steady;
       bytes_steady = e.bytes_steady ∙ i.bytes_steady;
       out_steady = e.out_steady ∙ i.out_steady;
       had = e.had;
-      stand = files_after _ _ c.args.files.now (plan_with (g.E.Known.base c.args.known.now) c.args.survey.now) c.args.composer.now _ c.loop-file.file c.loop-file.composer c.write_file.new.composer _ _ c.start-place.result c.loop-file.place c.in-Ok.place
-          i.same c.loop-file-test.true e.wrote i.stand;
+      there = told_moved (g.I.Inputs.told c.args.inputs.now) (g.I.Inputs.told c.loop-file.inputs) (map string_bytes c.args.files.now) (λ files. AllCells (IsInInput files) c.write_file.new.composer.state) i.same e.there;
+      stand = λ tells. files_after _ _ c.args.files.now (plan_with (g.E.Known.base c.args.known.now) c.args.survey.now) c.args.composer.now _ c.loop-file.file c.loop-file.composer c.write_file.new.composer _ _ c.start-place.result c.loop-file.place c.in-Ok.place
+          i.same c.loop-file-test.true (e.wrote tells) (i.stand tells);
     }
 
 pub returns-then-not-is_at_last-clause-ends : goal.returns-then-not-is_at_last-clause-ends
-returns-then-not-is_at_last-clause-ends g c =
+returns-then-not-is_at_last-clause-ends g c tells =
     files_empty _ c.args.files.now (g.E.Known.base c.args.known.now) c.args.survey.now c.args.composer.now _ c.loop-file.file c.loop-file.composer _ c.start-place.result c.loop-file.place c.refused.result
     c.requires.some (omega (arith, c.loop-file-test.false)) (sym c.is_at_last.ensures.last ∙ c.if-not-is_at_last.true) c.refused.ensures.verdict
-    (begun _ (map string_bytes c.args.files.now) (g.E.Known.base c.args.known.now) c.args.survey.now c.args.composer.now c.requires.apart c.requires.sayable c.requires.surveyed c.requires.start) c.loop-file.invariant.stand
+    (begun _ (map string_bytes c.args.files.now) (g.E.Known.base c.args.known.now) c.args.survey.now c.args.composer.now c.requires.apart (c.requires.sayable tells) c.requires.surveyed (c.requires.start tells)) (c.loop-file.invariant.stand tells)
 
 pub returns-clause-ends : goal.returns-clause-ends
-returns-clause-ends g c =
+returns-clause-ends g c tells =
     files_ended _ c.args.files.now (g.E.Known.base c.args.known.now) c.args.survey.now c.args.composer.now _ c.loop-file.file c.loop-file.composer _ _ c.start-place.result c.loop-file.place c.version.result _ _ c.end.result c.map_err.result
     c.requires.some (omega (arith, c.loop-file-test.false)) (sym c.is_at_last.ensures.last ∙ c.if-not-is_at_last.false) c.version.ensures.version c.end.ensures.ended (answer_is c.end.result c.map_err.result c.map_err.ensures.cases)
-    (begun _ (map string_bytes c.args.files.now) (g.E.Known.base c.args.known.now) c.args.survey.now c.args.composer.now c.requires.apart c.requires.sayable c.requires.surveyed c.requires.start) c.loop-file.invariant.stand
+    (begun _ (map string_bytes c.args.files.now) (g.E.Known.base c.args.known.now) c.args.survey.now c.args.composer.now c.requires.apart (c.requires.sayable tells) c.requires.surveyed (c.requires.start tells)) (c.loop-file.invariant.stand tells)
 
 pub returns-clause-cause : goal.returns-clause-cause
 returns-clause-cause g c = end_caused _ _ _ _ _ _ _ _ _ _ c.end.result c.map_err.result (answer_is c.end.result c.map_err.result c.map_err.ensures.cases) (omega (arith, c.loop-file.invariant.out_steady)) c.end.ensures.ended

@@ -2,7 +2,7 @@ use Rattle.std.specs.Prelude.{map}
 use Rattle.std.specs.String.{string_bytes}
 use Rattle.std.proofs.Common.{◌≡◌, ◌≤◌, ◌-◌, length}
 use Rattle.sx_base.specs.Calls.{IfAllTold}
-use Rattle.clone_pieces.specs.Origins.{IsHad}
+use Rattle.clone_pieces.specs.Origins.{IsHad, IsInInput, AreAsLong}
 use Rattle.send_model.specs.Cells.{AllCells}
 use Rattle.composer.specs.Files.{plan_with}
 use Rattle.composer.proofs.FilesWriting.{FilesStand}
@@ -13,13 +13,15 @@ abbrev pub invariant-loop-file : goal.invariant-loop-file
 invariant-loop-file g l = record {
   within : l.file ≤ length l.fn.files;
   same : g.I.Inputs.told l.inputs ≡ g.I.Inputs.told l.fn.inputs;
-  held : g.B.OutsideBytes.held l.bytes ≡ g.B.OutsideBytes.held l.fn.bytes;
+  sizes : AreAsLong (g.B.OutsideBytes.held l.bytes) (g.B.OutsideBytes.held l.fn.bytes);
+  held : g.B.OutsideBytes.tells → g.B.OutsideBytes.held l.bytes ≡ g.B.OutsideBytes.held l.fn.bytes;
   steady : g.I.Inputs.faults l.inputs ≡ g.I.Inputs.faults l.fn.inputs;
   ends_steady : g.I.Inputs.ends l.inputs ≡ g.I.Inputs.ends l.fn.inputs;
   bytes_steady : g.B.OutsideBytes.faults l.bytes ≡ g.B.OutsideBytes.faults l.fn.bytes;
   out_steady : g.O.Sink.faults l.out ≡ g.O.Sink.faults l.fn.out;
   had : AllCells (IsHad (length l.fn.files) (g.E.Known.base l.fn.known)) l.composer.state;
-  stand : IfAllTold (g.I.Inputs.told l.fn.inputs) (map string_bytes l.fn.files) (FilesStand (plan_with (g.E.Known.base l.fn.known) l.fn.survey) l.fn.composer (g.O.Sink.taken l.fn.out) l.file l.composer (g.O.Sink.taken l.out) l.initial.place l.place);
+  there : IfAllTold (g.I.Inputs.told l.fn.inputs) (map string_bytes l.fn.files) (λ files. AllCells (IsInInput files) l.composer.state);
+  stand : g.B.OutsideBytes.tells → IfAllTold (g.I.Inputs.told l.fn.inputs) (map string_bytes l.fn.files) (FilesStand (plan_with (g.E.Known.base l.fn.known) l.fn.survey) l.fn.composer (g.O.Sink.taken l.fn.out) l.file l.composer (g.O.Sink.taken l.out) l.initial.place l.place);
 }
 
 abbrev pub decreases-loop-file : goal.decreases-loop-file

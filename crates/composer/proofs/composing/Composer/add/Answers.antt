@@ -32,7 +32,7 @@ add_own-requires g c =
     }
 
 pub returns-then-is_own-clause-added : goal.returns-then-is_own-clause-added
-returns-then-is_own-clause-added g c =
+returns-then-is_own-clause-added g c tells =
     let C : List ℕ → List ℕ → Command = λ p q. Clone p c.in-Clone.offset c.in-Clone.clone_uuid c.in-Clone.clone_ctransid q c.in-Clone.clone_offset c.in-Clone.clone_len in
     let is : meaning_of c.args.item.now.command ≡ C c.as_slice.result.now c.as_slice-in-Clone.result.now = ap meaning_of c.in-Clone.is ∙ ap₂ C (sym c.as_slice.ensures.bytes) (sym c.as_slice-in-Clone.ensures.bytes) in
     all_always (g.I.Inputs.told c.args.inputs.now) (map string_bytes c.args.files.now) _ (λ told.
@@ -57,7 +57,7 @@ put_item-requires-clause-short g c =
     (later_writable c.args.item.now.version c.version.result (meaning_of c.args.item.now.command) c.requires.can_write c.version.ensures.known (omega (arith, c.requires.fits, c.version.ensures.version))).1
 
 pub returns-then-not-has_part-clause-added : goal.returns-then-not-has_part-clause-added
-returns-then-not-has_part-clause-added g c =
+returns-then-not-has_part-clause-added g c tells =
     let C : List ℕ → List ℕ → Command = λ p q. Clone p c.in-Clone.offset c.in-Clone.clone_uuid c.in-Clone.clone_ctransid q c.in-Clone.clone_offset c.in-Clone.clone_len in
     let is : meaning_of c.args.item.now.command ≡ C c.in-Clone.path c.in-Clone.clone_path = ap meaning_of c.in-Clone.is in
     let new : Kept = record (the_view c.self-in-Clone.inside) { pending = c.put_item.new.pending } in
@@ -103,13 +103,13 @@ put_item-requires-in_default g c =
     record { frame = c.requires.frame; writable = w.0; short = w.1 }
 
 pub returns-in-End-clause-added : goal.returns-in-End-clause-added
-returns-in-End-clause-added g c =
+returns-in-End-clause-added g c tells =
     all_always (g.I.Inputs.told c.args.inputs.now) (map string_bytes c.args.files.now) _ (λ told.
     subst (λ (m : Command). AddEnd told (g.E.Known.base c.args.known.now) c.args.survey.now (key_of c.args.last) c.args.self.now c.args.self.now m (g.O.Sink.taken c.args.out.now) (g.O.Sink.taken c.args.out.now) (Ok tt)) (sym (ap meaning_of c.in-End.is))
     (end_adds told (g.E.Known.base c.args.known.now) c.args.survey.now (key_of c.args.last) c.args.self.now (g.O.Sink.taken c.args.out.now) (subst (λ (k : Kept). k.sum ≤ most_literal) c.self.view_is c.self.invariant.1)))
 
 pub returns-else-not-has_part-clause-added : goal.returns-else-not-has_part-clause-added
-returns-else-not-has_part-clause-added g c =
+returns-else-not-has_part-clause-added g c tells =
     let C : List ℕ → List ℕ → Command = λ p q. Clone p c.in-Clone.offset c.in-Clone.clone_uuid c.in-Clone.clone_ctransid q c.in-Clone.clone_offset c.in-Clone.clone_len in
     let is : meaning_of c.args.item.now.command ≡ C c.as_slice.result.now c.as_slice-in-Clone.result.now = ap meaning_of c.in-Clone.is ∙ ap₂ C (sym c.as_slice.ensures.bytes) (sym c.as_slice-in-Clone.ensures.bytes) in
     let P : List (List ℕ) → Type 0 = λ told. (cells : List (Option Trace)) → IsSourceOf cells c.args.self.now.state (key_of (record { uuid = c.in-Clone.clone_uuid; ctransid = c.in-Clone.clone_ctransid })) c.as_slice-in-Clone.result.now
@@ -120,7 +120,7 @@ returns-else-not-has_part-clause-added g c =
     subst (λ (m : Command). AddEnd told (g.E.Known.base c.args.known.now) c.args.survey.now (key_of c.args.last) c.args.self.now c.add_redirected.new.self m (g.O.Sink.taken c.args.out.now) (g.O.Sink.taken c.add_redirected.new.out) c.add_redirected.result) (sym is)
     (redirected_adds told (g.E.Known.base c.args.known.now) c.args.survey.now (key_of c.args.last) c.args.self.now c.add_redirected.new.self (g.O.Sink.taken c.args.out.now) (g.O.Sink.taken c.add_redirected.new.out)
     c.as_slice.result.now c.in-Clone.offset c.in-Clone.clone_uuid c.in-Clone.clone_ctransid c.as_slice-in-Clone.result.now c.in-Clone.clone_offset c.in-Clone.clone_len
-    c.add_redirected.result (sym c.is_own.ensures ∙ c.if-is_own.false) (sym c.has_part.ensures ∙ c.if-not-has_part.false) adds)) c.add_redirected.ensures.added
+    c.add_redirected.result (sym c.is_own.ensures ∙ c.if-is_own.false) (sym c.has_part.ensures ∙ c.if-not-has_part.false) adds)) (c.add_redirected.ensures.added tells)
 
 pub returns-in_default : goal.returns-in_default
 returns-in_default g c =
@@ -130,7 +130,8 @@ returns-in_default g c =
       state = ap (λ (k : Kept). k.state) c.self-in_default.view_is;
       latest = ap (λ (k : Kept). k.latest) c.self-in_default.view_is;
       same = refl;
-      held = refl;
+      sizes = λ key ino. refl;
+      held = λ tells. refl;
       later = omega arith;
       ends_later = omega arith;
       bytes_later = omega arith;
@@ -142,7 +143,7 @@ returns-in_default g c =
       stops = handed_stops c.put_item-in_default.result c.map_err-in_default.result answered;
       cause = put_caused _ _ _ _ _ _ _ _ _ _ _ c.put_item-in_default.result c.map_err-in_default.result answered c.put_item-in_default.ensures.put;
       changed = put_unchanged _ _ _ _ _ _ _ _ _ c.put_item-in_default.result c.map_err-in_default.result answered c.put_item-in_default.ensures.put;
-      added = all_always (g.I.Inputs.told c.args.inputs.now) (map string_bytes c.args.files.now) _ (λ told.
+      added = λ tells. all_always (g.I.Inputs.told c.args.inputs.now) (map string_bytes c.args.files.now) _ (λ told.
           plain_adds told (g.E.Known.base c.args.known.now) c.args.survey.now (key_of c.args.last) c.args.self.now new (meaning_of c.args.item.now.command) (g.O.Sink.taken c.args.out.now) (g.O.Sink.taken c.put_item-in_default.new.out)
           (g.O.Sink.faults c.args.out.now) (g.O.Sink.faults c.put_item-in_default.new.out) c.put_item-in_default.result c.map_err-in_default.result answered (plain_of c.args.item.now.command c.requires.edit c.in_default.not-End c.in_default.not-Clone)
           (subst (λ (v : ℕ). PutEnd (g.O.Sink.taken c.args.out.now) (g.O.Sink.taken c.put_item-in_default.new.out) c.args.self.now.pending c.put_item-in_default.new.pending (canonical v (meaning_of c.args.item.now.command)) (g.O.Sink.faults c.args.out.now) (g.O.Sink.faults c.put_item-in_default.new.out) c.put_item-in_default.result) c.version-in_default.ensures.version

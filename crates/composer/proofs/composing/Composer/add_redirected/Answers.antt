@@ -17,7 +17,7 @@ use Rattle.composer.proofs.HandedOn.{answer_is, redirect_caused, redirect_change
 use Rattle.composer.proofs.composing.Composer.add_redirected.Goals as goal
 
 pub returns-then-sum-gt-MOST_LITERAL-clause-added : goal.returns-then-sum-gt-MOST_LITERAL-clause-added
-returns-then-sum-gt-MOST_LITERAL-clause-added g c =
+returns-then-sum-gt-MOST_LITERAL-clause-added g c tells =
     all_always (g.I.Inputs.told c.args.inputs.now) (map string_bytes c.args.files.now) _ (λ told cells s.
     source_exceeds told (g.E.Known.base c.args.known.now) c.args.survey.now.version c.args.range.now.path.now c.args.range.now.offset c.args.range.now.from c.args.range.now.len c.in-Some.contents.now cells
     c.uncarried.result (c.self.inside.sum + c.uncarried.result) c.args.self.now (record (the_view c.self.inside) { pending = c.ended.new.pending }) (g.O.Sink.taken c.args.out.now) (g.O.Sink.taken c.ended.new.out) (g.O.Sink.faults c.args.out.now) (g.O.Sink.faults c.ended.new.out) c.ended.result
@@ -42,7 +42,7 @@ redirect-requires-clause-there g c =
     there) c.requires.there
 
 pub returns-clause-added : goal.returns-clause-added
-returns-clause-added g c =
+returns-clause-added g c tells =
     let E : ℕ → Kept → List (List ℕ) → Type 0 = λ version k told. RedirectEnd (g.O.Sink.taken c.args.out.now) (g.O.Sink.taken c.redirect.new.out) k.pending c.redirect.new.pending
     (pieces_spelled version (g.E.Known.base c.args.known.now) c.args.range.now.path.now c.args.range.now.offset (seen_cells told (g.E.Known.base c.args.known.now) (cells_between c.args.range.now.from c.args.range.now.len c.in-Some.contents.now))) c.redirect.result in
     all_map (g.I.Inputs.told c.args.inputs.now) (map string_bytes c.args.files.now) (E c.version.result (the_view c.self.inside)) _ (λ told end cells s.
@@ -51,7 +51,7 @@ returns-clause-added g c =
     (source_cells c.in-Some.contents.now cells c.args.self.now.state (key_of c.args.range.now.source) c.args.range.now.source_path.now
     (λ source at f w file. c.in-Some.ensures source at (ap (λ (k : Kept). find k.state.store (key_of c.args.range.now.source)) c.self.view_is ∙ f) w file) s)
     c.uncarried.ensures.count (ap (λ (k : Kept). k.sum + c.uncarried.result) c.self.view_is) (omega (arith, c.if-sum-gt-MOST_LITERAL.false)) refl
-    (subst (λ (k : Kept). E c.args.survey.now.version k told) c.self.view_is (subst (λ (v : ℕ). E v (the_view c.self.inside) told) c.version.ensures.version end))) c.redirect.ensures.redirected
+    (subst (λ (k : Kept). E c.args.survey.now.version k told) c.self.view_is (subst (λ (v : ℕ). E v (the_view c.self.inside) told) c.version.ensures.version end))) (c.redirect.ensures.redirected tells)
 
 pub returns-clause-cause : goal.returns-clause-cause
 returns-clause-cause g c = redirect_caused _ _ _ _ _ _ c.redirect.result c.map_err.result (answer_is c.redirect.result c.map_err.result c.map_err.ensures.cases) c.redirect.ensures.cause

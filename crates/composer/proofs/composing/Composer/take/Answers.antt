@@ -30,11 +30,11 @@ use Rattle.composer.proofs.TakingItems.{stepped_seen, refused_ends, step_refused
 use Rattle.composer.proofs.composing.Composer.take.Goals as goal
 
 pub returns-in-Err-NoMemory-clause-taken : goal.returns-in-Err-NoMemory-clause-taken
-returns-in-Err-NoMemory-clause-taken g c =
+returns-in-Err-NoMemory-clause-taken g c tells =
     all_always (g.I.Inputs.told c.args.inputs.now) (map string_bytes c.args.files.now) _ (λ told. no_memory told (plan_with (g.E.Known.base c.args.known.now) c.args.survey.now) c.args.self.now c.args.self.now (item_of c.args.file c.args.item.now) (g.O.Sink.taken c.args.out.now))
 
 pub returns-in-Err-Refused-clause-taken : goal.returns-in-Err-Refused-clause-taken
-returns-in-Err-Refused-clause-taken g c =
+returns-in-Err-Refused-clause-taken g c tells =
     all_map (g.I.Inputs.told c.args.inputs.now) (map string_bytes c.args.files.now) (λ told. AllCells (IsInInput told) c.args.self.now.state × DataStand told (item_of c.args.file c.args.item.now)) _ (λ told there.
     subst (λ (k : Kept). ItemEnd told (plan_with (g.E.Known.base c.args.known.now) c.args.survey.now) k k (item_of c.args.file c.args.item.now) (g.O.Sink.taken c.args.out.now) (g.O.Sink.taken c.refused.new.out) (Err c.refused.result)) c.self.view_is
     (refused_ends told (plan_with (g.E.Known.base c.args.known.now) c.args.survey.now) (the_view c.self.inside) (the_view c.self.inside) (item_of c.args.file c.args.item.now) (refusal_of c.in-Err-Refused.refusal) c.refused.ensures.refused.0 c.refused.result (g.O.Sink.taken c.args.out.now) (g.O.Sink.taken c.refused.new.out) (g.O.Sink.faults c.args.out.now) (g.O.Sink.faults c.refused.new.out)
@@ -44,7 +44,7 @@ returns-in-Err-Refused-clause-taken g c =
     c.refused.ensures.refused.1 c.refused.ensures.refused.2)) c.requires.there
 
 pub returns-then-not-in_order-clause-taken : goal.returns-then-not-in_order-clause-taken
-returns-then-not-in_order-clause-taken g c =
+returns-then-not-in_order-clause-taken g c tells =
     let order = c.in_order.ensures c.in-Some.head.name.now c.in-Some.head.key in
     all_map (g.I.Inputs.told c.args.inputs.now) (map string_bytes c.args.files.now) (λ told. AllCells (IsInInput told) c.args.self.now.state × DataStand told (item_of c.args.file c.args.item.now)) _ (λ told there.
     subst (λ (k : Kept). ItemEnd told (plan_with (g.E.Known.base c.args.known.now) c.args.survey.now) k k (item_of c.args.file c.args.item.now) (g.O.Sink.taken c.args.out.now) (g.O.Sink.taken c.refused-then-not-in_order.new.out) (Err c.refused-then-not-in_order.result)) c.self.view_is
@@ -62,18 +62,24 @@ returns-in-Ok-begin_part-clause-had g c =
     (put_had (length c.args.files.now) (g.E.Known.base c.args.known.now) (c.args.file - 1) c.args.item.now.data_at (meaning_of c.args.item.now.command) (omega (arith, c.requires.numbered.0, c.requires.numbered.1)))
     (subst (λ (k : Kept). AllCells (IsHad (length c.args.files.now) (g.E.Known.base c.args.known.now)) k.state) (sym c.self.view_is) c.requires.had) c.in-Ok.ensures.stepped)
 
+pub returns-in-Ok-begin_part-clause-there : goal.returns-in-Ok-begin_part-clause-there
+returns-in-Ok-begin_part-clause-there g c =
+    all_map (g.I.Inputs.told c.args.inputs.now) (map string_bytes c.args.files.now) (λ told. AllCells (IsInInput told) c.args.self.now.state × DataStand told (item_of c.args.file c.args.item.now)) _ (λ told there.
+    subst (λ (k : Kept). AllCells (IsInInput told) k.state) (sym (c.in-Ok-begin_part.ensures.begun (head_meant c.in-Some.head) (sym c.in-Some.ensures) refl))
+    (led_cells (IsInInput told) (cells_put advanced_by (Fresh (c.args.file - 1) c.args.item.now.data_at) (meaning_of c.args.item.now.command)) (the_view c.self.inside).state (record { store = c.step.new.self; part = c.step.new.part }) (meaning_of c.args.item.now.command) tt (put_there told (item_of c.args.file c.args.item.now) there.1)
+    (subst (λ (k : Kept). AllCells (IsInInput told) k.state) (sym c.self.view_is) there.0) c.in-Ok.ensures.stepped)) c.requires.there
+
 pub returns-in-Ok-begin_part-clause-taken : goal.returns-in-Ok-begin_part-clause-taken
-returns-in-Ok-begin_part-clause-taken g c =
+returns-in-Ok-begin_part-clause-taken g c tells =
     let order = c.in_order.ensures c.in-Some.head.name.now c.in-Some.head.key in
     all_map (g.I.Inputs.told c.args.inputs.now) (map string_bytes c.args.files.now) (λ told. AllCells (IsInInput told) c.args.self.now.state × DataStand told (item_of c.args.file c.args.item.now)) _ (λ told there.
     subst (λ (k : Kept). ItemEnd told (plan_with (g.E.Known.base c.args.known.now) c.args.survey.now) k c.begin_part.new.self (item_of c.args.file c.args.item.now) (g.O.Sink.taken c.args.out.now) (g.O.Sink.taken c.args.out.now) (Ok tt)) c.self.view_is
     (head_taken told (g.E.Known.base c.args.known.now) c.args.survey.now (the_view c.self.inside) c.begin_part.new.self (record { store = c.step.new.self; part = c.step.new.part }) (item_of c.args.file c.args.item.now) (head_meant c.in-Some.head) (g.O.Sink.taken c.args.out.now) (sym c.in-Some.ensures) (not_true _ (sym order ∙ c.if-not-in_order.false)) c.self.invariant.1
-    (stepped_seen {A = Done} (Ok c.in-Ok.field-0) told (g.E.Known.base c.args.known.now) (the_view c.self.inside).state (record { store = c.step.new.self; part = c.step.new.part }) (item_of c.args.file c.args.item.now) there.1 c.in-Ok.ensures.stepped) (led_cells (IsInInput told) (cells_put advanced_by (Fresh (c.args.file - 1) c.args.item.now.data_at) (meaning_of c.args.item.now.command)) (the_view c.self.inside).state (record { store = c.step.new.self; part = c.step.new.part }) (meaning_of c.args.item.now.command) tt (put_there told (item_of c.args.file c.args.item.now) there.1)
-    (subst (λ (k : Kept). AllCells (IsInInput told) k.state) (sym c.self.view_is) there.0) c.in-Ok.ensures.stepped)
+    (stepped_seen {A = Done} (Ok c.in-Ok.field-0) told (g.E.Known.base c.args.known.now) (the_view c.self.inside).state (record { store = c.step.new.self; part = c.step.new.part }) (item_of c.args.file c.args.item.now) there.1 c.in-Ok.ensures.stepped)
     (c.in-Ok-begin_part.ensures.begun (head_meant c.in-Some.head) (sym c.in-Some.ensures) refl))) c.requires.there
 
 pub returns-in-Err-clause-taken : goal.returns-in-Err-clause-taken
-returns-in-Err-clause-taken g c =
+returns-in-Err-clause-taken g c tells =
     all_always (g.I.Inputs.told c.args.inputs.now) (map string_bytes c.args.files.now) _ (λ told. no_memory told (plan_with (g.E.Known.base c.args.known.now) c.args.survey.now) c.args.self.now c.args.self.now (item_of c.args.file c.args.item.now) (g.O.Sink.taken c.args.out.now))
 
 pub returns-in_default-last-clause-had : goal.returns-in_default-last-clause-had
@@ -82,16 +88,20 @@ returns-in_default-last-clause-had g c =
     (put_had (length c.args.files.now) (g.E.Known.base c.args.known.now) (c.args.file - 1) c.args.item.now.data_at (meaning_of c.args.item.now.command) (omega (arith, c.requires.numbered.0, c.requires.numbered.1)))
     (subst (λ (k : Kept). AllCells (IsHad (length c.args.files.now) (g.E.Known.base c.args.known.now)) k.state) (sym c.self.view_is) c.requires.had) c.in-Ok.ensures.stepped
 
+pub returns-in_default-last-clause-there : goal.returns-in_default-last-clause-there
+returns-in_default-last-clause-there g c =
+    all_map (g.I.Inputs.told c.args.inputs.now) (map string_bytes c.args.files.now) (λ told. AllCells (IsInInput told) c.args.self.now.state × DataStand told (item_of c.args.file c.args.item.now)) _ (λ told there. (led_cells (IsInInput told) (cells_put advanced_by (Fresh (c.args.file - 1) c.args.item.now.data_at) (meaning_of c.args.item.now.command)) (the_view c.self.inside).state (record { store = c.step.new.self; part = c.step.new.part }) (meaning_of c.args.item.now.command) tt (put_there told (item_of c.args.file c.args.item.now) there.1)
+    (subst (λ (k : Kept). AllCells (IsInInput told) k.state) (sym c.self.view_is) there.0) c.in-Ok.ensures.stepped)) c.requires.there
+
 pub returns-in_default-last-clause-taken : goal.returns-in_default-last-clause-taken
-returns-in_default-last-clause-taken g c =
+returns-in_default-last-clause-taken g c tells =
     let no_head = is_none_of c.head_of.result c.in_default.not-Some in
     let no_last = is_none_of c.last.result c.in_default-last.not-Some in
     let edit : head_of (meaning_of c.args.item.now.command) ≡ None = sym c.head_of.ensures ∙ ap (option_map head_meant) no_head in
     all_map (g.I.Inputs.told c.args.inputs.now) (map string_bytes c.args.files.now) (λ told. AllCells (IsInInput told) c.args.self.now.state × DataStand told (item_of c.args.file c.args.item.now)) _ (λ told there.
     subst (λ (k : Kept). ItemEnd told (plan_with (g.E.Known.base c.args.known.now) c.args.survey.now) k (record (the_view c.self.inside) { state = (record { store = c.step.new.self; part = c.step.new.part }) }) (item_of c.args.file c.args.item.now) (g.O.Sink.taken c.args.out.now) (g.O.Sink.taken c.args.out.now) (Ok tt)) c.self.view_is
     (nothing_added told (g.E.Known.base c.args.known.now) c.args.survey.now (the_view c.self.inside) (record { store = c.step.new.self; part = c.step.new.part }) (item_of c.args.file c.args.item.now) (g.O.Sink.taken c.args.out.now) (sym c.last.ensures.last ∙ ap option_copied no_last) (subst (λ o. KnowsParts (option_copied o) c.args.survey.now.parts) no_last c.last.ensures.known) edit c.self.invariant.1
-    (stepped_seen {A = Done} (Ok c.in-Ok.field-0) told (g.E.Known.base c.args.known.now) (the_view c.self.inside).state (record { store = c.step.new.self; part = c.step.new.part }) (item_of c.args.file c.args.item.now) there.1 c.in-Ok.ensures.stepped) (led_cells (IsInInput told) (cells_put advanced_by (Fresh (c.args.file - 1) c.args.item.now.data_at) (meaning_of c.args.item.now.command)) (the_view c.self.inside).state (record { store = c.step.new.self; part = c.step.new.part }) (meaning_of c.args.item.now.command) tt (put_there told (item_of c.args.file c.args.item.now) there.1)
-    (subst (λ (k : Kept). AllCells (IsInInput told) k.state) (sym c.self.view_is) there.0) c.in-Ok.ensures.stepped))) c.requires.there
+    (stepped_seen {A = Done} (Ok c.in-Ok.field-0) told (g.E.Known.base c.args.known.now) (the_view c.self.inside).state (record { store = c.step.new.self; part = c.step.new.part }) (item_of c.args.file c.args.item.now) there.1 c.in-Ok.ensures.stepped))) c.requires.there
 
 pub add-requires-clause-had : goal.add-requires-clause-had
 add-requires-clause-had g c =
@@ -111,8 +121,14 @@ returns-clause-had g c =
     (put_had (length c.args.files.now) (g.E.Known.base c.args.known.now) (c.args.file - 1) c.args.item.now.data_at (meaning_of c.args.item.now.command) (omega (arith, c.requires.numbered.0, c.requires.numbered.1)))
     (subst (λ (k : Kept). AllCells (IsHad (length c.args.files.now) (g.E.Known.base c.args.known.now)) k.state) (sym c.self.view_is) c.requires.had) c.in-Ok.ensures.stepped))
 
+pub returns-clause-there : goal.returns-clause-there
+returns-clause-there g c =
+    on_ok c.add.result _ (all_map (g.I.Inputs.told c.args.inputs.now) (map string_bytes c.args.files.now) (λ told. AllCells (IsInInput told) c.args.self.now.state × DataStand told (item_of c.args.file c.args.item.now)) _ (λ told there.
+    subst (λ (s : State (Option Trace)). AllCells (IsInInput told) s) (sym c.add.ensures.state) (led_cells (IsInInput told) (cells_put advanced_by (Fresh (c.args.file - 1) c.args.item.now.data_at) (meaning_of c.args.item.now.command)) (the_view c.self.inside).state (record { store = c.step.new.self; part = c.step.new.part }) (meaning_of c.args.item.now.command) tt (put_there told (item_of c.args.file c.args.item.now) there.1)
+    (subst (λ (k : Kept). AllCells (IsInInput told) k.state) (sym c.self.view_is) there.0) c.in-Ok.ensures.stepped)) c.requires.there)
+
 pub returns-clause-taken : goal.returns-clause-taken
-returns-clause-taken g c =
+returns-clause-taken g c tells =
     let no_head = is_none_of c.head_of.result c.in_default.not-Some in
     let edit : head_of (meaning_of c.args.item.now.command) ≡ None = sym c.head_of.ensures ∙ ap (option_map head_meant) no_head in
     let mid : Kept = record (the_view c.self.inside) { state = (record { store = c.step.new.self; part = c.step.new.part }) } in
@@ -121,5 +137,4 @@ returns-clause-taken g c =
     (edit_ends told (g.E.Known.base c.args.known.now) c.args.survey.now c.in-Some-last.last.now (the_view c.self.inside) (record { store = c.step.new.self; part = c.step.new.part }) (cells_put advanced_by (Fresh (c.args.file - 1) c.args.item.now.data_at) (meaning_of c.args.item.now.command)) c.add.new.self (item_of c.args.file c.args.item.now) (g.O.Sink.taken c.args.out.now) (g.O.Sink.taken c.add.new.out) c.add.result
     (sym c.in-Some-last.ensures.last) edit c.in-Ok.ensures.stepped (stepped_seen {A = Done} (Ok c.in-Ok.field-0) told (g.E.Known.base c.args.known.now) (the_view c.self.inside).state (record { store = c.step.new.self; part = c.step.new.part }) (item_of c.args.file c.args.item.now) there.1 c.in-Ok.ensures.stepped)
     (subst (λ (key : Key). AddEnd told (g.E.Known.base c.args.known.now) c.args.survey.now key mid c.add.new.self (meaning_of c.args.item.now.command) (g.O.Sink.taken c.args.out.now) (g.O.Sink.taken c.add.new.out) c.add.result) c.key.ensures added)
-    c.add.ensures.state c.add.ensures.latest (led_cells (IsInInput told) (cells_put advanced_by (Fresh (c.args.file - 1) c.args.item.now.data_at) (meaning_of c.args.item.now.command)) (the_view c.self.inside).state (record { store = c.step.new.self; part = c.step.new.part }) (meaning_of c.args.item.now.command) tt (put_there told (item_of c.args.file c.args.item.now) there.1)
-    (subst (λ (k : Kept). AllCells (IsInInput told) k.state) (sym c.self.view_is) there.0) c.in-Ok.ensures.stepped))) c.requires.there c.add.ensures.added
+    c.add.ensures.state c.add.ensures.latest)) c.requires.there (c.add.ensures.added tells)

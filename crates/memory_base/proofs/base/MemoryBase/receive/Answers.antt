@@ -1,5 +1,5 @@
 use Rattle.std.specs.Prelude.{Err}
-use Rattle.std.proofs.Common.{refl, ap, subst, arith, ◌∙◌}
+use Rattle.std.proofs.Common.{refl, ap, subst, ◌∙◌}
 use Rattle.send_model.specs.Store.{step}
 use Rattle.send_model.specs.Receive.{bytes_of}
 use Rattle.sx_base.specs.Refusals.{refusal_of}
