@@ -1,18 +1,42 @@
 -- Text that is added part by part, and where that stops.
-use Rattle.std.specs.Prelude.{◌≡◌, ℕ, ◌≤◌, List, [], ◌∷◌, ◌++◌, Option, Result, Ok, Err, IsErrAnd, length, take}
+use Rattle.std.specs.Prelude.{◌≡◌, ℕ, ◌+◌, ◌<◌, List, [], ◌∷◌, ◌++◌, Option, Result, Ok, Err, IsErrAnd, length, take}
 use Rattle.std.specs.List.{flat_map}
-use Rattle.std.specs.Io.KnownBytes.{Appends}
-use Rattle.std.proofs.Common.{refl, sym, ap, subst, ◌∙◌, append_assoc, append-nil, inl, inr}
+use Rattle.std.proofs.Common.{sym, ap, subst, ◌∙◌, append_assoc, append-nil, length-append, length-take, arith, inl, inr}
 use Rattle.std.proofs.lemmas.Result.{err_from_is_err_and}
 use Rattle.std.proofs.KnownBytes.{Appends-nil, Appends-trans}
-use Rattle.send_model.specs.Headline.{IsFrontOf}
+use Rattle.send_model.specs.Headline.{IsFrontOf, IsProperFrontOf}
 use Rattle.send_model.proofs.Fronts.{part_front}
 use Rattle.sx_base.specs.Calls.{Wrote}
 use Rattle.sx_base.specs.Causes.{Rose}
 use Rattle.sx_base.specs.declared.outcome.Outcome.{Outcome}
 use Rattle.sx_base.specs.declared.outcome.Outcome.TheVariants as ended
 use Rattle.stream_dump.specs.Steps.{StopsWriting, EndsWith}
-use Rattle.tree_view.specs.Printing.{TextAdded, AddsText, Prints, PrintCaused}
+use Rattle.tree_view.specs.Printing.{TextAdded, IsCut, AddsText, Prints, PrintCaused}
+
+-- ---- front parts
+
+proper_part : (all sent text rest : List ℕ) (count : ℕ) → count < length text → all ≡ (sent ++ text) ++ rest → IsProperFrontOf all (sent ++ take count text)
+proper_part all sent text rest count less e =
+    let front : IsFrontOf all (sent ++ take count text) = part_front all sent text rest count e in
+    let whole : length all ≡ length sent + length text + length rest = ap length e ∙ length-append (sent ++ text) rest ∙ ap (λ (n : ℕ). n + length rest) (length-append sent text) in
+    let some : length (sent ++ take count text) ≡ length sent + length (take count text) = length-append sent (take count text) in
+    let own : length (sent ++ take count text) ≡ length (take front.count all) = ap length front.written_is in
+    record {
+      count = front.count;
+      within = omega (arith, less, whole, some, own, front.within, length-take count text, length-take front.count all);
+      written_is = front.written_is;
+    }
+
+-- What is cut off of some bytes is cut off of all, behind what was written before them.
+pub cut_part : (all sent text rest written : List ℕ) (outcome : Outcome) → all ≡ (sent ++ text) ++ rest → IsCut outcome text written → IsCut outcome all (sent ++ written)
+cut_part all sent text rest written ended.OutputFault e cut = subst (λ (w : List ℕ). IsProperFrontOf all (sent ++ w)) (sym cut.written_is) (proper_part all sent text rest cut.count cut.within e)
+cut_part all sent text rest written ended.NoMemory e cut = subst (λ (w : List ℕ). IsFrontOf all (sent ++ w)) (sym cut.written_is) (part_front all sent text rest cut.count e)
+cut_part all sent text rest written ended.Done e cut = absurd cut
+cut_part all sent text rest written (ended.Refused verdict) e cut = absurd cut
+cut_part all sent text rest written ended.InputFault e cut = absurd cut
+cut_part all sent text rest written (ended.InputTooLong file) e cut = absurd cut
+cut_part all sent text rest written (ended.TooMuch sum) e cut = absurd cut
+cut_part all sent text rest written (ended.InputChanged file place) e cut = absurd cut
 
 -- ---- two parts
 
@@ -30,8 +54,7 @@ added_then a b old mid new first then last x y = record {
 -- The first part stops.
 pub stops_early : (a b old new : List ℕ) (first last : Option (List ℕ)) (before now : ℕ) (outcome : Outcome) → AddsText a old new first last before now (Err outcome) → AddsText (a ++ b) old new first last before now (Err outcome)
 stops_early a b old new first last before now outcome (why, (written, appends, front)) =
-    let all : IsFrontOf (old ++ (a ++ b)) (take front.count (old ++ a)) = part_front (old ++ (a ++ b)) [] (old ++ a) b front.count (sym (append_assoc old a b)) in
-    (why, (written, appends, subst (λ (w : List ℕ). IsFrontOf (old ++ (a ++ b)) w) (sym front.written_is) all))
+    (why, (written, appends, cut_part (old ++ (a ++ b)) [] (old ++ a) b written outcome (sym (append_assoc old a b)) front))
 
 -- The same of a text that begins with it.
 pub stops_whole : (all part rest old new : List ℕ) (first last : Option (List ℕ)) (before now : ℕ) (outcome : Outcome) → part ++ rest ≡ all → AddsText part old new first last before now (Err outcome)
@@ -44,14 +67,9 @@ pub then_adds : (a b old mid new : List ℕ) (first then last : Option (List ℕ
     → AddsText b mid new then last now late result → AddsText (a ++ b) old new first last before late result
 then_adds a b old mid new first then last before now late (Ok done) x steady y = added_then a b old mid new first then last x y
 then_adds a b old mid new first then last before now late (Err outcome) x steady (why, (written, appends, front)) =
-    let same : (old ++ (a ++ b)) ≡ (x.sent ++ (mid ++ b)) ++ [] = sym (append_assoc old a b) ∙ ap (λ (l : List ℕ). l ++ b) (sym x.bytes_are) ∙ append_assoc x.sent mid b ∙ sym (append-nil (x.sent ++ (mid ++ b))) in
-    let all : IsFrontOf (old ++ (a ++ b)) (x.sent ++ take front.count (mid ++ b)) = part_front (old ++ (a ++ b)) x.sent (mid ++ b) [] front.count same in (
+    let same : (old ++ (a ++ b)) ≡ (x.sent ++ (mid ++ b)) ++ [] = sym (append_assoc old a b) ∙ ap (λ (l : List ℕ). l ++ b) (sym x.bytes_are) ∙ append_assoc x.sent mid b ∙ sym (append-nil (x.sent ++ (mid ++ b))) in (
       subst (λ (n : ℕ). StopsWriting n late outcome) steady why,
-      (
-        x.sent ++ written,
-        Appends-trans first then last x.sent written x.appends appends,
-        subst (λ (w : List ℕ). IsFrontOf (old ++ (a ++ b)) (x.sent ++ w)) (sym front.written_is) all,
-      ),
+      (x.sent ++ written, Appends-trans first then last x.sent written x.appends appends, cut_part (old ++ (a ++ b)) x.sent (mid ++ b) [] written outcome same front),
     )
 
 pub then_stops : (a b old mid new : List ℕ) (first then last : Option (List ℕ)) (before now late : ℕ) (outcome : Outcome) → TextAdded a old mid first then → now ≡ before
@@ -63,7 +81,7 @@ pub line_added : (text old mid new : List ℕ) (first last : Option (List ℕ)) 
     → AddsText text old new first last before now result
 line_added text old mid new first last before now (Ok done) is x = record { sent = x.sent; appends = x.appends; bytes_are = x.bytes_are ∙ append-nil mid ∙ is }
 line_added text old mid new first last before now (Err outcome) is (why, (written, appends, front)) =
-    (why, (written, appends, subst (λ (l : List ℕ). IsFrontOf l written) (append-nil mid ∙ is) front))
+    (why, (written, appends, subst (λ (l : List ℕ). IsCut outcome l written) (append-nil mid ∙ is) front))
 
 -- A stop that is handed on.
 pub handed_on : (text old new : List ℕ) (first last : Option (List ℕ)) (before now : ℕ) (answer : Result (Unit {0}) Outcome) (outcome : Outcome) → IsErrAnd answer (λ o. o ≡ outcome)
@@ -117,7 +135,7 @@ text_ends text start gathered first then last before now result none x (inr (is,
     subst (λ (o : Outcome). Wrote first last (Prints text o)) (sym is) (
       x.sent ++ take count gathered,
       Appends-trans first then last x.sent (take count gathered) x.appends appends,
-      part_front text x.sent gathered [] count (sym (ap (λ (l : List ℕ). l ++ text) none) ∙ sym x.bytes_are ∙ sym (append-nil (x.sent ++ gathered))),
+      proper_part text x.sent gathered [] count less (sym (ap (λ (l : List ℕ). l ++ text) none) ∙ sym x.bytes_are ∙ sym (append-nil (x.sent ++ gathered))),
     )
 
 pub text_caused : (gathered : List ℕ) (then last : Option (List ℕ)) (before now late : ℕ) (result : Outcome) → now ≡ before → EndsWith gathered ended.Done then last now late result → PrintCaused before late result

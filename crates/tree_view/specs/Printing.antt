@@ -6,7 +6,7 @@ use Rattle.send_model.specs.Map.{Map, value_at}
 use Rattle.send_model.specs.Store.{Key}
 use Rattle.send_model.specs.Answer.{and_field, and_number, line}
 use Rattle.send_model.specs.Printed.{escaped, uuid_text}
-use Rattle.send_model.specs.Headline.{IsFrontOf}
+use Rattle.send_model.specs.Headline.{IsFrontOf, IsProperFrontOf}
 use Rattle.sx_base.specs.Calls.{Wrote}
 use Rattle.sx_base.specs.Causes.{Rose}
 use Rattle.sx_base.specs.declared.outcome.Outcome.{Outcome}
@@ -21,18 +21,30 @@ pub record TextAdded (text old new : List ℕ) (taken_old taken_now : Option (Li
   pub appends : Appends taken_old taken_now sent
   pub bytes_are : sent ++ new ≡ old ++ text
 
+-- What is written of some bytes where printing ends so: a front part, and not all where the output failed.
+abbrev pub IsCut : Outcome → List ℕ → List ℕ → Type 0
+IsCut ended.OutputFault all written = IsProperFrontOf all written
+IsCut ended.NoMemory all written = IsFrontOf all written
+IsCut ended.Done all written = ⊥
+IsCut (ended.Refused verdict) all written = ⊥
+IsCut ended.InputFault all written = ⊥
+IsCut (ended.InputTooLong file) all written = ⊥
+IsCut (ended.TooMuch sum) all written = ⊥
+IsCut (ended.InputChanged file place) all written = ⊥
+
 -- So it is, or the output failed or there is no memory, and a front part of what was gathered with the text is written.
 abbrev pub AddsText : (text old new : List ℕ) (taken_old taken_now : Option (List ℕ)) (before now : ℕ) → Result (Unit {0}) Outcome → Type 0
 AddsText text old new taken_old taken_now before now (Ok done) = TextAdded text old new taken_old taken_now
-AddsText text old new taken_old taken_now before now (Err outcome) = StopsWriting before now outcome × Wrote taken_old taken_now (IsFrontOf (old ++ text))
+AddsText text old new taken_old taken_now before now (Err outcome) = StopsWriting before now outcome × Wrote taken_old taken_now (IsCut outcome (old ++ text))
 
 -- ---- how printing ends
 
--- All of the text is written, or a front part of it where the output failed or there was no memory. Printing ends in no other way.
+-- All of the text is written, or a front part of it where there was no memory, and not all of it where the output failed. Printing ends
+-- in no other way.
 abbrev pub Prints : (text : List ℕ) → Outcome → List ℕ → Type 0
 Prints text ended.Done written = written ≡ text
-Prints text ended.OutputFault written = IsFrontOf text written
-Prints text ended.NoMemory written = IsFrontOf text written
+Prints text ended.OutputFault written = IsCut ended.OutputFault text written
+Prints text ended.NoMemory written = IsCut ended.NoMemory text written
 Prints text (ended.Refused verdict) written = ⊥
 Prints text ended.InputFault written = ⊥
 Prints text (ended.InputTooLong file) written = ⊥

@@ -1,5 +1,5 @@
 use Rattle.std.proofs.Common.{ap, subst}
-use Rattle.send_model.specs.Subvolume.{Subvolume, IsLawful}
+use Rattle.send_model.specs.Subvolume.{IsLawful}
 use Rattle.store_model.specs.StoreLines.{shown}
 use Rattle.subvol_catalog.specs.Entries.{key_of}
 use Rattle.sx_base.specs.Calls.{Wrote}
