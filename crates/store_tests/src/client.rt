@@ -59,7 +59,8 @@ pub(crate) fn read_back<D: Disk>(
     requires { HasSize (D.len disk.old) store.now }
     ensures { D.len disk.new ≡ D.len disk.old }
 {
-    let len = store.file_len(key, ino);
+    let sought = key;
+    let len = store.file_len(sought, ino);
     if len < at {
         return Ok(false);
     }
