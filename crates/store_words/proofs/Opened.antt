@@ -1,0 +1,52 @@
+-- The store that an image stands for is one, so what is said of it is said of each; and what stands where a store does not open.
+use Rattle.std.specs.Prelude.{ℕ, List, [], Err}
+use Rattle.std.proofs.Common.{refl, subst}
+use Rattle.send_model.specs.Store.{Store}
+use Rattle.sx_base.specs.Causes.{Rose}
+use Rattle.send_model.specs.Headline.{IsFrontOf}
+use Rattle.send_model.proofs.Fronts.{is_front}
+use Rattle.store_model.specs.Stored.{as_bytes, StandsFor, StandsForNone}
+use Rattle.store_model.specs.Requests.{Request, ByImage}
+use Rattle.store_model.specs.Dues as dues
+use Rattle.store_model.specs.Answers.{Answers, PrintsBefore, StandsBefore, StandsFault, DueSays}
+use Rattle.store_model.proofs.OneStore.{one_store, never_both}
+use Rattle.group_log.specs.declared.stops.LogStop.TheVariants as log
+use Rattle.store_groups.specs.declared.stops.StoreStop.{StoreStop}
+use Rattle.store_groups.specs.declared.stops.StoreStop.TheVariants as stop
+use Rattle.store_groups.specs.Stopping.{IfLog, IsNoRefusal}
+use Rattle.store_journal.specs.Shown.{StoreState}
+use Rattle.store_journal.specs.Opening.{OpenSays, IsOpenStop}
+use Rattle.store_words.specs.Ending.{answer_of, end_by, PrintingCaused}
+
+pub by_store : (image : List ℕ) (s : Store ℕ) (P : Store ℕ → Type 0) (none : Type 0) → StandsFor image s → P s → ByImage image P none
+by_store image s P none stands p = ((λ t other. subst P (one_store 0 as_bytes image s t stands other) p), (λ group fails. absurd (never_both image s group stands fails)))
+
+pub by_none : (image : List ℕ) (group : ℕ) (P : Store ℕ → Type 0) (none : Type 0) → StandsForNone image group → none → ByImage image P none
+by_none image group P none fails n = ((λ t stands. absurd (never_both image t group stands fails)), (λ other more. n))
+
+pub nothing_in_front : (all : List ℕ) → IsFrontOf all []
+nothing_in_front all = is_front all [] all refl
+
+pub nothing_printed : (image : List ℕ) (whole : Store ℕ → List ℕ) → PrintsBefore image whole [] image
+nothing_printed image whole = (refl, ((λ s stands. nothing_in_front (whole s)), (λ group fails. refl)))
+
+-- Where opening stops, nothing is written or changed, and the word answers so.
+pub not_opened : (request : Request) (words : List (List ℕ)) (image : List ℕ) (files : List (List ℕ)) (name path : List ℕ) (cause : Type 0) (why : StoreStop)
+    → StandsBefore request words image files [] image → StandsFault request words image files [] image
+    → ((group : ℕ) → StandsForNone image group → DueSays request words image files (dues.NotStore group) [] image)
+    → IsNoRefusal why → IfLog {T = StoreState} (Err why) (IsOpenStop cause) → OpenSays image (Err why) → Answers request words image files (answer_of name path (end_by why)) [] image
+not_opened request words image files name path cause (stop.Refused refusal) before fault none kind stops says = absurd kind
+not_opened request words image files name path cause stop.NoMemory before fault none kind stops says = before
+not_opened request words image files name path cause (stop.Log log.DiskFault) before fault none kind stops says = fault
+not_opened request words image files name path cause (stop.Log (log.NotStore group)) before fault none kind stops says = none group says
+not_opened request words image files name path cause (stop.Log (log.LogFull end wanted limit)) before fault none kind stops says = absurd stops
+not_opened request words image files name path cause (stop.Log (log.StoreThere size)) before fault none kind stops says = absurd stops
+
+-- What is said of it whether or not anything tells.
+pub printing_stops : (before now out : ℕ) (missing : Type 0) (why : StoreStop) → IsNoRefusal why → IfLog {T = StoreState} (Err why) (IsOpenStop (Rose before now)) → PrintingCaused before now out out missing (end_by why)
+printing_stops before now out missing (stop.Refused refusal) kind stops = absurd kind
+printing_stops before now out missing stop.NoMemory kind stops = tt
+printing_stops before now out missing (stop.Log log.DiskFault) kind stops = stops
+printing_stops before now out missing (stop.Log (log.NotStore group)) kind stops = tt
+printing_stops before now out missing (stop.Log (log.LogFull end wanted limit)) kind stops = absurd stops
+printing_stops before now out missing (stop.Log (log.StoreThere size)) kind stops = absurd stops

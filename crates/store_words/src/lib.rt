@@ -1,0 +1,15 @@
+//! The words over a store that a disk holds: making one, listing it, showing one of its subvolumes, scrubbing it.
+#![tactic(auto)]
+
+mod ends;
+mod listing;
+mod making;
+mod naming;
+mod scrubbing;
+mod showing;
+
+pub use ends::StoreEnd;
+pub use listing::list_store;
+pub use making::init_store;
+pub use scrubbing::scrub_store;
+pub use showing::show_entry;
