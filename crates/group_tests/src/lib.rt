@@ -1,0 +1,7 @@
+//! Tests of `store_groups`. Nothing stands here but tests.
+#![tactic(auto)]
+
+#[cfg(test)]
+mod image;
+#[cfg(test)]
+mod taking_tests;
