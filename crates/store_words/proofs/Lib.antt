@@ -1,3 +1,6 @@
+pub mod CatAnswers
+pub mod CatBytes
+pub mod FoundFiles
 pub mod Named
 pub mod NamedBytes
 pub mod NewStores

@@ -7,17 +7,21 @@ use Rattle.std.specs.FinMap.Entries.{below_all, is_sorted}
 use Rattle.std.proofs.Common.{refl, sym, ap, subst, ◌∙◌}
 use Rattle.send_model.specs.Map.{Map, IsMap, bytes_cmp}
 use Rattle.send_model.specs.Subvolume.{Inode, Subvolume, IsSound, IsLawful, root, inode_at, name_count}
-use Rattle.send_model.specs.Store.{Entry, Store}
+use Rattle.send_model.specs.Clone.{cells_of}
+use Rattle.send_model.specs.Store.{Entry, Store, find}
 use Rattle.send_model.specs.Provenance.{inode_with}
 use Rattle.send_model.specs.Cells.{recelled, recelled_entry, recelled_store}
 use Rattle.send_model.specs.Lawful.{IsLawfulEntry, HasSayable}
 use Rattle.send_model.proofs.CellMaps.{inode_at-cells, is_directory-cells, walk_names-cells}
 use Rattle.store_model.specs.Stored.{byte_of, StandsFor}
-use Rattle.store_model.specs.Dues.{complete_named}
+use Rattle.store_model.specs.Dues.{complete_named, file_at}
 use Rattle.store_model.proofs.LawfulGroups.{stands_lawful}
 use Rattle.store_groups.specs.declared.place.Place.{Place}
 use Rattle.store_journal.specs.Standing.{with_bytes}
+use Rattle.store_journal.specs.Reading.{file_cells}
+use Rattle.store_words.specs.Files.{found_file}
 use Rattle.store_words.specs.Naming.{named}
+use Rattle.store_words.proofs.FoundFiles.{file_is, no_file, same_file, IsFoundIn, all_found}
 use Rattle.store_words.proofs.Named.{named_same, named_holds, complete_there, not_there, not_complete}
 
 -- ---- lawful with bytes, and without
@@ -97,3 +101,21 @@ module _ (image : List ℕ) (core : Store (Option Place)) (name : List ℕ) wher
       let one : IsLawfulEntry (entry_with e) = named_holds name IsLawfulEntry (with_bytes image core) (entry_with e) all (named_with ∙ ap entry_of_place is) in
       let sayable = subst HasSayable (ap contents_with holds) one.contents in
       lawful_back (option_map (λ place. place.at)) s (lawful_back (byte_of image) (recelled (option_map (λ place. place.at)) s) sayable.lawful)
+
+  -- It is found by its key, so its files are those that are read by it.
+  pub found_by_key : (e : Entry (Subvolume (Option Place))) (s : Subvolume (Option Place)) → StandsFor image (with_bytes image core) → named name core ≡ Some e → e.contents ≡ Some s → find (with_bytes image core) e.key ≡ Some (of_bytes s)
+  found_by_key e s stands is holds =
+      named_holds name (IsFoundIn (with_bytes image core)) (with_bytes image core) (entry_with e) (all_found (with_bytes image core) (stands_lawful image (with_bytes image core) stands).distinct) (named_with ∙ ap entry_of_place is) (of_bytes s)
+      (ap contents_with holds)
+
+  same_path : (path : List ℕ) (s : Subvolume (Option Place)) → found_file path (of_bytes s) ≡ found_file path s
+  same_path path s = same_file (byte_of image) path (recelled (option_map (λ place. place.at)) s) ∙ same_file (option_map (λ place. place.at)) path s
+
+  pub file_there : (path : List ℕ) (e : Entry (Subvolume (Option Place))) (s : Subvolume (Option Place)) (ino : ℕ) → StandsFor image (with_bytes image core) → named name core ≡ Some e → e.contents ≡ Some s → found_file path s ≡ Some ino
+      → file_at path (of_bytes s) ≡ Some (file_cells (with_bytes image core) e.key ino)
+  file_there path e s ino stands is holds found =
+      file_is path (of_bytes s) ino (same_path path s ∙ found)
+      ∙ sym (ap (λ (o : Option (Subvolume ℕ)). Some (elim o as (λ x. List ℕ) [ None ↦ [] | Some t ↦ cells_of t ino ])) (found_by_key e s stands is holds))
+
+  pub no_file_there : (path : List ℕ) (s : Subvolume (Option Place)) → found_file path s ≡ None → file_at path (of_bytes s) ≡ None
+  no_file_there path s none = no_file path (of_bytes s) (same_path path s ∙ none)

@@ -16,7 +16,7 @@ use Rattle.store_groups.specs.declared.stops.StoreStop.TheVariants as stop
 use Rattle.store_groups.specs.Stopping.{IfLog, IsNoRefusal}
 use Rattle.store_journal.specs.Shown.{StoreState}
 use Rattle.store_journal.specs.Opening.{OpenSays, IsOpenStop}
-use Rattle.store_words.specs.Ending.{answer_of, end_by, PrintingCaused}
+use Rattle.store_words.specs.Ending.{answer_of, end_by, PrintingCaused, CatCaused}
 
 pub by_store : (image : List ℕ) (s : Store ℕ) (P : Store ℕ → Type 0) (none : Type 0) → StandsFor image s → P s → ByImage image P none
 by_store image s P none stands p = ((λ t other. subst P (one_store 0 as_bytes image s t stands other) p), (λ group fails. absurd (never_both image s group stands fails)))
@@ -50,3 +50,11 @@ printing_stops before now out missing (stop.Log log.DiskFault) kind stops = stop
 printing_stops before now out missing (stop.Log (log.NotStore group)) kind stops = tt
 printing_stops before now out missing (stop.Log (log.LogFull end wanted limit)) kind stops = absurd stops
 printing_stops before now out missing (stop.Log (log.StoreThere size)) kind stops = absurd stops
+
+pub cat_stops : (before now out : ℕ) (why : StoreStop) → IsNoRefusal why → IfLog {T = StoreState} (Err why) (IsOpenStop (Rose before now)) → CatCaused before now out out (end_by why)
+cat_stops before now out (stop.Refused refusal) kind stops = absurd kind
+cat_stops before now out stop.NoMemory kind stops = tt
+cat_stops before now out (stop.Log log.DiskFault) kind stops = stops
+cat_stops before now out (stop.Log (log.NotStore group)) kind stops = tt
+cat_stops before now out (stop.Log (log.LogFull end wanted limit)) kind stops = absurd stops
+cat_stops before now out (stop.Log (log.StoreThere size)) kind stops = absurd stops

@@ -106,3 +106,21 @@ ScrubCaused store_before store_now out_before out_now made.NoFile = ⊥
 ScrubCaused store_before store_now out_before out_now (made.LogFull end wanted limit) = ⊥
 ScrubCaused store_before store_now out_before out_now (made.StoreThere size) = ⊥
 ScrubCaused store_before store_now out_before out_now (made.Damaged group stored computed) = stored ≢ computed
+
+-- Printing a file ends in the ways of printing, and where there is no such name or file.
+abbrev pub CatCaused : (store_before store_now out_before out_now : ℕ) → StoreEnd → Type 0
+CatCaused store_before store_now out_before out_now (made.Ends ended.Done) = (store_now ≡ store_before) × (out_now ≡ out_before)
+CatCaused store_before store_now out_before out_now (made.Ends ended.OutputFault) = Rose out_before out_now
+CatCaused store_before store_now out_before out_now (made.Ends ended.NoMemory) = ⊤
+CatCaused store_before store_now out_before out_now (made.Ends (ended.Refused verdict)) = ⊥
+CatCaused store_before store_now out_before out_now (made.Ends ended.InputFault) = ⊥
+CatCaused store_before store_now out_before out_now (made.Ends (ended.InputTooLong file)) = ⊥
+CatCaused store_before store_now out_before out_now (made.Ends (ended.TooMuch sum)) = ⊥
+CatCaused store_before store_now out_before out_now (made.Ends (ended.InputChanged file place)) = ⊥
+CatCaused store_before store_now out_before out_now made.StoreFault = Rose store_before store_now
+CatCaused store_before store_now out_before out_now (made.NotStore group) = ⊤
+CatCaused store_before store_now out_before out_now made.NoName = ⊤
+CatCaused store_before store_now out_before out_now made.NoFile = ⊤
+CatCaused store_before store_now out_before out_now (made.LogFull end wanted limit) = ⊥
+CatCaused store_before store_now out_before out_now (made.StoreThere size) = ⊥
+CatCaused store_before store_now out_before out_now (made.Damaged group stored computed) = ⊥

@@ -1,6 +1,8 @@
-//! The words over a store that a disk holds: making one, listing it, showing one of its subvolumes, scrubbing it.
+//! The words over a store that a disk holds: making one, listing it, showing one of its subvolumes and one of
+//! their files, scrubbing it.
 #![tactic(auto)]
 
+mod cat;
 mod ends;
 mod listing;
 mod making;
@@ -8,6 +10,7 @@ mod naming;
 mod scrubbing;
 mod showing;
 
+pub use cat::cat_file;
 pub use ends::StoreEnd;
 pub use listing::list_store;
 pub use making::init_store;

@@ -1,0 +1,5 @@
+//! Tests of `store_words`. Nothing stands here but tests.
+#![tactic(auto)]
+
+#[cfg(test)]
+mod word_tests;

@@ -1,0 +1,161 @@
+// The words over a store, over images that another program made.
+use disk_model::{FuseDisk, MemDisk};
+use std::alloc::Global;
+use std::test::Fail;
+use store_words::{StoreEnd, cat_file, init_store, list_store, scrub_store, show_entry};
+use sx_base::{Disk, MemSink, Outcome};
+
+// A store of the second format with the subvolume `a`: a file x with "hi" at 3, six bytes long.
+const STORE: &[u8] =
+    b"sndstore\x02\0\0\0\0\0\0\0\0\x01\0\0\x014\0\0\0\0\0\0\0\x04%\0\0\0\x01\0\x85\x0fH{\x01\0\x10\0AAAAAAAAAAAAAAAA\x02\0\x08\0\x01\0\0\0\0\0\0\0\x0f\0\x01\0a0X\xa4W\x01a\0\0\0\0\0\0\0\x05AAAAAAAAAAAAAAAA\x01\x05\0\0\0\x03\0/\x8a6s\x0f\0\x01\0x\x17\0\0\0\x0f\0\x89\x81\xe7\xa3\x0f\0\x01\0x\x12\0\x08\0\x03\0\0\0\0\0\0\0\x13\0\x02\0hi\x11\0\0\0\x11\0[\xd8\"G\x04\0\x08\0\x06\0\0\0\0\0\0\0\x0f\0\x01\0x\xe9\x85pe\0";
+
+// The same before its edits.
+const BEGUN: &[u8] =
+    b"sndstore\x02\0\0\0\0\0\0\0\0\x01\0\0\x014\0\0\0\0\0\0\0\x04%\0\0\0\x01\0\x85\x0fH{\x01\0\x10\0AAAAAAAAAAAAAAAA\x02\0\x08\0\x01\0\0\0\0\0\0\0\x0f\0\x01\0a0X\xa4W\0";
+
+const LIST: &[u8] = b"a 41414141-4141-4141-4141-414141414141 1 complete -\n";
+
+const BEGUN_LIST: &[u8] = b"a 41414141-4141-4141-4141-414141414141 1 unfinished -\n";
+
+const SHOW: &[u8] =
+    b"subvol a 41414141-4141-4141-4141-414141414141 1 258\ninode 256 dir 700 0 0 0.000000000 0.000000000 0 -\ninode 257 file 600 0 0 0.000000000 0.000000000 0 6\nname 256 x 257\n";
+
+// A word.
+#[derive(Clone, Copy)]
+enum Word {
+    Init,
+    List,
+    Scrub,
+    Show(&'static [u8]),
+    Cat(&'static [u8], &'static [u8]),
+}
+
+// How a word ends over a disk.
+fn said<D: Disk>(alloc: Global, disk: &mut D, word: &Word, out: &mut MemSink) -> StoreEnd {
+    match word {
+        Word::Init => init_store(disk),
+        Word::List => list_store(alloc, disk, out),
+        Word::Scrub => scrub_store(alloc, disk, out),
+        Word::Show(name) => show_entry(alloc, disk, name, out),
+        Word::Cat(name, path) => cat_file(alloc, disk, name, path, out),
+    }
+}
+
+// Whether a word over an image ends so and has written these bytes.
+fn says(
+    alloc: Global,
+    image: &[u8],
+    word: &Word,
+    end: StoreEnd,
+    bytes: &[u8],
+) -> Result<bool, Fail> {
+    let mut disk = MemDisk::new(alloc, image)?;
+    let mut out = MemSink::new(alloc);
+    let ended = said(alloc, &mut disk, word, &mut out);
+    Ok(ended == end && out.bytes() == bytes)
+}
+
+const DONE: StoreEnd = StoreEnd::Ends(Outcome::Done);
+
+#[test]
+fn words_write_what_is_there(rt: HostRuntime) -> Result<(), Fail> {
+    let alloc = rt.alloc();
+    let rows: [(&[u8], Word, StoreEnd, &[u8]); 10] = [
+        (STORE, Word::List, DONE, LIST),
+        (STORE, Word::Scrub, DONE, b"scrub 2 0\n"),
+        (STORE, Word::Show(b"a"), DONE, SHOW),
+        (STORE, Word::Cat(b"a", b"x"), DONE, b"\0\0\0hi\0"),
+        (STORE, Word::Show(b"b"), StoreEnd::NoName, b""),
+        (STORE, Word::Cat(b"b", b"x"), StoreEnd::NoName, b""),
+        (STORE, Word::Cat(b"a", b"y"), StoreEnd::NoFile, b""),
+        (STORE, Word::Cat(b"a", b""), StoreEnd::NoFile, b""),
+        (BEGUN, Word::List, DONE, BEGUN_LIST),
+        (BEGUN, Word::Show(b"a"), StoreEnd::NoName, b""),
+    ];
+    for (image, word, end, bytes) in rows {
+        assert_eq!(rt; says(alloc, image, &word, end, bytes)?, true);
+    }
+    Ok(())
+}
+
+#[test]
+fn what_is_no_store_is_told(rt: HostRuntime) -> Result<(), Fail> {
+    let alloc = rt.alloc();
+    let cut = &STORE[..STORE.len() - 20];
+    let rows: [(&[u8], Word, StoreEnd, &[u8]); 7] = [
+        (b"", Word::List, StoreEnd::NotStore { group: 0 }, b""),
+        (b"", Word::Scrub, StoreEnd::NotStore { group: 0 }, b""),
+        (cut, Word::List, StoreEnd::NotStore { group: 2 }, b""),
+        (cut, Word::Show(b"a"), StoreEnd::NotStore { group: 2 }, b""),
+        (
+            cut,
+            Word::Cat(b"a", b"x"),
+            StoreEnd::NotStore { group: 2 },
+            b"",
+        ),
+        (cut, Word::Scrub, StoreEnd::NotStore { group: 2 }, b""),
+        (STORE, Word::Init, StoreEnd::StoreThere { size: 188 }, b""),
+    ];
+    for (image, word, end, bytes) in rows {
+        assert_eq!(rt; says(alloc, image, &word, end, bytes)?, true);
+    }
+    assert_eq!(rt; says(alloc, b"", &Word::Init, DONE, b"")?, true);
+    Ok(())
+}
+
+// How many calls of a disk a word may make before it is done.
+const MOST: u64 = 60;
+
+// Whether a disk that fails after each number of calls is told as a fault, until the word is done.
+fn faults_are_told(alloc: Global, word: &Word, bytes: &[u8]) -> Result<bool, Fail> {
+    let mut done = false;
+    for calls in 0..MOST {
+        let mut disk = FuseDisk::new(MemDisk::new(alloc, STORE)?, calls);
+        let mut out = MemSink::new(alloc);
+        let end = said(alloc, &mut disk, word, &mut out);
+        if end == DONE {
+            done = true;
+            if out.bytes() != bytes {
+                return Ok(false);
+            }
+        } else if done || end != StoreEnd::StoreFault {
+            return Ok(false);
+        }
+    }
+    Ok(done)
+}
+
+#[test]
+fn a_disk_that_fails_is_told(rt: HostRuntime) -> Result<(), Fail> {
+    let alloc = rt.alloc();
+    let rows: [(Word, &[u8]); 4] = [
+        (Word::List, LIST),
+        (Word::Scrub, b"scrub 2 0\n"),
+        (Word::Show(b"a"), SHOW),
+        (Word::Cat(b"a", b"x"), b"\0\0\0hi\0"),
+    ];
+    for (word, bytes) in rows {
+        assert_eq!(rt; faults_are_told(alloc, &word, bytes)?, true);
+    }
+    Ok(())
+}
+
+#[test]
+fn an_output_that_fails_is_told(rt: HostRuntime) -> Result<(), Fail> {
+    let alloc = rt.alloc();
+    let rows: [Word; 4] = [
+        Word::List,
+        Word::Scrub,
+        Word::Show(b"a"),
+        Word::Cat(b"a", b"x"),
+    ];
+    for word in rows {
+        let mut disk = MemDisk::new(alloc, STORE)?;
+        let mut out = MemSink::new(alloc);
+        out.fail_call(1)?;
+        let end = said(alloc, &mut disk, &word, &mut out);
+        assert_eq!(rt; end, StoreEnd::Ends(Outcome::OutputFault));
+        assert_eq!(rt; out.bytes().is_empty(), true);
+    }
+    Ok(())
+}
