@@ -44,6 +44,9 @@ pub fn take_group<D: Disk>(
     ensures later { D.faults disk.old ≤ D.faults disk.new }
     ensures steady { Steady (D.faults disk.old) (D.faults disk.new) result }
 {
-    let _unused = (log, disk, core, group, window);
+    let _log = (log.size(), group.len);
+    let _disk = &*disk;
+    let _core = core.catalog().len();
+    let _window = &*window;
     Err(StoreStop::NoMemory)
 }

@@ -13,7 +13,7 @@ impl Window {
     pub fn new(alloc: Global) -> Window {
         Window {
             alloc,
-            bytes: Vec::new_in(alloc),
+            bytes: Vec::new(alloc),
         }
     }
 }

@@ -1,3 +1,4 @@
 pub mod Keeping
 pub mod Pushes
 pub mod StandingGroups
+mod Refusing

@@ -8,6 +8,7 @@ use Rattle.store_journal.specs.Shown.{StoreState}
 use Rattle.store_journal.specs.Holding.{bodies_of, new_group, Holds}
 use Rattle.store_journal.proofs.Keeping.{more_has, mark_holds, begun_again, begun_are_kept}
 use Rattle.store_groups.proofs.KeptParts.{all_further, kept_further}
+use Rattle.store_journal.proofs.Refusing.{stopped_begins}
 use Rattle.store_journal.proofs.store.Store.mark.Goals as goal
 
 pub returns-in-Err-Refused-clause-any_moment : goal.returns-in-Err-Refused-clause-any_moment
@@ -52,3 +53,7 @@ returns-in-Ok-write_mark-clause-kept g c =
     let gate = c.in-Ok-write_mark.ensures.gate in
     let kept = begun_are_kept c.self.inside.log.gate c.self.inside.core c.begin.new.self (head_of (meaning_of c.args.head.now)) c.in-Ok.part c.requires.head c.in-Ok.ensures.begun c.self.invariant in
     kept_further c.self.inside.log.gate c.write_mark.new.log.gate (omega (arith, gate)) c.in-Ok.part.subvolume kept.0
+
+pub returns-in-Err-clause-begun : goal.returns-in-Err-clause-begun
+returns-in-Err-clause-begun g c =
+    rw (← c.self.view_is) (stopped_begins c.in-Err.stop (head_of (meaning_of c.args.head.now)) c.in-Ok.part _ _ _ c.in-Err.ensures.not_refused c.in-Ok.ensures.begun)
