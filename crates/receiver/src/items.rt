@@ -57,7 +57,7 @@ fn begin<D: Disk>(
     alloc: Global,
     store: &mut Store,
     disk: &mut D,
-    open: &mut Option<Opened>,
+    current: &mut Option<Opened>,
     head: &Head<'_>,
     file: u64,
     item: &Item,
@@ -67,7 +67,7 @@ fn begin<D: Disk>(
     };
     match store.begin(disk, &item.command, item.version) {
         Ok(part) => {
-            *open = Some(Opened { part, line });
+            *current = Some(Opened { part, line });
             Ok(())
         }
         Err(stop) => Err(stopped(file, item, stop)),
@@ -78,11 +78,11 @@ fn begin<D: Disk>(
 fn edit<D: Disk>(
     store: &mut Store,
     disk: &mut D,
-    open: &mut Option<Opened>,
+    current: &mut Option<Opened>,
     file: u64,
     item: &Item,
 ) -> Result<(), Received> {
-    let Some(opened) = open else {
+    let Some(opened) = current else {
         return Err(refused(file, item, Refusal::NoSubvolume));
     };
     match store.edit(disk, &mut opened.part, &item.command, item.version) {
@@ -97,7 +97,7 @@ pub(crate) fn receive_item<D: Disk, O: Sink>(
     store: &mut Store,
     disk: &mut D,
     guards: &mut [Box<dyn Guard>],
-    open: &mut Option<Opened>,
+    current: &mut Option<Opened>,
     out: &mut O,
     file: u64,
     item: &Item,
@@ -105,7 +105,7 @@ pub(crate) fn receive_item<D: Disk, O: Sink>(
     if let Some(refusal) = look(guards, &item.command) {
         return Err(refused(file, item, refusal));
     }
-    do_item(alloc, store, disk, open, out, file, item)
+    do_item(alloc, store, disk, current, out, file, item)
 }
 
 // What a command does that no guard refuses.
@@ -113,17 +113,17 @@ fn do_item<D: Disk, O: Sink>(
     alloc: Global,
     store: &mut Store,
     disk: &mut D,
-    open: &mut Option<Opened>,
+    current: &mut Option<Opened>,
     out: &mut O,
     file: u64,
     item: &Item,
 ) -> Result<(), Received> {
     if let Command::End = &item.command {
-        return close(store, disk, open, out);
+        return close(store, disk, current, out);
     }
     let Some(head) = head_of(&item.command) else {
-        return edit(store, disk, open, file, item);
+        return edit(store, disk, current, file, item);
     };
-    close(store, disk, open, out)?;
-    begin(alloc, store, disk, open, &head, file, item)
+    close(store, disk, current, out)?;
+    begin(alloc, store, disk, current, &head, file, item)
 }

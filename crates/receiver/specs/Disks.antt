@@ -1,0 +1,29 @@
+-- What a disk that tells has while commands are received: the groups that there were and those that were written since. This program's
+-- own.
+use Rattle.std.specs.Prelude.{◌≡◌, ℕ, List, [], ◌++◌, Option, None, Some}
+use Rattle.sx_base.specs.Disk.{Pending}
+use Rattle.store_model.specs.Image.{Header}
+use Rattle.store_model.specs.Stored.{Group}
+use Rattle.store_model.specs.Written.{Begun}
+use Rattle.store_journal.specs.Shown.{StoreState}
+use Rattle.store_journal.specs.Holding.{HasThese, Holds, Builds}
+use Rattle.receiver.specs.declared.opened.Opened.{Opened}
+
+-- The commands of the open part are those that its Body would say now.
+pub record IsBuilt (header : Header) (groups : List Group) (begun : Begun) (current : Opened) (store : StoreState) (seen : List ℕ) (pending : Pending) : Type 0 where
+  pub uuid : begun.uuid ≡ current.part.key.uuid
+  pub builds : Builds header groups begun.version begun.commands current.part store seen pending
+
+-- The disk has these groups, and so has each image that a crash may leave, whether or not a part is open.
+abbrev pub Keeps : Header → List Group → Option Begun → Option Opened → StoreState → List ℕ → Pending → Type 0
+Keeps header groups None None store seen pending = Holds header groups store seen pending
+Keeps header groups None (Some current) store seen pending = ⊥
+Keeps header groups (Some begun) None store seen pending = ⊥
+Keeps header groups (Some begun) (Some current) store seen pending = IsBuilt header groups begun current store seen pending
+
+-- An image has the groups that there were and the first of some others.
+pub record HasFront (header : Header) (groups due : List Group) (image : List ℕ) : Type 0 where
+  pub first : List Group
+  pub more : List Group
+  pub all : due ≡ first ++ more
+  pub has : HasThese header (groups ++ first) image
