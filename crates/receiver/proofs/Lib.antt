@@ -1,1 +1,3 @@
 pub mod ClosedParts
+pub mod RoomLaws
+pub mod BegunParts

@@ -1,6 +1,6 @@
 -- What a disk that tells has while commands are received: the groups that there were and those that were written since. This program's
 -- own.
-use Rattle.std.specs.Prelude.{◌≡◌, ℕ, List, [], ◌++◌, Option, None, Some}
+use Rattle.std.specs.Prelude.{◌≡◌, ⊤, ℕ, List, [], ◌++◌, Option, None, Some}
 use Rattle.sx_base.specs.Disk.{Pending}
 use Rattle.store_model.specs.Image.{Header}
 use Rattle.store_model.specs.Stored.{Group}
@@ -27,3 +27,8 @@ pub record HasFront (header : Header) (groups due : List Group) (image : List �
   pub more : List Group
   pub all : due ≡ first ++ more
   pub has : HasThese header (groups ++ first) image
+
+-- The part that is open, if there is one, is of this version.
+abbrev pub HasVersion : ℕ → Option Begun → Type 0
+HasVersion version None = ⊤
+HasVersion version (Some begun) = begun.version ≡ version

@@ -1,3 +1,4 @@
 pub mod Standing
 pub mod Answers
 pub mod Disks
+pub mod Steps

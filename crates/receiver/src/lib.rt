@@ -3,6 +3,7 @@
 #![tactic(auto)]
 
 mod closing;
+mod doing;
 mod files;
 mod items;
 mod opened;
