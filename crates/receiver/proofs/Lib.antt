@@ -1,3 +1,4 @@
 pub mod ClosedParts
 pub mod RoomLaws
 pub mod BegunParts
+pub mod EditedParts

@@ -157,14 +157,17 @@ pub(crate) fn edit<D: Disk>(
     ensures later { D.faults disk.old ≤ D.faults disk.new }
     ensures steady { Steady (D.faults disk.old) (D.faults disk.new) result }
 {
-    let Some(opened) = current else {
+    let Some(opened) = current.take() else {
         return Err(Received::Files(Outcome::Refused(refused(
             file,
             item,
             Refusal::NoSubvolume,
         ))));
     };
-    match store.edit(disk, &mut opened.part, &item.command, item.version) {
+    let Opened { mut part, line } = opened;
+    let edited = store.edit(disk, &mut part, &item.command, item.version);
+    *current = Some(Opened { part, line });
+    match edited {
         Ok(()) => Ok(()),
         Err(stop) => Err(stopped(file, item, stop)),
     }
