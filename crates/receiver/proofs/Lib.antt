@@ -2,3 +2,4 @@ pub mod ClosedParts
 pub mod RoomLaws
 pub mod BegunParts
 pub mod EditedParts
+pub mod TakenItems

@@ -1,10 +1,11 @@
 -- What a disk that tells has while commands are received: the groups that there were and those that were written since. This program's
 -- own.
-use Rattle.std.specs.Prelude.{◌≡◌, ⊤, ℕ, List, [], ◌++◌, Option, None, Some}
+use Rattle.std.specs.Prelude.{◌≡◌, ⊤, ℕ, List, [], ◌++◌, Option, None, Some, if◌then◌else◌}
 use Rattle.sx_base.specs.Disk.{Pending}
 use Rattle.store_model.specs.Image.{Header}
-use Rattle.store_model.specs.Stored.{Group}
-use Rattle.store_model.specs.Written.{Begun}
+use Rattle.send_model.specs.Command.{Command}
+use Rattle.store_model.specs.Stored.{Group, is_edit}
+use Rattle.store_model.specs.Written.{Begun, closed}
 use Rattle.store_journal.specs.Shown.{StoreState}
 use Rattle.store_journal.specs.Holding.{HasThese, Holds, Builds}
 use Rattle.receiver.specs.declared.opened.Opened.{Opened}
@@ -32,3 +33,7 @@ pub record HasFront (header : Header) (groups due : List Group) (image : List �
 abbrev pub HasVersion : ℕ → Option Begun → Type 0
 HasVersion version None = ⊤
 HasVersion version (Some begun) = begun.version ≡ version
+
+-- The group of the part that a command completes, where no guard refuses it.
+abbrev pub closing : Command → Option Begun → List Group
+closing command begun = if is_edit command then [] else closed begun

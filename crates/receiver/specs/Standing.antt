@@ -54,3 +54,7 @@ pub record IsClosedAs (len : ℕ) (current : Option Opened) (old new : StoreStat
   pub core : new.core ≡ completed (state_of old current)
   pub idle : IsIdle len new
   pub gate : new.log.gate ≡ behind_part current (place_of old current)
+
+-- The line that a command brings: a head and END complete the part.
+abbrev pub line_by : Option Opened → Command → List ℕ
+line_by current command = if is_edit command then [] else line_due current

@@ -1,9 +1,8 @@
 // Receiving one command: the guards look at it, it is done, and it is put into the journal.
-use crate::closing::close;
-use crate::doing::{begin, edit, refused};
+use crate::doing::refused;
+use crate::taking::do_item;
 use crate::opened::Opened;
 use crate::outcome::Received;
-use clone_resolve::head_of;
 use cmd_reader::Item;
 use guard_rules::{Guard, look_all};
 use send_commands::Command;
@@ -44,22 +43,3 @@ pub(crate) fn receive_item<D: Disk, O: Sink>(
     do_item(alloc, store, disk, current, out, file, item)
 }
 
-// What a command does that no guard refuses.
-fn do_item<D: Disk, O: Sink>(
-    alloc: Global,
-    store: &mut Store,
-    disk: &mut D,
-    current: &mut Option<Opened>,
-    out: &mut O,
-    file: u64,
-    item: &Item,
-) -> Result<(), Received> {
-    if let Command::End = &item.command {
-        return close(store, disk, current, out);
-    }
-    let Some(head) = head_of(&item.command) else {
-        return edit(store, disk, current, file, item);
-    };
-    close(store, disk, current, out)?;
-    begin(alloc, store, disk, current, &head, file, item)
-}

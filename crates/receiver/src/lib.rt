@@ -9,6 +9,7 @@ mod items;
 mod opened;
 mod outcome;
 mod receiving;
+mod taking;
 
 pub use outcome::Received;
 pub use receiving::receive;
