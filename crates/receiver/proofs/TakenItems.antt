@@ -16,6 +16,7 @@ use Rattle.clone_resolve.specs.Steps.{cells_put}
 use Rattle.store_model.specs.Image.{Header}
 use Rattle.store_model.specs.Stored.{Group, is_edit}
 use Rattle.store_model.specs.Written.{Begun, begun_by, closed}
+use Rattle.store_model.specs.Dues.{first_full}
 use Rattle.store_model.proofs.LawfulGroups.{edit_step}
 use Rattle.store_model.proofs.WrittenGroups.{head_fact}
 use Rattle.store_groups.specs.declared.place.Place.{Place}
@@ -28,7 +29,7 @@ use Rattle.receiver.specs.declared.outcome.Received.TheVariants as how
 use Rattle.receiver.specs.Standing.{state_of, place_of, behind_part, behind_close, line_by, IsReady, IsClosedAs}
 use Rattle.receiver.specs.Disks.{Keeps, HasFront, closing}
 use Rattle.receiver.specs.Answers.{IfClosed, IfStoreFault, WritesLine, StepSays, PiecesSay, ReadySays, ItemWrites, KeepsSays}
-use Rattle.receiver.specs.Steps.{TakesAs}
+use Rattle.receiver.specs.Steps.{EditsAs, TakesAs}
 
 -- ---- the part before could not be completed, or its line not be written
 
@@ -90,3 +91,41 @@ module _ (header : Header) (groups : List Group) where
       → LeavesOnly moment left_since old new (HasFront header groups (closed begun ++ more)) → LeavesOnly moment left_since old new (HasFront header groups (closing c begun ++ more))
   head_moments {D} {moment} {left_since} {old} {new} c head begun more is run =
       subst (λ (l : List Group). LeavesOnly moment left_since old new (HasFront header groups (l ++ more))) (sym (head_closes c head begun is)) run
+
+-- ---- END, and an edit
+
+end_command : (c : Command) → true ≡ is_end c → c ≡ End
+end_command End e = refl
+end_command c e = cc
+
+pub end_takes : (r : Result (Unit {0}) Received) (item : Item) (len : ℕ) (current after : Option Opened) (old new : StoreState) (line : List ℕ) (old_out new_out : Option (List ℕ)) (before now : ℕ) → true ≡ is_end item.command → after ≡ None
+    → WritesLine line old_out new_out before now r → IfClosed r (IsClosedAs len current old new) → TakesAs r item (state_of old current) (state_of new after)
+unfolding step
+end_takes (Err why) item len current after old new line old_out new_out before now ends none w closed = unclosed_takes line old_out new_out before now why item (state_of old current) (state_of new after) w
+end_takes (Ok u) item len current after old new line old_out new_out before now ends none w closed =
+    let put : List (Option Place) = cells_put further (record { at = 0 }) item.command in (
+      record { at = 0 },
+      ap (λ (c : Command). step None put (state_of old current) c) (end_command item.command ends)
+          ∙ (λ i. record { state = record { store = sym closed.core i; part = None }; refusal = None })
+          ∙ ap (λ (a : Option Opened). record { state = state_of new a; refusal = None }) (sym none),
+    )
+
+end_room : (limit : ℕ) (part : Option Opened) (item : Item) (place next : ℕ) → true ≡ is_end item.command → next ≡ behind_part part place → PiecesSay (Ok tt) limit (behind_close part item.command place) next item
+unfolding first_full
+end_room limit part item place next ends is =
+    subst (λ (c : Command). PiecesSay (Ok tt) limit (behind_close part c place) next (record item { command = c })) (sym (end_command item.command ends)) (refl, is)
+
+pub end_pieces : (r : Result (Unit {0}) Received) (limit : ℕ) (item : Item) (len : ℕ) (current after : Option Opened) (old new : StoreState) (line : List ℕ) (old_out new_out : Option (List ℕ)) (before now : ℕ) → true ≡ is_end item.command → after ≡ None
+    → WritesLine line old_out new_out before now r → IfClosed r (IsClosedAs len current old new) → PiecesSay r limit (behind_close current item.command (place_of old current)) (place_of new after) item
+end_pieces (Ok u) limit item len current after old new line old_out new_out before now ends none w closed =
+    subst (λ (a : Option Opened). PiecesSay (Ok tt) limit (behind_close current item.command (place_of old current)) (place_of new a) item) (sym none) (end_room limit current item (place_of old current) new.log.gate ends closed.gate)
+end_pieces (Err (how.Files outcome)) limit item len current after old new line old_out new_out before now ends none w closed = tt
+end_pieces (Err how.StoreFault) limit item len current after old new line old_out new_out before now ends none w closed = tt
+end_pieces (Err (how.LogFull end wanted most)) limit item len current after old new line old_out new_out before now ends none w closed = absurd w
+
+-- What is neither a head nor END is an edit.
+pub is_edited : (c : Command) → None ≡ head_of c → false ≡ is_end c → is_edit c ≡ true
+is_edited c head ends = λ i. is_none (sym head i) && not (sym ends i)
+
+pub edit_takes : (r : Result (Unit {0}) Received) (item : Item) (old new : State (Option Place)) → is_edit item.command ≡ true → EditsAs r item old new → TakesAs r item old new
+edit_takes r item old new edits says = (says.0, subst (λ (a : After (State (Option Place))). StepSays r item new a) (sym (edit_step None (cells_put further says.0 item.command) old item.command edits)) says.1)
