@@ -3,3 +3,4 @@ pub mod RoomLaws
 pub mod BegunParts
 pub mod EditedParts
 pub mod TakenItems
+pub mod FollowedItems

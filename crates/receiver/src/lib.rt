@@ -5,11 +5,13 @@
 mod closing;
 mod doing;
 mod files;
+mod guarding;
 mod items;
 mod opened;
 mod outcome;
 mod receiving;
 mod taking;
 
+pub use guarding::{GuardRow, Guarding};
 pub use outcome::Received;
 pub use receiving::receive;
