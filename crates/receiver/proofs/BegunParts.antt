@@ -1,5 +1,5 @@
 -- The part of a head begins, or it is refused, or there is no room for its groups.
-use Rattle.std.specs.Prelude.{◌≡◌, ◌⊎◌, ℕ, ◌+◌, List, [], ◌∷◌, ◌++◌, length, map, Option, None, Some, Result, Ok, Err, IfSome}
+use Rattle.std.specs.Prelude.{◌≡◌, ◌⊎◌, ℕ, ◌+◌, List, [], ◌∷◌, ◌++◌, length, map, Option, None, Some, Result, Ok, Err, IfSome, IsErr}
 use Rattle.std.proofs.Common.{refl, sym, ap, subst, ◌∙◌, arith, append-nil}
 use Rattle.sx_base.specs.Disk.{Pending, IsImage}
 use Rattle.sx_base.specs.Crash.{LeavesOnly}
@@ -33,6 +33,7 @@ use Rattle.receiver.specs.declared.outcome.Received.{Received}
 use Rattle.receiver.specs.Standing.{state_of, IsReceiving}
 use Rattle.receiver.specs.Disks.{HasFront}
 use Rattle.receiver.specs.Answers.{ended_by, StepSays, PiecesSay}
+use Rattle.receiver.specs.Steps.{begun_if}
 use Rattle.receiver.proofs.ClosedParts.{one_front}
 use Rattle.receiver.proofs.RoomLaws.{head_item, head_end, has_room, no_room}
 
@@ -104,3 +105,15 @@ module _ (header : Header) (groups : List Group) where
   mark_moments {D} {moment} {left_since} {old} {new} c head is run =
       let shown : Option Head → List Group = λ o. elim o as (λ x. List Group) [ None ↦ [] | Some h ↦ mark_of c ∷ [] ] in
       subst (λ (o : Option Head). LeavesOnly moment left_since old new (HasFront header groups (shown o))) (sym is) (weakens run (λ image has. one_front header groups (mark_of c) image has))
+
+  -- Where it is refused, there is no group of it.
+  pub begin_moments : {D : Type 0} {moment : D → ℕ} {left_since : D → ℕ → List ℕ → Type 0} {old new : D} (c : Command) (head : Head) (core : Store (Option Place)) → head_of c ≡ Some head
+      → LeavesOnly moment left_since old new (HasOneMore header groups (new_group (Mark c))) → IfSome (head_of c) (λ h. IsErr (begun core h) → LeavesOnly moment left_since old new (HasThese header groups))
+      → LeavesOnly moment left_since old new (HasFront header groups (begun_if (entered core head (begun core head)) c))
+  begin_moments {D} {moment} {left_since} {old} {new} c head core is run unmarked =
+      let none = of_head (λ h. IsErr (begun core h) → LeavesOnly moment left_since old new (HasThese header groups)) (head_of c) head is unmarked in
+      by_result (begun core head) none
+    where
+      by_result : (r : Result (Subvolume (Option Place)) meant.Refusal) → (IsErr r → LeavesOnly moment left_since old new (HasThese header groups)) → LeavesOnly moment left_since old new (HasFront header groups (begun_if (entered core head r) c))
+      by_result (Ok start) none = mark_moments c head is run
+      by_result (Err refusal) none = weakens (none refl) (λ image has. none_yet [] image has)

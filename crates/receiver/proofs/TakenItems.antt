@@ -7,6 +7,7 @@ use Rattle.sx_base.specs.Crash.{LeavesOnly}
 use Rattle.sx_base.proofs.DiskMoments.{joins, weakens}
 use Rattle.sx_base.specs.declared.outcome.Outcome.{Outcome}
 use Rattle.sx_base.specs.declared.outcome.Outcome.TheVariants as ended
+use Rattle.send_model.specs.Refusal as meant
 use Rattle.send_model.specs.Command.{Command, End}
 use Rattle.send_model.specs.Reading.{Item}
 use Rattle.send_model.specs.Store.{Head, Store, State, After, head_of, begun, entered, completed, step_head, step_edit, step}
@@ -15,10 +16,10 @@ use Rattle.send_model.proofs.Sorts.{head_step}
 use Rattle.clone_resolve.specs.Steps.{cells_put}
 use Rattle.store_model.specs.Image.{Header}
 use Rattle.store_model.specs.Stored.{Group, is_edit}
-use Rattle.store_model.specs.Written.{Begun, begun_by, closed}
+use Rattle.store_model.specs.Written.{Begun, mark_of, begun_by, closed}
 use Rattle.store_model.specs.Dues.{first_full}
 use Rattle.store_model.proofs.LawfulGroups.{edit_step}
-use Rattle.store_model.proofs.WrittenGroups.{head_fact}
+use Rattle.store_model.proofs.WrittenGroups.{head_fact, edit_facts}
 use Rattle.store_groups.specs.declared.place.Place.{Place}
 use Rattle.store_groups.specs.Placing.{further}
 use Rattle.store_journal.specs.Shown.{StoreState, IsIdle}
@@ -29,7 +30,7 @@ use Rattle.receiver.specs.declared.outcome.Received.TheVariants as how
 use Rattle.receiver.specs.Standing.{state_of, place_of, behind_part, behind_close, line_by, IsReady, IsClosedAs}
 use Rattle.receiver.specs.Disks.{Keeps, HasFront, closing}
 use Rattle.receiver.specs.Answers.{IfClosed, IfStoreFault, WritesLine, StepSays, PiecesSay, ReadySays, ItemWrites, KeepsSays}
-use Rattle.receiver.specs.Steps.{EditsAs, TakesAs}
+use Rattle.receiver.specs.Steps.{EditsAs, TakesAs, begun_if}
 
 -- ---- the part before could not be completed, or its line not be written
 
@@ -129,3 +130,50 @@ is_edited c head ends = λ i. is_none (sym head i) && not (sym ends i)
 
 pub edit_takes : (r : Result (Unit {0}) Received) (item : Item) (old new : State (Option Place)) → is_edit item.command ≡ true → EditsAs r item old new → TakesAs r item old new
 edit_takes r item old new edits says = (says.0, subst (λ (a : After (State (Option Place))). StepSays r item new a) (sym (edit_step None (cells_put further says.0 item.command) old item.command edits)) says.1)
+
+-- ---- the groups that are due
+
+no_head : {S : Type 0} (after : After S) (c : Command) → head_of c ≡ None → begun_if after c ≡ []
+no_head after c is =
+    ap (λ (o : Option Head). elim after.refusal as (λ x. List Group) [ Some refusal ↦ [] | None ↦ elim o as (λ x. List Group) [ None ↦ [] | Some head ↦ mark_of c ∷ [] ] ]) is ∙ one after.refusal
+  where
+    one : (o : Option meant.Refusal) → ◌≡◌ {A = List Group} (elim o as (λ x. List Group) [ Some refusal ↦ [] | None ↦ [] ]) []
+    one None = refl
+    one (Some refusal) = refl
+
+head_entered : (place : Place) (state : State (Option Place)) (c : Command) (head : Head) → head_of c ≡ Some head → step None (cells_put further place c) state c ≡ entered (completed state) head (begun (completed state) head)
+unfolding step_head
+head_entered place state c head is = head_step None (cells_put further place c) state c head is
+
+module _ (header : Header) (groups : List Group) where
+  pub due_same : {D : Type 0} {moment : D → ℕ} {left_since : D → ℕ → List ℕ → Type 0} {old new : D} (a b : List Group) → a ≡ b → LeavesOnly moment left_since old new (HasFront header groups a) → LeavesOnly moment left_since old new (HasFront header groups b)
+  due_same {D} {moment} {left_since} {old} {new} a b e run = subst (λ (l : List Group). LeavesOnly moment left_since old new (HasFront header groups l)) e run
+
+  pub enter_moments : {D : Type 0} {moment : D → ℕ} {left_since : D → ℕ → List ℕ → Type 0} {old new : D} (c : Command) (head : Head) (begun_part : Option Begun) (place : Place) (len : ℕ) (current : Option Opened) (store mid : StoreState) → head_of c ≡ Some head
+      → IsClosedAs len current store mid
+      → LeavesOnly moment left_since old new (HasFront header groups (closed begun_part ++ begun_if (entered mid.core head (begun mid.core head)) c))
+      → LeavesOnly moment left_since old new (HasFront header groups (closing c begun_part ++ begun_if (step None (cells_put further place c) (state_of store current) c) c))
+  enter_moments c head begun_part place len current store mid is whole run =
+      let same : step None (cells_put further place c) (state_of store current) c ≡ entered mid.core head (begun mid.core head) =
+      head_entered place (state_of store current) c head is ∙ ap (λ (core : Store (Option Place)). entered core head (begun core head)) (sym whole.core) in
+      due_same (closed begun_part ++ begun_if (entered mid.core head (begun mid.core head)) c) (closing c begun_part ++ begun_if (step None (cells_put further place c) (state_of store current) c) c)
+      (λ i. sym (head_closes c head begun_part is) i ++ begun_if (sym same i) c) run
+
+  -- the part before the head was to be completed
+  pub close_moments : {D : Type 0} {moment : D → ℕ} {left_since : D → ℕ → List ℕ → Type 0} {old new : D} (c : Command) (begun_part : Option Begun) (more : List Group) → is_edit c ≡ false → LeavesOnly moment left_since old new (HasFront header groups (closed begun_part))
+      → LeavesOnly moment left_since old new (HasFront header groups (closing c begun_part ++ more))
+  close_moments c begun_part more ends run =
+      weakens run (λ image f. subst (λ (b : Bool). HasFront header groups ((if b then [] else closed begun_part) ++ more) image) (sym ends) (front_first header groups (closed begun_part) more image f))
+
+  pub edits_moments : {D : Type 0} {moment : D → ℕ} {left_since : D → ℕ → List ℕ → Type 0} {old new : D} {S : Type 0} (c : Command) (begun_part : Option Begun) (after : After S) → is_edit c ≡ true → LeavesOnly moment left_since old new (HasFront header groups [])
+      → LeavesOnly moment left_since old new (HasFront header groups (closing c begun_part ++ begun_if after c))
+  edits_moments c begun_part after edits run =
+      due_same [] (closing c begun_part ++ begun_if after c) (λ i. (if sym edits i then [] else closed begun_part) ++ sym (no_head after c (edit_facts c edits).0) i) run
+
+end_edits : (c : Command) → true ≡ is_end c → is_edit c ≡ false
+end_edits c ends = ap is_edit (end_command c ends)
+
+module _ (header : Header) (groups : List Group) where
+  pub end_moments : {D : Type 0} {moment : D → ℕ} {left_since : D → ℕ → List ℕ → Type 0} {old new : D} (c : Command) (begun_part : Option Begun) (more : List Group) → true ≡ is_end c → LeavesOnly moment left_since old new (HasFront header groups (closed begun_part))
+      → LeavesOnly moment left_since old new (HasFront header groups (closing c begun_part ++ more))
+  end_moments c begun_part more ends run = close_moments header groups c begun_part more (end_edits c ends) run

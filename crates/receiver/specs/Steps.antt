@@ -4,8 +4,10 @@ use Rattle.send_model.specs.Command.{Command}
 use Rattle.send_model.specs.Guards.{Guard, guarded}
 use Rattle.send_model.specs.Cells.{recelled_state}
 use Rattle.send_model.specs.Reading.{Item}
-use Rattle.send_model.specs.Store.{State, step_edit, step}
+use Rattle.send_model.specs.Store.{State, After, step_edit, step}
 use Rattle.clone_resolve.specs.Steps.{cells_put}
+use Rattle.store_model.specs.Stored.{Group}
+use Rattle.store_model.specs.Written.{begun_by}
 use Rattle.store_groups.specs.declared.place.Place.{Place}
 use Rattle.store_groups.specs.Placing.{further}
 use Rattle.store_journal.specs.Shown.{StoreState}
@@ -29,3 +31,7 @@ blank_of store current = recelled_state (λ _. tt) (state_of store current)
 -- The line that a command brings which no guard refuses.
 abbrev pub line_under : List Guard → Option Opened → Command → List ℕ
 line_under guards current command = elim (guarded guards command) [ Some refusal ↦ [] | None ↦ line_by current command ]
+
+-- The group that a head brings which is not refused.
+abbrev pub begun_if : {S : Type 0} → After S → Command → List Group
+begun_if after command = elim after.refusal [ Some refusal ↦ [] | None ↦ begun_by command ]

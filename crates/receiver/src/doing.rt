@@ -14,7 +14,7 @@ ghost use Rattle.cmd_reader.specs.Next.{item_of};
 ghost use Rattle.store_journal.specs.Shown.{IsIdle};
 ghost use Rattle.store_journal.specs.Holding.{Holds};
 ghost use Rattle.receiver.specs.Standing.{state_of, place_of, IsReady};
-ghost use Rattle.receiver.specs.Steps.{EditsAs};
+ghost use Rattle.receiver.specs.Steps.{EditsAs, begun_if};
 ghost use Rattle.receiver.specs.Disks.{Keeps, HasVersion, HasFront};
 ghost use Rattle.receiver.specs.Answers.{ended_log, ended_by, IsUsualLog, IsUsualStop, StepSays, PiecesSay, ReadySays, KeepsSays, ErrCaused};
 
@@ -104,8 +104,9 @@ pub(crate) fn begin<D: Disk>(
         (begun_after begun (item_of file item.now)) }
     ensures any_moment { D.tells → (header : Header) (groups : List Group) →
         Holds header groups store.old (D.seen disk.old) (D.pending disk.old) →
-        LeavesOnly D.moment D.left_since disk.old disk.new
-        (HasFront header groups (begun_by (meaning_of item.now.command))) }
+        LeavesOnly D.moment D.left_since disk.old disk.new (HasFront header groups
+        (begun_if (entered store.old.core (head_meant head.now)
+        (begun store.old.core (head_meant head.now))) (meaning_of item.now.command))) }
 
     ensures cause { ErrCaused 0 0 0 0 (D.faults disk.old) (D.faults disk.new) result }
     ensures later { D.faults disk.old ≤ D.faults disk.new }

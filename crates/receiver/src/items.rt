@@ -11,7 +11,7 @@ ghost use Rattle.send_commands.specs.Meaning.{meaning_of};
 ghost use Rattle.cmd_reader.specs.Next.{item_of};
 ghost use Rattle.auditor.specs.Following.{beside, follow};
 ghost use Rattle.receiver.specs.Standing.{place_of, behind_close, IsReady};
-ghost use Rattle.receiver.specs.Steps.{blank_of, line_under};
+ghost use Rattle.receiver.specs.Steps.{blank_of, line_under, begun_if};
 ghost use Rattle.receiver.specs.Disks.{Keeps, HasVersion, HasFront};
 ghost use Rattle.receiver.specs.Answers.{StepSays, PiecesSay, ReadySays, ItemWrites, KeepsSays, ErrCaused};
 
@@ -64,7 +64,8 @@ pub(crate) fn receive_item<D: Disk, O: Sink, G: Guarding>(
         Keeps header groups begun current.old store.old (D.seen disk.old) (D.pending disk.old) →
         LeavesOnly D.moment D.left_since disk.old disk.new (HasFront header groups
         (closed_by (G.kept guards.old) (meaning_of item.now.command) begun
-        ++ begun_by (meaning_of item.now.command))) }
+        ++ begun_if (follow (beside (G.kept guards.old) (blank_of store.old current.old))
+        (item_of file item.now)) (meaning_of item.now.command))) }
     ensures cause { ErrCaused 0 0 (O.faults out.old) (O.faults out.new)
         (D.faults disk.old) (D.faults disk.new) result }
     ensures later { D.faults disk.old ≤ D.faults disk.new }

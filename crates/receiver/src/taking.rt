@@ -1,19 +1,22 @@
 // Doing one command: a head, END or an edit.
-ghost use Rattle.std.specs.Prelude.{◌≡◌, ◌≤◌, ◌++◌, ℕ, List, Option, Some, true};
+ghost use Rattle.std.specs.Prelude.{◌≡◌, ◌≤◌, ◌++◌, ℕ, List, Option, Some, None, true};
 ghost use Rattle.sx_base.specs.Causes.{Steady};
 ghost use Rattle.sx_base.specs.Crash.{LeavesOnly};
 ghost use Rattle.send_model.specs.Counts.{is_end};
 ghost use Rattle.send_model.specs.Spelling.{IsSpellable};
 ghost use Rattle.send_model.specs.Reading.{is_version};
-ghost use Rattle.send_model.specs.Store.{head_of};
+ghost use Rattle.send_model.specs.Store.{head_of, step};
 ghost use Rattle.store_model.specs.Image.{Header};
 ghost use Rattle.store_model.specs.Stored.{Group};
 ghost use Rattle.store_model.specs.Written.{Begun, begun_by, begun_after};
 ghost use Rattle.send_commands.specs.Meaning.{meaning_of};
 ghost use Rattle.clone_resolve.specs.Heads.{head_meant};
+ghost use Rattle.clone_resolve.specs.Steps.{cells_put};
+ghost use Rattle.store_groups.specs.Placing.{further};
+ghost use Rattle.store_groups.specs.declared.place.Place as here;
 ghost use Rattle.cmd_reader.specs.Next.{item_of};
 ghost use Rattle.receiver.specs.Standing.{state_of, place_of, behind_close, line_by, IsReady};
-ghost use Rattle.receiver.specs.Steps.{TakesAs};
+ghost use Rattle.receiver.specs.Steps.{TakesAs, begun_if};
 ghost use Rattle.receiver.specs.Disks.{Keeps, HasVersion, HasFront, closing};
 ghost use Rattle.receiver.specs.Answers.{StepSays, PiecesSay, ReadySays, ItemWrites, KeepsSays, ErrCaused};
 
@@ -68,11 +71,13 @@ pub(crate) fn do_item<D: Disk, O: Sink>(
         ++ begun_by (meaning_of item.now.command)))
         (begun_after begun (item_of file item.now)) }
     ensures any_moment { D.tells → (header : Header) (groups : List Group) (begun : Option Begun) →
-        HasVersion item.now.version begun →
+        (place : here.Place) → HasVersion item.now.version begun →
         Keeps header groups begun current.old store.old (D.seen disk.old) (D.pending disk.old) →
         LeavesOnly D.moment D.left_since disk.old disk.new
         (HasFront header groups (closing (meaning_of item.now.command) begun
-        ++ begun_by (meaning_of item.now.command))) }
+        ++ begun_if (step None (cells_put further place (meaning_of item.now.command))
+        (state_of store.old current.old) (meaning_of item.now.command))
+        (meaning_of item.now.command))) }
     ensures cause { ErrCaused 0 0 (O.faults out.old) (O.faults out.new)
         (D.faults disk.old) (D.faults disk.new) result }
     ensures later { D.faults disk.old ≤ D.faults disk.new }
@@ -123,11 +128,13 @@ fn enter<D: Disk, O: Sink>(
         ++ begun_by (meaning_of item.now.command)))
         (begun_after begun (item_of file item.now)) }
     ensures any_moment { D.tells → (header : Header) (groups : List Group) (begun : Option Begun) →
-        HasVersion item.now.version begun →
+        (place : here.Place) → HasVersion item.now.version begun →
         Keeps header groups begun current.old store.old (D.seen disk.old) (D.pending disk.old) →
         LeavesOnly D.moment D.left_since disk.old disk.new
         (HasFront header groups (closing (meaning_of item.now.command) begun
-        ++ begun_by (meaning_of item.now.command))) }
+        ++ begun_if (step None (cells_put further place (meaning_of item.now.command))
+        (state_of store.old current.old) (meaning_of item.now.command))
+        (meaning_of item.now.command))) }
     ensures cause { ErrCaused 0 0 (O.faults out.old) (O.faults out.new)
         (D.faults disk.old) (D.faults disk.new) result }
     ensures later { D.faults disk.old ≤ D.faults disk.new }

@@ -26,3 +26,8 @@ stopped_begins (stop.Log log) (Some head) part old middle new other begins = (pa
 pub unstarted : {C : Type 0} (why : StoreStop) (log : LogStop) (o : Option Head) (part : Part C) (old middle new : Store C) → why ≡ stop.Log log → IfSome o (λ head. BeginsIn (Ok part) head old middle) → IfSome o (λ head. BeginsIn {C = C} (Err why) head old new)
 unstarted why log None part old middle new is begins = tt
 unstarted {C} why log (Some head) part old middle new is begins = subst (λ (w : StoreStop). BeginsIn {C = C} (Err w) head old new) (sym is) (part.subvolume, begins.0)
+
+-- What holds anyway holds of a head that is refused.
+pub anyway : (P : Head → Type 0) (Q : Type 0) (o : Option Head) → Q → IfSome o (λ head. P head → Q)
+anyway P Q None q = tt
+anyway P Q (Some head) q = λ p. q

@@ -4,19 +4,19 @@ use Rattle.sx_base.specs.Causes.{Rose}
 use Rattle.send_model.specs.Spelling.{canonical}
 use Rattle.store_journal.specs.Filling.{head_asks}
 use Rattle.send_commands.specs.Meaning.{meaning_of}
-use Rattle.send_model.specs.Store.{head_of}
+use Rattle.send_model.specs.Store.{head_of, begun, entered}
 use Rattle.clone_resolve.specs.Heads.{head_meant}
 use Rattle.cmd_reader.specs.Next.{item_of}
-use Rattle.store_model.specs.Written.{begun_by}
+use Rattle.receiver.specs.Steps.{begun_if}
 use Rattle.receiver.specs.declared.outcome.Received.{Received}
 use Rattle.receiver.specs.Standing.{place_of}
 use Rattle.receiver.proofs.RoomLaws.{head_item, no_room}
-use Rattle.receiver.proofs.BegunParts.{head_first, begun_ready, begun_room, not_begun, holds_now, mark_moments}
+use Rattle.receiver.proofs.BegunParts.{head_first, begun_ready, begun_room, not_begun, holds_now, begin_moments}
 use Rattle.receiver.proofs.doing.begin.Goals as goal
 
 pub returns-in_default-clause-any_moment : goal.returns-in_default-clause-any_moment
 returns-in_default-clause-any_moment g c tells header groups holds =
-    holds_now header groups c.args.disk.now (begun_by (meaning_of c.args.item.now.command)) c.args.store.now _ holds (λ image. g.met.D.Disk.only_now c.args.disk.now image tells)
+    holds_now header groups c.args.disk.now (begun_if (entered c.args.store.now.core (head_meant c.args.head.now) (begun c.args.store.now.core (head_meant c.args.head.now))) (meaning_of c.args.item.now.command)) c.args.store.now _ holds (λ image. g.met.D.Disk.only_now c.args.disk.now image tells)
 
 pub begin-requires-clause-spellable : goal.begin-requires-clause-spellable
 begin-requires-clause-spellable g c = head_first c.args.item.now.version (meaning_of c.args.item.now.command) (head_meant c.args.head.now) c.requires.head c.requires.spellable
@@ -33,7 +33,7 @@ returns-in-Ok-begin-clause-ready g c =
 
 pub returns-in-Ok-begin-clause-any_moment : goal.returns-in-Ok-begin-clause-any_moment
 returns-in-Ok-begin-clause-any_moment g c tells header groups holds =
-    mark_moments header groups (meaning_of c.args.item.now.command) (head_meant c.args.head.now) c.requires.head (c.begin.ensures.any_moment tells header groups holds)
+    begin_moments header groups (meaning_of c.args.item.now.command) (head_meant c.args.head.now) c.args.store.now.core c.requires.head (c.begin.ensures.any_moment tells header groups holds) (c.begin.ensures.unmarked tells header groups holds)
 
 pub returns-in-Err-clause-stepped : goal.returns-in-Err-clause-stepped
 returns-in-Err-clause-stepped g c =
@@ -46,4 +46,4 @@ returns-in-Err-clause-pieces g c =
 
 pub returns-in-Err-clause-any_moment : goal.returns-in-Err-clause-any_moment
 returns-in-Err-clause-any_moment g c tells header groups holds =
-    mark_moments header groups (meaning_of c.args.item.now.command) (head_meant c.args.head.now) c.requires.head (c.begin.ensures.any_moment tells header groups holds)
+    begin_moments header groups (meaning_of c.args.item.now.command) (head_meant c.args.head.now) c.args.store.now.core c.requires.head (c.begin.ensures.any_moment tells header groups holds) (c.begin.ensures.unmarked tells header groups holds)
