@@ -1,5 +1,5 @@
 -- One command under guards.
-use Rattle.std.specs.Prelude.{◌≡◌, ◌⊎◌, ℕ, Bool, true, false, List, [], ◌∷◌, ◌++◌, Option, None, Some, Result, Ok, Err, if◌then◌else◌}
+use Rattle.std.specs.Prelude.{◌≡◌, ◌⊎◌, ℕ, Bool, true, false, List, [], ◌∷◌, ◌++◌, map, Option, None, Some, Result, Ok, Err, if◌then◌else◌}
 use Rattle.std.proofs.Common.{refl, sym, ap, subst, ◌∙◌, append-nil}
 use Rattle.sx_base.specs.Disk.{Pending, IsImage}
 use Rattle.sx_base.specs.Crash.{LeavesOnly}
@@ -14,7 +14,10 @@ use Rattle.send_model.specs.Refusal as meant
 use Rattle.send_model.specs.Command.{Command}
 use Rattle.send_model.specs.Reading as reading
 use Rattle.send_model.specs.Reading.{Item}
-use Rattle.send_model.specs.Store.{State, After, Stepped, step}
+use Rattle.send_model.specs.Receive.{bytes_of}
+use Rattle.send_model.specs.Store.{Head, State, After, Stepped, head_of, step}
+use Rattle.send_model.proofs.Sorts.{head_step}
+use Rattle.send_model.proofs.CellClones.{all_steps-cells}
 use Rattle.send_model.specs.Guards.{Guard, guarded, looked, watched}
 use Rattle.send_model.specs.Cells.{recelled_state}
 use Rattle.clone_resolve.specs.Steps.{cells_put, Answers}
@@ -22,7 +25,7 @@ use Rattle.auditor.specs.Following.{Followed, blank_step, beside, follow}
 use Rattle.auditor.proofs.Steps.{answers_blank}
 use Rattle.store_model.specs.Image.{Header}
 use Rattle.store_model.specs.Stored.{Group, is_edit}
-use Rattle.store_model.specs.Written.{Begun, closed, closed_by}
+use Rattle.store_model.specs.Written.{Begun, mark_of, closed, closed_by}
 use Rattle.group_log.proofs.GatedGroups.{rests_has, grows_has}
 use Rattle.store_groups.specs.declared.place.Place.{Place}
 use Rattle.store_groups.specs.Placing.{further}
@@ -31,9 +34,9 @@ use Rattle.store_journal.specs.Holding.{bodies_of, HasThese}
 use Rattle.receiver.specs.declared.opened.Opened.{Opened}
 use Rattle.receiver.specs.declared.outcome.Received.{Received}
 use Rattle.receiver.specs.declared.outcome.Received.TheVariants as how
-use Rattle.receiver.specs.Disks.{Keeps, HasFront}
+use Rattle.receiver.specs.Disks.{Keeps, HasFront, closing}
 use Rattle.receiver.specs.Answers.{IsRefusedWith, StepSays}
-use Rattle.receiver.specs.Steps.{TakesAs}
+use Rattle.receiver.specs.Steps.{TakesAs, begun_if}
 use Rattle.receiver.proofs.BegunParts.{none_yet}
 
 -- ---- a guard refuses the command
@@ -121,3 +124,40 @@ allowed_says r item old_guards new_guards old new none counted says =
     subst (λ (a : After Followed). StepSays r item (beside new_guards (blank new)) a) (sym (follow_allowed (beside old_guards (blank old)) item none))
     (subst (λ (gs : List Guard). StepSays r item (beside gs (blank new)) (watched (looked old_guards item.command) (blank_step (blank old) item.command))) (sym counted)
     (watched_says r item (looked old_guards item.command) (blank new) (blank_step (blank old) item.command) (blank_says r item says.0 old new says.1)))
+
+-- ---- the groups that are due
+
+allowed_closes : (guards : List Guard) (c : Command) (begun : Option Begun) → guarded guards c ≡ None → closed_by guards c begun ≡ closing c begun
+allowed_closes guards c begun is = ap (λ (o : Option meant.Refusal). if is_edit c then [] else (elim o as (λ x. List Group) [ Some refusal ↦ [] | None ↦ closed begun ])) is
+
+-- A head looks at no cells.
+head_blank : (place : Place) (old : State (Option Place)) (c : Command) (head : Head) → head_of c ≡ Some head → (blank_step (blank old) c).refusal ≡ (step None (cells_put further place c) old c).refusal
+head_blank place old c head is =
+    ap (λ (a : Stepped Blank). a.refusal) (head_step tt (map (λ _. tt) (bytes_of c)) (blank old) c head is ∙ sym (head_step tt (map (λ _. tt) (cells_put further place c)) (blank old) c head is) ∙ all_steps-cells (λ _. tt) c None (cells_put further place c) old)
+
+begun_alike : (place : Place) (old : State (Option Place)) (c : Command) (guards : List Guard) → begun_if (step None (cells_put further place c) old c) c ≡ begun_if (watched guards (blank_step (blank old) c)) c
+begun_alike place old c guards = one (head_of c) refl
+  where
+    shown : Option Head → Option meant.Refusal → List Group
+    shown o refusal = elim refusal as (λ x. List Group) [ Some r ↦ [] | None ↦ elim o as (λ x. List Group) [ None ↦ [] | Some head ↦ mark_of c ∷ [] ] ]
+
+    nothing : (r : Option meant.Refusal) → shown None r ≡ []
+    nothing None = refl
+    nothing (Some refusal) = refl
+
+    before : Option meant.Refusal
+    before = (step None (cells_put further place c) old c).refusal
+
+    after : Option meant.Refusal
+    after = (blank_step (blank old) c).refusal
+
+    one : (o : Option Head) → head_of c ≡ o → shown (head_of c) before ≡ shown (head_of c) after
+    one None is = ap (λ (o : Option Head). shown o before) is ∙ nothing before ∙ sym (nothing after) ∙ ap (λ (o : Option Head). shown o after) (sym is)
+    one (Some head) is = ap (shown (head_of c)) (sym (head_blank place old c head is))
+
+pub allowed_due : (guards : List Guard) (item : Item) (begun : Option Begun) (place : Place) (old : State (Option Place)) → guarded guards item.command ≡ None
+    → closing item.command begun ++ begun_if (step None (cells_put further place item.command) old item.command) item.command
+    ≡ closed_by guards item.command begun ++ begun_if (follow (beside guards (blank old)) item) item.command
+allowed_due guards item begun place old none =
+    let same = begun_alike place old item.command (looked guards item.command) ∙ ap (λ (a : After Followed). begun_if a item.command) (sym (follow_allowed (beside guards (blank old)) item none)) in
+    λ i. sym (allowed_closes guards item.command begun none) i ++ same i
