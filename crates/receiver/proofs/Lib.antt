@@ -4,3 +4,5 @@ pub mod BegunParts
 pub mod EditedParts
 pub mod TakenItems
 pub mod FollowedItems
+pub mod Spots
+pub mod PrintedLines

@@ -2,3 +2,4 @@ pub mod Standing
 pub mod Answers
 pub mod Disks
 pub mod Steps
+pub mod Running
