@@ -6,3 +6,4 @@ pub mod TakenItems
 pub mod FollowedItems
 pub mod Spots
 pub mod PrintedLines
+pub mod Leading
