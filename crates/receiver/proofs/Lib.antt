@@ -7,3 +7,4 @@ pub mod FollowedItems
 pub mod Spots
 pub mod PrintedLines
 pub mod Leading
+pub mod Ends
