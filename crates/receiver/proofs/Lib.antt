@@ -8,3 +8,4 @@ pub mod Spots
 pub mod PrintedLines
 pub mod Leading
 pub mod Ends
+pub mod ItemEnds
