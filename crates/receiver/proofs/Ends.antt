@@ -36,10 +36,10 @@ use Rattle.receiver.specs.declared.outcome.Received.TheVariants as how
 use Rattle.receiver.specs.Standing.{line_due, behind_close, place_of, IsReady}
 use Rattle.receiver.specs.Answers.{StepSays, PiecesSay, ItemWrites}
 use Rattle.receiver.specs.Steps.{blank_of, line_under}
-use Rattle.receiver.specs.Running.{byte_step, Spot, without_cells, IsAt, due_from, LinesLeft, CoreLeft, IsLineFront, Stops}
+use Rattle.receiver.specs.Running.{byte_step, Leads, Spot, without_cells, IsAt, due_from, LinesLeft, CoreLeft, IsLineFront, Stops}
 use Rattle.receiver.proofs.Spots.{due_refused, due_full, left_refused, left_where_full, run_taken}
 use Rattle.receiver.proofs.PrintedLines.{completed_lines}
-use Rattle.receiver.proofs.Leading.{Leads, after_without, the_guards, the_place, the_line, the_step, the_lines, the_rest}
+use Rattle.receiver.proofs.Leading.{after_without, the_guards, the_place, the_line, the_step, the_lines, the_rest}
 
 -- ---- what is printed later
 

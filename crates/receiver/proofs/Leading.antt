@@ -24,18 +24,9 @@ use Rattle.receiver.specs.declared.opened.Opened.{Opened}
 use Rattle.receiver.specs.Standing.{line_due, line_by, behind_close, place_of, IsLastLine, IsReady}
 use Rattle.receiver.specs.Answers.{PiecesSay}
 use Rattle.receiver.specs.Steps.{blank_of, line_under}
-use Rattle.receiver.specs.Running.{byte_step, Spot, without_cells, IsAt}
+use Rattle.receiver.specs.Running.{byte_step, Spot, without_cells, IsAt, Leads}
 use Rattle.receiver.proofs.Spots.{due_taken, left_taken, run_taken, groups_taken}
 use Rattle.receiver.proofs.PrintedLines.{blank_entries, PartLine, item_lines}
-
--- What was due from the first spot on is due from the second on, behind these groups and lines.
-pub record Leads (limit : ℕ) (base : Store ℕ) (old new : Spot) (items : List Item) (groups : List Group) (lines : List ℕ) : Type 0 where
-  pub due : (rest : List Item) → receive_from limit old.place old.watched (items ++ rest) ≡ receive_from limit new.place new.watched rest
-  pub left : (rest : List Item) → left_from limit old.place old.watched (items ++ rest) ≡ left_from limit new.place new.watched rest
-  pub ran : (rest : List Item) → run_by byte_step old.watched (items ++ rest) ≡ run_by byte_step new.watched rest
-  pub written : (rest : List Item) → groups_from old.watched old.begun (items ++ rest) ≡ groups ++ groups_from new.watched new.begun rest
-  pub printed : lines_behind base new.watched.state.store ≡ lines_behind base old.watched.state.store ++ lines
-  pub on : IsOn base new.watched.state.store new.watched.state.part
 
 pub leads_none : (limit : ℕ) (base : Store ℕ) (spot : Spot) → IsOn base spot.watched.state.store spot.watched.state.part → Leads limit base spot spot [] [] []
 leads_none limit base spot on = record {

@@ -9,3 +9,4 @@ pub mod PrintedLines
 pub mod Leading
 pub mod Ends
 pub mod ItemEnds
+pub mod FileSteps

@@ -2,6 +2,7 @@
 -- own.
 use Rattle.std.specs.Prelude.{◌≡◌, ⊤, ℕ, List, [], ◌++◌, Option, None, Some, if◌then◌else◌}
 use Rattle.sx_base.specs.Disk.{Pending}
+use Rattle.sx_base.specs.Crash.{LeavesOnly}
 use Rattle.store_model.specs.Image.{Header}
 use Rattle.send_model.specs.Command.{Command}
 use Rattle.store_model.specs.Stored.{Group, is_edit}
@@ -37,3 +38,15 @@ HasVersion version (Some begun) = begun.version ≡ version
 -- The group of the part that a command completes, where no guard refuses it.
 abbrev pub closing : Command → Option Begun → List Group
 closing command begun = if is_edit command then [] else closed begun
+
+-- A run of calls of a disk that tells: it has some groups more, and at each moment a crash leaves those that there were and the first of
+-- these.
+abbrev pub RunsOn : {D : Type 0} → Type 0 → (D → ℕ) → (D → ℕ → List ℕ → Type 0) → (D → List ℕ) → (D → Pending) → (old new : D) → Option Begun → (before after : Option Opened) → (was now : StoreState) → List Group → Option Begun → Type 0
+RunsOn tells moment left_since seen pending old new begun before after was now groups next =
+    tells → (header : Header) (there : List Group) → Keeps header there begun before was (seen old) (pending old)
+    → Keeps header (there ++ groups) next after now (seen new) (pending new) × LeavesOnly moment left_since old new (HasFront header there groups)
+
+-- At each moment it leaves those that there were and the first of some others.
+abbrev pub LeavesOn : {D : Type 0} → Type 0 → (D → ℕ) → (D → ℕ → List ℕ → Type 0) → (D → List ℕ) → (D → Pending) → (old new : D) → Option Begun → Option Opened → StoreState → List Group → Type 0
+LeavesOn tells moment left_since seen pending old new begun before was due =
+    tells → (header : Header) (there : List Group) → Keeps header there begun before was (seen old) (pending old) → LeavesOnly moment left_since old new (HasFront header there due)

@@ -3,3 +3,4 @@ pub mod Answers
 pub mod Disks
 pub mod Steps
 pub mod Running
+pub mod FileEnds

@@ -9,7 +9,8 @@ use Rattle.send_model.specs.Due as stream_dues
 use Rattle.send_model.specs.Due.{Limited, stop_due, RefusedAt, TooLong, DoneWhole}
 use Rattle.store_model.specs.States.{lines_behind}
 use Rattle.store_model.specs.Stored.{Group}
-use Rattle.store_model.specs.Written.{Begun}
+use Rattle.store_model.specs.Written.{Begun, groups_from}
+use Rattle.store_model.proofs.PassedStates.{IsOn}
 use Rattle.store_model.specs.Dues.{Due, Ends, LogFull, receive_from, left_from, or_due}
 use Rattle.auditor.specs.Following.{Followed, beside, blank}
 use Rattle.sx_base.specs.Refusals.{verdict_meant}
@@ -44,6 +45,15 @@ without_cells w = record { guards = w.guards; state = recelled_state (λ _. tt) 
 pub record IsAt (spot : Spot) (guards : List Guard) (store : StoreState) (current : Option Opened) : Type 0 where
   pub seen : without_cells spot.watched ≡ beside guards (blank_of store current)
   pub place : spot.place ≡ place_of store current
+
+-- What was due from the first spot on is due from the second on, behind these groups and lines.
+pub record Leads (limit : ℕ) (base : Store ℕ) (old new : Spot) (items : List Item) (groups : List Group) (lines : List ℕ) : Type 0 where
+  pub due : (rest : List Item) → receive_from limit old.place old.watched (items ++ rest) ≡ receive_from limit new.place new.watched rest
+  pub left : (rest : List Item) → left_from limit old.place old.watched (items ++ rest) ≡ left_from limit new.place new.watched rest
+  pub ran : (rest : List Item) → run_by byte_step old.watched (items ++ rest) ≡ run_by byte_step new.watched rest
+  pub written : (rest : List Item) → groups_from old.watched old.begun (items ++ rest) ≡ groups ++ groups_from new.watched new.begun rest
+  pub printed : lines_behind base new.watched.state.store ≡ lines_behind base old.watched.state.store ++ lines
+  pub on : IsOn base new.watched.state.store new.watched.state.part
 
 -- ---- how it ends
 
