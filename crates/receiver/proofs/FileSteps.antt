@@ -93,7 +93,7 @@ stands_at_start told file limit name base spot reader guards store current out K
 
 -- ---- versions
 
-fits_version : (old : Reader) (version : ℕ) (begun : Option Begun) → ((n : ℕ) → old.fed.due ≡ CommandDue n → version ≡ n) → VersionDue old begun → HasVersion version begun
+pub fits_version : (old : Reader) (version : ℕ) (begun : Option Begun) → ((n : ℕ) → old.fed.due ≡ CommandDue n → version ≡ n) → VersionDue old begun → HasVersion version begun
 fits_version old version None same due = tt
 fits_version old version (Some b) same due = sym (same b.version due)
 

@@ -61,10 +61,7 @@ run_lines base w item extra on = one (byte_step w item).refusal
     one (Some refusal) = ([], sym (append-nil (lines_behind base (byte_step w item).state.state.store)))
 
 module _ (limit : ℕ) (base : Store ℕ) (old : Spot) (item : Item) (guards : List Guard) (len : ℕ) (store : StoreState) (current : Option Opened) (at : IsAt old guards store current) (on : IsOn base old.watched.state.store old.watched.state.part) (ready : IsReady len current store)
-  (next_guards : List Guard) (next : StoreState) (next_current : Option Opened) (extra : List Item) (stop : Stop) where
-  abbrev whole : Limited
-  whole = record { items = item ∷ extra; stop = stop }
-
+  (next_guards : List Guard) (next : StoreState) (next_current : Option Opened) where
   abbrev followed : After Followed
   followed = follow (beside guards (blank_of store current)) item
 
@@ -72,8 +69,8 @@ module _ (limit : ℕ) (base : Store ℕ) (old : Spot) (item : Item) (guards : L
   said why = StepSays (Err why) item (beside next_guards (blank_of next next_current)) (follow (beside guards (blank_of store current)) item)
 
   -- It is refused.
-  refused_stops : (verdict : Verdict) → said (how.Files (ended.Refused verdict)) → Stops (how.Files (ended.Refused verdict)) limit base old (record { items = item ∷ extra; stop = stop }) (line_under guards current item.command) next.core
-  refused_stops verdict says =
+  refused_stops : (extra : List Item) (stop : Stop) (verdict : Verdict) → said (how.Files (ended.Refused verdict)) → Stops (how.Files (ended.Refused verdict)) limit base old (record { items = item ∷ extra; stop = stop }) (line_under guards current item.command) next.core
+  refused_stops extra stop verdict says =
       let step_is = the_step limit base old item guards len store current at on ready (record { state = beside next_guards (blank_of next next_current); refusal = Some says.refusal }) says.after_is in
       let refusal : (byte_step old.watched item).refusal ≡ Some says.refusal = ap (λ (a : After Followed). a.refusal) step_is in (
         ap (λ (o : Option Due). or_due o (dues.Ends (stop_due stop))) (due_refused limit old.place old.watched item extra says.refusal refusal) ∙ ap (λ (v : reading.Verdict). dues.Ends (RefusedAt v)) (sym says.verdict_is),
@@ -104,9 +101,9 @@ module _ (limit : ℕ) (base : Store ℕ) (old : Spot) (item : Item) (guards : L
           ∙ ap (λ (b : Bool). lines_behind base old.watched.state.store ++ (if b then [] else line_due current)) (sym (head_fact item.command head is))
           ∙ ap (λ (o : Option meant.Refusal). lines_behind base old.watched.state.store ++ (elim o as (λ x. List ℕ) [ Some refusal ↦ [] | None ↦ line_by current item.command ])) (sym free)
 
-  full_stops : (end wanted most : ℕ) → said (how.LogFull end wanted most) → first_full limit (item_pieces (behind_close current item.command (place_of store current)) item) ≡ Some (dues.LogFull end wanted most)
+  full_stops : (extra : List Item) (stop : Stop) (end wanted most : ℕ) → said (how.LogFull end wanted most) → first_full limit (item_pieces (behind_close current item.command (place_of store current)) item) ≡ Some (dues.LogFull end wanted most)
       → Stops (how.LogFull end wanted most) limit base old (record { items = item ∷ extra; stop = stop }) (line_under guards current item.command) next.core
-  full_stops end wanted most none full =
+  full_stops extra stop end wanted most none full =
       let refusal : (byte_step old.watched item).refusal ≡ None =
       ap (λ (a : After Followed). a.refusal) (the_step limit base old item guards len store current at on ready (follow (beside guards (blank_of store current)) item) refl) ∙ none in
       let room : first_full limit (item_pieces (place_after old.watched.state.part item.command old.place) item) ≡ Some (dues.LogFull end wanted most) =
@@ -116,18 +113,18 @@ module _ (limit : ℕ) (base : Store ℕ) (old : Spot) (item : Item) (guards : L
       )
 
   -- Its line was written, or a part of it, or it was not.
-  line_front : (unwritten : List ℕ) × IsLineFront base old (record { items = item ∷ extra; stop = stop }) (line_under guards current item.command) unwritten
-  line_front =
+  line_front : (extra : List Item) (stop : Stop) → (unwritten : List ℕ) × IsLineFront base old (record { items = item ∷ extra; stop = stop }) (line_under guards current item.command) unwritten
+  line_front extra stop =
       let rest = run_lines base old.watched item extra (the_rest limit base old item guards len store current at on ready) in
       let line : List ℕ = line_under guards current item.command in (
         rest.0,
         record { all = rest.1 ∙ ap (λ (l : List ℕ). l ++ rest.0) (the_lines limit base old item guards len store current at on ready) ∙ append_assoc (lines_behind base old.watched.state.store) line rest.0 },
       )
 
-  part_front : (count : ℕ) → (unwritten : List ℕ) × IsLineFront base old (record { items = item ∷ extra; stop = stop }) (take count (line_under guards current item.command)) (drop count (line_under guards current item.command) ++ unwritten)
-  part_front count =
+  part_front : (extra : List Item) (stop : Stop) (count : ℕ) → (unwritten : List ℕ) × IsLineFront base old (record { items = item ∷ extra; stop = stop }) (take count (line_under guards current item.command)) (drop count (line_under guards current item.command) ++ unwritten)
+  part_front extra stop count =
       let line : List ℕ = line_under guards current item.command in
-      let f = line_front in (
+      let f = line_front extra stop in (
         f.0,
         record {
           all = f.1.all ∙ ap (λ (l : List ℕ). lines_behind base old.watched.state.store ++ l)
@@ -135,21 +132,20 @@ module _ (limit : ℕ) (base : Store ℕ) (old : Spot) (item : Item) (guards : L
         },
       )
 
-  none_front : (unwritten : List ℕ) × IsLineFront base old (record { items = item ∷ extra; stop = stop }) [] unwritten
-  none_front = let f = line_front in (line_under guards current item.command ++ f.0, record { all = f.1.all })
+  none_front : (extra : List Item) (stop : Stop) → (unwritten : List ℕ) × IsLineFront base old (record { items = item ∷ extra; stop = stop }) [] unwritten
+  none_front extra stop = let f = line_front extra stop in (line_under guards current item.command ++ f.0, record { all = f.1.all })
 
   -- Whatever ended it there.
   pub item_stops : (why : Received) (old_out new_out : Option (List ℕ)) → said why → PiecesSay (Err why) limit (behind_close current item.command (place_of store current)) (place_of next next_current) item
       → ItemWrites (Err why) (line_under guards current item.command) old_out new_out
-      → (lines : List ℕ) × Appends old_out new_out lines × Stops why limit base old (record { items = item ∷ extra; stop = stop }) lines next.core
-  item_stops (how.Files (ended.Refused verdict)) old_out new_out says pieces writes = (line_under guards current item.command, writes, refused_stops verdict says)
-  item_stops (how.Files ended.NoMemory) old_out new_out says pieces writes = (line_under guards current item.command, writes, line_front)
+      → (lines : List ℕ) × Appends old_out new_out lines × ((extra : List Item) (stop : Stop) → Stops why limit base old (record { items = item ∷ extra; stop = stop }) lines next.core)
+  item_stops (how.Files (ended.Refused verdict)) old_out new_out says pieces writes = (line_under guards current item.command, writes, λ extra stop. refused_stops extra stop verdict says)
+  item_stops (how.Files ended.NoMemory) old_out new_out says pieces writes = (line_under guards current item.command, writes, λ extra stop. line_front extra stop)
   item_stops (how.Files ended.OutputFault) old_out new_out says pieces writes =
-      let line : List ℕ = line_under guards current item.command in
-      let f = part_front writes.0 in (
+      let line : List ℕ = line_under guards current item.command in (
         take writes.0 line,
         writes.2,
-        (
+        λ extra stop. let f = part_front extra stop writes.0 in (
           drop writes.0 line ++ f.0,
           f.1,
           omega (arith, writes.1, length-append (drop writes.0 line) f.0, length-drop writes.0 line),
@@ -160,6 +156,6 @@ module _ (limit : ℕ) (base : Store ℕ) (old : Spot) (item : Item) (guards : L
   item_stops (how.Files (ended.InputTooLong file)) old_out new_out says pieces writes = absurd says
   item_stops (how.Files (ended.TooMuch sum)) old_out new_out says pieces writes = absurd says
   item_stops (how.Files (ended.InputChanged file place)) old_out new_out says pieces writes = absurd says
-  item_stops how.StoreFault old_out new_out says pieces (inl none) = ([], none, none_front)
-  item_stops how.StoreFault old_out new_out says pieces (inr all) = (line_under guards current item.command, all, line_front)
-  item_stops (how.LogFull end wanted most) old_out new_out says pieces writes = (line_under guards current item.command, writes, full_stops end wanted most says pieces)
+  item_stops how.StoreFault old_out new_out says pieces (inl none) = ([], none, λ extra stop. none_front extra stop)
+  item_stops how.StoreFault old_out new_out says pieces (inr all) = (line_under guards current item.command, all, λ extra stop. line_front extra stop)
+  item_stops (how.LogFull end wanted most) old_out new_out says pieces writes = (line_under guards current item.command, writes, λ extra stop. full_stops extra stop end wanted most says pieces)

@@ -10,3 +10,4 @@ pub mod Leading
 pub mod Ends
 pub mod ItemEnds
 pub mod FileSteps
+pub mod FileStops

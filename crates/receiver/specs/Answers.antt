@@ -164,3 +164,9 @@ KeepsSays (Ok u) K done all begun = K all begun
 KeepsSays (Err (how.Files outcome)) K done all begun = OutcomeKeeps outcome K done
 KeepsSays (Err how.StoreFault) K done all begun = ⊤
 KeepsSays (Err (how.LogFull end wanted limit)) K done all begun = ⊤
+
+-- An end that is not that all was done.
+abbrev pub IsEnd : Received → Type 0
+IsEnd (how.Files outcome) = calls.IsStop outcome
+IsEnd how.StoreFault = ⊤
+IsEnd (how.LogFull end wanted limit) = ⊤

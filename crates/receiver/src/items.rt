@@ -1,7 +1,8 @@
 // Receiving one command: the guards look at it, it is done, and it is put into the journal.
-ghost use Rattle.std.specs.Prelude.{◌≡◌, ◌≤◌, ◌++◌, ℕ, List, Option, Some, true};
+ghost use Rattle.std.specs.Prelude.{◌≡◌, ◌≤◌, ◌++◌, ℕ, List, Option, Some, None, true, OnOk};
 ghost use Rattle.sx_base.specs.Causes.{Steady};
 ghost use Rattle.sx_base.specs.Crash.{LeavesOnly};
+ghost use Rattle.send_model.specs.Counts.{is_end};
 ghost use Rattle.send_model.specs.Spelling.{IsSpellable};
 ghost use Rattle.send_model.specs.Reading.{is_version};
 ghost use Rattle.store_model.specs.Image.{Header};
@@ -66,6 +67,8 @@ pub(crate) fn receive_item<D: Disk, O: Sink, G: Guarding>(
         (closed_by (G.kept guards.old) (meaning_of item.now.command) begun
         ++ begun_if (follow (beside (G.kept guards.old) (blank_of store.old current.old))
         (item_of file item.now)) (meaning_of item.now.command))) }
+    ensures at_end { is_end (meaning_of item.now.command) ≡ true →
+        OnOk result (current.new ≡ None) }
     ensures cause { ErrCaused 0 0 (O.faults out.old) (O.faults out.new)
         (D.faults disk.old) (D.faults disk.new) result }
     ensures later { D.faults disk.old ≤ D.faults disk.new }

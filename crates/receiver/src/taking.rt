@@ -1,5 +1,5 @@
 // Doing one command: a head, END or an edit.
-ghost use Rattle.std.specs.Prelude.{◌≡◌, ◌≤◌, ◌++◌, ℕ, List, Option, Some, None, true};
+ghost use Rattle.std.specs.Prelude.{◌≡◌, ◌≤◌, ◌++◌, ℕ, List, Option, Some, None, true, OnOk};
 ghost use Rattle.sx_base.specs.Causes.{Steady};
 ghost use Rattle.sx_base.specs.Crash.{LeavesOnly};
 ghost use Rattle.send_model.specs.Counts.{is_end};
@@ -78,6 +78,8 @@ pub(crate) fn do_item<D: Disk, O: Sink>(
         ++ begun_if (step None (cells_put further place (meaning_of item.now.command))
         (state_of store.old current.old) (meaning_of item.now.command))
         (meaning_of item.now.command))) }
+    ensures at_end { is_end (meaning_of item.now.command) ≡ true →
+        OnOk result (current.new ≡ None) }
     ensures cause { ErrCaused 0 0 (O.faults out.old) (O.faults out.new)
         (D.faults disk.old) (D.faults disk.new) result }
     ensures later { D.faults disk.old ≤ D.faults disk.new }
@@ -135,6 +137,8 @@ fn enter<D: Disk, O: Sink>(
         ++ begun_if (step None (cells_put further place (meaning_of item.now.command))
         (state_of store.old current.old) (meaning_of item.now.command))
         (meaning_of item.now.command))) }
+    ensures at_end { is_end (meaning_of item.now.command) ≡ true →
+        OnOk result (current.new ≡ None) }
     ensures cause { ErrCaused 0 0 (O.faults out.old) (O.faults out.new)
         (D.faults disk.old) (D.faults disk.new) result }
     ensures later { D.faults disk.old ≤ D.faults disk.new }
