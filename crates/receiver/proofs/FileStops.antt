@@ -21,7 +21,7 @@ use Rattle.cmd_reader.specs.declared.item.ReadStop.TheVariants as stop
 use Rattle.cmd_reader.specs.Places.{IfTold}
 use Rattle.cmd_reader.specs.Fronts.{IsRefused, IsLongAt}
 use Rattle.cmd_reader.specs.Left.{Reader, at_start, left}
-use Rattle.cmd_reader.specs.Next.{item_of, HasEnded, IsFaulty, OnlyEnds, IsNext, NextSays, ItemFits}
+use Rattle.cmd_reader.specs.Next.{item_of, HasEnded, IsFaulty, OnlyEnds, IsNext, NextSays, ItemFits, EndsAfterEnd}
 use Rattle.cmd_reader.specs.Stopping.{outcome_at}
 use Rattle.cmd_reader.proofs.Aheads.{next_item, next_end}
 use Rattle.cmd_reader.proofs.Told.{Here, told_both, told_map, told_always, told_here, told_moved}
@@ -261,3 +261,7 @@ file_read_stops told inputs file limit name base spot old new guards store curre
     by_why stop.InputTooLong said =
         told_both told name (Here Stood) (IsLongAt old.offset (OnlyEnds old)) (FileEnds file limit base spot guards store out out_now L M (Err (how.Files (ended.InputTooLong file)))) long
         (told_here told name Stood stands) (told_moved told inputs name old.name (IsLongAt old.offset (OnlyEnds old)) same name_is said)
+
+-- A file ends only behind END.
+pub ended_at_end : (o : Option read.Item) (old : Reader) → o ≡ None → EndsAfterEnd {T = read.Item} old (Ok o) → old.fed.ended ≡ true
+ended_at_end o old e said = subst (λ (x : Option read.Item). EndsAfterEnd {T = read.Item} old (Ok x)) e said

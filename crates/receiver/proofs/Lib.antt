@@ -11,3 +11,4 @@ pub mod Ends
 pub mod ItemEnds
 pub mod FileSteps
 pub mod FileStops
+pub mod DiskRuns
