@@ -77,3 +77,20 @@ pub at_stream_end : (ended : Bool) (due : Due) (version : ℕ) (c : Command) (cu
 at_stream_end ended due version c current last is closes e =
     let ends = last_is_end c (sym last ∙ e) in
     (closes ends, is ∙ end_due version c ends)
+
+module _ {D : Type 0} (tells : Type 0) (moment : D → ℕ) (left_since : D → ℕ → List ℕ → Type 0) (seen : D → List ℕ) (pending : D → Pending) where
+  -- file by file
+  pub run_both : (old mid new : D) (was now next : StoreState) (groups more : List Group) → RunsOn tells moment left_since seen pending old mid None None None was now groups None → RunsOn tells moment left_since seen pending mid new None None None now next more None
+      → RunsOn tells moment left_since seen pending old new None None None was next (groups ++ more) None
+  run_both old mid new was now next groups more first second told header there keeps =
+      let a = first told header there keeps in
+      let b = second told header (there ++ groups) a.0 in (
+        subst (λ (l : List Group). Keeps header l None None next (seen new) (pending new)) (append_assoc there groups more) b.0,
+        both_moments header there groups more a.1 b.1,
+      )
+
+  pub run_ends : (old mid new : D) (was now : StoreState) (groups more : List Group) → RunsOn tells moment left_since seen pending old mid None None None was now groups None → LeavesOn tells moment left_since seen pending mid new None None now more
+      → LeavesOn tells moment left_since seen pending old new None None was (groups ++ more)
+  run_ends old mid new was now groups more first second told header there keeps =
+      let a = first told header there keeps in
+      both_moments header there groups more a.1 (second told header (there ++ groups) a.0)

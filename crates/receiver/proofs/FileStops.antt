@@ -1,5 +1,5 @@
 -- The ends of the loop over a file's commands.
-use Rattle.std.specs.Prelude.{◌≡◌, ⊤, ℕ, ◌+◌, ◌≤◌, Bool, true, false, List, [], ◌∷◌, ◌++◌, length, take, Option, None, Some, Result, Ok, Err, if◌then◌else◌}
+use Rattle.std.specs.Prelude.{◌≡◌, ⊤, ℕ, ◌+◌, ◌≤◌, Bool, true, false, List, [], ◌∷◌, ◌++◌, length, take, Option, None, Some, Result, Ok, Err, OnOk, if◌then◌else◌}
 use Rattle.std.specs.Io.KnownBytes.{Appends}
 use Rattle.std.proofs.KnownBytes.{Appends-nil, Appends-trans}
 use Rattle.std.proofs.Common.{inl, inr, refl, sym, ap, subst, ◌∙◌, append_assoc, append-nil, arith}
@@ -31,6 +31,7 @@ use Rattle.store_model.proofs.PassedStates.{IsOn, sort_of}
 use Rattle.store_model.proofs.WrittenGroups.{edit_facts}
 use Rattle.auditor.specs.Following.{Followed, beside, follow, file_read, read_whole, then_read}
 use Rattle.auditor.proofs.TooLong.{whole_read, fault_read, long_read, read_either}
+use Rattle.store_groups.specs.declared.place.Place.{Place}
 use Rattle.store_journal.specs.Shown.{StoreState}
 use Rattle.receiver.specs.declared.opened.Opened.{Opened}
 use Rattle.receiver.specs.declared.outcome.Received.{Received}
@@ -265,3 +266,18 @@ file_read_stops told inputs file limit name base spot old new guards store curre
 -- A file ends only behind END.
 pub ended_at_end : (o : Option read.Item) (old : Reader) → o ≡ None → EndsAfterEnd {T = read.Item} old (Ok o) → old.fed.ended ≡ true
 ended_at_end o old e said = subst (λ (x : Option read.Item). EndsAfterEnd {T = read.Item} old (Ok x)) e said
+
+-- A part that is open where the file ends early stays unfinished.
+pub file_abandoned : (told : Option (List (List ℕ × List ℕ))) (file limit : ℕ) (name : List ℕ) (base : Store ℕ) (spot : Spot) (guards : List Guard) (was now : StoreState) (current : Option Opened) (o : Opened) (out out_now : Option (List ℕ)) (K L : List Group → Option Begun → Type 0) (M : List Group → Type 0) (r : Result (Unit {0}) Received)
+    → current ≡ Some o → OnOk r (current ≡ None) → now.core ≡ was.core → IfTold told name (FileEnds file limit base spot guards was out out_now K M r) → IfTold told name (FileEnds file limit base spot guards now out out_now L M r)
+file_abandoned told file limit name base spot guards was now current o out out_now K L M (Ok u) e closed core ends = absurd (apart (sym e ∙ closed))
+  where
+    apart : ◌≡◌ {A = Option Opened} (Some o) None → ⊥
+    apart p = cc
+file_abandoned told file limit name base spot guards was now current o out out_now K L M (Err why) e closed core ends =
+    told_map told name (FileEnds file limit base spot guards was out out_now K M (Err why)) (FileEnds file limit base spot guards now out out_now L M (Err why)) (λ bytes s. record {
+      lines = s.lines;
+      wrote = s.wrote;
+      stops = λ more. subst (λ (c : Store (Option Place)). Stops why limit base spot (then_others (file_read file bytes) more) s.lines c) (sym core) (s.stops more);
+      moments = s.moments;
+    }) ends

@@ -12,3 +12,4 @@ pub mod ItemEnds
 pub mod FileSteps
 pub mod FileStops
 pub mod DiskRuns
+pub mod AllTheFiles
