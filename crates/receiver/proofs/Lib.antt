@@ -13,3 +13,4 @@ pub mod FileSteps
 pub mod FileStops
 pub mod DiskRuns
 pub mod AllTheFiles
+pub mod Answering

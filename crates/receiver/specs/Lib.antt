@@ -4,3 +4,4 @@ pub mod Disks
 pub mod Steps
 pub mod Running
 pub mod FileEnds
+pub mod ReceiveEnds
