@@ -3,3 +3,4 @@ pub mod Opened
 pub mod Pushes
 pub mod ReadFiles
 pub mod StandingGroups
+mod Refusing

@@ -1,11 +1,11 @@
 // The store.
-ghost use Rattle.std.specs.Prelude.{◌≡◌, ℕ, ◌+◌, ◌<◌, ◌≤◌, true, false, Option, List, [], ◌∷◌, ◌++◌, length, None, Some, Ok, IfOk, OnOk, IfErr, OnErr, IsErrAnd, IfSome, IsTrue, is_some, if◌then◌else◌};
+ghost use Rattle.std.specs.Prelude.{◌≡◌, ℕ, ◌+◌, ◌<◌, ◌≤◌, true, false, Option, List, [], ◌∷◌, ◌++◌, length, None, Some, Ok, IfOk, OnOk, IfErr, OnErr, IsErr, IsErrAnd, IfSome, IsTrue, is_some, if◌then◌else◌};
 ghost use Rattle.send_model.specs.Command as model_command;
 ghost use Rattle.send_model.specs.Spelling.{attributes_of, canonical, IsSpellable};
 ghost use Rattle.send_model.specs.Reading.{is_version, data_place};
 ghost use Rattle.send_model.specs.Receive.{bytes_of};
 ghost use Rattle.send_model.specs.Store as model_store;
-ghost use Rattle.send_model.specs.Store.{has_name, head_of, with_contents, edit_part};
+ghost use Rattle.send_model.specs.Store.{has_name, head_of, begun, with_contents, edit_part};
 ghost use Rattle.send_commands.specs.Meaning.{meaning_of};
 ghost use Rattle.subvol_catalog.specs.Admission.{without_name};
 ghost use Rattle.subvol_catalog.specs.Entries.{key_of};
@@ -191,6 +191,12 @@ impl Store {
             LeavesOnly D.moment D.left_since disk.old disk.new
             (HasOneMore header groups (new_group (Mark (meaning_of head.now)))) }
 
+        // Of a head that is refused a crash never leaves a group.
+        ensures unmarked { D.tells → (header : Header) (groups : List Group) →
+            Holds header groups self.old (D.seen disk.old) (D.pending disk.old) →
+            IfSome (head_of (meaning_of head.now)) (λ h. IsErr (begun self.old.core h) →
+            LeavesOnly D.moment D.left_since disk.old disk.new (HasThese header groups)) }
+
         ensures refused { IfRefused result
             (λ _. (self.new ≡ self.old) × (disk.new ≡ disk.old)) }
         ensures ended { IfEnded result (self.new.is_live ≡ false) }
@@ -297,6 +303,12 @@ impl Store {
             Holds header groups self.old (D.seen disk.old) (D.pending disk.old) →
             LeavesOnly D.moment D.left_since disk.old disk.new
             (HasOneMore header groups (new_group (Mark (meaning_of head.now)))) }
+
+        // Of a head that is refused a crash never leaves a group.
+        ensures unmarked { D.tells → (header : Header) (groups : List Group) →
+            Holds header groups self.old (D.seen disk.old) (D.pending disk.old) →
+            IfSome (head_of (meaning_of head.now)) (λ h. IsErr (begun self.old.core h) →
+            LeavesOnly D.moment D.left_since disk.old disk.new (HasThese header groups)) }
 
         ensures refused { IfRefused result
             (λ _. (self.new ≡ self.old) × (disk.new ≡ disk.old)) }

@@ -16,6 +16,7 @@ use Rattle.store_journal.specs.Holding.{bodies_of, Builds}
 use Rattle.store_journal.proofs.Keeping.{edit_builds}
 use Rattle.store_groups.proofs.KeptParts.{run_before, kept_further, all_further, edit_kept}
 use Rattle.store_groups.proofs.Editing.{data_in_frame, short_data, near_data, edit_same}
+use Rattle.store_journal.proofs.Refusing.{stopped_edits}
 use Rattle.store_journal.proofs.store.Store.edit.Goals as goal
 
 pub overflow_add-place : goal.overflow_add-place
@@ -90,3 +91,9 @@ returns-in-Ok-write_edit-clause-still_open g c =
           (kept_further c.args.self.now.log.size far (omega (arith, size, end)) c.args.part.now.subvolume was.kept)
           c.in-Ok.ensures.edited;
     }
+
+pub returns-in-Err-clause-edited : goal.returns-in-Err-clause-edited
+returns-in-Err-clause-edited g c =
+    stopped_edits (Unit {0}) c.in-Err.stop c.args.part.now c.edit.new.part _ c.in-Err.ensures.not_refused
+    (edit_same c.args.version (meaning_of c.args.c.now) c.self.inside.core c.args.self.now.core c.args.part.now (c.end.result + c.unwrap_or.result) c.end.result c.args.self.now.log.size c.unwrap_or.result (Ok c.edit.new.part.subvolume)
+    (ap (λ (s : StoreState). s.core) c.self.view_is) (c.end.ensures ∙ ap (λ (s : StoreState). s.log.size) c.self.view_is) (c.unwrap_or.ensures ∙ ap (λ (o : Option ℕ). unwrap_or o 0) c.data_place.ensures.place) refl c.in-Ok.ensures.edited)

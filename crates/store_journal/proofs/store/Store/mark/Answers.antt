@@ -8,6 +8,7 @@ use Rattle.store_journal.specs.Shown.{StoreState}
 use Rattle.store_journal.specs.Holding.{bodies_of, new_group, Holds}
 use Rattle.store_journal.proofs.Keeping.{more_has, mark_holds, begun_again, begun_are_kept}
 use Rattle.store_groups.proofs.KeptParts.{all_further, kept_further}
+use Rattle.store_journal.proofs.Refusing.{stopped_begins, anyway}
 use Rattle.store_journal.proofs.store.Store.mark.Goals as goal
 
 pub returns-in-Err-Refused-clause-any_moment : goal.returns-in-Err-Refused-clause-any_moment
@@ -52,3 +53,15 @@ returns-in-Ok-write_mark-clause-kept g c =
     let gate = c.in-Ok-write_mark.ensures.gate in
     let kept = begun_are_kept c.self.inside.log.gate c.self.inside.core c.begin.new.self (head_of (meaning_of c.args.head.now)) c.in-Ok.part c.requires.head c.in-Ok.ensures.begun c.self.invariant in
     kept_further c.self.inside.log.gate c.write_mark.new.log.gate (omega (arith, gate)) c.in-Ok.part.subvolume kept.0
+
+pub returns-in-Err-clause-begun : goal.returns-in-Err-clause-begun
+returns-in-Err-clause-begun g c =
+    rw (← c.self.view_is) (stopped_begins c.in-Err.stop (head_of (meaning_of c.args.head.now)) c.in-Ok.part _ _ _ c.in-Err.ensures.not_refused c.in-Ok.ensures.begun)
+
+pub returns-in-Err-Refused-clause-unmarked : goal.returns-in-Err-Refused-clause-unmarked
+returns-in-Err-Refused-clause-unmarked g c tells header groups holds =
+    anyway _ _ (head_of (meaning_of c.args.head.now)) (begins c.args.disk.now (λ image. g.met.D.Disk.only_now c.args.disk.now image tells) (λ image is. rests_has header (bodies_of groups) _ _ _ holds.rests image is))
+
+pub returns-in-Err-NoMemory-clause-unmarked : goal.returns-in-Err-NoMemory-clause-unmarked
+returns-in-Err-NoMemory-clause-unmarked g c tells header groups holds =
+    anyway _ _ (head_of (meaning_of c.args.head.now)) (begins c.args.disk.now (λ image. g.met.D.Disk.only_now c.args.disk.now image tells) (λ image is. rests_has header (bodies_of groups) _ _ _ holds.rests image is))

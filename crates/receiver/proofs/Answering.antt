@@ -1,0 +1,152 @@
+-- The whole call: from the first spot, and in the words of its contract.
+use Rattle.std.specs.Prelude.{◌≡◌, ⊤, ℕ, ◌<◌, List, [], ◌∷◌, ◌++◌, length, drop, Option, None, Some, Result, Ok, Err}
+use Rattle.std.specs.Io.KnownBytes.{Appends}
+use Rattle.std.specs.List.{filter, flat_map}
+use Rattle.std.proofs.Common.{inl, inr, refl, sym, ap, subst, ◌∙◌, append-nil}
+use Rattle.sx_base.specs.Disk.{Pending}
+use Rattle.sx_base.specs.Crash.{LeavesOnly}
+use Rattle.sx_base.specs.Calls.{IfAllTold, Wrote, SteadyIfDone, IsStop}
+use Rattle.sx_base.proofs.Ended.{stopped_steady}
+use Rattle.sx_base.specs.declared.outcome.Outcome.TheVariants as ended
+use Rattle.send_model.specs.Reading.{Item}
+use Rattle.send_model.specs.Store.{Store}
+use Rattle.send_model.specs.Receive.{byte_cells, run_by, Ran, start_of}
+use Rattle.send_model.specs.Guards.{Guard, Watched}
+use Rattle.send_model.specs.Due.{Limited, Stop, AtEnd, DoneWhole, limited_from, stop_due}
+use Rattle.store_model.specs.Image.{Header}
+use Rattle.store_model.specs.Stored.{Group}
+use Rattle.store_model.specs.States.{is_complete, complete_line, received, lines_behind}
+use Rattle.store_model.specs.Dues as dues
+use Rattle.store_model.specs.Dues.{Due, Ends, receive_from, left_from, or_due, receive_due, receive_left}
+use Rattle.store_model.specs.Written.{Begun, groups_from, groups_of}
+use Rattle.store_model.proofs.PassedStates.{IsOn, drop_start, start_closed}
+use Rattle.auditor.specs.Following.{Followed, HaveSameShape, blank, read_whole}
+use Rattle.store_groups.specs.declared.place.Place.{Place}
+use Rattle.store_journal.specs.Shown.{StoreState}
+use Rattle.store_journal.specs.Holding.{Holds}
+use Rattle.receiver.specs.declared.outcome.Received.{Received}
+use Rattle.receiver.specs.declared.outcome.Received.TheVariants as how
+use Rattle.receiver.specs.Answers.{IsEnd}
+use Rattle.receiver.specs.Disks.{HasFront, RunsOn, LeavesOn}
+use Rattle.receiver.specs.Running.{byte_step, Spot, first_spot, IsAt, Stops, LinesLeft, IsLineFront}
+use Rattle.receiver.specs.FileEnds.{AllTaken, AllStopped, AllEnds}
+use Rattle.receiver.specs.ReceiveEnds.{ReceiveEnds, SteadyIfReceived, IfDone}
+use Rattle.receiver.proofs.TakenItems.{due_same}
+
+pub at_first : (gate : ℕ) (base : Store ℕ) (guards : List Guard) (store : StoreState) → store.log.gate ≡ gate → HaveSameShape store.core base → IsAt (first_spot gate base guards) guards store None
+at_first gate base guards store at same = record { seen = λ i. record { guards = guards; state = record { store = sym same i; part = None } }; place = sym at }
+
+pub on_first : (base : Store ℕ) → IsOn base base None
+on_first base = start_closed 0 byte_cells base
+
+no_lines : (base : Store ℕ) → lines_behind base base ≡ []
+unfolding lines_behind
+no_lines base = ap (λ (l : Store ℕ). flat_map complete_line (filter is_complete l)) (drop_start base base [] (sym (append-nil base)))
+
+module _ (limit gate : ℕ) (base : Store ℕ) (guards : List Guard) where
+  all_lines : (files : List (List ℕ)) (lines : List ℕ) (left : Store ℕ) → lines_behind base left ≡ lines_behind base base ++ lines → lines ≡ lines_behind base left
+  all_lines files lines left is = sym (is ∙ ap (λ (l : List ℕ). l ++ lines) (no_lines base))
+
+  front : (files : List (List ℕ)) (lines unwritten : List ℕ) → IsLineFront base (first_spot gate base guards) (limited_from 1 files) lines unwritten
+      → lines_behind base (received 0 byte_cells base guards (limited_from 1 files).items).state.state.store ≡ lines ++ unwritten
+  unfolding received
+  front files lines unwritten f = f.all ∙ ap (λ (l : List ℕ). l ++ (lines ++ unwritten)) (no_lines base)
+
+  ends_early : (why : Received) (files : List (List ℕ)) (lines : List ℕ) (core : Store (Option Place)) → Stops why limit base (first_spot gate base guards) (limited_from 1 files) lines core → ReceiveEnds limit gate base guards files why core lines
+  unfolding receive_due receive_left
+  ends_early (how.Files (ended.Refused verdict)) files lines core s = ((s.0, all_lines files lines (left_from limit gate (record { guards = guards; state = start_of base }) (limited_from 1 files).items) s.1), s.2)
+  ends_early (how.Files (ended.InputTooLong file)) files lines core s = ((s.0, all_lines files lines (left_from limit gate (record { guards = guards; state = start_of base }) (limited_from 1 files).items) s.1), s.2)
+  ends_early (how.Files ended.InputFault) files lines core s = (s.0, front files lines s.0 s.1)
+  ends_early (how.Files ended.NoMemory) files lines core s = (s.0, front files lines s.0 s.1)
+  ends_early (how.Files ended.OutputFault) files lines core s = (s.0, front files lines s.0 s.1, s.2)
+  ends_early (how.Files ended.Done) files lines core s = absurd s
+  ends_early (how.Files (ended.TooMuch sum)) files lines core s = absurd s
+  ends_early (how.Files (ended.InputChanged file place)) files lines core s = absurd s
+  ends_early how.StoreFault files lines core s = (s.0, front files lines s.0 s.1)
+  ends_early (how.LogFull end wanted most) files lines core s = (s.0, all_lines files lines (left_from limit gate (record { guards = guards; state = start_of base }) (limited_from 1 files).items) s.1)
+
+  ends_whole : (files : List (List ℕ)) (next_guards : List Guard) (store : StoreState) (old new : Option (List ℕ)) (K : List Group → Option Begun → Type 0) (t : AllTaken limit base (first_spot gate base guards) next_guards store old new K files)
+      → ReceiveEnds limit gate base guards files (how.Files ended.Done) store.core t.lines
+  unfolding receive_due receive_left receive_from left_from
+  ends_whole files next_guards store old new K t =
+      let first : Watched _ = record { guards = guards; state = start_of base } in
+      let due : receive_from limit gate first t.items ≡ None = ap (receive_from limit gate first) (sym (append-nil t.items)) ∙ t.leads.due [] in
+      let left : left_from limit gate first t.items ≡ t.now.watched.state.store = ap (left_from limit gate first) (sym (append-nil t.items)) ∙ t.leads.left [] in
+      let all_left : left_from limit gate first (limited_from 1 files).items ≡ t.now.watched.state.store = ap (λ (l : Limited). left_from limit gate first l.items) t.read ∙ left in (
+        (
+          ap (λ (l : Limited). or_due (receive_from limit gate first l.items) (Ends (stop_due l.stop))) t.read ∙ ap (λ (o : Option Due). or_due o (Ends DoneWhole)) due,
+          all_lines files t.lines t.now.watched.state.store t.leads.printed ∙ ap (lines_behind base) (sym all_left),
+        ),
+        sym (ap (λ (w : Followed). w.state.store) t.at.seen) ∙ ap blank (sym all_left),
+      )
+
+  -- The groups that are due are those that were written.
+  whole_groups : (files : List (List ℕ)) (next_guards : List Guard) (store : StoreState) (old new : Option (List ℕ)) (K : List Group → Option Begun → Type 0) (t : AllTaken limit base (first_spot gate base guards) next_guards store old new K files)
+      → t.groups ≡ groups_of base guards (limited_from 1 files).items
+  unfolding groups_from
+  whole_groups files next_guards store old new K t =
+      let first : Watched _ = record { guards = guards; state = start_of base } in
+      sym (ap (λ (l : Limited). groups_from first None l.items) t.read ∙ ap (groups_from first None) (sym (append-nil t.items)) ∙ t.leads.written [] ∙ append-nil t.groups)
+
+  -- ---- of files that are told
+
+  pub told_done : (told : Option (List (List ℕ × List ℕ))) (names : List (List ℕ)) (next_guards : List Guard) (store : StoreState) (old new : Option (List ℕ)) (K : List Group → Option Begun → Type 0) (N : List Group → Type 0) (r : Result (Unit {0}) Received) (u : Unit {0}) → r ≡ Ok u
+      → IfAllTold told names (AllEnds limit base (first_spot gate base guards) next_guards store old new K N r) → IfAllTold told names (λ files. Wrote old new (ReceiveEnds limit gate base guards files (how.Files ended.Done) store.core))
+  told_done None names next_guards store old new K N r u is all = tt
+  told_done (Some table) names next_guards store old new K N r u is all =
+      let t : AllTaken limit base (first_spot gate base guards) next_guards store old new K _ = subst (λ (x : Result (Unit {0}) Received). IfAllTold (Some table) names (AllEnds limit base (first_spot gate base guards) next_guards store old new K N x)) is all in
+      (t.lines, t.wrote, ends_whole _ next_guards store old new K t)
+
+  pub told_ended : (told : Option (List (List ℕ × List ℕ))) (names : List (List ℕ)) (next_guards : List Guard) (store : StoreState) (old new : Option (List ℕ)) (K : List Group → Option Begun → Type 0) (N : List Group → Type 0) (r : Result (Unit {0}) Received) (why : Received) → r ≡ Err why
+      → IfAllTold told names (AllEnds limit base (first_spot gate base guards) next_guards store old new K N r) → IfAllTold told names (λ files. Wrote old new (ReceiveEnds limit gate base guards files why store.core))
+  told_ended None names next_guards store old new K N r why is all = tt
+  told_ended (Some table) names next_guards store old new K N r why is all =
+      let s : AllStopped limit base (first_spot gate base guards) store old new N why _ = subst (λ (x : Result (Unit {0}) Received). IfAllTold (Some table) names (AllEnds limit base (first_spot gate base guards) next_guards store old new K N x)) is all in
+      (s.lines, s.wrote, ends_early why _ s.lines store.core s.stops)
+
+  -- What a crash leaves.
+  pub told_moments : {D : Type 0} (tells : Type 0) (moment : D → ℕ) (left_since : D → ℕ → List ℕ → Type 0) (seen : D → List ℕ) (pending : D → Pending) (was now : D) (told : Option (List (List ℕ × List ℕ))) (names : List (List ℕ)) (next_guards : List Guard) (before store : StoreState) (old new : Option (List ℕ)) (r : Result (Unit {0}) Received)
+      → tells → (header : Header) (groups : List Group) → Holds header groups before (seen was) (pending was)
+      → IfAllTold told names (AllEnds limit base (first_spot gate base guards) next_guards store old new (RunsOn tells moment left_since seen pending was now None None None before store) (LeavesOn tells moment left_since seen pending was now None None before) r)
+      → IfAllTold told names (λ files. LeavesOnly moment left_since was now (HasFront header groups (groups_of base guards (limited_from 1 files).items)))
+  told_moments tells moment left_since seen pending was now None names next_guards before store old new r told_too header groups holds all = tt
+  told_moments tells moment left_since seen pending was now (Some table) names next_guards before store old new (Ok u) told_too header groups holds all =
+      due_same header groups all.groups (groups_of base guards _) (whole_groups _ next_guards store old new (RunsOn tells moment left_since seen pending was now None None None before store) all) (all.disk told_too header groups holds).1
+  told_moments tells moment left_since seen pending was now (Some table) names next_guards before store old new (Err why) told_too header groups holds all = all.moments told_too header groups holds
+
+  pub told_holds : {D : Type 0} (tells : Type 0) (moment : D → ℕ) (left_since : D → ℕ → List ℕ → Type 0) (seen : D → List ℕ) (pending : D → Pending) (was now : D) (told : Option (List (List ℕ × List ℕ))) (names : List (List ℕ)) (next_guards : List Guard) (before store : StoreState) (old new : Option (List ℕ)) (r : Result (Unit {0}) Received) (u : Unit {0}) → r ≡ Ok u
+      → tells → (header : Header) (groups : List Group) → Holds header groups before (seen was) (pending was)
+      → IfAllTold told names (AllEnds limit base (first_spot gate base guards) next_guards store old new (RunsOn tells moment left_since seen pending was now None None None before store) (LeavesOn tells moment left_since seen pending was now None None before) r)
+      → IfAllTold told names (λ files. Holds header (groups ++ groups_of base guards (limited_from 1 files).items) store (seen now) (pending now))
+  told_holds tells moment left_since seen pending was now None names next_guards before store old new r u is told_too header groups holds all = tt
+  told_holds tells moment left_since seen pending was now (Some table) names next_guards before store old new (Ok v) u is told_too header groups holds all =
+      subst (λ (l : List Group). Holds header (groups ++ l) store (seen now) (pending now)) (whole_groups _ next_guards store old new (RunsOn tells moment left_since seen pending was now None None None before store) all) (all.disk told_too header groups holds).0
+  told_holds tells moment left_since seen pending was now (Some table) names next_guards before store old new (Err why) u is told_too header groups holds all = absurd (apart is)
+    where
+      apart : ◌≡◌ {A = Result (Unit {0}) Received} (Err why) (Ok u) → ⊥
+      apart p = cc
+
+pub early_steady : (before now : ℕ) (why : Received) → IsEnd why → SteadyIfReceived before now why
+early_steady before now (how.Files outcome) stops = stopped_steady before now outcome stops
+early_steady before now how.StoreFault stops = tt
+early_steady before now (how.LogFull end wanted limit) stops = tt
+
+always_told : (told : Option (List (List ℕ × List ℕ))) (names : List (List ℕ)) (P : List (List ℕ) → Type 0) → ((files : List (List ℕ)) → P files) → IfAllTold told names P
+always_told None names P f = tt
+always_told (Some table) names P f = f _
+
+-- What is said where all was done is not said of another end.
+pub early_done : (told : Option (List (List ℕ × List ℕ))) (names : List (List ℕ)) (why : Received) (P : List (List ℕ) → Type 0) → IsEnd why → IfAllTold told names (λ files. IfDone why (P files))
+early_done told names why P stops = always_told told names (λ files. IfDone why (P files)) (λ files. one why stops (P files))
+  where
+    one : (x : Received) → IsEnd x → (Q : Type 0) → IfDone x Q
+    one (how.Files ended.Done) s Q = absurd s
+    one (how.Files (ended.Refused verdict)) s Q = tt
+    one (how.Files ended.InputFault) s Q = tt
+    one (how.Files ended.OutputFault) s Q = tt
+    one (how.Files ended.NoMemory) s Q = tt
+    one (how.Files (ended.InputTooLong file)) s Q = tt
+    one (how.Files (ended.TooMuch sum)) s Q = tt
+    one (how.Files (ended.InputChanged file place)) s Q = tt
+    one how.StoreFault s Q = tt
+    one (how.LogFull end wanted limit) s Q = tt

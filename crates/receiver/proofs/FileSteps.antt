@@ -1,0 +1,170 @@
+-- What the loop over a file's commands keeps, and each of its ends.
+use Rattle.std.specs.Prelude.{◌≡◌, ⊤, ℕ, ◌+◌, ◌≤◌, Bool, true, false, List, [], ◌∷◌, ◌++◌, length, take, Option, None, Some, Result, Ok, Err, if◌then◌else◌}
+use Rattle.std.specs.Io.KnownBytes.{Appends}
+use Rattle.std.proofs.KnownBytes.{Appends-nil, Appends-trans}
+use Rattle.std.proofs.Common.{inl, inr, refl, sym, ap, subst, ◌∙◌, append_assoc, append-nil, arith}
+use Rattle.send_model.specs.Command.{Command, Subvol, Snapshot, End}
+use Rattle.send_model.specs.Reading.{Item, Whole, Faulty, Reading, CommandDue, HeaderDue, due_after, with_item, reads}
+use Rattle.send_model.specs.Store.{Head, Store, head_of}
+use Rattle.send_model.specs.Guards.{Guard}
+use Rattle.send_model.specs.Counts.{is_end}
+use Rattle.send_model.specs.Lengths.{limit as most, only_ends}
+use Rattle.send_model.specs.Due.{Limited, Stop, AtEnd, AtFault, AtLimit, RefusedAt, TooLong}
+use Rattle.send_model.proofs.TooLong.{short_fits, fault_fits, long_is}
+use Rattle.sx_base.specs.Refusals.{refusal_of, verdict_meant}
+use Rattle.sx_base.specs.declared.outcome.Verdict.{Verdict}
+use Rattle.sx_base.specs.declared.outcome.Outcome.{Outcome}
+use Rattle.sx_base.specs.declared.outcome.Outcome.TheVariants as ended
+use Rattle.cmd_reader.specs.declared.item.Item as read
+use Rattle.cmd_reader.specs.declared.item.ReadStop.{ReadStop}
+use Rattle.cmd_reader.specs.declared.item.ReadStop.TheVariants as stop
+use Rattle.cmd_reader.specs.Places.{IfTold}
+use Rattle.cmd_reader.specs.Fronts.{IsRefused, IsLongAt}
+use Rattle.cmd_reader.specs.Left.{Reader, at_start, left}
+use Rattle.cmd_reader.specs.Next.{item_of, HasEnded, IsFaulty, OnlyEnds, IsNext, NextSays, ItemFits}
+use Rattle.cmd_reader.specs.Stopping.{outcome_at}
+use Rattle.cmd_reader.proofs.Aheads.{next_item, next_end}
+use Rattle.cmd_reader.proofs.Told.{Here, told_both, told_map, told_always, told_here, told_moved}
+use Rattle.store_model.specs.Stored.{Group}
+use Rattle.store_model.specs.Written.{Begun, and_command, begun_after_edit, begun_after, closed_by, begun_by, groups_from}
+use Rattle.store_model.proofs.PassedStates.{IsOn, sort_of}
+use Rattle.store_model.proofs.WrittenGroups.{edit_facts}
+use Rattle.auditor.specs.Following.{Followed, beside, follow, file_read, read_whole, then_read}
+use Rattle.auditor.proofs.TooLong.{whole_read, fault_read, long_read, read_either}
+use Rattle.store_journal.specs.Shown.{StoreState}
+use Rattle.receiver.specs.declared.opened.Opened.{Opened}
+use Rattle.receiver.specs.declared.outcome.Received.{Received}
+use Rattle.receiver.specs.declared.outcome.Received.TheVariants as how
+use Rattle.receiver.specs.Standing.{behind_close, place_of, IsReady}
+use Rattle.receiver.specs.Disks.{HasVersion}
+use Rattle.receiver.specs.Answers.{StepSays, PiecesSay, ItemWrites}
+use Rattle.receiver.specs.Steps.{blank_of, line_under, begun_if}
+use Rattle.receiver.specs.Running.{byte_step, Spot, IsAt, Leads, Stops}
+use Rattle.receiver.specs.FileEnds.{then_others, FileTaken, FileStopped, FileEnds}
+use Rattle.receiver.proofs.Spots.{groups_first}
+use Rattle.receiver.proofs.Leading.{after_without, the_guards, the_step, next_at, leads_none, leads_on, leads_one}
+use Rattle.receiver.proofs.Ends.{stops_from, no_items_due, no_items_left, no_items_core, whatever_front}
+use Rattle.receiver.proofs.ItemEnds.{item_stops}
+
+-- Items, and then what else is read.
+abbrev pub and_then : List Item → Reading → Reading
+and_then items r = record { items = items ++ r.items; end = r.end }
+
+-- The part that is open is of the version of which the next command is due.
+abbrev pub VersionDue : Reader → Option Begun → Type 0
+VersionDue reader None = ⊤
+VersionDue reader (Some begun) = reader.fed.due ≡ CommandDue begun.version
+
+-- These commands of the file were read and taken.
+pub record Stands (file limit : ℕ) (base : Store ℕ) (spot : Spot) (reader : Reader) (guards : List Guard) (store : StoreState) (current : Option Opened) (old new : Option (List ℕ)) (K : List Group → Option Begun → Type 0) (bytes : List ℕ) : Type 0 where
+  pub items : List Item
+  pub read : reads file bytes ≡ and_then items (left reader bytes)
+  pub reached : reader.offset ≤ length bytes
+  pub now : Spot
+  pub at : IsAt now guards store current
+  pub groups : List Group
+  pub lines : List ℕ
+  pub leads : Leads limit base spot now items groups lines
+  pub wrote : Appends old new lines
+  pub version : VersionDue reader now.begun
+  pub disk : K groups now.begun
+
+left_fresh : (file : ℕ) (name bytes : List ℕ) → left (at_start file name) bytes ≡ reads file bytes
+unfolding left reads
+left_fresh file name bytes = refl
+
+pub stands_at_start : (told : Option (List (List ℕ × List ℕ))) (file limit : ℕ) (name : List ℕ) (base : Store ℕ) (spot : Spot) (reader : Reader) (guards : List Guard) (store : StoreState) (current : Option Opened) (out : Option (List ℕ)) (K : List Group → Option Begun → Type 0)
+    → reader ≡ at_start file name → IsAt spot guards store current → IsOn base spot.watched.state.store spot.watched.state.part → spot.begun ≡ None → K [] None
+    → IfTold told name (Stands file limit base spot reader guards store current out out K)
+stands_at_start told file limit name base spot reader guards store current out K e at on none disk =
+    told_always told name (Stands file limit base spot reader guards store current out out K) (λ bytes. subst (λ (r : Reader). Stands file limit base spot r guards store current out out K bytes) (sym e) (record {
+      items = [];
+      read = sym (left_fresh file name bytes);
+      reached = omega (arith);
+      now = spot;
+      at = at;
+      groups = [];
+      lines = [];
+      leads = leads_none limit base spot on;
+      wrote = Appends-nil out;
+      version = subst (λ (b : Option Begun). VersionDue (at_start file name) b) (sym none) tt;
+      disk = subst (λ (b : Option Begun). K [] b) (sym none) disk;
+    }))
+
+-- ---- versions
+
+pub fits_version : (old : Reader) (version : ℕ) (begun : Option Begun) → ((n : ℕ) → old.fed.due ≡ CommandDue n → version ≡ n) → VersionDue old begun → HasVersion version begun
+fits_version old version None same due = tt
+fits_version old version (Some b) same due = sym (same b.version due)
+
+due_edit : (version : ℕ) (c : Command) → is_end c ≡ false → due_after version c ≡ CommandDue version
+due_edit version End e = cc
+due_edit version c e = refl
+
+due_next : (new : Reader) (item : Item) (begun : Option Begun) → HasVersion item.version begun → new.fed.due ≡ due_after item.version item.command → VersionDue new (begun_after begun item)
+due_next new item begun same due = one (head_of item.command) refl
+  where
+    shown : Option Head → Option Begun
+    shown o = elim o as (λ x. Option Begun) [
+      | Some head ↦ Some (record { uuid = head.key.uuid; version = item.version; commands = [] })
+      | None ↦ begun_after_edit item begun
+    ]
+
+    no_end : (c : Command) (head : Head) → head_of c ≡ Some head → is_end c ≡ false
+    no_end End head e = cc
+    no_end c head e = refl
+
+    edit : (b : Option Begun) → HasVersion item.version b → (ends : Bool) → is_end item.command ≡ ends → VersionDue new (if ends then None else (elim b as (λ x. Option Begun) [ None ↦ None | Some d ↦ Some (and_command item.command d) ]))
+    edit b h true e = tt
+    edit None h false e = tt
+    edit (Some d) h false e = due ∙ due_edit item.version item.command e ∙ ap (λ (n : ℕ). CommandDue n) (sym h)
+
+    one : (o : Option Head) → head_of item.command ≡ o → VersionDue new (elim (head_of item.command) as (λ x. Option Begun) [
+      | Some head ↦ Some (record { uuid = head.key.uuid; version = item.version; commands = [] })
+      | None ↦ begun_after_edit item begun
+    ])
+    one (Some head) e = subst (λ (x : Option Head). VersionDue new (elim x as (λ x. Option Begun) [
+      | Some head ↦ Some (record { uuid = head.key.uuid; version = item.version; commands = [] })
+      | None ↦ begun_after_edit item begun
+    ])) (sym e) (due ∙ due_edit item.version item.command (no_end item.command head e))
+    one None e = subst (λ (x : Option Head). VersionDue new (elim x as (λ x. Option Begun) [
+      | Some head ↦ Some (record { uuid = head.key.uuid; version = item.version; commands = [] })
+      | None ↦ begun_after_edit item begun
+    ])) (sym e) (edit begun same (is_end item.command) refl)
+
+then_item : (items : List Item) (item : Item) (r : Reading) → and_then items (with_item item r) ≡ and_then (items ++ item ∷ []) r
+then_item items item r = ap (λ (is : List Item). record { items = is; end = r.end }) (sym (append_assoc items (item ∷ []) r.items))
+
+-- ---- one command more
+
+pub stands_after : (told inputs : Option (List (List ℕ × List ℕ))) (file limit len : ℕ) (name : List ℕ) (base : Store ℕ) (spot : Spot) (old new : Reader) (guards guards_now : List Guard) (store store_now : StoreState) (current current_now : Option Opened) (out out_now out_next : Option (List ℕ)) (K L : List Group → Option Begun → Type 0) (f0 f1 : ℕ) (o : Option read.Item) (item : read.Item)
+    → o ≡ Some item → inputs ≡ told → old.name ≡ name → old.file ≡ file → NextSays inputs old new f0 f1 (Ok o) → ItemFits old new item → IsReady len current store
+    → StepSays (Ok tt) (item_of file item) (beside guards_now (blank_of store_now current_now)) (follow (beside guards (blank_of store current)) (item_of file item))
+    → PiecesSay (Ok tt) limit (behind_close current (item_of file item).command (place_of store current)) (place_of store_now current_now) (item_of file item)
+    → Appends out_now out_next (line_under guards current (item_of file item).command)
+    → ((groups : List Group) (begun : Option Begun) → HasVersion item.version begun → K groups begun → L (groups ++ (closed_by guards (item_of file item).command begun ++ begun_by (item_of file item).command)) (begun_after begun (item_of file item)))
+    → IfTold told name (Stands file limit base spot old guards store current out out_now K) → IfTold told name (Stands file limit base spot new guards_now store_now current_now out out_next L)
+stands_after told inputs file limit len name base spot old new guards guards_now store store_now current current_now out out_now out_next K L f0 f1 o item e same name_is file_is says fits ready stepped pieces writes disk stands =
+    told_both told name (IsNext old new item) (Stands file limit base spot old guards store current out out_now K) (Stands file limit base spot new guards_now store_now current_now out out_next L) step
+    (next_item told inputs name old new f0 f1 o item e same name_is says) stands
+  where
+    meant_item : Item
+    meant_item = item_of file item
+
+    step : (bytes : List ℕ) → IsNext old new item bytes → Stands file limit base spot old guards store current out out_now K bytes → Stands file limit base spot new guards_now store_now current_now out out_next L bytes
+    step bytes n s =
+        let version = fits_version old item.version s.now.begun fits.same_stream s.version in
+        let one = leads_one limit base s.now (item_of file item) guards len store current s.at s.leads.on ready guards_now store_now current_now stepped pieces in
+        record {
+          items = s.items ++ item_of file item ∷ [];
+          read = s.read ∙ ap (and_then s.items) (n.left_is ∙ ap (λ (k : ℕ). with_item (item_of k item) (left new bytes)) file_is) ∙ then_item s.items (item_of file item) (left new bytes);
+          reached = n.reached s.reached;
+          now = record { watched = (byte_step s.now.watched (item_of file item)).state; place = place_of store_now current_now; begun = begun_after s.now.begun (item_of file item) };
+          at = next_at limit base s.now (item_of file item) guards len store current s.at s.leads.on ready guards_now store_now current_now stepped pieces;
+          groups = s.groups ++ (closed_by guards (item_of file item).command s.now.begun ++ begun_by (item_of file item).command);
+          lines = s.lines ++ line_under guards current (item_of file item).command;
+          leads = leads_on limit base spot s.now _ s.items (item_of file item ∷ []) s.groups _ s.lines _ s.leads one;
+          wrote = Appends-trans out out_now out_next s.lines (line_under guards current (item_of file item).command) s.wrote writes;
+          version = due_next new (item_of file item) s.now.begun version fits.due;
+          disk = disk s.groups s.now.begun version s.disk;
+        }

@@ -1,0 +1,16 @@
+pub mod ClosedParts
+pub mod RoomLaws
+pub mod BegunParts
+pub mod EditedParts
+pub mod TakenItems
+pub mod FollowedItems
+pub mod Spots
+pub mod PrintedLines
+pub mod Leading
+pub mod Ends
+pub mod ItemEnds
+pub mod FileSteps
+pub mod FileStops
+pub mod DiskRuns
+pub mod AllTheFiles
+pub mod Answering

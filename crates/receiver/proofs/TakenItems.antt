@@ -1,0 +1,179 @@
+-- One command: a head, END or an edit, by the calls that do it.
+use Rattle.std.specs.Prelude.{◌≡◌, ◌⊎◌, ℕ, ◌+◌, Bool, true, false, not, ◌&&◌, List, [], ◌∷◌, ◌++◌, Option, None, Some, Result, Ok, Err, is_none, if◌then◌else◌}
+use Rattle.std.specs.Io.KnownBytes.{Appends}
+use Rattle.std.proofs.Common.{inl, inr, refl, sym, ap, subst, ◌∙◌, append_assoc, append-nil}
+use Rattle.sx_base.specs.Disk.{Pending}
+use Rattle.sx_base.specs.Crash.{LeavesOnly}
+use Rattle.sx_base.proofs.DiskMoments.{joins, weakens}
+use Rattle.sx_base.specs.declared.outcome.Outcome.{Outcome}
+use Rattle.sx_base.specs.declared.outcome.Outcome.TheVariants as ended
+use Rattle.send_model.specs.Refusal as meant
+use Rattle.send_model.specs.Command.{Command, End}
+use Rattle.send_model.specs.Reading.{Item}
+use Rattle.send_model.specs.Store.{Head, Store, State, After, head_of, begun, entered, completed, step_head, step_edit, step}
+use Rattle.send_model.specs.Counts.{is_end}
+use Rattle.send_model.proofs.Sorts.{head_step}
+use Rattle.clone_resolve.specs.Steps.{cells_put}
+use Rattle.store_model.specs.Image.{Header}
+use Rattle.store_model.specs.Stored.{Group, is_edit}
+use Rattle.store_model.specs.Written.{Begun, mark_of, begun_by, closed}
+use Rattle.store_model.specs.Dues.{first_full}
+use Rattle.store_model.proofs.LawfulGroups.{edit_step}
+use Rattle.store_model.proofs.WrittenGroups.{head_fact, edit_facts}
+use Rattle.store_groups.specs.declared.place.Place.{Place}
+use Rattle.store_groups.specs.Placing.{further}
+use Rattle.store_journal.specs.Shown.{StoreState, IsIdle}
+use Rattle.store_journal.specs.Holding.{HasThese, Holds}
+use Rattle.receiver.specs.declared.opened.Opened.{Opened}
+use Rattle.receiver.specs.declared.outcome.Received.{Received}
+use Rattle.receiver.specs.declared.outcome.Received.TheVariants as how
+use Rattle.receiver.specs.Standing.{state_of, place_of, behind_part, behind_close, line_by, IsReady, IsClosedAs}
+use Rattle.receiver.specs.Disks.{Keeps, HasFront, closing}
+use Rattle.receiver.specs.Answers.{IfClosed, IfStoreFault, WritesLine, StepSays, PiecesSay, ReadySays, ItemWrites, KeepsSays}
+use Rattle.receiver.specs.Steps.{EditsAs, TakesAs, begun_if}
+
+-- ---- the part before could not be completed, or its line not be written
+
+pub unclosed_step : {S : Type 0} (line : List ℕ) (old_out new_out : Option (List ℕ)) (before now : ℕ) (why : Received) (item : Item) (new : S) (after : After S) → WritesLine line old_out new_out before now (Err why) → StepSays (Err why) item new after
+unclosed_step line old_out new_out before now (how.Files outcome) item new after w = subst (λ (o : Outcome). StepSays (Err (how.Files o)) item new after) (sym w.0) tt
+unclosed_step line old_out new_out before now how.StoreFault item new after w = tt
+unclosed_step line old_out new_out before now (how.LogFull end wanted limit) item new after w = absurd w
+
+pub unclosed_takes : (line : List ℕ) (old_out new_out : Option (List ℕ)) (before now : ℕ) (why : Received) (item : Item) (old new : State (Option Place)) → WritesLine line old_out new_out before now (Err why) → TakesAs (Err why) item old new
+unclosed_takes line old_out new_out before now why item old new w =
+    (record { at = 0 }, unclosed_step line old_out new_out before now why item new (step None (cells_put further (record { at = 0 }) item.command) old item.command) w)
+
+-- ---- a head
+
+-- Over the part before it, complete.
+pub head_takes : (r : Result (Unit {0}) Received) (item : Item) (head : Head) (len : ℕ) (current : Option Opened) (old mid : StoreState) (new : State (Option Place)) → head_of item.command ≡ Some head → IsClosedAs len current old mid
+    → StepSays r item new (entered mid.core head (begun mid.core head)) → TakesAs r item (state_of old current) new
+unfolding step_head
+head_takes r item head len current old mid new is closed says =
+    let place : Place = record { at = 0 } in (
+      place,
+      subst (λ (a : After (State (Option Place))). StepSays r item new a) (ap (λ (core : Store (Option Place)). entered core head (begun core head)) closed.core ∙ sym (head_step None (cells_put further place item.command) (state_of old current) item.command head is)) says,
+    )
+
+-- It completes the part.
+pub head_closes : (c : Command) (head : Head) (begun : Option Begun) → head_of c ≡ Some head → closing c begun ≡ closed begun
+head_closes c head begun is = ap (λ (b : Bool). if b then [] else closed begun) (head_fact c head is)
+
+-- The groups of the head stand behind that of the part.
+pub head_keeps : (r : Result (Unit {0}) Received) (K : List Group → Option Begun → Type 0) (groups more : List Group) (c : Command) (head : Head) (begun after : Option Begun) → head_of c ≡ Some head
+    → KeepsSays r K (groups ++ closed begun) ((groups ++ closed begun) ++ more) after → KeepsSays r K (groups ++ closing c begun) (groups ++ (closing c begun ++ more)) after
+head_keeps r K groups more c head begun after is says =
+    let same = head_closes c head begun is in
+    subst (λ (l : List Group). KeepsSays r K (groups ++ l) (groups ++ (l ++ more)) after) (sym same)
+    (subst (λ (l : List Group). KeepsSays r K (groups ++ closed begun) l after) (append_assoc groups (closed begun) more) says)
+
+-- ---- images with some of the groups
+
+module _ (header : Header) (groups : List Group) where
+  -- the first of some groups are the first of these and others
+  pub front_first : (a b : List Group) (image : List ℕ) → HasFront header groups a image → HasFront header groups (a ++ b) image
+  front_first a b image f = record { first = f.first; more = f.more ++ b; all = ap (λ (l : List Group). l ++ b) f.all ∙ append_assoc f.first f.more b; has = f.has }
+
+  -- and so are those of the others behind all of these
+  pub front_behind : (a b : List Group) (image : List ℕ) → HasFront header (groups ++ a) b image → HasFront header groups (a ++ b) image
+  front_behind a b image f = record {
+    first = a ++ f.first;
+    more = f.more;
+    all = ap (λ (l : List Group). a ++ l) f.all ∙ sym (append_assoc a f.first f.more);
+    has = subst (λ (l : List Group). HasThese header l image) (append_assoc groups a f.first) f.has;
+  }
+
+  -- two runs of calls
+  pub both_moments : {D : Type 0} {moment : D → ℕ} {left_since : D → ℕ → List ℕ → Type 0} {old middle new : D} (a b : List Group) → LeavesOnly moment left_since old middle (HasFront header groups a)
+      → LeavesOnly moment left_since middle new (HasFront header (groups ++ a) b) → LeavesOnly moment left_since old new (HasFront header groups (a ++ b))
+  both_moments a b first second = joins (weakens first (λ image f. front_first a b image f)) (weakens second (λ image f. front_behind a b image f))
+
+  pub head_moments : {D : Type 0} {moment : D → ℕ} {left_since : D → ℕ → List ℕ → Type 0} {old new : D} (c : Command) (head : Head) (begun : Option Begun) (more : List Group) → head_of c ≡ Some head
+      → LeavesOnly moment left_since old new (HasFront header groups (closed begun ++ more)) → LeavesOnly moment left_since old new (HasFront header groups (closing c begun ++ more))
+  head_moments {D} {moment} {left_since} {old} {new} c head begun more is run =
+      subst (λ (l : List Group). LeavesOnly moment left_since old new (HasFront header groups (l ++ more))) (sym (head_closes c head begun is)) run
+
+-- ---- END, and an edit
+
+end_command : (c : Command) → true ≡ is_end c → c ≡ End
+end_command End e = refl
+end_command c e = cc
+
+pub end_takes : (r : Result (Unit {0}) Received) (item : Item) (len : ℕ) (current after : Option Opened) (old new : StoreState) (line : List ℕ) (old_out new_out : Option (List ℕ)) (before now : ℕ) → true ≡ is_end item.command → after ≡ None
+    → WritesLine line old_out new_out before now r → IfClosed r (IsClosedAs len current old new) → TakesAs r item (state_of old current) (state_of new after)
+unfolding step
+end_takes (Err why) item len current after old new line old_out new_out before now ends none w closed = unclosed_takes line old_out new_out before now why item (state_of old current) (state_of new after) w
+end_takes (Ok u) item len current after old new line old_out new_out before now ends none w closed =
+    let put : List (Option Place) = cells_put further (record { at = 0 }) item.command in (
+      record { at = 0 },
+      ap (λ (c : Command). step None put (state_of old current) c) (end_command item.command ends)
+          ∙ (λ i. record { state = record { store = sym closed.core i; part = None }; refusal = None })
+          ∙ ap (λ (a : Option Opened). record { state = state_of new a; refusal = None }) (sym none),
+    )
+
+end_room : (limit : ℕ) (part : Option Opened) (item : Item) (place next : ℕ) → true ≡ is_end item.command → next ≡ behind_part part place → PiecesSay (Ok tt) limit (behind_close part item.command place) next item
+unfolding first_full
+end_room limit part item place next ends is =
+    subst (λ (c : Command). PiecesSay (Ok tt) limit (behind_close part c place) next (record item { command = c })) (sym (end_command item.command ends)) (refl, is)
+
+pub end_pieces : (r : Result (Unit {0}) Received) (limit : ℕ) (item : Item) (len : ℕ) (current after : Option Opened) (old new : StoreState) (line : List ℕ) (old_out new_out : Option (List ℕ)) (before now : ℕ) → true ≡ is_end item.command → after ≡ None
+    → WritesLine line old_out new_out before now r → IfClosed r (IsClosedAs len current old new) → PiecesSay r limit (behind_close current item.command (place_of old current)) (place_of new after) item
+end_pieces (Ok u) limit item len current after old new line old_out new_out before now ends none w closed =
+    subst (λ (a : Option Opened). PiecesSay (Ok tt) limit (behind_close current item.command (place_of old current)) (place_of new a) item) (sym none) (end_room limit current item (place_of old current) new.log.gate ends closed.gate)
+end_pieces (Err (how.Files outcome)) limit item len current after old new line old_out new_out before now ends none w closed = tt
+end_pieces (Err how.StoreFault) limit item len current after old new line old_out new_out before now ends none w closed = tt
+end_pieces (Err (how.LogFull end wanted most)) limit item len current after old new line old_out new_out before now ends none w closed = absurd w
+
+-- What is neither a head nor END is an edit.
+pub is_edited : (c : Command) → None ≡ head_of c → false ≡ is_end c → is_edit c ≡ true
+is_edited c head ends = λ i. is_none (sym head i) && not (sym ends i)
+
+pub edit_takes : (r : Result (Unit {0}) Received) (item : Item) (old new : State (Option Place)) → is_edit item.command ≡ true → EditsAs r item old new → TakesAs r item old new
+edit_takes r item old new edits says = (says.0, subst (λ (a : After (State (Option Place))). StepSays r item new a) (sym (edit_step None (cells_put further says.0 item.command) old item.command edits)) says.1)
+
+-- ---- the groups that are due
+
+no_head : {S : Type 0} (after : After S) (c : Command) → head_of c ≡ None → begun_if after c ≡ []
+no_head after c is =
+    ap (λ (o : Option Head). elim after.refusal as (λ x. List Group) [ Some refusal ↦ [] | None ↦ elim o as (λ x. List Group) [ None ↦ [] | Some head ↦ mark_of c ∷ [] ] ]) is ∙ one after.refusal
+  where
+    one : (o : Option meant.Refusal) → ◌≡◌ {A = List Group} (elim o as (λ x. List Group) [ Some refusal ↦ [] | None ↦ [] ]) []
+    one None = refl
+    one (Some refusal) = refl
+
+head_entered : (place : Place) (state : State (Option Place)) (c : Command) (head : Head) → head_of c ≡ Some head → step None (cells_put further place c) state c ≡ entered (completed state) head (begun (completed state) head)
+unfolding step_head
+head_entered place state c head is = head_step None (cells_put further place c) state c head is
+
+module _ (header : Header) (groups : List Group) where
+  pub due_same : {D : Type 0} {moment : D → ℕ} {left_since : D → ℕ → List ℕ → Type 0} {old new : D} (a b : List Group) → a ≡ b → LeavesOnly moment left_since old new (HasFront header groups a) → LeavesOnly moment left_since old new (HasFront header groups b)
+  due_same {D} {moment} {left_since} {old} {new} a b e run = subst (λ (l : List Group). LeavesOnly moment left_since old new (HasFront header groups l)) e run
+
+  pub enter_moments : {D : Type 0} {moment : D → ℕ} {left_since : D → ℕ → List ℕ → Type 0} {old new : D} (c : Command) (head : Head) (begun_part : Option Begun) (place : Place) (len : ℕ) (current : Option Opened) (store mid : StoreState) → head_of c ≡ Some head
+      → IsClosedAs len current store mid
+      → LeavesOnly moment left_since old new (HasFront header groups (closed begun_part ++ begun_if (entered mid.core head (begun mid.core head)) c))
+      → LeavesOnly moment left_since old new (HasFront header groups (closing c begun_part ++ begun_if (step None (cells_put further place c) (state_of store current) c) c))
+  enter_moments c head begun_part place len current store mid is whole run =
+      let same : step None (cells_put further place c) (state_of store current) c ≡ entered mid.core head (begun mid.core head) =
+      head_entered place (state_of store current) c head is ∙ ap (λ (core : Store (Option Place)). entered core head (begun core head)) (sym whole.core) in
+      due_same (closed begun_part ++ begun_if (entered mid.core head (begun mid.core head)) c) (closing c begun_part ++ begun_if (step None (cells_put further place c) (state_of store current) c) c)
+      (λ i. sym (head_closes c head begun_part is) i ++ begun_if (sym same i) c) run
+
+  -- the part before the head was to be completed
+  pub close_moments : {D : Type 0} {moment : D → ℕ} {left_since : D → ℕ → List ℕ → Type 0} {old new : D} (c : Command) (begun_part : Option Begun) (more : List Group) → is_edit c ≡ false → LeavesOnly moment left_since old new (HasFront header groups (closed begun_part))
+      → LeavesOnly moment left_since old new (HasFront header groups (closing c begun_part ++ more))
+  close_moments c begun_part more ends run =
+      weakens run (λ image f. subst (λ (b : Bool). HasFront header groups ((if b then [] else closed begun_part) ++ more) image) (sym ends) (front_first header groups (closed begun_part) more image f))
+
+  pub edits_moments : {D : Type 0} {moment : D → ℕ} {left_since : D → ℕ → List ℕ → Type 0} {old new : D} {S : Type 0} (c : Command) (begun_part : Option Begun) (after : After S) → is_edit c ≡ true → LeavesOnly moment left_since old new (HasFront header groups [])
+      → LeavesOnly moment left_since old new (HasFront header groups (closing c begun_part ++ begun_if after c))
+  edits_moments c begun_part after edits run =
+      due_same [] (closing c begun_part ++ begun_if after c) (λ i. (if sym edits i then [] else closed begun_part) ++ sym (no_head after c (edit_facts c edits).0) i) run
+
+end_edits : (c : Command) → true ≡ is_end c → is_edit c ≡ false
+end_edits c ends = ap is_edit (end_command c ends)
+
+module _ (header : Header) (groups : List Group) where
+  pub end_moments : {D : Type 0} {moment : D → ℕ} {left_since : D → ℕ → List ℕ → Type 0} {old new : D} (c : Command) (begun_part : Option Begun) (more : List Group) → true ≡ is_end c → LeavesOnly moment left_since old new (HasFront header groups (closed begun_part))
+      → LeavesOnly moment left_since old new (HasFront header groups (closing c begun_part ++ more))
+  end_moments c begun_part more ends run = close_moments header groups c begun_part more (end_edits c ends) run

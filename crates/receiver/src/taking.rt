@@ -1,0 +1,154 @@
+// Doing one command: a head, END or an edit.
+ghost use Rattle.std.specs.Prelude.{◌≡◌, ◌≤◌, ◌++◌, ℕ, List, Option, Some, None, true, OnOk};
+ghost use Rattle.sx_base.specs.Causes.{Steady};
+ghost use Rattle.sx_base.specs.Crash.{LeavesOnly};
+ghost use Rattle.send_model.specs.Counts.{is_end};
+ghost use Rattle.send_model.specs.Spelling.{IsSpellable};
+ghost use Rattle.send_model.specs.Reading.{is_version};
+ghost use Rattle.send_model.specs.Store.{head_of, step};
+ghost use Rattle.store_model.specs.Image.{Header};
+ghost use Rattle.store_model.specs.Stored.{Group};
+ghost use Rattle.store_model.specs.Written.{Begun, begun_by, begun_after};
+ghost use Rattle.send_commands.specs.Meaning.{meaning_of};
+ghost use Rattle.clone_resolve.specs.Heads.{head_meant};
+ghost use Rattle.clone_resolve.specs.Steps.{cells_put};
+ghost use Rattle.store_groups.specs.Placing.{further};
+ghost use Rattle.store_groups.specs.declared.place.Place as here;
+ghost use Rattle.cmd_reader.specs.Next.{item_of};
+ghost use Rattle.receiver.specs.Standing.{state_of, place_of, behind_close, line_by, IsReady};
+ghost use Rattle.receiver.specs.Steps.{TakesAs, begun_if};
+ghost use Rattle.receiver.specs.Disks.{Keeps, HasVersion, HasFront, closing};
+ghost use Rattle.receiver.specs.Answers.{StepSays, PiecesSay, ReadySays, ItemWrites, KeepsSays, ErrCaused};
+
+use crate::closing::close;
+use crate::doing::{begin, edit};
+use crate::opened::Opened;
+use crate::outcome::Received;
+use clone_resolve::{Head, head_of};
+use cmd_reader::Item;
+use send_commands::Command;
+use std::alloc::Global;
+use store_journal::Store;
+use sx_base::{Disk, Sink};
+
+// Whether a command ends its part.
+#[tactic(auto, unfolding(send_commands::specs::Meaning::meaning_of))]
+fn ends(command: &Command) -> bool
+    ensures { result ≡ is_end (meaning_of command.now) }
+{
+    matches!(command, Command::End)
+}
+
+// Does a command that no guard refuses.
+pub(crate) fn do_item<D: Disk, O: Sink>(
+    alloc: Global,
+    store: &mut Store,
+    disk: &mut D,
+    current: &mut Option<Opened>,
+    out: &mut O,
+    file: u64,
+    item: &Item,
+) -> Result<(), Received>
+    requires ready { IsReady (D.len disk.old) current.old store.old }
+    requires spellable { IsSpellable item.now.version (meaning_of item.now.command) }
+    requires version { is_version item.now.version ≡ true }
+    ensures limit { store.new.log.limit ≡ store.old.log.limit }
+    ensures stepped { TakesAs result (item_of file item.now) (state_of store.old current.old)
+        (state_of store.new current.new) }
+    ensures pieces { PiecesSay result store.old.log.limit
+        (behind_close current.old (meaning_of item.now.command) (place_of store.old current.old))
+        (place_of store.new current.new) (item_of file item.now) }
+    ensures ready { ReadySays result (D.len disk.new) current.new store.new }
+    ensures written { ItemWrites result (line_by current.old (meaning_of item.now.command))
+        (O.taken out.old) (O.taken out.new) }
+    ensures keeps { D.tells → (header : Header) (groups : List Group) (begun : Option Begun) →
+        HasVersion item.now.version begun →
+        Keeps header groups begun current.old store.old (D.seen disk.old) (D.pending disk.old) →
+        KeepsSays result (λ groups begun. Keeps header groups begun current.new store.new
+        (D.seen disk.new) (D.pending disk.new))
+        (groups ++ closing (meaning_of item.now.command) begun)
+        (groups ++ (closing (meaning_of item.now.command) begun
+        ++ begun_by (meaning_of item.now.command)))
+        (begun_after begun (item_of file item.now)) }
+    ensures any_moment { D.tells → (header : Header) (groups : List Group) (begun : Option Begun) →
+        (place : here.Place) → HasVersion item.now.version begun →
+        Keeps header groups begun current.old store.old (D.seen disk.old) (D.pending disk.old) →
+        LeavesOnly D.moment D.left_since disk.old disk.new
+        (HasFront header groups (closing (meaning_of item.now.command) begun
+        ++ begun_if (step None (cells_put further place (meaning_of item.now.command))
+        (state_of store.old current.old) (meaning_of item.now.command))
+        (meaning_of item.now.command))) }
+    ensures at_end { is_end (meaning_of item.now.command) ≡ true →
+        OnOk result (current.new ≡ None) }
+    ensures cause { ErrCaused 0 0 (O.faults out.old) (O.faults out.new)
+        (D.faults disk.old) (D.faults disk.new) result }
+    ensures later { D.faults disk.old ≤ D.faults disk.new }
+    ensures out_later { O.faults out.old ≤ O.faults out.new }
+    ensures steady { Steady (D.faults disk.old) (D.faults disk.new) result }
+    ensures out_steady { Steady (O.faults out.old) (O.faults out.new) result }
+{
+    if ends(&item.command) {
+        return close(store, disk, current, out);
+    }
+    match head_of(&item.command) {
+        None => edit(store, disk, current, file, item),
+        Some(head) => enter(alloc, store, disk, current, out, &head, file, item),
+    }
+}
+
+// Completes the part before a head, and begins the one of the head.
+fn enter<D: Disk, O: Sink>(
+    alloc: Global,
+    store: &mut Store,
+    disk: &mut D,
+    current: &mut Option<Opened>,
+    out: &mut O,
+    head: &Head<'_>,
+    file: u64,
+    item: &Item,
+) -> Result<(), Received>
+    requires head { head_of (meaning_of item.now.command) ≡ Some (head_meant head.now) }
+    requires ready { IsReady (D.len disk.old) current.old store.old }
+    requires spellable { IsSpellable item.now.version (meaning_of item.now.command) }
+    requires version { is_version item.now.version ≡ true }
+    ensures limit { store.new.log.limit ≡ store.old.log.limit }
+    ensures stepped { TakesAs result (item_of file item.now) (state_of store.old current.old)
+        (state_of store.new current.new) }
+    ensures pieces { PiecesSay result store.old.log.limit
+        (behind_close current.old (meaning_of item.now.command) (place_of store.old current.old))
+        (place_of store.new current.new) (item_of file item.now) }
+    ensures ready { ReadySays result (D.len disk.new) current.new store.new }
+    ensures written { ItemWrites result (line_by current.old (meaning_of item.now.command))
+        (O.taken out.old) (O.taken out.new) }
+    ensures keeps { D.tells → (header : Header) (groups : List Group) (begun : Option Begun) →
+        HasVersion item.now.version begun →
+        Keeps header groups begun current.old store.old (D.seen disk.old) (D.pending disk.old) →
+        KeepsSays result (λ groups begun. Keeps header groups begun current.new store.new
+        (D.seen disk.new) (D.pending disk.new))
+        (groups ++ closing (meaning_of item.now.command) begun)
+        (groups ++ (closing (meaning_of item.now.command) begun
+        ++ begun_by (meaning_of item.now.command)))
+        (begun_after begun (item_of file item.now)) }
+    ensures any_moment { D.tells → (header : Header) (groups : List Group) (begun : Option Begun) →
+        (place : here.Place) → HasVersion item.now.version begun →
+        Keeps header groups begun current.old store.old (D.seen disk.old) (D.pending disk.old) →
+        LeavesOnly D.moment D.left_since disk.old disk.new
+        (HasFront header groups (closing (meaning_of item.now.command) begun
+        ++ begun_if (step None (cells_put further place (meaning_of item.now.command))
+        (state_of store.old current.old) (meaning_of item.now.command))
+        (meaning_of item.now.command))) }
+    ensures at_end { is_end (meaning_of item.now.command) ≡ true →
+        OnOk result (current.new ≡ None) }
+    ensures cause { ErrCaused 0 0 (O.faults out.old) (O.faults out.new)
+        (D.faults disk.old) (D.faults disk.new) result }
+    ensures later { D.faults disk.old ≤ D.faults disk.new }
+    ensures out_later { O.faults out.old ≤ O.faults out.new }
+    ensures steady { Steady (D.faults disk.old) (D.faults disk.new) result }
+    ensures out_steady { Steady (O.faults out.old) (O.faults out.new) result }
+{
+    match close(store, disk, current, out) {
+        Ok(()) => {}
+        Err(ended) => return Err(ended),
+    }
+    begin(alloc, store, disk, current, head, file, item)
+}
