@@ -52,16 +52,15 @@ no_part file item = record { file = file; command = item.number; offset = item.o
 pub none_edited : (item : Item) (verdict : Verdict) (store : StoreState) (current after : Option Opened) → None ≡ current → after ≡ None → verdict ≡ no_part item.file item
     → (place : Place) × IsRefusedWith verdict item (state_of store after) (step_edit None (cells_put further place item.command) (state_of store current) item.command)
 unfolding step_edit
-none_edited item verdict store current after e taken is =
-    (
-      record { at = 0 },
-      subst (λ (a : Option Opened). IsRefusedWith verdict item (state_of store a) (step_edit None (cells_put further (record { at = 0 }) item.command) (state_of store current) item.command)) (sym taken)
-          (subst (λ (c : Option Opened). IsRefusedWith verdict item (state_of store None) (step_edit None (cells_put further (record { at = 0 }) item.command) (state_of store c) item.command)) e (record {
-            refusal = meant.NoSubvolume;
-            verdict_is = ap (λ (v : Verdict). record { file = v.file; command = v.command; offset = v.offset; refusal = refusal_of v.refusal }) is;
-            after_is = refl;
-          })),
-    )
+none_edited item verdict store current after e taken is = (
+  record { at = 0 },
+  subst (λ (a : Option Opened). IsRefusedWith verdict item (state_of store a) (step_edit None (cells_put further (record { at = 0 }) item.command) (state_of store current) item.command)) (sym taken)
+      (subst (λ (c : Option Opened). IsRefusedWith verdict item (state_of store None) (step_edit None (cells_put further (record { at = 0 }) item.command) (state_of store c) item.command)) e (record {
+        refusal = meant.NoSubvolume;
+        verdict_is = ap (λ (v : Verdict). record { file = v.file; command = v.command; offset = v.offset; refusal = refusal_of v.refusal }) is;
+        after_is = refl;
+      })),
+)
 
 -- ---- a part is open
 

@@ -46,7 +46,6 @@ use Rattle.receiver.proofs.Spots.{groups_first}
 use Rattle.receiver.proofs.Leading.{after_without, the_guards, the_step, next_at, leads_none, leads_on, leads_one}
 use Rattle.receiver.proofs.Ends.{stops_from, no_items_due, no_items_left, no_items_core, whatever_front}
 use Rattle.receiver.proofs.ItemEnds.{item_stops}
-
 use Rattle.receiver.proofs.FileSteps.{and_then, VersionDue, Stands, fits_version}
 
 -- ---- whatever follows a file

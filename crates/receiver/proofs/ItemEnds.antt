@@ -61,7 +61,7 @@ run_lines base w item extra on = one (byte_step w item).refusal
     one (Some refusal) = ([], sym (append-nil (lines_behind base (byte_step w item).state.state.store)))
 
 module _ (limit : ℕ) (base : Store ℕ) (old : Spot) (item : Item) (guards : List Guard) (len : ℕ) (store : StoreState) (current : Option Opened) (at : IsAt old guards store current) (on : IsOn base old.watched.state.store old.watched.state.part) (ready : IsReady len current store)
-  (next_guards : List Guard) (next : StoreState) (next_current : Option Opened) where
+    (next_guards : List Guard) (next : StoreState) (next_current : Option Opened) where
   abbrev followed : After Followed
   followed = follow (beside guards (blank_of store current)) item
 

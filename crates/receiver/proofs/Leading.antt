@@ -126,8 +126,8 @@ module _ (limit : ℕ) (base : Store ℕ) (old : Spot) (item : Item) (guards : L
 
   -- It is taken.
   module _ (next_guards : List Guard) (next_store : StoreState) (next_current : Option Opened)
-    (taken : follow (beside guards (blank_of store current)) item ≡ record { state = beside next_guards (blank_of next_store next_current); refusal = None })
-    (room : PiecesSay (Ok tt) limit (behind_close current item.command (place_of store current)) (place_of next_store next_current) item) where
+      (taken : follow (beside guards (blank_of store current)) item ≡ record { state = beside next_guards (blank_of next_store next_current); refusal = None })
+      (room : PiecesSay (Ok tt) limit (behind_close current item.command (place_of store current)) (place_of next_store next_current) item) where
     abbrev pub next_spot : Spot
     next_spot = record { watched = (byte_step old.watched item).state; place = place_of next_store next_current; begun = begun_after old.begun item }
 

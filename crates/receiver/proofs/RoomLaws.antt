@@ -66,7 +66,7 @@ no_room cause limit at next item asks (stop.Log (log.LogFull end wanted most)) i
     ap (dues.first_full limit) is ∙ same_full limit asks ∙ one (first_full limit asks) says
   where
     inside : (a : Asked) → log.LogFull end wanted most ≡ log.LogFull a.place a.wanted limit → as_due limit a ≡ dues.LogFull end wanted most
-    inside a e = ap (λ (p : LogStop). elim p as (λ x. Due) [ | log.LogFull x y z ↦ dues.LogFull x y z | log.DiskFault ↦ dues.StoreThere 0 | log.NotStore group ↦ dues.StoreThere 0 | log.StoreThere size ↦ dues.StoreThere 0 ]) (sym e)
+    inside a e = ap (λ (p : LogStop). elim p as (λ x. Due) [ log.LogFull x y z ↦ dues.LogFull x y z | log.DiskFault ↦ dues.StoreThere 0 | log.NotStore group ↦ dues.StoreThere 0 | log.StoreThere size ↦ dues.StoreThere 0 ]) (sym e)
 
     one : (o : Option Asked) → IsStopOf cause limit o (log.LogFull end wanted most) → option_map (as_due limit) o ≡ Some (dues.LogFull end wanted most)
     one None (inl full) = absurd full

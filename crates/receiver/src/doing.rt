@@ -159,11 +159,7 @@ pub(crate) fn edit<D: Disk>(
     ensures steady { Steady (D.faults disk.old) (D.faults disk.new) result }
 {
     let Some(opened) = current.take() else {
-        return Err(Received::Files(Outcome::Refused(refused(
-            file,
-            item,
-            Refusal::NoSubvolume,
-        ))));
+        return Err(Received::Files(Outcome::Refused(refused(file, item, Refusal::NoSubvolume))));
     };
     let Opened { mut part, line } = opened;
     let edited = store.edit(disk, &mut part, &item.command, item.version);

@@ -77,9 +77,7 @@ pub(crate) fn receive_item<D: Disk, O: Sink, G: Guarding>(
     ensures out_steady { Steady (O.faults out.old) (O.faults out.new) result }
 {
     if let Some(refusal) = guards.look(&item.command) {
-        return Err(Received::Files(Outcome::Refused(refused(
-            file, item, refusal,
-        ))));
+        return Err(Received::Files(Outcome::Refused(refused(file, item, refusal))));
     }
     do_item(alloc, store, disk, current, out, file, item)
 }

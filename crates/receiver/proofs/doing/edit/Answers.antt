@@ -43,9 +43,11 @@ returns-in-Ok-clause-any_moment g c tells header groups begun version keeps =
 pub returns-in-Err-clause-stepped : goal.returns-in-Err-clause-stepped
 returns-in-Err-clause-stepped g c =
     let m = meaning_of c.args.item.now.command in
-    let place : Place = record { at = data_place c.args.item.now.version c.args.store.now.log.size (attributes_of m) } in
-    (place, not_edited (c.edit-edited.new.disk ≡ c.args.disk.now) (item_of c.args.file c.args.item.now) place c.args.store.now c.edit-edited.new.self c.args.current.now c.in-Some.opened c.edit-edited.new.part c.in-Err.stop c.stopped.result (sym c.in-Some.is ∙ c.take.ensures.value)
-    c.edit-edited.ensures.key c.stopped.ensures c.in-Err.ensures.edited c.in-Err.ensures.refused)
+    let place : Place = record { at = data_place c.args.item.now.version c.args.store.now.log.size (attributes_of m) } in (
+      place,
+      not_edited (c.edit-edited.new.disk ≡ c.args.disk.now) (item_of c.args.file c.args.item.now) place c.args.store.now c.edit-edited.new.self c.args.current.now c.in-Some.opened c.edit-edited.new.part c.in-Err.stop c.stopped.result (sym c.in-Some.is ∙ c.take.ensures.value)
+          c.edit-edited.ensures.key c.stopped.ensures c.in-Err.ensures.edited c.in-Err.ensures.refused,
+    )
 
 pub returns-in-Err-clause-pieces : goal.returns-in-Err-clause-pieces
 returns-in-Err-clause-pieces g c =

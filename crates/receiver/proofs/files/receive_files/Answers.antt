@@ -46,9 +46,9 @@ loop-file-preserved g c =
           (λ now. LeavesOn g.D.Disk.tells g.D.Disk.moment g.D.Disk.left_since g.D.Disk.seen g.D.Disk.pending c.loop-file.disk c.receive_file.new.disk None None c.loop-file.store)
           c.index-files-file.result c.as_str-name.result.now c.receive_file.result c.in-Ok.field-0 i.same c.loop-file-test.true c.index-files-file.is c.as_str-name.ensures.value c.in-Ok.is
           (λ now here onward open_none. subst (λ (n : ℕ). IfTold (g.I.Inputs.told c.loop-file.inputs) c.as_str-name.result.now (FileEnds (c.loop-file.file + 1) n base now (g.G.Guarding.kept c.receive_file.new.guards) c.receive_file.new.store (g.O.Sink.taken c.loop-file.out) (g.O.Sink.taken c.receive_file.new.out)
-              (RunsOn g.D.Disk.tells g.D.Disk.moment g.D.Disk.left_since g.D.Disk.seen g.D.Disk.pending c.loop-file.disk c.receive_file.new.disk None None None c.loop-file.store c.receive_file.new.store)
-              (LeavesOn g.D.Disk.tells g.D.Disk.moment g.D.Disk.left_since g.D.Disk.seen g.D.Disk.pending c.loop-file.disk c.receive_file.new.disk None None c.loop-file.store) c.receive_file.result)) i.most
-              (c.receive_file.ensures.received base now here onward open_none))
+          (RunsOn g.D.Disk.tells g.D.Disk.moment g.D.Disk.left_since g.D.Disk.seen g.D.Disk.pending c.loop-file.disk c.receive_file.new.disk None None None c.loop-file.store c.receive_file.new.store)
+          (LeavesOn g.D.Disk.tells g.D.Disk.moment g.D.Disk.left_since g.D.Disk.seen g.D.Disk.pending c.loop-file.disk c.receive_file.new.disk None None c.loop-file.store) c.receive_file.result)) i.most
+          (c.receive_file.ensures.received base now here onward open_none))
           (λ groups more. run_both g.D.Disk.tells g.D.Disk.moment g.D.Disk.left_since g.D.Disk.seen g.D.Disk.pending c.args.disk.now c.loop-file.disk c.receive_file.new.disk c.args.store.now c.loop-file.store c.receive_file.new.store groups more)
           (i.stand base spot at on none);
     }
@@ -64,9 +64,9 @@ returns-in-Err-clause-received g c base spot at on none =
     (LeavesOn g.D.Disk.tells g.D.Disk.moment g.D.Disk.left_since g.D.Disk.seen g.D.Disk.pending c.args.disk.now c.receive_file.new.disk None None c.args.store.now)
     c.index-files-file.result c.as_str-name.result.now c.receive_file.result c.in-Err.ended i.same c.loop-file-test.true c.index-files-file.is c.as_str-name.ensures.value c.in-Err.is
     (λ now here onward open_none. subst (λ (n : ℕ). IfTold (g.I.Inputs.told c.loop-file.inputs) c.as_str-name.result.now (FileEnds (c.loop-file.file + 1) n base now (g.G.Guarding.kept c.receive_file.new.guards) c.receive_file.new.store (g.O.Sink.taken c.loop-file.out) (g.O.Sink.taken c.receive_file.new.out)
-        (RunsOn g.D.Disk.tells g.D.Disk.moment g.D.Disk.left_since g.D.Disk.seen g.D.Disk.pending c.loop-file.disk c.receive_file.new.disk None None None c.loop-file.store c.receive_file.new.store)
-        (LeavesOn g.D.Disk.tells g.D.Disk.moment g.D.Disk.left_since g.D.Disk.seen g.D.Disk.pending c.loop-file.disk c.receive_file.new.disk None None c.loop-file.store) c.receive_file.result)) i.most
-        (c.receive_file.ensures.received base now here onward open_none))
+    (RunsOn g.D.Disk.tells g.D.Disk.moment g.D.Disk.left_since g.D.Disk.seen g.D.Disk.pending c.loop-file.disk c.receive_file.new.disk None None None c.loop-file.store c.receive_file.new.store)
+    (LeavesOn g.D.Disk.tells g.D.Disk.moment g.D.Disk.left_since g.D.Disk.seen g.D.Disk.pending c.loop-file.disk c.receive_file.new.disk None None c.loop-file.store) c.receive_file.result)) i.most
+    (c.receive_file.ensures.received base now here onward open_none))
     (λ now groups more. run_ends g.D.Disk.tells g.D.Disk.moment g.D.Disk.left_since g.D.Disk.seen g.D.Disk.pending c.args.disk.now c.loop-file.disk c.receive_file.new.disk c.args.store.now c.loop-file.store groups more)
     (i.stand base spot at on none)
 

@@ -86,10 +86,10 @@ loop-reader-preserved g c =
           (subst (λ (n : ℕ). PiecesSay (Ok tt) n (behind_close c.loop-reader.current item.command (place_of c.loop-reader.store c.loop-reader.current)) (place_of c.receive_item-received.new.store c.receive_item-received.new.current) item) i.most r.pieces)
           r.written
           (λ groups begun version run.
-              run_goes g.D.Disk.tells g.D.Disk.moment g.D.Disk.left_since g.D.Disk.seen g.D.Disk.pending c.args.disk.now c.loop-reader.disk c.receive_item-received.new.disk c.args.store.now c.loop-reader.store c.receive_item-received.new.store c.loop-reader.current c.receive_item-received.new.current
-              groups (closed_by guards item.command begun ++ begun_if (follow (beside guards (blank_of c.loop-reader.store c.loop-reader.current)) item) item.command) (closed_by guards item.command begun ++ begun_by item.command) begun (begun_after begun item)
-              (taken_due guards item.command begun _ _ r.followed) run
-              (λ tells header there keeps. r.keeps tells header there begun version keeps) (λ tells header there keeps. r.any_moment tells header there begun version keeps))
+          run_goes g.D.Disk.tells g.D.Disk.moment g.D.Disk.left_since g.D.Disk.seen g.D.Disk.pending c.args.disk.now c.loop-reader.disk c.receive_item-received.new.disk c.args.store.now c.loop-reader.store c.receive_item-received.new.store c.loop-reader.current c.receive_item-received.new.current
+          groups (closed_by guards item.command begun ++ begun_if (follow (beside guards (blank_of c.loop-reader.store c.loop-reader.current)) item) item.command) (closed_by guards item.command begun ++ begun_by item.command) begun (begun_after begun item)
+          (taken_due guards item.command begun _ _ r.followed) run
+          (λ tells header there keeps. r.keeps tells header there begun version keeps) (λ tells header there keeps. r.any_moment tells header there begun version keeps))
           (i.stands base spot at on none);
       ahead = next_ahead _ _ c.loop-reader.reader c.next.new.self 0 0 c.in-Ok-Some.field-0 c.in-Ok-Some.item c.in-Ok-Some.field-0-is e.same e.name e.read;
     }
@@ -111,9 +111,9 @@ returns-in-Err-received-clause-received g c base spot at on none =
     (subst (λ (n : ℕ). PiecesSay (Err c.in-Err-received.ended) n (behind_close c.loop-reader.current item.command (place_of c.loop-reader.store c.loop-reader.current)) (place_of c.receive_item-received.new.store c.receive_item-received.new.current) item) i.most r.pieces)
     r.written
     (λ groups more begun version run.
-        run_item g.D.Disk.tells g.D.Disk.moment g.D.Disk.left_since g.D.Disk.seen g.D.Disk.pending c.args.disk.now c.loop-reader.disk c.receive_item-received.new.disk c.args.store.now c.loop-reader.store c.loop-reader.current
-        groups (closed_by guards item.command begun ++ begun_if (follow (beside guards (blank_of c.loop-reader.store c.loop-reader.current)) item) item.command) more begun run
-        (λ tells header there keeps. r.any_moment tells header there begun version keeps))
+    run_item g.D.Disk.tells g.D.Disk.moment g.D.Disk.left_since g.D.Disk.seen g.D.Disk.pending c.args.disk.now c.loop-reader.disk c.receive_item-received.new.disk c.args.store.now c.loop-reader.store c.loop-reader.current
+    groups (closed_by guards item.command begun ++ begun_if (follow (beside guards (blank_of c.loop-reader.store c.loop-reader.current)) item) item.command) more begun run
+    (λ tells header there keeps. r.any_moment tells header there begun version keeps))
     (i.stands base spot at on none)
 
 pub returns-in-Err-clause-received : goal.returns-in-Err-clause-received
