@@ -12,7 +12,7 @@ use Rattle.store_model.specs.Stored.{Group, body_bytes, IsGroup, body_at, made, 
 use Rattle.store_model.proofs.OneJournal.{length-le}
 use Rattle.group_log.specs.State.{LogState}
 use Rattle.group_log.specs.Journal.{Reads, IsNext}
-use Rattle.group_log.specs.Stopping.{IsFault, IsFaultOr}
+use Rattle.group_log.specs.Stopping.{IsFaultOr}
 use Rattle.group_log.specs.declared.journal.GroupPlace.{GroupPlace}
 use Rattle.group_log.specs.declared.stops.LogStop.{LogStop}
 use Rattle.group_log.specs.declared.stops.LogStop.TheVariants.{DiskFault, NotStore, LogFull, StoreThere}
@@ -20,7 +20,7 @@ use Rattle.group_log.proofs.GatedGroups.{front_push}
 use Rattle.store_groups.specs.declared.place.Place.{Place}
 use Rattle.store_groups.specs.Taking.{as_runs, TakesGroup}
 use Rattle.store_journal.specs.Holding.{bodies_of}
-use Rattle.store_journal.specs.Opening.{NamesFault, IsOpenStop}
+use Rattle.store_journal.specs.Opening.{NamesFault}
 use Rattle.store_journal.proofs.Pushes.{bodies_push, makes_push}
 use Rattle.store_journal.proofs.StandingGroups.{cut_stands, bad_stands}
 
@@ -108,25 +108,6 @@ names_fault DiskFault number cause seen (inr failed) fault = tt
 names_fault (NotStore n) number cause seen (inr failed) fault = absurd failed
 names_fault (LogFull end wanted limit) number cause seen (inr failed) fault = tt
 names_fault (StoreThere size) number cause seen (inr failed) fault = tt
-
-pub open_stop : (why : LogStop) (number : ℕ) (cause : Type 0) → IsFaultOr cause (NotStore number) why → IsOpenStop cause why
-open_stop why number cause (inl same) = subst (λ (w : LogStop). IsOpenStop cause w) (sym same) tt
-open_stop DiskFault number cause (inr failed) = failed
-open_stop (NotStore n) number cause (inr failed) = absurd failed
-open_stop (LogFull end wanted limit) number cause (inr failed) = absurd failed
-open_stop (StoreThere size) number cause (inr failed) = absurd failed
-
-pub fault_stop : (why : LogStop) (cause : Type 0) → IsFault cause why → IsOpenStop cause why
-fault_stop DiskFault cause failed = failed
-fault_stop (NotStore n) cause failed = absurd failed
-fault_stop (LogFull end wanted limit) cause failed = absurd failed
-fault_stop (StoreThere size) cause failed = absurd failed
-
-pub fault_names : (why : LogStop) (cause : Type 0) (seen : List ℕ) → IsFault cause why → NamesFault seen why
-fault_names DiskFault cause seen failed = tt
-fault_names (NotStore n) cause seen failed = absurd failed
-fault_names (LogFull end wanted limit) cause seen failed = tt
-fault_names (StoreThere size) cause seen failed = tt
 
 -- What a crash may leave while groups are read is what it might leave before.
 pub later_image : {D : Type 0} (pending : D → Pending) (seen : D → List ℕ) (old now : D) (core : Store (Option Place)) (log : LogState) → IsImage (pending old) (seen old) → HasRead core log (seen now) (pending now) → seen now ≡ seen old

@@ -1,6 +1,7 @@
 // What no clause says: that a store opens, and what it has then.
-ghost use Rattle.std.specs.Prelude.{◌≡◌};
+ghost use Rattle.std.specs.Prelude.{◌≡◌, IfOk};
 ghost use Rattle.store_journal.specs.Reading.{HasSize};
+ghost use Rattle.store_journal.specs.Shown.{IsIdle};
 
 use crate::client::{open_again, read_back};
 use crate::streams::{FILE, NEW, OLD, image, key, receive_a, receive_b};
@@ -55,23 +56,51 @@ fn expect_b<D: Disk>(rt: &impl Abort, store: &Store, disk: &mut D) -> Result<(),
     expect_range(rt, store, disk, key(b'B', 2), 4094, b"\0\0end\0")
 }
 
+// Both files.
+fn expect_both<D: Disk>(rt: &impl Abort, store: &Store, disk: &mut D) -> Result<(), LogStop>
+    requires { HasSize (D.len disk.old) store.now }
+    ensures { D.len disk.new ≡ D.len disk.old }
+{
+    expect_a(rt, store, disk)?;
+    expect_b(rt, store, disk)
+}
+
+// Receives two parts.
+fn receive_two<D: Disk>(rt: &impl Abort, alloc: Global, disk: &mut D) -> Result<Store, StoreStop>
+    ensures { IfOk result (IsIdle (D.len disk.new)) }
+{
+    let mut store = Store::open(disk, alloc)?;
+    receive_a(rt, alloc, &mut store, disk)?;
+    receive_b(rt, alloc, &mut store, disk)?;
+    Ok(store)
+}
+
+// Drops one of two parts, and opens the store again.
+fn drop_one<D: Disk>(
+    rt: &impl Abort,
+    alloc: Global,
+    store: &mut Store,
+    disk: &mut D,
+) -> Result<(), StoreStop>
+    requires { IsIdle (D.len disk.old) store.old }
+{
+    assert_eq!(rt; store.core().catalog().len(), 2);
+    assert!(rt; store.drop_name(disk, b"a")?);
+    assert!(rt; !store.drop_name(disk, b"a")?);
+    let last = open_again(disk, alloc, store)?;
+    assert_eq!(rt; last.core().catalog().len(), 1);
+    expect_b(rt, &last, disk)?;
+    Ok(())
+}
+
 // Receives two parts into a store with these bytes, opens it again, and drops one of them.
 fn receive_and_open(rt: &impl Abort, alloc: Global, start: &[u8]) -> Result<(), Fail> {
     let mut disk = MemDisk::new(alloc, start)?;
-    let mut store = Store::open(&mut disk, alloc)?;
-    receive_a(rt, alloc, &mut store, &mut disk)?;
-    receive_b(rt, alloc, &mut store, &mut disk)?;
-    expect_a(rt, &store, &mut disk)?;
-    expect_b(rt, &store, &mut disk)?;
+    let store = receive_two(rt, alloc, &mut disk)?;
+    expect_both(rt, &store, &mut disk)?;
     let mut again = open_again(&mut disk, alloc, &store)?;
-    assert_eq!(rt; again.core().catalog().len(), 2);
-    expect_a(rt, &again, &mut disk)?;
-    expect_b(rt, &again, &mut disk)?;
-    assert!(rt; again.drop_name(&mut disk, b"a")?);
-    assert!(rt; !again.drop_name(&mut disk, b"a")?);
-    let last = open_again(&mut disk, alloc, &again)?;
-    assert_eq!(rt; last.core().catalog().len(), 1);
-    expect_b(rt, &last, &mut disk)?;
+    expect_both(rt, &again, &mut disk)?;
+    drop_one(rt, alloc, &mut again, &mut disk)?;
     Ok(())
 }
 
