@@ -14,4 +14,3 @@ pub mod FileStops
 pub mod DiskRuns
 pub mod AllTheFiles
 pub mod Answering
-pub mod GuardRefusals
