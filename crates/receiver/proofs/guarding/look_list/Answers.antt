@@ -1,3 +1,4 @@
+use Rattle.std.proofs.Math.Seq.{lt-length-set}
 use Rattle.std.proofs.Common.{arith}
 use Rattle.guard_rules.proofs.Questions.{allowed, refused, ended}
 use Rattle.receiver.proofs.GuardRefusals.{refusal_at}
@@ -19,6 +20,6 @@ returns-then-not-look_one-clause-counted g c =
 
 pub returns-then-not-look_one-clause-refused : goal.returns-then-not-look_one-clause-refused
 returns-then-not-look_one-clause-refused g c =
-    refusal_at g.G.Guard.kept _ _ _ c.loop-place.place c.used_of-used.result ?
+    refusal_at g.G.Guard.kept _ _ _ c.loop-place.place c.used_of-used.result _
     (refused g.G.Guard.kept _ c.loop-place.guards c.loop-place.place _ c.index-guards-place.result c.look_one.new.guard c.look_one.result c.loop-place.invariant (omega arith) c.look_one.ensures.allows c.look_one.ensures.counts c.if-not-look_one.true).0
-    ? ?
+    (lt-length-set c.loop-place.guards c.loop-place.place c.look_one.new.guard (omega arith)) c.used_of-used.ensures
