@@ -1,15 +1,15 @@
 -- Receiving files one after the other: what the loop over them keeps, and each of its ends.
-use Rattle.std.specs.Prelude.{◌≡◌, ℕ, ◌+◌, ◌<◌, ◌≤◌, Bool, true, false, List, [], ◌∷◌, ◌++◌, map, length, drop, slice_index_or, String, Option, None, Some, Result, Ok, Err}
+use Rattle.std.specs.Prelude.{◌≡◌, ⊤, ℕ, ◌+◌, ◌<◌, ◌≤◌, Bool, true, false, List, [], ◌∷◌, ◌++◌, map, length, drop, slice_index_or, String, Option, None, Some, Result, Ok, Err}
 use Rattle.std.specs.String.{string_bytes}
 use Rattle.std.specs.Io.KnownBytes.{Appends}
 use Rattle.std.proofs.KnownBytes.{Appends-nil, Appends-trans}
-use Rattle.std.proofs.Common.{refl, sym, ap, subst, ◌∙◌, append_assoc, append-nil, arith}
+use Rattle.std.proofs.Common.{refl, sym, ap, subst, ◌∙◌, append_assoc, append-nil, length-append, arith}
 use Rattle.std.proofs.lemmas.List.{drop_all}
 use Rattle.send_model.specs.Reading.{Item, Ending, Whole, Faulty, reads}
 use Rattle.send_model.specs.Store.{Store}
 use Rattle.send_model.specs.Guards.{Guard}
 use Rattle.send_model.specs.Lengths.{is_too_long}
-use Rattle.send_model.specs.Due.{Limited, limited_from, then_limited}
+use Rattle.send_model.specs.Due.{Limited, Stop, AtEnd, AtFault, AtLimit, limited_from, then_limited}
 use Rattle.sx_base.specs.Outside.{file_at}
 use Rattle.sx_base.specs.Calls.{contents, IfAllTold}
 use Rattle.sx_base.proofs.NamedFiles.{file_there, count_of_files}
@@ -23,7 +23,7 @@ use Rattle.auditor.proofs.TooLong.{by_length, nothing_more, read_is}
 use Rattle.store_journal.specs.Shown.{StoreState}
 use Rattle.receiver.specs.declared.outcome.Received.{Received}
 use Rattle.receiver.specs.Running.{Spot, IsAt, Leads, Stops}
-use Rattle.receiver.specs.FileEnds.{then_others, FileEnds, AllEnds}
+use Rattle.receiver.specs.FileEnds.{then_others, FileTaken, FileStopped, FileEnds, AllTaken, AllStopped, AllEnds}
 use Rattle.receiver.proofs.Leading.{leads_none, leads_on}
 use Rattle.receiver.proofs.Ends.{stops_from}
 

@@ -1,23 +1,26 @@
 -- The whole call: from the first spot, and in the words of its contract.
-use Rattle.std.specs.Prelude.{◌≡◌, ℕ, List, [], ◌++◌, Option, None, Some, Result, Ok, Err}
+use Rattle.std.specs.Prelude.{◌≡◌, ⊤, ℕ, ◌<◌, List, [], ◌∷◌, ◌++◌, length, drop, Option, None, Some, Result, Ok, Err}
+use Rattle.std.specs.Io.KnownBytes.{Appends}
 use Rattle.std.specs.List.{filter, flat_map}
-use Rattle.std.proofs.Common.{sym, ap, subst, ◌∙◌, append-nil}
+use Rattle.std.proofs.Common.{inl, inr, refl, sym, ap, subst, ◌∙◌, append-nil}
 use Rattle.sx_base.specs.Disk.{Pending}
 use Rattle.sx_base.specs.Crash.{LeavesOnly}
-use Rattle.sx_base.specs.Calls.{IfAllTold, Wrote}
+use Rattle.sx_base.specs.Calls.{IfAllTold, Wrote, SteadyIfDone, IsStop}
 use Rattle.sx_base.proofs.Ended.{stopped_steady}
 use Rattle.sx_base.specs.declared.outcome.Outcome.TheVariants as ended
+use Rattle.send_model.specs.Reading.{Item}
 use Rattle.send_model.specs.Store.{Store}
-use Rattle.send_model.specs.Receive.{byte_cells, start_of}
+use Rattle.send_model.specs.Receive.{byte_cells, run_by, Ran, start_of}
 use Rattle.send_model.specs.Guards.{Guard, Watched}
-use Rattle.send_model.specs.Due.{Limited, DoneWhole, limited_from, stop_due}
+use Rattle.send_model.specs.Due.{Limited, Stop, AtEnd, DoneWhole, limited_from, stop_due}
 use Rattle.store_model.specs.Image.{Header}
 use Rattle.store_model.specs.Stored.{Group}
 use Rattle.store_model.specs.States.{is_complete, complete_line, received, lines_behind}
+use Rattle.store_model.specs.Dues as dues
 use Rattle.store_model.specs.Dues.{Due, Ends, receive_from, left_from, or_due, receive_due, receive_left}
 use Rattle.store_model.specs.Written.{Begun, groups_from, groups_of}
 use Rattle.store_model.proofs.PassedStates.{IsOn, drop_start, start_closed}
-use Rattle.auditor.specs.Following.{Followed, HaveSameShape, blank}
+use Rattle.auditor.specs.Following.{Followed, HaveSameShape, blank, read_whole}
 use Rattle.store_groups.specs.declared.place.Place.{Place}
 use Rattle.store_journal.specs.Shown.{StoreState}
 use Rattle.store_journal.specs.Holding.{Holds}
@@ -25,7 +28,7 @@ use Rattle.receiver.specs.declared.outcome.Received.{Received}
 use Rattle.receiver.specs.declared.outcome.Received.TheVariants as how
 use Rattle.receiver.specs.Answers.{IsEnd}
 use Rattle.receiver.specs.Disks.{HasFront, RunsOn, LeavesOn}
-use Rattle.receiver.specs.Running.{first_spot, IsAt, Stops, IsLineFront}
+use Rattle.receiver.specs.Running.{byte_step, Spot, first_spot, IsAt, Stops, LinesLeft, IsLineFront}
 use Rattle.receiver.specs.FileEnds.{AllTaken, AllStopped, AllEnds}
 use Rattle.receiver.specs.ReceiveEnds.{ReceiveEnds, SteadyIfReceived, IfDone}
 use Rattle.receiver.proofs.TakenItems.{due_same}

@@ -1,6 +1,6 @@
 -- The part of a head begins, or it is refused, or there is no room for its groups.
-use Rattle.std.specs.Prelude.{◌≡◌, ℕ, ◌+◌, List, [], ◌∷◌, length, Option, None, Some, Result, Ok, Err, IfSome, IsErr}
-use Rattle.std.proofs.Common.{refl, sym, ap, subst, ◌∙◌, append-nil}
+use Rattle.std.specs.Prelude.{◌≡◌, ◌⊎◌, ℕ, ◌+◌, List, [], ◌∷◌, ◌++◌, length, map, Option, None, Some, Result, Ok, Err, IfSome, IsErr}
+use Rattle.std.proofs.Common.{refl, sym, ap, subst, ◌∙◌, arith, append-nil}
 use Rattle.sx_base.specs.Disk.{Pending, IsImage}
 use Rattle.sx_base.specs.Crash.{LeavesOnly}
 use Rattle.sx_base.proofs.DiskMoments.{begins, weakens}
@@ -10,11 +10,12 @@ use Rattle.send_model.specs.Subvolume.{Subvolume}
 use Rattle.send_model.specs.Command.{Command, Subvol, Snapshot, row, kind_of, fields_of, kind_of_number}
 use Rattle.send_model.specs.Spelling.{canonical, IsSpellable}
 use Rattle.send_model.specs.Reading.{Item}
-use Rattle.send_model.specs.Store.{Head, Store, State, head_of, begun, entered, unfinished}
+use Rattle.send_model.specs.Store.{Head, Entry, Part, Store, State, After, head_of, begun, entered, unfinished}
 use Rattle.send_model.proofs.Canonical.{fields_first, spellable_first}
 use Rattle.store_model.specs.Image.{Header}
 use Rattle.store_model.specs.Stored.{Group, Mark}
 use Rattle.store_model.specs.States.{complete_line}
+use Rattle.store_model.specs.Dues.{first_full, item_pieces, end_behind}
 use Rattle.store_model.specs.Written.{mark_of, begun_by}
 use Rattle.group_log.proofs.GatedGroups.{rests_has}
 use Rattle.group_log.specs.declared.stops.LogStop.TheVariants as log
@@ -34,7 +35,7 @@ use Rattle.receiver.specs.Disks.{HasFront}
 use Rattle.receiver.specs.Answers.{ended_by, StepSays, PiecesSay}
 use Rattle.receiver.specs.Steps.{begun_if}
 use Rattle.receiver.proofs.ClosedParts.{one_front}
-use Rattle.receiver.proofs.RoomLaws.{head_item, head_end, has_room}
+use Rattle.receiver.proofs.RoomLaws.{head_item, head_end, has_room, no_room}
 
 -- A head that a version can say, version 1 can.
 pub head_first : (version : ℕ) (c : Command) (head : Head) → head_of c ≡ Some head → IsSpellable version c → IsSpellable 1 c

@@ -1,12 +1,13 @@
 -- A disk that tells, over the commands of a file.
-use Rattle.std.specs.Prelude.{◌≡◌, ℕ, Bool, true, List, [], ◌++◌, Option, None}
+use Rattle.std.specs.Prelude.{◌≡◌, ◌⊎◌, ℕ, Bool, true, false, List, [], ◌∷◌, ◌++◌, Option, None, Some}
 use Rattle.std.proofs.Common.{refl, sym, ap, subst, ◌∙◌, append_assoc, append-nil}
 use Rattle.sx_base.specs.Disk.{Pending, IsImage}
 use Rattle.sx_base.specs.Crash.{LeavesOnly}
-use Rattle.sx_base.proofs.DiskMoments.{weakens}
+use Rattle.sx_base.proofs.DiskMoments.{joins, weakens}
+use Rattle.send_model.specs.Refusal as meant
 use Rattle.send_model.specs.Command.{Command}
-use Rattle.send_model.specs.Reading.{Due, HeaderDue, due_after}
-use Rattle.send_model.specs.Command.{End, row}
+use Rattle.send_model.specs.Reading.{Item, Due, HeaderDue, due_after}
+use Rattle.send_model.specs.Command.{End, row, kind_of}
 use Rattle.send_model.specs.Counts.{is_end}
 use Rattle.send_model.specs.Store.{After}
 use Rattle.send_model.specs.Guards.{Guard}
@@ -14,10 +15,10 @@ use Rattle.cmd_reader.specs.Next.{is_last}
 use Rattle.auditor.specs.Following.{Followed}
 use Rattle.store_model.specs.Image.{Header}
 use Rattle.store_model.specs.Stored.{Group}
-use Rattle.store_model.specs.Written.{Begun, closed_by, begun_by}
+use Rattle.store_model.specs.Written.{Begun, closed_by, begun_by, begun_after}
 use Rattle.store_journal.specs.Shown.{StoreState}
 use Rattle.receiver.specs.declared.opened.Opened.{Opened}
-use Rattle.receiver.specs.Disks.{Keeps, HasFront, RunsOn, LeavesOn}
+use Rattle.receiver.specs.Disks.{Keeps, HasVersion, HasFront, RunsOn, LeavesOn}
 use Rattle.receiver.specs.Steps.{begun_if}
 use Rattle.receiver.proofs.FollowedItems.{kept_moments}
 use Rattle.receiver.proofs.TakenItems.{front_first, both_moments}

@@ -1,6 +1,6 @@
 -- The open part is edited, or the edit is refused, or there is no room for it.
-use Rattle.std.specs.Prelude.{◌≡◌, ℕ, ◌+◌, Bool, true, false, List, [], ◌∷◌, ◌++◌, length, Option, None, Some, Result, Ok, Err, if◌then◌else◌}
-use Rattle.std.proofs.Common.{inr, refl, sym, ap, subst, ◌∙◌}
+use Rattle.std.specs.Prelude.{◌≡◌, ◌⊎◌, ℕ, ◌+◌, Bool, true, false, List, [], ◌∷◌, ◌++◌, length, map, Option, None, Some, Result, Ok, Err, if◌then◌else◌}
+use Rattle.std.proofs.Common.{inl, inr, refl, sym, ap, subst, ◌∙◌, arith}
 use Rattle.sx_base.specs.Disk.{Pending, IsImage}
 use Rattle.sx_base.specs.Crash.{LeavesOnly}
 use Rattle.sx_base.proofs.DiskMoments.{begins, weakens}
@@ -12,13 +12,14 @@ use Rattle.send_model.specs.Subvolume.{Subvolume}
 use Rattle.send_model.specs.Command.{Command}
 use Rattle.send_model.specs.Spelling.{canonical}
 use Rattle.send_model.specs.Reading.{Item}
-use Rattle.send_model.specs.Store.{Head, Part, edited, edit_part, step_edit}
+use Rattle.send_model.specs.Store.{Head, Part, State, After, head_of, edited, edit_part, step_edit}
+use Rattle.send_model.specs.Counts.{is_end}
 use Rattle.clone_resolve.specs.Steps.{cells_put}
 use Rattle.store_model.specs.Image.{Header}
 use Rattle.store_model.specs.Stored.{Group, is_edit}
 use Rattle.store_model.specs.Written.{Begun, and_command, begun_after}
 use Rattle.store_model.proofs.WrittenGroups.{edit_facts}
-use Rattle.group_log.proofs.GatedGroups.{rests_has}
+use Rattle.group_log.proofs.GatedGroups.{rests_has, grows_has}
 use Rattle.group_log.specs.declared.stops.LogStop.TheVariants as log
 use Rattle.store_groups.specs.declared.place.Place.{Place}
 use Rattle.store_groups.specs.Placing.{further}
@@ -28,12 +29,12 @@ use Rattle.store_groups.specs.Stopping.{IfRefused, IfEnded, IfLog}
 use Rattle.store_journal.specs.Filling as fill
 use Rattle.store_journal.specs.Filling.{piece_asks}
 use Rattle.store_journal.specs.Shown.{StoreState, IsOpen}
-use Rattle.store_journal.specs.Holding.{bodies_of, HasThese, Builds}
+use Rattle.store_journal.specs.Holding.{bodies_of, HasThese, Holds, Builds}
 use Rattle.store_journal.specs.Answers.{EditsIn}
 use Rattle.receiver.specs.declared.opened.Opened.{Opened}
 use Rattle.receiver.specs.declared.outcome.Received.{Received}
 use Rattle.receiver.specs.Standing.{state_of, place_of, IsReceiving, IsReady}
-use Rattle.receiver.specs.Disks.{Keeps, HasVersion, HasFront}
+use Rattle.receiver.specs.Disks.{IsBuilt, Keeps, HasVersion, HasFront}
 use Rattle.receiver.specs.Answers.{ended_by, IsRefusedWith, StepSays, PiecesSay, ReadySays, KeepsSays}
 use Rattle.receiver.proofs.ClosedParts.{none_held, one_built}
 use Rattle.receiver.proofs.RoomLaws.{edit_item, edit_end, has_room, no_room}

@@ -1,12 +1,15 @@
 -- One command under guards.
-use Rattle.std.specs.Prelude.{◌≡◌, ℕ, Bool, true, false, List, [], ◌∷◌, ◌++◌, map, Option, None, Some, Result, Ok, Err, if◌then◌else◌}
+use Rattle.std.specs.Prelude.{◌≡◌, ◌⊎◌, ℕ, Bool, true, false, List, [], ◌∷◌, ◌++◌, map, Option, None, Some, Result, Ok, Err, if◌then◌else◌}
 use Rattle.std.proofs.Common.{refl, sym, ap, subst, ◌∙◌, append-nil}
 use Rattle.sx_base.specs.Disk.{Pending, IsImage}
 use Rattle.sx_base.specs.Crash.{LeavesOnly}
 use Rattle.sx_base.proofs.DiskMoments.{begins}
-use Rattle.sx_base.specs.Refusals.{refusal_of}
+use Rattle.sx_base.specs.Refusals.{refusal_of, verdict_meant}
+use Rattle.sx_base.specs.declared.stop.Stop.{Stop}
 use Rattle.sx_base.specs.declared.stop.Stop.TheVariants as why
+use Rattle.sx_base.specs.declared.outcome.Outcome.{Outcome}
 use Rattle.sx_base.specs.declared.outcome.Outcome.TheVariants as ended
+use Rattle.sx_base.specs.declared.outcome.Verdict.{Verdict}
 use Rattle.send_model.specs.Refusal as meant
 use Rattle.send_model.specs.Command.{Command}
 use Rattle.send_model.specs.Reading as reading
@@ -17,7 +20,7 @@ use Rattle.send_model.proofs.Sorts.{head_step}
 use Rattle.send_model.proofs.CellClones.{all_steps-cells}
 use Rattle.send_model.specs.Guards.{Guard, guarded, looked, watched}
 use Rattle.send_model.specs.Cells.{recelled_state}
-use Rattle.clone_resolve.specs.Steps.{cells_put}
+use Rattle.clone_resolve.specs.Steps.{cells_put, Answers}
 use Rattle.auditor.specs.Following.{Followed, blank_step, beside, follow}
 use Rattle.auditor.proofs.Steps.{answers_blank}
 use Rattle.store_model.specs.Image.{Header}
@@ -32,7 +35,7 @@ use Rattle.receiver.specs.declared.opened.Opened.{Opened}
 use Rattle.receiver.specs.declared.outcome.Received.{Received}
 use Rattle.receiver.specs.declared.outcome.Received.TheVariants as how
 use Rattle.receiver.specs.Disks.{Keeps, HasFront, closing}
-use Rattle.receiver.specs.Answers.{StepSays}
+use Rattle.receiver.specs.Answers.{IsRefusedWith, StepSays}
 use Rattle.receiver.specs.Steps.{TakesAs, begun_if}
 use Rattle.receiver.proofs.BegunParts.{none_yet}
 

@@ -1,25 +1,31 @@
 -- Receiving ends at an item: it is refused, there is no room for it, or something fails there.
-use Rattle.std.specs.Prelude.{◌≡◌, ℕ, ◌+◌, Bool, List, [], ◌∷◌, ◌++◌, length, take, drop, Option, None, Some, Err, is_some, if◌then◌else◌}
+use Rattle.std.specs.Prelude.{◌≡◌, ◌⊎◌, ℕ, ◌+◌, ◌-◌, ◌<◌, ◌≤◌, Bool, true, false, List, [], ◌∷◌, ◌++◌, length, take, drop, Option, None, Some, Result, Ok, Err, is_some, if◌then◌else◌}
 use Rattle.std.specs.Io.KnownBytes.{Appends}
-use Rattle.std.proofs.Common.{inl, inr, refl, sym, ap, ◌∙◌, append_assoc, append-nil, arith, length-append}
+use Rattle.std.proofs.Common.{inl, inr, refl, sym, ap, subst, ◌∙◌, append_assoc, append-nil, arith, length-append}
 use Rattle.std.proofs.lemmas.List.{take-append-drop, length-drop}
+use Rattle.sx_base.specs.Outside.{AppendsPart}
+use Rattle.sx_base.specs.Refusals.{verdict_meant}
 use Rattle.sx_base.specs.declared.outcome.Verdict.{Verdict}
+use Rattle.sx_base.specs.declared.outcome.Outcome.{Outcome}
 use Rattle.sx_base.specs.declared.outcome.Outcome.TheVariants as ended
 use Rattle.send_model.specs.Refusal as meant
+use Rattle.send_model.specs.Command.{Command}
 use Rattle.send_model.specs.Spelling.{canonical}
 use Rattle.send_model.specs.Reading as reading
 use Rattle.send_model.specs.Reading.{Item}
-use Rattle.send_model.specs.Store.{Head, Store, State, After, head_of, completed, step}
-use Rattle.send_model.specs.Receive.{run_by, then_run, byte_cells}
-use Rattle.send_model.specs.Guards.{Guard, Watched, guarded}
-use Rattle.send_model.specs.Due.{Stop, RefusedAt, stop_due}
+use Rattle.send_model.specs.Store.{Head, Store, Part, State, After, head_of, completed, step}
+use Rattle.send_model.specs.Receive.{Ran, run_by, then_run, verdict_of, byte_cells}
+use Rattle.send_model.specs.Guards.{Guard, Watched, guarded, looked}
+use Rattle.send_model.specs.Due.{Limited, Stop, RefusedAt, stop_due}
 use Rattle.send_model.proofs.Guarding.{after_looks, looks_are}
+use Rattle.store_model.specs.Stored.{is_edit}
 use Rattle.store_model.specs.States.{lines_behind}
 use Rattle.store_model.specs.Dues as dues
 use Rattle.store_model.specs.Dues.{Due, first_full, pieces_from, item_pieces, place_after, left_full, receive_from, left_from, or_due}
 use Rattle.store_model.proofs.PassedStates.{IsOn}
 use Rattle.store_model.proofs.WrittenGroups.{head_fact}
 use Rattle.auditor.specs.Following.{Followed, blank, beside, follow}
+use Rattle.store_groups.specs.declared.place.Place.{Place}
 use Rattle.store_journal.specs.Shown.{StoreState}
 use Rattle.receiver.specs.declared.opened.Opened.{Opened}
 use Rattle.receiver.specs.declared.outcome.Received.{Received}
@@ -27,10 +33,10 @@ use Rattle.receiver.specs.declared.outcome.Received.TheVariants as how
 use Rattle.receiver.specs.Standing.{line_due, line_by, behind_close, place_of, IsReady}
 use Rattle.receiver.specs.Answers.{StepSays, PiecesSay, ItemWrites}
 use Rattle.receiver.specs.Steps.{blank_of, line_under}
-use Rattle.receiver.specs.Running.{byte_step, Spot, IsAt, IsLineFront, Stops}
-use Rattle.receiver.proofs.Spots.{due_refused, due_full, left_refused, left_where_full}
-use Rattle.receiver.proofs.PrintedLines.{completed_lines}
-use Rattle.receiver.proofs.Leading.{the_guards, the_place, the_line, the_step, the_lines, the_rest}
+use Rattle.receiver.specs.Running.{byte_step, Spot, without_cells, IsAt, due_from, LinesLeft, CoreLeft, IsLineFront, Stops}
+use Rattle.receiver.proofs.Spots.{due_refused, due_full, left_refused, left_where_full, run_taken}
+use Rattle.receiver.proofs.PrintedLines.{completed_lines, PartLine}
+use Rattle.receiver.proofs.Leading.{after_without, the_guards, the_place, the_line, the_step, the_lines, the_rest}
 use Rattle.receiver.proofs.Ends.{later_lines}
 
 -- A command that is not refused was not refused by a guard.

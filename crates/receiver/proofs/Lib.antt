@@ -14,3 +14,4 @@ pub mod FileStops
 pub mod DiskRuns
 pub mod AllTheFiles
 pub mod Answering
+pub mod GuardRefusals

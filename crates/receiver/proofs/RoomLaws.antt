@@ -1,7 +1,8 @@
 -- Whether there is room: of the journal's calls, and of the pieces of the definitions.
-use Rattle.std.specs.Prelude.{◌≡◌, ℕ, ◌+◌, Bool, true, false, List, [], ◌∷◌, map, length, Option, None, Some, Err, nat_lt, is_some, if◌then◌else◌}
+use Rattle.std.specs.Prelude.{◌≡◌, ◌⊎◌, ℕ, ◌+◌, Bool, true, false, List, [], ◌∷◌, map, length, Option, None, Some, Ok, Err, nat_lt, is_some, if◌then◌else◌}
 use Rattle.std.specs.Option.{option_map}
 use Rattle.std.proofs.Common.{inl, inr, refl, sym, ap, subst, ◌∙◌, arith}
+use Rattle.send_model.specs.Command.{Command}
 use Rattle.send_model.specs.Spelling.{canonical}
 use Rattle.send_model.specs.Reading.{Item}
 use Rattle.send_model.specs.Store.{Head, head_of}
@@ -14,7 +15,8 @@ use Rattle.group_log.specs.declared.stops.LogStop.TheVariants as log
 use Rattle.store_groups.specs.declared.stops.StoreStop.{StoreStop}
 use Rattle.store_groups.specs.declared.stops.StoreStop.TheVariants as stop
 use Rattle.store_groups.specs.Stopping.{IfLog}
-use Rattle.store_journal.specs.Filling.{Asked, first_full, head_asks, piece_asks, gate_behind, IsStopOf}
+use Rattle.store_journal.specs.Filling.{Asked, first_full, head_asks, piece_asks, gate_behind, IsFullAt, IsStopOf}
+use Rattle.receiver.specs.declared.outcome.Received.{Received}
 use Rattle.receiver.specs.Answers.{ended_by, PiecesSay}
 
 abbrev pub as_piece : Asked → ℕ × ℕ

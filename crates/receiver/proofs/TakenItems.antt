@@ -1,32 +1,35 @@
 -- One command: a head, END or an edit, by the calls that do it.
-use Rattle.std.specs.Prelude.{◌≡◌, ℕ, Bool, true, false, not, ◌&&◌, List, [], ◌∷◌, ◌++◌, Option, None, Some, Result, Ok, Err, is_none, if◌then◌else◌}
-use Rattle.std.proofs.Common.{refl, sym, ap, subst, ◌∙◌, append_assoc}
+use Rattle.std.specs.Prelude.{◌≡◌, ◌⊎◌, ℕ, ◌+◌, Bool, true, false, not, ◌&&◌, List, [], ◌∷◌, ◌++◌, Option, None, Some, Result, Ok, Err, is_none, if◌then◌else◌}
+use Rattle.std.specs.Io.KnownBytes.{Appends}
+use Rattle.std.proofs.Common.{inl, inr, refl, sym, ap, subst, ◌∙◌, append_assoc, append-nil}
+use Rattle.sx_base.specs.Disk.{Pending}
 use Rattle.sx_base.specs.Crash.{LeavesOnly}
 use Rattle.sx_base.proofs.DiskMoments.{joins, weakens}
 use Rattle.sx_base.specs.declared.outcome.Outcome.{Outcome}
+use Rattle.sx_base.specs.declared.outcome.Outcome.TheVariants as ended
 use Rattle.send_model.specs.Refusal as meant
 use Rattle.send_model.specs.Command.{Command, End}
 use Rattle.send_model.specs.Reading.{Item}
-use Rattle.send_model.specs.Store.{Head, Store, State, After, head_of, begun, entered, completed, step_head, step}
+use Rattle.send_model.specs.Store.{Head, Store, State, After, head_of, begun, entered, completed, step_head, step_edit, step}
 use Rattle.send_model.specs.Counts.{is_end}
 use Rattle.send_model.proofs.Sorts.{head_step}
 use Rattle.clone_resolve.specs.Steps.{cells_put}
 use Rattle.store_model.specs.Image.{Header}
 use Rattle.store_model.specs.Stored.{Group, is_edit}
-use Rattle.store_model.specs.Written.{Begun, mark_of, closed}
+use Rattle.store_model.specs.Written.{Begun, mark_of, begun_by, closed}
 use Rattle.store_model.specs.Dues.{first_full}
 use Rattle.store_model.proofs.LawfulGroups.{edit_step}
 use Rattle.store_model.proofs.WrittenGroups.{head_fact, edit_facts}
 use Rattle.store_groups.specs.declared.place.Place.{Place}
 use Rattle.store_groups.specs.Placing.{further}
-use Rattle.store_journal.specs.Shown.{StoreState}
-use Rattle.store_journal.specs.Holding.{HasThese}
+use Rattle.store_journal.specs.Shown.{StoreState, IsIdle}
+use Rattle.store_journal.specs.Holding.{HasThese, Holds}
 use Rattle.receiver.specs.declared.opened.Opened.{Opened}
 use Rattle.receiver.specs.declared.outcome.Received.{Received}
 use Rattle.receiver.specs.declared.outcome.Received.TheVariants as how
-use Rattle.receiver.specs.Standing.{state_of, place_of, behind_part, behind_close, IsClosedAs}
-use Rattle.receiver.specs.Disks.{HasFront, closing}
-use Rattle.receiver.specs.Answers.{IfClosed, WritesLine, StepSays, PiecesSay, KeepsSays}
+use Rattle.receiver.specs.Standing.{state_of, place_of, behind_part, behind_close, line_by, IsReady, IsClosedAs}
+use Rattle.receiver.specs.Disks.{Keeps, HasFront, closing}
+use Rattle.receiver.specs.Answers.{IfClosed, IfStoreFault, WritesLine, StepSays, PiecesSay, ReadySays, ItemWrites, KeepsSays}
 use Rattle.receiver.specs.Steps.{EditsAs, TakesAs, begun_if}
 
 -- ---- the part before could not be completed, or its line not be written

@@ -1,5 +1,5 @@
 -- What receiving one file answers. This program's own.
-use Rattle.std.specs.Prelude.{◌≡◌, ℕ, List, Option, None, Result, Ok, Err}
+use Rattle.std.specs.Prelude.{◌≡◌, ⊤, ℕ, List, [], ◌∷◌, ◌++◌, Option, None, Some, Result, Ok, Err}
 use Rattle.std.specs.Io.KnownBytes.{Appends}
 use Rattle.send_model.specs.Reading.{Item}
 use Rattle.send_model.specs.Store.{Store}
@@ -9,6 +9,7 @@ use Rattle.auditor.specs.Following.{file_read, read_whole, then_read}
 use Rattle.store_model.specs.Stored.{Group}
 use Rattle.store_model.specs.Written.{Begun, groups_from}
 use Rattle.store_journal.specs.Shown.{StoreState}
+use Rattle.receiver.specs.declared.opened.Opened.{Opened}
 use Rattle.receiver.specs.declared.outcome.Received.{Received}
 use Rattle.receiver.specs.Running.{Spot, IsAt, Leads, Stops}
 

@@ -1,11 +1,12 @@
 -- Where receiving is between two commands, by the definitions, and how it ends. This program's own.
-use Rattle.std.specs.Prelude.{◌≡◌, ℕ, ◌<◌, List, ◌++◌, length, Option, None}
+use Rattle.std.specs.Prelude.{◌≡◌, ⊤, ℕ, ◌<◌, List, [], ◌∷◌, ◌++◌, length, Option, None, Some}
 use Rattle.send_model.specs.Reading.{Item}
 use Rattle.send_model.specs.Store.{Store, State, After, step}
-use Rattle.send_model.specs.Receive.{run_by, byte_cells, start_of}
+use Rattle.send_model.specs.Receive.{Ran, run_by, byte_cells, start_of}
 use Rattle.send_model.specs.Guards.{Guard, Watched, watched_step}
 use Rattle.send_model.specs.Cells.{recelled_state}
-use Rattle.send_model.specs.Due.{Limited, stop_due, RefusedAt, TooLong}
+use Rattle.send_model.specs.Due as stream_dues
+use Rattle.send_model.specs.Due.{Limited, stop_due, RefusedAt, TooLong, DoneWhole}
 use Rattle.store_model.specs.States.{lines_behind}
 use Rattle.store_model.specs.Stored.{Group}
 use Rattle.store_model.specs.Written.{Begun, groups_from}

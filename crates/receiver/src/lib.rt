@@ -12,6 +12,6 @@ mod outcome;
 mod receiving;
 mod taking;
 
-pub use guarding::Guarding;
+pub use guarding::{GuardList, Guarding};
 pub use outcome::Received;
 pub use receiving::receive;

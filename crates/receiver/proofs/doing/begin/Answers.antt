@@ -1,5 +1,5 @@
 use Rattle.std.specs.Prelude.{◌≡◌, ◌+◌, length}
-use Rattle.std.proofs.Common.{arith}
+use Rattle.std.proofs.Common.{refl, sym, ap, ◌∙◌, arith}
 use Rattle.sx_base.specs.Causes.{Rose}
 use Rattle.send_model.specs.Spelling.{canonical}
 use Rattle.store_journal.specs.Filling.{head_asks}
@@ -8,6 +8,7 @@ use Rattle.send_model.specs.Store.{head_of, begun, entered}
 use Rattle.clone_resolve.specs.Heads.{head_meant}
 use Rattle.cmd_reader.specs.Next.{item_of}
 use Rattle.receiver.specs.Steps.{begun_if}
+use Rattle.receiver.specs.declared.outcome.Received.{Received}
 use Rattle.receiver.specs.Standing.{place_of}
 use Rattle.receiver.proofs.RoomLaws.{head_item, no_room}
 use Rattle.receiver.proofs.BegunParts.{head_first, begun_ready, begun_room, not_begun, holds_now, begin_moments}

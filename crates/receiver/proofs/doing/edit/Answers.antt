@@ -1,5 +1,5 @@
-use Rattle.std.specs.Prelude.{◌≡◌, None}
-use Rattle.std.proofs.Common.{sym, ◌∙◌}
+use Rattle.std.specs.Prelude.{◌≡◌, ◌+◌, ◌-◌, ◌∷◌, ◌++◌, Some, None}
+use Rattle.std.proofs.Common.{refl, sym, ap, ◌∙◌, arith}
 use Rattle.sx_base.specs.Causes.{Rose}
 use Rattle.send_model.specs.Reading.{data_place}
 use Rattle.send_model.specs.Spelling.{attributes_of}
@@ -9,6 +9,7 @@ use Rattle.send_commands.specs.Meaning.{meaning_of}
 use Rattle.cmd_reader.specs.Next.{item_of}
 use Rattle.store_groups.specs.Taking.{as_runs}
 use Rattle.store_groups.specs.declared.place.Place.{Place}
+use Rattle.receiver.proofs.ClosedParts.{none_moments}
 use Rattle.receiver.proofs.EditedParts.{none_edited, none_edit_moments, one_edited, not_edited, edit_room, no_edit_room, not_edit_ready, edit_keeps, edit_moments, not_edit_keeps}
 use Rattle.receiver.proofs.doing.edit.Goals as goal
 

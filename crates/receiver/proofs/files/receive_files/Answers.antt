@@ -1,6 +1,6 @@
-use Rattle.std.specs.Prelude.{ℕ, None, map, ◌+◌}
+use Rattle.std.specs.Prelude.{ℕ, List, Option, None, map, ◌+◌}
 use Rattle.std.specs.String.{string_bytes}
-use Rattle.std.proofs.Common.{refl, subst, ◌∙◌, arith}
+use Rattle.std.proofs.Common.{refl, sym, ap, subst, ◌∙◌, arith}
 use Rattle.cmd_reader.specs.Places.{IfTold}
 use Rattle.receiver.specs.Disks.{RunsOn, LeavesOn}
 use Rattle.receiver.specs.FileEnds.{FileEnds}

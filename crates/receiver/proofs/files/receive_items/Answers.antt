@@ -1,4 +1,4 @@
-use Rattle.std.specs.Prelude.{ℕ, Option, None, Ok, Err, ◌++◌}
+use Rattle.std.specs.Prelude.{ℕ, List, Option, None, Ok, Err, ◌++◌}
 use Rattle.std.proofs.Common.{rules, refl, sym, ap, subst, ◌∙◌, arith}
 use Rattle.std.proofs.lemmas.Bool.{false≢true}
 use Rattle.send_commands.specs.Meaning.{meaning_of}

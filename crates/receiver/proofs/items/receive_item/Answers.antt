@@ -1,4 +1,5 @@
 use Rattle.std.specs.Prelude.{List, Option, ◌++◌}
+use Rattle.std.proofs.Common.{refl, sym, ap, ◌∙◌}
 use Rattle.send_commands.specs.Meaning.{meaning_of}
 use Rattle.cmd_reader.specs.Next.{item_of}
 use Rattle.store_model.specs.Stored.{Group}

@@ -1,4 +1,5 @@
 use Rattle.std.specs.Prelude.{None}
+use Rattle.std.proofs.Common.{refl, sym, ap, ◌∙◌}
 use Rattle.send_model.specs.Store.{step}
 use Rattle.clone_resolve.specs.Steps.{cells_put}
 use Rattle.store_groups.specs.Placing.{further}

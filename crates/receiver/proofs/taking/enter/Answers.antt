@@ -1,4 +1,5 @@
 use Rattle.std.specs.Prelude.{◌++◌}
+use Rattle.std.proofs.Common.{refl, sym, ap, ◌∙◌}
 use Rattle.send_commands.specs.Meaning.{meaning_of}
 use Rattle.clone_resolve.specs.Heads.{head_meant}
 use Rattle.cmd_reader.specs.Next.{item_of}
