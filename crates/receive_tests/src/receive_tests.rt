@@ -1,0 +1,166 @@
+// Files that are received over objects in memory. The frames and the store are from another program.
+use disk_model::{FuseDisk, MemDisk};
+use guard_rules::CommandGuard;
+use receiver::{GuardList, Received, receive};
+use std::alloc::{AllocError, Global};
+use std::test::Fail;
+use store_journal::{Store, StoreStop};
+use sx_base::{Disk, MemInputs, MemSink, Outcome, Refusal, Verdict};
+
+// SUBVOL a; MKFILE x; WRITE x 3 "hi"; TRUNCATE x 6; END
+const A: &[u8] =
+    b"btrfs-stream\0\x01\0\0\0%\0\0\0\x01\0\x85\x0fH{\x01\0\x10\0AAAAAAAAAAAAAAAA\x02\0\x08\0\x01\0\0\0\0\0\0\0\x0f\0\x01\0a\x05\0\0\0\x03\0/\x8a6s\x0f\0\x01\0x\x17\0\0\0\x0f\0\x89\x81\xe7\xa3\x0f\0\x01\0x\x12\0\x08\0\x03\0\0\0\0\0\0\0\x13\0\x02\0hi\x11\0\0\0\x11\0[\xd8\"G\x04\0\x08\0\x06\0\0\0\0\0\0\0\x0f\0\x01\0x\0\0\0\0\x15\0Pl\xc9\x9d";
+
+// SNAPSHOT b of a; UNLINK x; END
+const B: &[u8] =
+    b"btrfs-stream\0\x01\0\0\0E\0\0\0\x02\0\xa1\xed\xd8\xb7\x01\0\x10\0BBBBBBBBBBBBBBBB\x02\0\x08\0\x02\0\0\0\0\0\0\0\x0f\0\x01\0b\x14\0\x10\0AAAAAAAAAAAAAAAA\x15\0\x08\0\x01\0\0\0\0\0\0\0\x05\0\0\0\x0b\0\xe3\xef\x08\xdf\x0f\0\x01\0x\0\0\0\0\x15\0Pl\xc9\x9d";
+
+// SNAPSHOT b of a; UNLINK y; END
+const C: &[u8] =
+    b"btrfs-stream\0\x01\0\0\0E\0\0\0\x02\0\xa1\xed\xd8\xb7\x01\0\x10\0BBBBBBBBBBBBBBBB\x02\0\x08\0\x02\0\0\0\0\0\0\0\x0f\0\x01\0b\x14\0\x10\0AAAAAAAAAAAAAAAA\x15\0\x08\0\x01\0\0\0\0\0\0\0\x05\0\0\0\x0b\0\xe0lc-\x0f\0\x01\0y\0\0\0\0\x15\0Pl\xc9\x9d";
+
+// The store that has `a` then.
+const STORE: &[u8] =
+    b"sndstore\x02\0\0\0\0\0\0\0\0\x01\0\0\x014\0\0\0\0\0\0\0\x04%\0\0\0\x01\0\x85\x0fH{\x01\0\x10\0AAAAAAAAAAAAAAAA\x02\0\x08\0\x01\0\0\0\0\0\0\0\x0f\0\x01\0a0X\xa4W\x01a\0\0\0\0\0\0\0\x05AAAAAAAAAAAAAAAA\x01\x05\0\0\0\x03\0/\x8a6s\x0f\0\x01\0x\x17\0\0\0\x0f\0\x89\x81\xe7\xa3\x0f\0\x01\0x\x12\0\x08\0\x03\0\0\0\0\0\0\0\x13\0\x02\0hi\x11\0\0\0\x11\0[\xd8\"G\x04\0\x08\0\x06\0\0\0\0\0\0\0\x0f\0\x01\0x\xe9\x85pe\0";
+
+const LINE_A: &[u8] = b"complete a 41414141-4141-4141-4141-414141414141 1\n";
+
+const LINE_B: &[u8] = b"complete b 42424242-4242-4242-4242-424242424242 2\n";
+
+const DONE: Received = Received::Files(Outcome::Done);
+
+// Two files, of which as many are received as there are names.
+struct Files {
+    inputs: MemInputs,
+    names: Vec<String>,
+}
+
+fn input_files(alloc: Global, all: &[&[u8]]) -> Result<Files, AllocError> {
+    let mut inputs = MemInputs::new(alloc);
+    let mut names = Vec::new(alloc);
+    let letters = ["1", "2", "3"];
+    for place in 0..all.len().min(3) {
+        inputs.add(letters[place], all[place])?;
+        names.push(String::from_str(alloc, letters[place])?)?;
+    }
+    Ok(Files { inputs, names })
+}
+
+// A guard of so many commands.
+fn guard_of(alloc: Global, most: u64) -> Result<GuardList<CommandGuard>, AllocError> {
+    let mut list = Vec::new(alloc);
+    list.push(CommandGuard::new(most))?;
+    Ok(GuardList::new(list))
+}
+
+// How receiving files into the store of a disk ends, under a guard of so many commands.
+fn received<D: Disk>(
+    alloc: Global,
+    disk: &mut D,
+    all: &[&[u8]],
+    most: u64,
+    out: &mut MemSink,
+) -> Result<Received, StoreStop> {
+    let mut store = Store::open(disk, alloc)?;
+    let Files { mut inputs, names } = input_files(alloc, all)?;
+    let mut guards = guard_of(alloc, most)?;
+    let end = receive(
+        alloc,
+        &mut store,
+        disk,
+        &mut inputs,
+        &names,
+        &mut guards,
+        out,
+    );
+    Ok(end)
+}
+
+// A new store that is empty.
+fn new_store(alloc: Global) -> Result<MemDisk, Fail> {
+    let mut disk = MemDisk::new(alloc, b"")?;
+    Store::create(&mut disk)?;
+    Ok(disk)
+}
+
+// A refusal of the second file's second command.
+fn refusal(refusal: Refusal) -> Received {
+    Received::Files(Outcome::Refused(Verdict {
+        file: 2,
+        command: 2,
+        offset: 96,
+        refusal,
+    }))
+}
+
+#[test]
+fn a_stream_makes_the_store(rt: HostRuntime) -> Result<(), Fail> {
+    let alloc = rt.alloc();
+    let mut disk = new_store(alloc)?;
+    let mut out = MemSink::new(alloc);
+    assert_eq!(rt; received(alloc, &mut disk, &[A], 100, &mut out)?, DONE);
+    assert_eq!(rt; out.bytes(), LINE_A);
+    let mut image = [0; 188];
+    assert_eq!(rt; disk.size()?, 188);
+    assert_eq!(rt; disk.read(0, &mut image)?, 188);
+    assert_eq!(rt; image.as_slice(), STORE);
+    Ok(())
+}
+
+#[test]
+fn each_part_has_its_line(rt: HostRuntime) -> Result<(), Fail> {
+    let alloc = rt.alloc();
+    let mut disk = new_store(alloc)?;
+    let mut out = MemSink::new(alloc);
+    assert_eq!(rt; received(alloc, &mut disk, &[A], 100, &mut out)?, DONE);
+    let mut out = MemSink::new(alloc);
+    assert_eq!(rt; received(alloc, &mut disk, &[B], 100, &mut out)?, DONE);
+    assert_eq!(rt; out.bytes(), LINE_B);
+    Ok(())
+}
+
+#[test]
+fn a_refused_part_stays_unfinished(rt: HostRuntime) -> Result<(), Fail> {
+    let alloc = rt.alloc();
+    let mut disk = new_store(alloc)?;
+    let mut out = MemSink::new(alloc);
+    let end = received(alloc, &mut disk, &[A, C], 100, &mut out)?;
+    assert_eq!(rt; end, refusal(Refusal::NoEntry));
+    assert_eq!(rt; out.bytes(), LINE_A);
+    let mut disk = new_store(alloc)?;
+    let mut out = MemSink::new(alloc);
+    let end = received(alloc, &mut disk, &[A, B], 6, &mut out)?;
+    assert_eq!(rt; end, refusal(Refusal::Guarded { guard: 0, used: 6 }));
+    assert_eq!(rt; out.bytes(), LINE_A);
+    Ok(())
+}
+
+// How many calls of a disk receiving may make before it is done.
+const MOST: u64 = 60;
+
+// Whether a disk that fails after some calls is told, with no line of a part that is not there.
+fn fault_is_told(alloc: Global, calls: u64) -> Result<bool, Fail> {
+    let mut disk = FuseDisk::new(new_store(alloc)?, calls);
+    let mut out = MemSink::new(alloc);
+    let end = received(alloc, &mut disk, &[A], 100, &mut out);
+    let mut inside = disk.into_inner();
+    let there = match Store::open(&mut inside, alloc) {
+        Ok(store) => store.core().catalog().len(),
+        Err(_) => return Ok(false),
+    };
+    match end {
+        Ok(Received::StoreFault) => Ok(out.bytes().is_empty()),
+        Ok(Received::Files(Outcome::Done)) => Ok(there == 1 && out.bytes() == LINE_A),
+        Ok(_) => Ok(false),
+        Err(_) => Ok(out.bytes().is_empty()),
+    }
+}
+
+#[test]
+fn a_disk_that_fails_is_told(rt: HostRuntime) -> Result<(), Fail> {
+    let alloc = rt.alloc();
+    for calls in 0..MOST {
+        assert!(rt; fault_is_told(alloc, calls)?);
+    }
+    Ok(())
+}
