@@ -159,3 +159,72 @@ fn an_output_that_fails_is_told(rt: HostRuntime) -> Result<(), Fail> {
     }
     Ok(())
 }
+
+// Where the groups of the store and its last gate stand.
+const FIRST: usize = 20;
+
+const SECOND: usize = 81;
+
+const LAST: usize = 187;
+
+// The group that is at fault where a store is cut there.
+fn cut_group(len: usize) -> u64 {
+    if len < FIRST {
+        return 0;
+    }
+    if len < SECOND {
+        return 1;
+    }
+    if len < LAST { 2 } else { 3 }
+}
+
+#[test]
+fn a_store_that_is_cut_is_none(rt: HostRuntime) -> Result<(), Fail> {
+    let alloc = rt.alloc();
+    for len in 0..STORE.len() {
+        let end = StoreEnd::NotStore {
+            group: cut_group(len),
+        };
+        assert!(rt; says(alloc, &STORE[..len], &Word::List, end, b"")?);
+        assert!(rt; says(alloc, &STORE[..len], &Word::Scrub, end, b"")?);
+    }
+    Ok(())
+}
+
+// What is listed where a byte has changed: the group at fault; or the same, where the byte is of the limit or of the last gate; or what
+// stands before a gate that is closed then.
+fn listed_with(place: usize) -> (StoreEnd, &'static [u8]) {
+    if place == FIRST {
+        return (DONE, b"");
+    }
+    if place == SECOND {
+        return (DONE, BEGUN_LIST);
+    }
+    if place == LAST || (place >= 12 && place < FIRST) {
+        return (DONE, LIST);
+    }
+    let group = if place < FIRST {
+        0
+    } else if place < SECOND {
+        1
+    } else {
+        2
+    };
+    (StoreEnd::NotStore { group }, b"")
+}
+
+#[test]
+fn a_byte_that_has_changed_is_found(rt: HostRuntime) -> Result<(), Fail> {
+    let alloc = rt.alloc();
+    let mut image = Vec::new(alloc);
+    for byte in STORE {
+        image.push(*byte)?;
+    }
+    for place in 0..image.len() {
+        let (end, bytes) = listed_with(place);
+        image[place] = image[place] ^ 0xff;
+        assert!(rt; says(alloc, &image, &Word::List, end, bytes)?);
+        image[place] = image[place] ^ 0xff;
+    }
+    Ok(())
+}
