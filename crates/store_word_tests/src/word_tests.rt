@@ -2,8 +2,10 @@
 use disk_model::{FuseDisk, MemDisk};
 use std::alloc::Global;
 use std::test::Fail;
-use store_words::{StoreEnd, cat_file, init_store, list_store, scrub_store, show_entry};
-use sx_base::{Disk, MemSink, Outcome};
+use store_words::{
+    StoreEnd, audit_store, cat_file, init_store, list_store, scrub_store, show_entry,
+};
+use sx_base::{Disk, MemInputs, MemSink, Outcome, Refusal, Verdict};
 
 // A store of the second format with the subvolume `a`: a file x with "hi" at 3, six bytes long.
 const STORE: &[u8] =
@@ -226,5 +228,53 @@ fn a_byte_that_has_changed_is_found(rt: HostRuntime) -> Result<(), Fail> {
         assert!(rt; says(alloc, &image, &Word::List, end, bytes)?);
         image[place] = image[place] ^ 0xff;
     }
+    Ok(())
+}
+
+// SNAPSHOT b of a; UNLINK x; END
+const REMOVES_X: &[u8] =
+    b"btrfs-stream\0\x01\0\0\0E\0\0\0\x02\0\xa1\xed\xd8\xb7\x01\0\x10\0BBBBBBBBBBBBBBBB\x02\0\x08\0\x02\0\0\0\0\0\0\0\x0f\0\x01\0b\x14\0\x10\0AAAAAAAAAAAAAAAA\x15\0\x08\0\x01\0\0\0\0\0\0\0\x05\0\0\0\x0b\0\xe3\xef\x08\xdf\x0f\0\x01\0x\0\0\0\0\x15\0Pl\xc9\x9d";
+
+// SNAPSHOT b of a; UNLINK y; END
+const REMOVES_Y: &[u8] =
+    b"btrfs-stream\0\x01\0\0\0E\0\0\0\x02\0\xa1\xed\xd8\xb7\x01\0\x10\0BBBBBBBBBBBBBBBB\x02\0\x08\0\x02\0\0\0\0\0\0\0\x0f\0\x01\0b\x14\0\x10\0AAAAAAAAAAAAAAAA\x15\0\x08\0\x01\0\0\0\0\0\0\0\x05\0\0\0\x0b\0\xe0lc-\x0f\0\x01\0y\0\0\0\0\x15\0Pl\xc9\x9d";
+
+// Whether auditing a stream over an image ends so and has written these bytes.
+fn audits(
+    alloc: Global,
+    image: &[u8],
+    stream: &[u8],
+    end: StoreEnd,
+    bytes: &[u8],
+) -> Result<bool, Fail> {
+    let mut disk = MemDisk::new(alloc, image)?;
+    let mut out = MemSink::new(alloc);
+    let mut inputs = MemInputs::new(alloc);
+    inputs.add("1", stream)?;
+    let names: [String; 1] = [String::from_str(alloc, "1")?];
+    let ended = audit_store(alloc, &mut disk, &mut inputs, &names, &mut [], &mut out);
+    Ok(ended == end && out.bytes() == bytes)
+}
+
+#[test]
+fn a_stream_is_checked_over_a_store(rt: HostRuntime) -> Result<(), Fail> {
+    let alloc = rt.alloc();
+    let refused = StoreEnd::Ends(Outcome::Refused(Verdict {
+        file: 1,
+        command: 2,
+        offset: 96,
+        refusal: Refusal::NoEntry,
+    }));
+    let no_parent = StoreEnd::Ends(Outcome::Refused(Verdict {
+        file: 1,
+        command: 1,
+        offset: 17,
+        refusal: Refusal::NoParent,
+    }));
+    let none = StoreEnd::NotStore { group: 0 };
+    assert!(rt; audits(alloc, STORE, REMOVES_X, DONE, b"accepted 1 3\n")?);
+    assert!(rt; audits(alloc, STORE, REMOVES_Y, refused, b"")?);
+    assert!(rt; audits(alloc, BEGUN, REMOVES_X, no_parent, b"")?);
+    assert!(rt; audits(alloc, b"", REMOVES_X, none, b"")?);
     Ok(())
 }

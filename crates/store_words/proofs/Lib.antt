@@ -1,3 +1,4 @@
+pub mod AuditAnswers
 pub mod CatAnswers
 pub mod CatBytes
 pub mod FoundFiles

@@ -124,3 +124,22 @@ CatCaused store_before store_now out_before out_now made.NoFile = ⊤
 CatCaused store_before store_now out_before out_now (made.LogFull end wanted limit) = ⊥
 CatCaused store_before store_now out_before out_now (made.StoreThere size) = ⊥
 CatCaused store_before store_now out_before out_now (made.Damaged group stored computed) = ⊥
+
+-- So does auditing.
+abbrev pub AuditCaused : (store_before store_now inputs_before inputs_now ends_before ends_now out_before out_now : ℕ) → StoreEnd → Type 0
+AuditCaused store_before store_now inputs_before inputs_now ends_before ends_now out_before out_now (made.Ends ended.Done) =
+    (store_now ≡ store_before) × (inputs_now ≡ inputs_before) × (ends_now ≡ ends_before) × (out_now ≡ out_before)
+AuditCaused store_before store_now inputs_before inputs_now ends_before ends_now out_before out_now (made.Ends ended.OutputFault) = Rose out_before out_now
+AuditCaused store_before store_now inputs_before inputs_now ends_before ends_now out_before out_now (made.Ends ended.NoMemory) = ⊤
+AuditCaused store_before store_now inputs_before inputs_now ends_before ends_now out_before out_now (made.Ends (ended.Refused verdict)) = ⊤
+AuditCaused store_before store_now inputs_before inputs_now ends_before ends_now out_before out_now (made.Ends ended.InputFault) = Rose inputs_before inputs_now
+AuditCaused store_before store_now inputs_before inputs_now ends_before ends_now out_before out_now (made.Ends (ended.InputTooLong file)) = ⊤
+AuditCaused store_before store_now inputs_before inputs_now ends_before ends_now out_before out_now (made.Ends (ended.TooMuch sum)) = ⊥
+AuditCaused store_before store_now inputs_before inputs_now ends_before ends_now out_before out_now (made.Ends (ended.InputChanged file place)) = ⊥
+AuditCaused store_before store_now inputs_before inputs_now ends_before ends_now out_before out_now made.StoreFault = Rose store_before store_now
+AuditCaused store_before store_now inputs_before inputs_now ends_before ends_now out_before out_now (made.NotStore group) = ⊤
+AuditCaused store_before store_now inputs_before inputs_now ends_before ends_now out_before out_now made.NoName = ⊥
+AuditCaused store_before store_now inputs_before inputs_now ends_before ends_now out_before out_now made.NoFile = ⊥
+AuditCaused store_before store_now inputs_before inputs_now ends_before ends_now out_before out_now (made.LogFull end wanted limit) = ⊥
+AuditCaused store_before store_now inputs_before inputs_now ends_before ends_now out_before out_now (made.StoreThere size) = ⊥
+AuditCaused store_before store_now inputs_before inputs_now ends_before ends_now out_before out_now (made.Damaged group stored computed) = ⊥

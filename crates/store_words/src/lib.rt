@@ -1,7 +1,8 @@
 //! The words over a store that a disk holds: making one, listing it, showing one of its subvolumes and one of
-//! their files, scrubbing it.
+//! their files, checking streams over it, scrubbing it.
 #![tactic(auto)]
 
+mod auditing;
 mod cat;
 mod ends;
 mod listing;
@@ -10,6 +11,7 @@ mod naming;
 mod scrubbing;
 mod showing;
 
+pub use auditing::audit_store;
 pub use cat::cat_file;
 pub use ends::StoreEnd;
 pub use listing::list_store;

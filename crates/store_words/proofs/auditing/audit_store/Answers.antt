@@ -1,0 +1,26 @@
+use Rattle.std.specs.Prelude.{ℕ, List, Option}
+use Rattle.std.proofs.Common.{sym, subst}
+use Rattle.send_model.specs.Store.{Store}
+use Rattle.auditor.specs.Following.{HaveSameShape}
+use Rattle.store_groups.specs.declared.place.Place.{Place}
+use Rattle.store_journal.specs.Standing.{with_bytes}
+use Rattle.store_words.specs.Ending.{AuditCaused}
+use Rattle.store_words.proofs.AuditAnswers.{same_shape, not_audited, is_audited, audit_stops}
+use Rattle.store_words.proofs.auditing.audit_store.Goals as goal
+
+pub returns-in-Err-clause-answered : goal.returns-in-Err-clause-answered
+returns-in-Err-clause-answered g c tells =
+    not_audited _ _ (g.D.Disk.seen c.args.disk.now) (g.D.Disk.seen c.open.new.disk) _ (c.open.ensures.seen tells) (g.O.Sink.taken c.args.out.now) _ c.in-Err.stop c.ended_by.result c.ended_by.ensures c.in-Err.ensures.not_refused
+    c.in-Err.ensures.stops (c.in-Err.ensures.says tells)
+
+pub returns-in-Err-clause-cause : goal.returns-in-Err-clause-cause
+returns-in-Err-clause-cause g c =
+    subst (AuditCaused _ _ _ _ _ _ _ _) (sym c.ended_by.ensures)
+    (audit_stops _ _ (g.I.Inputs.faults c.args.inputs.now) (g.I.Inputs.ends c.args.inputs.now) (g.O.Sink.faults c.args.out.now) c.in-Err.stop c.in-Err.ensures.not_refused c.in-Err.ensures.stops)
+
+pub returns-clause-answered : goal.returns-clause-answered
+returns-clause-answered g c tells =
+    let seen : List ℕ = g.D.Disk.seen c.args.disk.now in
+    let core = c.in-Ok.store.core in
+    let shape : HaveSameShape c.into_core-core.result (with_bytes seen core) = subst (λ (s : Store (Option Place)). HaveSameShape s (with_bytes seen core)) (sym c.into_core-core.ensures.core) (same_shape seen core) in
+    is_audited _ _ seen (g.D.Disk.seen c.open.new.disk) _ (c.open.ensures.seen tells) _ _ (with_bytes seen core) c.audit.result (c.in-Ok.ensures.says tells) (c.audit.ensures.audited (with_bytes seen core) shape)

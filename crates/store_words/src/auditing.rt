@@ -1,0 +1,54 @@
+// Auditing files over a store.
+ghost use Rattle.std.specs.Prelude.{◌≡◌, ◌≤◌, ℕ, List, [], Some, map, true};
+ghost use Rattle.std.specs.String.{string_bytes};
+ghost use Rattle.send_model.specs.Guards.{GuardSpec};
+ghost use Rattle.send_model.specs.Words.{Audit, new_guards};
+ghost use Rattle.store_model.specs.Requests.{OfStreams, reads_store};
+ghost use Rattle.store_model.specs.Answers.{Answers};
+ghost use Rattle.sx_base.specs.Calls.{IfAllTold, Wrote};
+ghost use Rattle.sx_base.specs.Crash.{LeavesOnly};
+ghost use Rattle.sx_base.specs.Disk.{IsImage};
+ghost use Rattle.store_words.specs.Ending.{answer_of, AuditCaused};
+
+use crate::ends::{StoreEnd, ended_by};
+use auditor::audit;
+use guard_rules::Guard;
+use std::alloc::Global;
+use store_groups::Place;
+use store_journal::Store;
+use sx_base::{Disk, Inputs, Sink};
+
+/// Checks the streams in the files as if they were received into a store, under guards; nothing is received. Where all is accepted,
+/// `out` gets the line that says how many subvolumes and commands there are. What the disk gives stays as it is.
+pub fn audit_store<D: Disk, I: Inputs, O: Sink>(
+    alloc: Global,
+    disk: &mut D,
+    inputs: &mut I,
+    files: &[String],
+    guards: &mut [Box<dyn Guard>],
+    out: &mut O,
+) -> StoreEnd
+    ensures same { I.told inputs.new ≡ I.told inputs.old }
+    ensures answered { D.tells → IfAllTold (I.told inputs.old) (map string_bytes files.now)
+        (λ files. Wrote (O.taken out.old) (O.taken out.new)
+        (λ written. (words : List (List ℕ)) (specs : List GuardSpec) (store at : ℕ)
+        → reads_store words (Some store) ≡ true
+        → map (λ g. kept g) guards.old ≡ new_guards specs
+        → Answers (OfStreams (Audit specs store at)) words (D.seen disk.old) files
+        (answer_of [] [] result) written (D.seen disk.new))) }
+    ensures cause { AuditCaused (D.faults disk.old) (D.faults disk.new)
+        (I.faults inputs.old) (I.faults inputs.new) (I.ends inputs.old) (I.ends inputs.new)
+        (O.faults out.old) (O.faults out.new) result }
+    ensures len { D.len disk.new ≡ D.len disk.old }
+    ensures seen { D.tells → D.seen disk.new ≡ D.seen disk.old }
+    ensures any_moment { D.tells →
+        LeavesOnly D.moment D.left_since disk.old disk.new (IsImage (D.pending disk.old)) }
+    ensures later { D.faults disk.old ≤ D.faults disk.new }
+{
+    let store = match Store::open(disk, alloc) {
+        Ok(store) => store,
+        Err(stop) => return ended_by(stop),
+    };
+    let core = store.into_core();
+    StoreEnd::Ends(audit(alloc, core, Place { at: 0 }, inputs, files, guards, out))
+}
