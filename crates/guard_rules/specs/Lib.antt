@@ -1,1 +1,2 @@
+pub mod AnyKind
 pub mod Meaning

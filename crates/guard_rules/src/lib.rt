@@ -2,12 +2,14 @@
 //! and the first that refuses one ends the run. Nothing here takes memory.
 #![tactic(auto)]
 
+mod any_guard;
 mod asking;
 mod kinds;
 mod limits;
 mod sights;
 mod words;
 
+pub use any_guard::AnyGuard;
 pub use asking::{Guard, look_all};
 pub use kinds::GuardSpec;
 pub use limits::{ByteGuard, CommandGuard, DeviceGuard, EndGuard};
