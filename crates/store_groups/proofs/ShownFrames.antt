@@ -3,6 +3,8 @@ use Rattle.std.specs.Prelude.{◌≡◌, ◌⊎◌, ℕ, ◌+◌, ◌-◌, ◌<�
 use Rattle.std.proofs.Common.{inl, inr, sym, ap, subst, ◌∙◌, arith, length-drop, length-take, take-take, drop-drop}
 use Rattle.std.proofs.lemmas.List.{drop-take}
 use Rattle.send_model.specs.Checksum.{crc_of}
+use Rattle.send_model.specs.Command.{row, kind_of}
+use Rattle.send_model.specs.Spelling.{canonical, body_of, attributes_of}
 use Rattle.send_model.specs.Store.{State}
 use Rattle.store_groups.specs.declared.place.Place.{Place}
 use Rattle.store_groups.specs.declared.window.Ahead.{Ahead}
@@ -10,6 +12,7 @@ use Rattle.store_groups.specs.declared.body.Frames.{Frames}
 use Rattle.store_groups.specs.Aheads.{greatest_frame, IsAhead, IsFilled, Shows, GoesPast}
 use Rattle.store_groups.specs.Edits.{AreEdits, AreBadEdits, TookFront, TakesFront}
 use Rattle.store_groups.specs.Bodies.{frames_from, TookShown}
+use Rattle.store_groups.specs.Sums.{IsSummed}
 use Rattle.store_groups.proofs.EditRuns.{front_len, front_bad, front_taken}
 
 abbrev pub past_len : Ahead → ℕ → ℕ → Ahead
@@ -34,6 +37,16 @@ module _ (frames : Frames) (ahead : Ahead) (window : List ℕ) (s u : State (Opt
   module _ (len sum : ℕ) (took : TookFront frames.version ahead.at bytes s u len) where
     short : len ≤ count
     short = let within = took.front.within in omega (arith, within, size)
+
+    -- the frame has its own checksum
+    pub summed : IsSummed (take len bytes)
+    unfolding canonical
+    summed = record {
+      number = (row (kind_of took.command)).number;
+      body = body_of frames.version (attributes_of took.command);
+      short = took.front.spellable.short;
+      spelled = took.front.spelled;
+    }
 
     pub goes_past : GoesPast frames.end frames.stop (length window) ahead (past_len ahead len sum)
     goes_past =

@@ -7,4 +7,5 @@ pub mod Kept
 pub mod Placing
 pub mod Said
 pub mod Stopping
+pub mod Sums
 pub mod Taking

@@ -18,6 +18,7 @@ use crate::kinds::{Tag, seal_len};
 use crate::place::Place;
 use crate::short::is_sum;
 use crate::stops::StoreStop;
+use crate::sums::sum_past;
 use crate::window::{Ahead, WINDOW, refill};
 use clone_resolve::{EditCore, Part};
 use crc32c_part::update;
@@ -195,7 +196,7 @@ fn take_shown(
             at: ahead.at + len as u64,
             used: ahead.used + len,
             have: ahead.have,
-            sum: update(ahead.sum, &bytes[..len]),
+            sum: sum_past(ahead.sum, &bytes[..len]),
         })),
         None => Ok(None),
     }

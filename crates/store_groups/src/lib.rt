@@ -8,8 +8,10 @@ mod front;
 mod kinds;
 mod opening;
 mod place;
+mod rows;
 mod short;
 mod stops;
+mod sums;
 mod window;
 
 pub use opening::take_group;
