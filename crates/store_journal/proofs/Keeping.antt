@@ -44,7 +44,7 @@ module _ (header : Header) (groups : List Group) where
 pub edits_spelled : (uuid : List ℕ) (version : ℕ) (commands : List Command) → sealed (edits_head uuid version ++ canonical_all version commands) ≡ body_bytes (new_group (Body uuid version commands))
 edits_spelled uuid version commands = ap (λ (l : List ℕ). sealed (5 ∷ l)) (append_assoc uuid (version ∷ []) (canonical_all version commands))
 
-new_is : {format : ℕ} (content : Content) → IsContent content → IsGroup format (new_group content)
+pub new_is : {format : ℕ} (content : Content) → IsContent content → IsGroup format (new_group content)
 new_is content is = record { content = is; old = λ e. cc }
 
 -- ---- a group of edits that is published

@@ -2,5 +2,7 @@ pub mod Keeping
 pub mod Opened
 pub mod Pushes
 pub mod ReadFiles
+pub mod Rooms
 pub mod StandingGroups
+pub mod Stopped
 mod Refusing

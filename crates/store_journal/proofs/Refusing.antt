@@ -3,7 +3,7 @@ use Rattle.std.specs.Prelude.{◌≡◌, Option, None, Some, Result, Ok, Err, If
 use Rattle.std.proofs.Common.{sym, subst}
 use Rattle.send_model.specs.Refusal as meant
 use Rattle.send_model.specs.Subvolume.{Subvolume}
-use Rattle.send_model.specs.Store.{Head, Part, Store, begun, unfinished}
+use Rattle.send_model.specs.Store.{Head, Part, Store}
 use Rattle.clone_resolve.specs.Heads.{Begins}
 use Rattle.group_log.specs.declared.stops.LogStop.{LogStop}
 use Rattle.store_groups.specs.declared.stops.StoreStop.{StoreStop}

@@ -89,7 +89,7 @@ module _ (header : Header) (groups : List Group) (core : Store (Option Place)) (
   front = front_of header (bodies_of groups)
 
   -- they make the subvolumes with their bytes
-  front_makes : Makes 0 as_bytes header.format groups (with_bytes image core)
+  pub front_makes : Makes 0 as_bytes header.format groups (with_bytes image core)
   unfolding number_of
   front_makes = record {
     lawful = makes.lawful;

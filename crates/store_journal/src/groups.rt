@@ -1,6 +1,7 @@
 // Groups that are written.
-ghost use Rattle.std.specs.Prelude.{◌≡◌, ◌⊎◌, ℕ, ◌+◌, ◌<◌, ◌≤◌, List, [], ◌∷◌, ◌++◌, length, None, Err, IfOk, OnOk, IfErr, OnErr};
+ghost use Rattle.std.specs.Prelude.{◌≡◌, ◌⊎◌, ℕ, ◌+◌, ◌<◌, ◌≤◌, List, [], ◌∷◌, ◌++◌, length, None, Err, IfOk, OnOk, IfErr, OnErr, IfSome};
 ghost use Rattle.sx_base.specs.Causes.{Rose, Steady};
+ghost use Rattle.sx_base.specs.Disk.{settled};
 ghost use Rattle.sx_base.specs.Crash.{LeavesOnly};
 ghost use Rattle.send_model.specs.Spelling.{canonical, IsSpellable};
 ghost use Rattle.store_model.specs.Image.{Header, HasGroups, sealed};
@@ -10,6 +11,7 @@ ghost use Rattle.group_log.specs.Journal.{IsAtRest, IsInProgress, Rests, Grows};
 ghost use Rattle.store_journal.specs.Filling.{first_full, group_asks, piece_asks, gate_behind, IsStopOf};
 ghost use Rattle.store_groups.specs.Stopping.{IfLog, IsNoRefusal};
 ghost use Rattle.store_journal.specs.Holding.{edits_head};
+ghost use Rattle.store_journal.specs.Answers.{IfNoFault, IfShort};
 ghost use Rattle.store_groups.specs.declared.stops.StoreStop.TheVariants as stop;
 
 use group_log::{Log, LogStop};
@@ -40,6 +42,15 @@ pub(crate) fn write_group<D: Disk>(log: &mut Log, disk: &mut D, bytes: &[u8]) ->
         Rests header bodies log.old (D.seen disk.old) (D.pending disk.old) →
         LeavesOnly D.moment D.left_since disk.old disk.new (λ image. HasGroups header bodies image
         ⊎ HasGroups header (bodies ++ sealed bytes.now ∷ []) image) }
+    ensures durable { D.tells → OnOk result (D.pending disk.new ≡ settled (D.seen disk.new)) }
+    ensures held { D.tells → (header : Header) (bodies : List (List ℕ)) →
+        Rests header bodies log.old (D.seen disk.old) (D.pending disk.old) →
+        IfErr result (λ why. IfNoFault why (Rests header bodies log.old
+        (D.seen disk.new) (D.pending disk.new))) }
+    ensures no_room { D.tells → (header : Header) (bodies : List (List ℕ)) →
+        Rests header bodies log.old (D.seen disk.old) (D.pending disk.old) →
+        IfSome (first_full log.old.limit (group_asks log.old.gate (length bytes.now)))
+        (λ _. LeavesOnly D.moment D.left_since disk.old disk.new (HasGroups header bodies)) }
     ensures stops { IfErr result (IsStopOf (Rose (D.faults disk.old) (D.faults disk.new))
         log.old.limit (first_full log.old.limit (group_asks log.old.gate (length bytes.now)))) }
     ensures fits { OnOk result
@@ -66,6 +77,10 @@ pub(crate) fn start_group<D: Disk>(log: &mut Log, disk: &mut D, bytes: &[u8]) ->
     ensures any_moment { D.tells → (header : Header) (bodies : List (List ℕ)) →
         Rests header bodies log.old (D.seen disk.old) (D.pending disk.old) →
         LeavesOnly D.moment D.left_since disk.old disk.new (HasGroups header bodies) }
+    ensures held { D.tells → (header : Header) (bodies : List (List ℕ)) →
+        Rests header bodies log.old (D.seen disk.old) (D.pending disk.old) →
+        IfErr result (λ why. IfNoFault why (Rests header bodies log.new
+        (D.seen disk.new) (D.pending disk.new))) }
     ensures stops { IfErr result (IsStopOf (Rose (D.faults disk.old) (D.faults disk.new))
         log.old.limit (first_full log.old.limit (group_asks log.old.gate (length bytes.now)))) }
     ensures fits { OnOk result
@@ -132,6 +147,15 @@ pub(crate) fn write_mark<D: Disk>(
         Rests header bodies log.old (D.seen disk.old) (D.pending disk.old) →
         LeavesOnly D.moment D.left_since disk.old disk.new (λ image. HasGroups header bodies image
         ⊎ HasGroups header (bodies ++ sealed (4 ∷ canonical 1 (meaning_of head.now)) ∷ []) image) }
+    ensures durable { D.tells → OnOk result (D.pending disk.new ≡ settled (D.seen disk.new)) }
+    ensures held { D.tells → (header : Header) (bodies : List (List ℕ)) →
+        Rests header bodies log.old (D.seen disk.old) (D.pending disk.old) →
+        IfShort result (Rests header bodies log.old (D.seen disk.new) (D.pending disk.new)) }
+    ensures no_room { D.tells → (header : Header) (bodies : List (List ℕ)) →
+        Rests header bodies log.old (D.seen disk.old) (D.pending disk.old) →
+        IfSome (first_full log.old.limit
+        (group_asks log.old.gate (1 + length (canonical 1 (meaning_of head.now)))))
+        (λ _. LeavesOnly D.moment D.left_since disk.old disk.new (HasGroups header bodies)) }
     ensures not_refused { IfErr result IsNoRefusal }
     ensures stops { IfLog result (IsStopOf (Rose (D.faults disk.old) (D.faults disk.new))
         log.old.limit (first_full log.old.limit
@@ -169,6 +193,7 @@ pub(crate) fn write_edit<D: Disk>(
     ensures any_moment { D.tells → (header : Header) (bodies : List (List ℕ)) (body : List ℕ) →
         Grows header bodies body log.old (D.seen disk.old) (D.pending disk.old) →
         LeavesOnly D.moment D.left_since disk.old disk.new (HasGroups header bodies) }
+    ensures short { IfShort result (disk.new ≡ disk.old) }
     ensures not_refused { IfErr result IsNoRefusal }
     ensures stops { IfLog result (IsStopOf (Rose (D.faults disk.old) (D.faults disk.new))
         log.old.limit (first_full log.old.limit
@@ -198,6 +223,7 @@ pub(crate) fn publish<D: Disk>(log: &mut Log, disk: &mut D) -> Result<(), LogSto
         Grows header bodies body log.old (D.seen disk.old) (D.pending disk.old) →
         LeavesOnly D.moment D.left_since disk.old disk.new (λ image. HasGroups header bodies image
         ⊎ HasGroups header (bodies ++ sealed body ∷ []) image) }
+    ensures durable { D.tells → OnOk result (D.pending disk.new ≡ settled (D.seen disk.new)) }
     ensures fault { IfErr result (IsFault (Rose (D.faults disk.old) (D.faults disk.new))) }
     ensures gate_kept { OnErr result (log.new.gate ≡ log.old.gate) }
     ensures limit { log.new.limit ≡ log.old.limit }
@@ -226,6 +252,14 @@ pub(crate) fn write_drop<D: Disk>(
         Rests header bodies log.old (D.seen disk.old) (D.pending disk.old) →
         LeavesOnly D.moment D.left_since disk.old disk.new (λ image. HasGroups header bodies image
         ⊎ HasGroups header (bodies ++ sealed (6 ∷ name.now) ∷ []) image) }
+    ensures durable { D.tells → OnOk result (D.pending disk.new ≡ settled (D.seen disk.new)) }
+    ensures held { D.tells → (header : Header) (bodies : List (List ℕ)) →
+        Rests header bodies log.old (D.seen disk.old) (D.pending disk.old) →
+        IfShort result (Rests header bodies log.old (D.seen disk.new) (D.pending disk.new)) }
+    ensures no_room { D.tells → (header : Header) (bodies : List (List ℕ)) →
+        Rests header bodies log.old (D.seen disk.old) (D.pending disk.old) →
+        IfSome (first_full log.old.limit (group_asks log.old.gate (1 + length name.now)))
+        (λ _. LeavesOnly D.moment D.left_since disk.old disk.new (HasGroups header bodies)) }
     ensures not_refused { IfErr result IsNoRefusal }
     ensures stops { IfLog result (IsStopOf (Rose (D.faults disk.old) (D.faults disk.new))
         log.old.limit

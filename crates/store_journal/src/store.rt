@@ -23,7 +23,7 @@ ghost use Rattle.store_groups.specs.Kept.{IsKept, AreKept};
 ghost use Rattle.store_journal.specs.Shown.{IsIdle, IsOpen};
 ghost use Rattle.store_groups.specs.Taking.{as_runs, open_state};
 ghost use Rattle.store_journal.specs.Holding.{new_group, HasThese, HasOneMore, Holds, Builds};
-ghost use Rattle.store_journal.specs.Answers.{BeginsIn, EditsIn, groups_without};
+ghost use Rattle.store_journal.specs.Answers.{BeginsIn, EditsIn, IfNoFault, IfShort, IfHeadShort, groups_without};
 ghost use Rattle.store_journal.specs.Opening.{OpenSays, IsOpenStop, HoldsSome};
 
 use crate::groups::{edits_head, publish, start_group, write_drop, write_edit, write_mark};
@@ -185,6 +185,15 @@ impl Store {
             OnOk result (Holds header (groups ++ new_group (Mark (meaning_of head.now)) ∷ []) self.new
             (D.seen disk.new) (D.pending disk.new)) }
 
+        // What was written is stable then.
+        ensures durable { D.tells →
+            OnOk result (D.pending disk.new ≡ settled (D.seen disk.new)) }
+
+        // Where it stops though the disk did not fail, that has the groups that there were.
+        ensures held { D.tells → (header : Header) (groups : List Group) →
+            Holds header groups self.old (D.seen disk.old) (D.pending disk.old) →
+            IfShort result (Holds header groups self.old (D.seen disk.new) (D.pending disk.new)) }
+
         // At every moment a crash leaves the groups that there were, or these and that of the head.
         ensures any_moment { D.tells → (header : Header) (groups : List Group) →
             Holds header groups self.old (D.seen disk.old) (D.pending disk.old) →
@@ -196,6 +205,13 @@ impl Store {
             Holds header groups self.old (D.seen disk.old) (D.pending disk.old) →
             IfSome (head_of (meaning_of head.now)) (λ h. IsErr (begun self.old.core h) →
             LeavesOnly D.moment D.left_since disk.old disk.new (HasThese header groups)) }
+
+        // Of a head whose group has no room a crash never leaves it.
+        ensures no_room { D.tells → (header : Header) (groups : List Group) →
+            Holds header groups self.old (D.seen disk.old) (D.pending disk.old) →
+            IfSome (first_full self.old.log.limit
+            (group_asks self.old.log.gate (1 + length (canonical 1 (meaning_of head.now)))))
+            (λ _. LeavesOnly D.moment D.left_since disk.old disk.new (HasThese header groups)) }
 
         ensures refused { IfRefused result
             (λ _. (self.new ≡ self.old) × (disk.new ≡ disk.old)) }
@@ -243,6 +259,10 @@ impl Store {
             resumed self.old.core part.key.uuid ≡ Some (open_state self.old.core part) →
             OnOk result (Builds header groups version [] part self.new
             (D.seen disk.new) (D.pending disk.new)) }
+        ensures held { D.tells → (header : Header) (groups : List Group) →
+            Holds header groups self.old (D.seen disk.old) (D.pending disk.old) →
+            IfErr result (λ why. IfNoFault why (Holds header groups self.new
+            (D.seen disk.new) (D.pending disk.new))) }
         ensures any_moment { D.tells → (header : Header) (groups : List Group) →
             Holds header groups self.old (D.seen disk.old) (D.pending disk.old) →
             LeavesOnly D.moment D.left_since disk.old disk.new (HasThese header groups) }
@@ -298,6 +318,16 @@ impl Store {
             (groups ++ new_group (Mark (meaning_of head.now)) ∷ []) version [] part self.new
             (D.seen disk.new) (D.pending disk.new)) }
 
+        // Where it stops though the disk did not fail, that has the groups that there were; and that of the head too where this one
+        // has room, and only the group of the edits has none.
+        ensures held { D.tells → (header : Header) (groups : List Group) →
+            Holds header groups self.old (D.seen disk.old) (D.pending disk.old) →
+            IfHeadShort result (first_full self.old.log.limit
+            (group_asks self.old.log.gate (1 + length (canonical 1 (meaning_of head.now)))))
+            (Holds header groups self.old (D.seen disk.new) (D.pending disk.new))
+            (Holds header (groups ++ new_group (Mark (meaning_of head.now)) ∷ []) self.new
+            (D.seen disk.new) (D.pending disk.new)) }
+
         // At every moment a crash leaves the groups that there were, or these and that of the head.
         ensures any_moment { D.tells → (header : Header) (groups : List Group) →
             Holds header groups self.old (D.seen disk.old) (D.pending disk.old) →
@@ -309,6 +339,13 @@ impl Store {
             Holds header groups self.old (D.seen disk.old) (D.pending disk.old) →
             IfSome (head_of (meaning_of head.now)) (λ h. IsErr (begun self.old.core h) →
             LeavesOnly D.moment D.left_since disk.old disk.new (HasThese header groups)) }
+
+        // Of a head whose group has no room a crash never leaves it.
+        ensures no_room { D.tells → (header : Header) (groups : List Group) →
+            Holds header groups self.old (D.seen disk.old) (D.pending disk.old) →
+            IfSome (first_full self.old.log.limit
+            (group_asks self.old.log.gate (1 + length (canonical 1 (meaning_of head.now)))))
+            (λ _. LeavesOnly D.moment D.left_since disk.old disk.new (HasThese header groups)) }
 
         ensures refused { IfRefused result
             (λ _. (self.new ≡ self.old) × (disk.new ≡ disk.old)) }
@@ -350,6 +387,11 @@ impl Store {
             Holds header groups self.old (D.seen disk.old) (D.pending disk.old) →
             IfOk result (λ part. Builds header groups version [] part self.new
             (D.seen disk.new) (D.pending disk.new)) }
+
+        // Where it stops though the disk did not fail, that has the groups that there were.
+        ensures held { D.tells → (header : Header) (groups : List Group) →
+            Holds header groups self.old (D.seen disk.old) (D.pending disk.old) →
+            IfShort result (Holds header groups self.new (D.seen disk.new) (D.pending disk.new)) }
 
         // At every moment a crash leaves the groups that there were.
         ensures any_moment { D.tells → (header : Header) (groups : List Group) →
@@ -417,6 +459,9 @@ impl Store {
             (D.seen disk.old) (D.pending disk.old) →
             LeavesOnly D.moment D.left_since disk.old disk.new (HasThese header groups) }
 
+        // Where it stops though the disk did not fail, that was not called.
+        ensures short { IfShort result (disk.new ≡ disk.old) }
+
         ensures refused { IfRefused result
             (λ _. (self.new ≡ self.old) × (disk.new ≡ disk.old)) }
         ensures ended { IfEnded result (self.new.is_live ≡ false) }
@@ -464,6 +509,10 @@ impl Store {
             OnOk result (Holds header
             (groups ++ new_group (Body part.key.uuid version commands) ∷ []) self.new
             (D.seen disk.new) (D.pending disk.new)) }
+
+        // What was written is stable then.
+        ensures durable { D.tells →
+            OnOk result (D.pending disk.new ≡ settled (D.seen disk.new)) }
 
         // At every moment a crash leaves the groups that there were, or these and that of the edits.
         ensures any_moment { D.tells → (header : Header) (groups : List Group) (version : ℕ)
@@ -528,11 +577,28 @@ impl Store {
             IfOk result (λ there. Holds header (groups_without there name.now groups) self.new
             (D.seen disk.new) (D.pending disk.new)) }
 
+        // What was written is stable then.
+        ensures durable { D.tells → result ≡ Ok true →
+            D.pending disk.new ≡ settled (D.seen disk.new) }
+
+        // It stops only where there is such an entry; where the disk did not fail, that has the groups that there were.
+        ensures found { OnErr result (has_name name.now self.old.core ≡ true) }
+        ensures held { D.tells → (header : Header) (groups : List Group) →
+            Holds header groups self.old (D.seen disk.old) (D.pending disk.old) →
+            IfShort result (Holds header groups self.old (D.seen disk.new) (D.pending disk.new)) }
+
         // At every moment a crash leaves the groups that there were, or these and that of the name.
         ensures any_moment { D.tells → (header : Header) (groups : List Group) →
             Holds header groups self.old (D.seen disk.old) (D.pending disk.old) →
             LeavesOnly D.moment D.left_since disk.old disk.new
             (HasOneMore header groups (new_group (Drop name.now))) }
+
+        // Where the group of the name has no room a crash never leaves it.
+        ensures no_room { D.tells → (header : Header) (groups : List Group) →
+            Holds header groups self.old (D.seen disk.old) (D.pending disk.old) →
+            IfSome (first_full self.old.log.limit
+            (group_asks self.old.log.gate (1 + length name.now)))
+            (λ _. LeavesOnly D.moment D.left_since disk.old disk.new (HasThese header groups)) }
 
         ensures not_refused { IfErr result IsNoRefusal }
         ensures ended { IfEnded result (self.new.is_live ≡ false) }

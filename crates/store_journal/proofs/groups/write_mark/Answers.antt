@@ -1,3 +1,4 @@
+use Rattle.std.specs.Prelude.{◌+◌, length}
 use Rattle.std.proofs.Common.{ℕ, List, [], ◌∷◌, ◌++◌, ◌⊎◌, inl, ◌∙◌, ◌≡◌, subst}
 use Rattle.send_model.specs.Spelling.{canonical}
 use Rattle.store_model.specs.Image.{HasGroups, sealed}
@@ -5,6 +6,8 @@ use Rattle.send_commands.specs.Meaning.{meaning_of}
 use Rattle.sx_base.specs.Crash.{LeavesOnly}
 use Rattle.sx_base.proofs.DiskMoments.{begins}
 use Rattle.group_log.proofs.GatedGroups.{rests_has}
+use Rattle.store_journal.specs.Filling.{first_full, group_asks}
+use Rattle.store_journal.proofs.Stopped.{whether_full}
 use Rattle.store_journal.proofs.groups.write_mark.Goals as goal
 
 pub returns-in_err-spell_mark-clause-any_moment : goal.returns-in_err-spell_mark-clause-any_moment
@@ -22,3 +25,8 @@ returns-clause-any_moment g c tells header bodies rests =
     let same : c.as_slice.result.now ≡ 4 ∷ canonical 1 (meaning_of c.args.head.now) = c.as_slice.ensures.bytes ∙ c.in_ok-spell_mark.ensures.spelled in
     subst (λ (l : List ℕ). LeavesOnly g.D.Disk.moment g.D.Disk.left_since c.args.disk.now c.write_group.new.disk (λ image. HasGroups header bodies image ⊎ HasGroups header (bodies ++ sealed l ∷ []) image)) same
     (c.write_group.ensures.any_moment tells header bodies rests)
+
+pub returns-in_err-spell_mark-clause-no_room : goal.returns-in_err-spell_mark-clause-no_room
+returns-in_err-spell_mark-clause-no_room g c tells header bodies rests =
+    whether_full _ (first_full c.args.log.now.limit (group_asks c.args.log.now.gate (1 + length (canonical 1 (meaning_of c.args.head.now)))))
+    (begins c.args.disk.now (λ image. g.met.D.Disk.only_now c.args.disk.now image tells) (rests_has header bodies c.args.log.now _ _ rests))

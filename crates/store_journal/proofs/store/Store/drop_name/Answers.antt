@@ -1,5 +1,7 @@
+use Rattle.std.specs.Prelude.{◌+◌, length, IfSome}
 use Rattle.std.proofs.Common.{◌≡◌, true, false, inl, sym, subst, ap, ◌∙◌, refl, arith}
 use Rattle.sx_base.proofs.DiskMoments.{begins, weakens}
+use Rattle.sx_base.specs.Crash.{LeavesOnly}
 use Rattle.send_model.specs.Store.{Store, has_name}
 use Rattle.store_model.specs.Stored.{Drop}
 use Rattle.group_log.proofs.GatedGroups.{rests_has}
@@ -8,8 +10,10 @@ use Rattle.std.specs.Option.{option_map}
 use Rattle.subvol_catalog.specs.Entries.{key_of}
 use Rattle.store_groups.specs.declared.place.Place.{Place}
 use Rattle.store_journal.specs.Shown.{StoreState}
-use Rattle.store_journal.specs.Holding.{bodies_of, new_group, Holds}
+use Rattle.store_journal.specs.Filling.{first_full, group_asks}
+use Rattle.store_journal.specs.Holding.{bodies_of, new_group, HasThese, Holds}
 use Rattle.store_journal.proofs.Pushes.{none_dropped}
+use Rattle.store_journal.proofs.Stopped.{whether_full}
 use Rattle.store_journal.proofs.Keeping.{more_has, more_rests, drop_makes}
 use Rattle.store_journal.proofs.store.Store.drop_name.Given.{Over}
 use Rattle.store_groups.specs.Kept.{AreKept}
@@ -70,3 +74,15 @@ pub invariant_of-self-in-Err : goal.invariant_of-self-in-Err
 invariant_of-self-in-Err g c =
     let gate = c.in-Err.ensures.gate_kept in
     all_further c.self.inside.log.gate c.write_drop.new.log.gate (omega (arith, gate)) c.drop_name.new.self (others g (goal.at.invariant_of-self-in-Err g c).After-drop_name)
+
+-- What has no room is never there.
+pub returns-then-not-drop_name-clause-no_room : goal.returns-then-not-drop_name-clause-no_room
+returns-then-not-drop_name-clause-no_room g c tells header groups holds =
+    whether_full _ (first_full c.args.self.now.log.limit (group_asks c.args.self.now.log.gate (1 + length c.args.name.now)))
+    (begins c.args.disk.now (λ image. g.met.D.Disk.only_now c.args.disk.now image tells) (rests_has header (bodies_of groups) _ _ _ holds.rests))
+
+pub returns-in-Err-clause-no_room : goal.returns-in-Err-clause-no_room
+returns-in-Err-clause-no_room g c tells header groups holds =
+    let was = subst (λ (s : StoreState). Holds header groups s (g.D.Disk.seen c.args.disk.now) (g.D.Disk.pending c.args.disk.now)) (sym c.self.view_is) holds in
+    subst (λ (s : StoreState). IfSome (first_full s.log.limit (group_asks s.log.gate (1 + length c.args.name.now))) (λ a. LeavesOnly g.D.Disk.moment g.D.Disk.left_since c.args.disk.now c.write_drop.new.disk (HasThese header groups)))
+    c.self.view_is (c.write_drop.ensures.no_room tells header (bodies_of groups) was.rests)

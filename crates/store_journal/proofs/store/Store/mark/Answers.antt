@@ -1,13 +1,18 @@
+use Rattle.std.specs.Prelude.{◌+◌, length, IfSome}
 use Rattle.std.proofs.Common.{inl, sym, subst, refl, arith}
 use Rattle.sx_base.proofs.DiskMoments.{begins, weakens}
+use Rattle.sx_base.specs.Crash.{LeavesOnly}
+use Rattle.send_model.specs.Spelling.{canonical}
 use Rattle.send_model.specs.Store.{head_of}
 use Rattle.store_model.specs.Stored.{Mark}
 use Rattle.send_commands.specs.Meaning.{meaning_of}
 use Rattle.group_log.proofs.GatedGroups.{rests_has}
 use Rattle.store_journal.specs.Shown.{StoreState}
-use Rattle.store_journal.specs.Holding.{bodies_of, new_group, Holds}
+use Rattle.store_journal.specs.Filling.{first_full, group_asks}
+use Rattle.store_journal.specs.Holding.{bodies_of, new_group, HasThese, Holds}
 use Rattle.store_journal.proofs.Keeping.{more_has, mark_holds, begun_again, begun_are_kept}
 use Rattle.store_groups.proofs.KeptParts.{all_further, kept_further}
+use Rattle.store_journal.proofs.Stopped.{whether_full}
 use Rattle.store_journal.proofs.Refusing.{stopped_begins, anyway}
 use Rattle.store_journal.proofs.store.Store.mark.Goals as goal
 
@@ -65,3 +70,19 @@ returns-in-Err-Refused-clause-unmarked g c tells header groups holds =
 pub returns-in-Err-NoMemory-clause-unmarked : goal.returns-in-Err-NoMemory-clause-unmarked
 returns-in-Err-NoMemory-clause-unmarked g c tells header groups holds =
     anyway _ _ (head_of (meaning_of c.args.head.now)) (begins c.args.disk.now (λ image. g.met.D.Disk.only_now c.args.disk.now image tells) (λ image is. rests_has header (bodies_of groups) _ _ _ holds.rests image is))
+
+pub returns-in-Err-Refused-clause-no_room : goal.returns-in-Err-Refused-clause-no_room
+returns-in-Err-Refused-clause-no_room g c tells header groups holds =
+    whether_full _ (first_full c.args.self.now.log.limit (group_asks c.args.self.now.log.gate (1 + length (canonical 1 (meaning_of c.args.head.now)))))
+    (begins c.args.disk.now (λ image. g.met.D.Disk.only_now c.args.disk.now image tells) (rests_has header (bodies_of groups) _ _ _ holds.rests))
+
+pub returns-in-Err-NoMemory-clause-no_room : goal.returns-in-Err-NoMemory-clause-no_room
+returns-in-Err-NoMemory-clause-no_room g c tells header groups holds =
+    whether_full _ (first_full c.args.self.now.log.limit (group_asks c.args.self.now.log.gate (1 + length (canonical 1 (meaning_of c.args.head.now)))))
+    (begins c.args.disk.now (λ image. g.met.D.Disk.only_now c.args.disk.now image tells) (rests_has header (bodies_of groups) _ _ _ holds.rests))
+
+pub returns-in-Err-clause-no_room : goal.returns-in-Err-clause-no_room
+returns-in-Err-clause-no_room g c tells header groups holds =
+    let was = subst (λ (s : StoreState). Holds header groups s (g.D.Disk.seen c.args.disk.now) (g.D.Disk.pending c.args.disk.now)) (sym c.self.view_is) holds in
+    subst (λ (s : StoreState). IfSome (first_full s.log.limit (group_asks s.log.gate (1 + length (canonical 1 (meaning_of c.args.head.now))))) (λ a. LeavesOnly g.D.Disk.moment g.D.Disk.left_since c.args.disk.now c.write_mark.new.disk (HasThese header groups)))
+    c.self.view_is (c.write_mark.ensures.no_room tells header (bodies_of groups) was.rests)
