@@ -12,4 +12,6 @@ mod opened_tests;
 #[cfg(test)]
 mod scrub_tests;
 #[cfg(test)]
+mod sparse_tests;
+#[cfg(test)]
 mod streams;

@@ -4,7 +4,7 @@ ghost use Rattle.store_journal.specs.Reading.{HasSize};
 ghost use Rattle.store_journal.specs.Shown.{IsIdle};
 
 use crate::client::{open_again, read_back};
-use crate::streams::{FILE, NEW, OLD, image, key, receive_a, receive_b};
+use crate::streams::{FILE, NEW, OLD, image, judged, key, receive_a, receive_b, with_a};
 use disk_model::MemDisk;
 use group_log::LogStop;
 use std::alloc::Global;
@@ -111,28 +111,15 @@ fn two_parts_are_read_again(rt: HostRuntime) -> Result<(), Fail> {
     receive_and_open(&rt, alloc, &OLD)
 }
 
-// The group at fault, or how many entries there are.
-fn judged(alloc: Global, bytes: &[u8]) -> Result<Result<u64, u64>, Fail> {
+// How many entries the store with these bytes has, or the group at fault.
+fn judged_bytes(alloc: Global, bytes: &[u8]) -> Result<Result<u64, u64>, Fail> {
     let mut disk = MemDisk::new(alloc, bytes)?;
-    match Store::open(&mut disk, alloc) {
-        Ok(store) => Ok(Ok(store.core().catalog().len() as u64)),
-        Err(StoreStop::Log(LogStop::NotStore { group })) => Ok(Err(group)),
-        Err(_) => Ok(Err(99)),
-    }
+    Ok(judged(alloc, &mut disk))
 }
 
 // The same of the first bytes alone.
 fn judged_cut(alloc: Global, bytes: &[u8], len: usize) -> Result<Result<u64, u64>, Fail> {
-    judged(alloc, &bytes[..len.min(bytes.len())])
-}
-
-// The bytes of a store that has `a`.
-fn with_a(rt: &impl Abort, alloc: Global) -> Result<Vec<u8>, Fail> {
-    let mut disk = MemDisk::new(alloc, b"")?;
-    Store::create(&mut disk)?;
-    let mut store = Store::open(&mut disk, alloc)?;
-    receive_a(rt, alloc, &mut store, &mut disk)?;
-    image(alloc, &mut disk)
+    judged_bytes(alloc, &bytes[..len.min(bytes.len())])
 }
 
 #[test]
@@ -141,15 +128,98 @@ fn the_first_group_at_fault_is_named(rt: HostRuntime) -> Result<(), Fail> {
     let mut bytes = with_a(&rt, alloc)?;
     let len = bytes.len();
     assert!(rt; len == 222);
-    assert_eq!(rt; judged(alloc, &bytes)?, Ok(1));
+    assert_eq!(rt; judged_bytes(alloc, &bytes)?, Ok(1));
     assert_eq!(rt; judged_cut(alloc, &bytes, 221)?, Err(3));
     assert_eq!(rt; judged_cut(alloc, &bytes, 200)?, Err(2));
     assert_eq!(rt; judged_cut(alloc, &bytes, 20)?, Err(1));
     assert_eq!(rt; judged_cut(alloc, &bytes, 19)?, Err(0));
     bytes[200] = bytes[200] ^ 1;
-    assert_eq!(rt; judged(alloc, &bytes)?, Err(2));
+    assert_eq!(rt; judged_bytes(alloc, &bytes)?, Err(2));
     bytes[30] = 3;
-    assert_eq!(rt; judged(alloc, &bytes)?, Err(1));
+    assert_eq!(rt; judged_bytes(alloc, &bytes)?, Err(1));
+    Ok(())
+}
+
+// Where the gates stand of a store that has received `a` and `b` and dropped `a`, and how many entries the groups before each make.
+const GATES: [(usize, u64); 6] = [(20, 0), (81, 1), (221, 1), (314, 2), (375, 2), (390, 1)];
+
+// The bytes of such a store, made of one with these bytes.
+fn with_five_groups(rt: &impl Abort, alloc: Global, start: &[u8]) -> Result<Vec<u8>, Fail> {
+    let mut disk = MemDisk::new(alloc, start)?;
+    let mut store = receive_two(rt, alloc, &mut disk)?;
+    assert!(rt; store.drop_name(&mut disk, b"a")?);
+    image(alloc, &mut disk)
+}
+
+// The group in which a place stands, 0 in front of all.
+fn group_at(place: usize) -> u64 {
+    let mut group: u64 = 0;
+    for (gate, _) in GATES {
+        if gate <= place {
+            group = group.saturating_add(1);
+        }
+    }
+    group
+}
+
+#[test]
+fn a_store_that_is_cut_is_none(rt: HostRuntime) -> Result<(), Fail> {
+    let alloc = rt.alloc();
+    for start in [NEW, OLD] {
+        let bytes = with_five_groups(&rt, alloc, &start)?;
+        assert_eq!(rt; bytes.len(), 391);
+        assert_eq!(rt; judged_bytes(alloc, &bytes)?, Ok(1));
+        for len in 0..bytes.len() {
+            assert_eq!(rt;
+                judged_cut(alloc, &bytes, len)?,
+                Err(group_at(len)),
+                "{len}"
+            );
+        }
+    }
+    Ok(())
+}
+
+// What a byte that has changed makes of such a store: a gate that is closed then ends it, an open last one wants a group behind it,
+// the limit says nothing of the groups, and else the group is at fault in which the byte stands.
+fn verdict_at(place: usize, byte: u8) -> Result<u64, u64> {
+    for (gate, entries) in GATES {
+        if gate == place && byte != 1 {
+            return Ok(entries);
+        }
+    }
+    if place >= 12 && place < 20 {
+        return Ok(1);
+    }
+    Err(group_at(place))
+}
+
+// Bytes of which one has changed.
+fn with_change(alloc: Global, bytes: &[u8], place: usize, change: u8) -> Result<Vec<u8>, Fail> {
+    let mut changed = bytes.to_vec(alloc)?;
+    if place < changed.len() {
+        changed[place] = changed[place] ^ change;
+    }
+    Ok(changed)
+}
+
+#[test]
+fn a_byte_that_has_changed_is_found(rt: HostRuntime) -> Result<(), Fail> {
+    let alloc = rt.alloc();
+    for start in [NEW, OLD] {
+        let bytes = with_five_groups(&rt, alloc, &start)?;
+        for place in 0..bytes.len() {
+            for change in [1, 0x10, 0x80, 0xff] {
+                let changed = with_change(alloc, &bytes, place, change)?;
+                let verdict = verdict_at(place, bytes[place] ^ change);
+                assert_eq!(rt;
+                    judged_bytes(alloc, &changed)?,
+                    verdict,
+                    "{place}, {change}"
+                );
+            }
+        }
+    }
     Ok(())
 }
 

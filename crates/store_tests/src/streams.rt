@@ -3,6 +3,8 @@ ghost use Rattle.std.specs.Prelude.{OnOk};
 ghost use Rattle.store_journal.specs.Shown.{IsIdle};
 
 use crate::client::{Frame, receive_one};
+use disk_model::MemDisk;
+use group_log::LogStop;
 use std::alloc::Global;
 use std::process::Abort;
 use std::test::Fail;
@@ -33,6 +35,15 @@ pub(crate) fn image<D: Disk>(alloc: Global, disk: &mut D) -> Result<Vec<u8>, Fai
     let mut bytes = vec![in alloc; 0; size as usize]?;
     disk.read(0, &mut bytes)?;
     Ok(bytes)
+}
+
+/// How many entries a disk's store has, or the group at fault.
+pub(crate) fn judged<D: Disk>(alloc: Global, disk: &mut D) -> Result<u64, u64> {
+    match Store::open(disk, alloc) {
+        Ok(store) => Ok(store.core().catalog().len() as u64),
+        Err(StoreStop::Log(LogStop::NotStore { group })) => Err(group),
+        Err(_) => Err(99),
+    }
 }
 
 /// Receives the subvolume `a`: a file x with "hi" at 3 and, after a hole, "end" at 4096, 5000 bytes long.
@@ -89,4 +100,13 @@ pub(crate) fn receive_b<D: Disk>(
         body: b"\x0f\0\x01\0x\x12\0\x08\0\x02\0\0\0\0\0\0\0\x13\0!",
     }];
     receive_one(rt, alloc, store, disk, 2, &head, &edits)
+}
+
+/// The bytes of a store that has `a`.
+pub(crate) fn with_a(rt: &impl Abort, alloc: Global) -> Result<Vec<u8>, Fail> {
+    let mut disk = MemDisk::new(alloc, b"")?;
+    Store::create(&mut disk)?;
+    let mut store = Store::open(&mut disk, alloc)?;
+    receive_a(rt, alloc, &mut store, &mut disk)?;
+    image(alloc, &mut disk)
 }
