@@ -1,11 +1,12 @@
--- A frame that is written attribute by attribute.
-use Rattle.std.specs.Prelude.{◌≡◌, ℕ, ◌+◌, ◌^◌, ◌<◌, ◌≤◌, List, [], ◌∷◌, ◌++◌, length, take, drop}
+-- A frame that is written attribute by attribute, and one that is written as it came.
+use Rattle.std.specs.Prelude.{◌≡◌, ℕ, ◌+◌, ◌^◌, ◌<◌, ◌≤◌, ◌==◌, false, List, [], ◌∷◌, ◌++◌, length, take, drop}
 use Rattle.std.proofs.Common.{refl, sym, ap, ◌∙◌, arith, append_assoc, append-nil, length-append}
+use Rattle.std.proofs.lemmas.Bool.{and_right}
 use Rattle.std.proofs.Math.Seq.{take-append_seam, drop-append_seam}
-use Rattle.send_model.specs.Attribute.{Time, Moment, Number, field_bytes, CTIME, MTIME, ATIME, PATH, PATH_LINK, FILE_OFFSET, DATA}
-use Rattle.send_model.specs.Command.{Write, Link, Unlink, Utimes, row}
-use Rattle.send_model.specs.Spelling.{Attribute, attribute_bytes, attributes_of, body_of, frame_of}
-use Rattle.send_model.specs.Receivable.{receivable, receivable_attributes}
+use Rattle.send_model.specs.Attribute.{HasRoom, Time, Moment, Number, field_bytes, MODE, RDEV, CTIME, MTIME, ATIME, PATH, PATH_LINK, FILE_OFFSET, DATA}
+use Rattle.send_model.specs.Command.{Command, kind_of, MkNod, Symlink, Write, Link, Unlink, Utimes, row}
+use Rattle.send_model.specs.Spelling.{Attribute, attribute_bytes, attributes_of, body_of, frame_of, canonical}
+use Rattle.send_model.specs.Receivable.{number_zero, asked_for, receivable, receivable_attributes}
 use Rattle.send_model.proofs.Canonical.{attribute_len}
 use Rattle.tlv_frame.specs.Frame.{Begun, head_room}
 
@@ -90,9 +91,48 @@ pub touch_is : (version : ℕ) (path : List ℕ) → frame_of 15 (body_of versio
 unfolding receivable receivable_attributes attributes_of row
 touch_is version path = refl
 
-pub times_are : (version : ℕ) (mtime atime : Time) → frame_of 20 (body_of version (moment_of CTIME mtime ∷ moment_of MTIME mtime ∷ moment_of ATIME atime ∷ text_of PATH [] ∷ [])) ≡ receivable version (Utimes mtime atime [])
+-- ---- the commands of which more is asked
+
+-- A number as an attribute.
+abbrev pub count_of : ℕ → ℕ → Attribute
+count_of kind n = record { kind = kind; bytes = field_bytes (Number n) }
+
+-- The attributes of each, by its values.
+abbrev pub made_attributes : List ℕ → List Attribute
+made_attributes path = number_zero ∷ text_of PATH path ∷ []
+
+abbrev pub device_attributes : ℕ → ℕ → List ℕ → List Attribute
+device_attributes mode rdev path = number_zero ∷ count_of MODE mode ∷ count_of RDEV rdev ∷ text_of PATH path ∷ []
+
+abbrev pub symlink_attributes : List ℕ → List ℕ → List Attribute
+symlink_attributes path path_link = number_zero ∷ text_of PATH path ∷ text_of PATH_LINK path_link ∷ []
+
+abbrev pub times_attributes : Time → Time → List ℕ → List Attribute
+times_attributes mtime atime path = moment_of CTIME mtime ∷ moment_of MTIME mtime ∷ moment_of ATIME atime ∷ text_of PATH path ∷ []
+
+pub device_is : (version mode rdev : ℕ) (path : List ℕ) → frame_of 5 (body_of version (device_attributes mode rdev path)) ≡ receivable version (MkNod mode rdev path)
 unfolding receivable receivable_attributes attributes_of row
-times_are version mtime atime = refl
+device_is version mode rdev path = refl
+
+pub symlink_is : (version : ℕ) (path path_link : List ℕ) → frame_of 8 (body_of version (symlink_attributes path path_link)) ≡ receivable version (Symlink path path_link)
+unfolding receivable receivable_attributes attributes_of row
+symlink_is version path path_link = refl
+
+pub times_are : (version : ℕ) (mtime atime : Time) (path : List ℕ) → frame_of 20 (body_of version (times_attributes mtime atime path)) ≡ receivable version (Utimes mtime atime path)
+unfolding receivable receivable_attributes attributes_of row
+times_are version mtime atime path = refl
+
+-- An attribute that is not DATA has a length, so its bytes have room for it.
+pub short_text : (version kind len : ℕ) → (kind == DATA) ≡ false → HasRoom version kind len → len < 2 ^ 16
+short_text version kind len other room = room (and_right (version == 2) (kind == DATA) other)
+
+-- ---- a command of which nothing more is asked
+
+pub plain_is : (version : ℕ) (c : Command) → asked_for c ≡ [] → canonical version c ≡ receivable version c
+unfolding canonical receivable receivable_attributes
+plain_is version c none = sym (ap (λ (more : List Attribute). frame_of (row (kind_of c)).number (body_of version (more ++ attributes_of c))) none)
+
+-- ---- the writer
 
 -- What the writer of a frame is.
 pub is_begun : (start number version : ℕ) (first now : Begun) → first ≡ record { start = start; number = number; version = version } → now ≡ first → (now.start ≡ start) × (now.number ≡ number) × (now.version ≡ version)

@@ -1,10 +1,11 @@
-pub mod AskedFrames
 pub mod Going
 pub mod OneFile
 pub mod AllFiles
 pub mod Answering
 pub mod Opening
 pub mod Frames
+pub mod ReadFrames
+pub mod Walking
 pub mod FreeNames
 mod OneItem
 mod Separating

@@ -3,17 +3,20 @@ use Rattle.std.specs.Prelude.{◌≡◌, ℕ, ◌≤◌, Bool, true, false, not,
 use Rattle.std.specs.Option.{option_map}
 use Rattle.std.specs.Str.{bytes_eq}
 use Rattle.std.proofs.Common.{refl, sym, ap, ap₂, subst, ◌∙◌, append_assoc, append-nil}
+use Rattle.std.proofs.lemmas.Bool.{and_right}
 use Rattle.send_model.specs.Refusal.{Refusal}
 use Rattle.send_model.specs.Command.{Command, Subvol, Snapshot, MkFile, MkDir, MkNod, MkFifo, MkSock, Symlink, Rename, Link, Unlink, Rmdir, SetXattr, RemoveXattr, Write, Clone, Truncate, Chmod, Chown, Utimes, End, UpdateExtent, Fallocate, FileAttr}
 use Rattle.send_model.specs.Subvolume.{Subvolume, walk, is_file}
 use Rattle.send_model.specs.Store.{State}
 use Rattle.send_model.proofs.Stores.{bytes_eq_true}
-use Rattle.send_model.specs.Opened.{Opened, kept_at, written_path, is_astray, is_astray_at}
+use Rattle.send_model.specs.Opened.{Opened, kept_at, written_path, opened_at, is_astray}
 use Rattle.send_model.specs.Separated.{touch, detour, free_name, names_file, separator, separator_in, mtime_of_root, atime_of_root}
-use Rattle.send_model.specs.Exported.{Exporting}
+use Rattle.send_model.specs.Exported.{Exporting, exporting_after}
 use Rattle.send_model.specs.Receivable.{receivable}
-use Rattle.stream_export.specs.Exporting.{Blank, before, opened_by, opened_for, all_receivable, closes}
-use Rattle.stream_export.proofs.Opening.{short_path}
+use Rattle.stream_export.specs.Exporting.{Blank, before, opening, ready_for, opened_by, opened_for, opened_anew, all_receivable, closes}
+use Rattle.auditor.specs.Following.{blank_step}
+use Rattle.stream_export.proofs.Opening.{anew_is, short_path}
+use Rattle.stream_export.proofs.Walking.{opened_still}
 
 -- ---- commands by what they write to
 
@@ -104,6 +107,16 @@ left_by now (UpdateExtent size path offset) e w = (refl, refl)
 left_by now (Fallocate size path offset mode) e w = cc
 left_by now (FileAttr path flags) e w = (refl, refl)
 
+-- What is known right before a command is taken that opens no file: it writes to no path, or to the one that is open.
+pub ready_left : (now : Exporting Blank) (c : Command) → None ≡ written_path c → now ≡ opened_for now c → now ≡ ready_for now c
+ready_left now c e same = same ∙ ap (λ (w : Option (List ℕ)). elim (opening now.opened w) as (λ x. Exporting Blank) [ None ↦ opened_for now c | Some p ↦ now ]) e
+
+pub ready_open : (now : Exporting Blank) (c : Command) (path : List ℕ) (ino : ℕ) → Some path ≡ written_path c → kept_at now.opened (Some path) ≡ Some ino → opened_for now c ≡ ready_for now c
+ready_open now c path ino e kept =
+    let none : opening now.opened (written_path c) ≡ None =
+    ap (opening now.opened) (sym e) ∙ ap (λ (k : Option ℕ). elim k as (λ x. Option (List ℕ)) [ None ↦ Some path | Some i ↦ None ]) kept in
+    ap (λ (o : Option (List ℕ)). elim o as (λ x. Exporting Blank) [ None ↦ opened_for now c | Some p ↦ now ]) (sym none)
+
 -- Nothing more is appended.
 pub nothing_added : (version : ℕ) (bytes : List ℕ) (cs : List Command) → cs ≡ [] → bytes ≡ bytes ++ all_receivable version cs
 nothing_added version bytes cs e = sym (ap (λ (ds : List Command). bytes ++ all_receivable version ds) e ∙ append-nil bytes)
@@ -139,11 +152,7 @@ linked_unnamed s other path named = ap (λ (b : Bool). if b && not (bytes_eq oth
 pub linked_same : {C : Type 0} (s : Subvolume C) (other path : List ℕ) → not (bytes_eq other path) ≡ false → separator_in s other path ≡ detour s (free_name s) path
 unfolding separator_in
 linked_same s other path same =
-    ap (λ (b : Bool). if b then touch other ∷ [] else detour s (free_name s) path) (ap (λ (b : Bool). names_file s other && b) same ∙ no_more (names_file s other))
-  where
-    no_more : (b : Bool) → (b && false) ≡ false
-    no_more true = refl
-    no_more false = refl
+    ap (λ (b : Bool). if b then touch other ∷ [] else detour s (free_name s) path) (and_right (names_file s other) (not (bytes_eq other path)) same)
 
 -- The four frames of a detour.
 pub detour_added : {C : Type 0} (s : Subvolume C) (version : ℕ) (other path n m k : List ℕ) (a b c d e : List ℕ) → n ≡ free_name s → m ≡ free_name s → k ≡ free_name s
@@ -184,3 +193,34 @@ opened_again state p other path i ino now self view kept =
         one : (b : Bool) → bytes_eq p path ≡ b → ◌≡◌ {A = Option ℕ} (if b then Some k else None) (Some ino) → p ≡ path
         one true same q = bytes_eq_true p path same
         one false same q = cc
+
+-- ---- a command that opens a file, once it is taken
+
+-- It writes to the path that it opens, and this path was not open.
+opening_is : (opened : Option Opened) (written : Option (List ℕ)) (path : List ℕ) → Some path ≡ opening opened written → (written ≡ Some path) × (kept_at opened (Some path) ≡ None)
+opening_is opened None path e = cc
+opening_is opened (Some p) path e = one (kept_at opened (Some p)) refl e
+  where
+    one : (k : Option ℕ) → kept_at opened (Some p) ≡ k → Some path ≡ (elim k as (λ x. Option (List ℕ)) [ None ↦ Some p | Some ino ↦ None ]) → (Some p ≡ Some path) × (kept_at opened (Some path) ≡ None)
+    one None kept is = (sym is, ap (kept_at opened) is ∙ kept)
+    one (Some ino) kept is = cc
+
+ready_is : (now : Exporting Blank) (c : Command) (path : List ℕ) → Some path ≡ opening now.opened (written_path c) → ready_for now c ≡ now
+ready_is now c path e = ap (λ (o : Option (List ℕ)). elim o as (λ x. Exporting Blank) [ None ↦ opened_for now c | Some p ↦ now ]) (sym e)
+
+-- The path leads after it where it led before it.
+pub taken_opening : (old now next : Exporting Blank) (before after : State Blank) (opened : Option Opened) (other : List ℕ) (c : Command) (path : List ℕ) (ino : Option ℕ)
+    → Some path ≡ opening old.opened (written_path c) → record { state = before; opened = opened; other = other } ≡ now → now ≡ ready_for old c
+    → blank_step before c ≡ record { state = after; refusal = None } → option_map (λ i. opened_by path i) ino ≡ opened_at after.part path
+    → next ≡ opened_anew (record { state = after; opened = opened; other = other }) path ino
+    → (blank_step old.state c ≡ record { state = next.state; refusal = None }) × (next ≡ exporting_after old c next.state)
+taken_opening old now next before after opened other c path ino opens view ready stepped found is =
+    let (written, kept) = opening_is old.opened (written_path c) path opens in
+    let same : record { state = before; opened = opened; other = other } ≡ old = view ∙ ready ∙ ready_is old c path opens in
+    let with : Exporting Blank → Exporting Blank = λ e. record { state = after; opened = e.opened; other = e.other } in
+    let step_old : blank_step old.state c ≡ record { state = after; refusal = None } = ap (λ (e : Exporting Blank). blank_step e.state c) (sym same) ∙ stepped in
+    let leads : option_map (λ i. opened_by path i) ino ≡ opened_at old.state.part path = found ∙ opened_still tt _ old.state after c path written step_old in
+    let anew : opened_anew old path ino ≡ opened_for old c = anew_is old path ino kept leads ∙ (by_path old c path (sym written)).1 in
+    let next_is : next ≡ with (opened_for old c) = is ∙ ap (λ (e : Exporting Blank). opened_anew (with e) path ino) same ∙ ap with anew in
+    let state_is : after ≡ next.state = sym (ap (λ (e : Exporting Blank). e.state) next_is) in
+    (step_old ∙ ap (λ (s : State Blank). record { state = s; refusal = None }) state_is, next_is ∙ ap (λ (s : State Blank). exporting_after old c s) state_is)

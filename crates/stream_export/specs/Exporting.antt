@@ -5,7 +5,7 @@ use Rattle.send_model.specs.Command.{Command}
 use Rattle.send_model.specs.Reading.{Item}
 use Rattle.send_model.specs.Counts.{is_end}
 use Rattle.send_model.specs.Store.{head_of, State, After}
-use Rattle.send_model.specs.Opened.{Opened, written_path}
+use Rattle.send_model.specs.Opened.{Opened, written_path, kept_at}
 use Rattle.send_model.specs.Separated.{separator, open_anew, other_path}
 use Rattle.send_model.specs.Exported.{Exporting, separated_by, AreSmallBy}
 use Rattle.send_model.specs.Receivable.{receivable, header_before, exported_from}
@@ -37,6 +37,15 @@ before now c = separator now.opened now.other now.state c
 -- What is known after what goes before a command: the file that is open then, and the path before it.
 abbrev pub opened_for : Exporting Blank → Command → Exporting Blank
 opened_for now c = record now { opened = open_anew now.opened now.state c; other = other_path now.other now.opened (written_path c) }
+
+-- The path that is opened to write to it, if it is not open yet.
+abbrev pub opening : Option Opened → Option (List ℕ) → Option (List ℕ)
+opening opened None = None
+opening opened (Some path) = elim (kept_at opened (Some path)) [ None ↦ Some path | Some ino ↦ None ]
+
+-- What is known right before a command is taken: the same, where it opens a file; else what is known after what goes before it.
+abbrev pub ready_for : Exporting Blank → Command → Exporting Blank
+ready_for now c = elim (opening now.opened (written_path c)) [ None ↦ opened_for now c | Some path ↦ now ]
 
 -- A file that is open.
 abbrev pub opened_by : List ℕ → ℕ → Opened

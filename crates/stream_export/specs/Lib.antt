@@ -1,3 +1,3 @@
-pub mod Asking
 pub mod Exporting
+pub mod Framed
 pub mod Steps

@@ -1,5 +1,5 @@
 // The part as it stands, and the file that the receiver has open: what goes before each command.
-ghost use Rattle.std.specs.Prelude.{◌≡◌, ◌≤◌, ◌^◌, ◌++◌, ℕ, Some, OnOk, length, true};
+ghost use Rattle.std.specs.Prelude.{◌≡◌, ◌≤◌, ◌^◌, ◌++◌, ℕ, Some, IfOk, OnOk, length, true};
 ghost use Rattle.std.specs.Option.{option_map};
 ghost use Rattle.send_model.specs.Opened.{written_path, kept_at, opened_at};
 ghost use Rattle.send_model.specs.Separated.{IsSmall, separator_in, names_file, touch};
@@ -12,7 +12,8 @@ ghost use Rattle.send_commands.specs.Writing.{IsWritable};
 ghost use Rattle.clone_resolve.specs.Steps.{data_len};
 ghost use Rattle.auditor.specs.Following.{blank};
 ghost use Rattle.cmd_reader.specs.Next.{item_of};
-ghost use Rattle.stream_export.specs.Exporting.{closes, all_receivable, before, opened_for, opened_by, opened_anew, export_bytes};
+ghost use Rattle.stream_export.specs.Exporting.{closes, all_receivable, before, opening, ready_for, opened_for, opened_by, opened_anew, export_bytes};
+ghost use Rattle.stream_export.specs.Framed.{IsFramed};
 ghost use Rattle.stream_export.specs.Steps.{Takes};
 ghost use Rattle.sx_base.specs.Bytes.{IsFront};
 
@@ -39,8 +40,6 @@ pub(crate) struct Exporter<R: Origin> {
     path: Blob,
     // The path that was open before it.
     other: Blob,
-    // Room for the canonical frame of the command at hand.
-    room: Blob,
 }
 
 impl<R: Origin> Model for Exporter<R> {
@@ -69,7 +68,6 @@ impl<R: Origin> Exporter<R> {
             ino: None,
             path: Blob::new(alloc),
             other: Blob::new(alloc),
-            room: Blob::new(alloc),
         }
     }
 
@@ -83,6 +81,7 @@ impl<R: Origin> Exporter<R> {
     ) -> Result<(), Stop>
         requires frame { item.now.canonical ≡ true
             → frame.now ≡ canonical item.now.version (meaning_of item.now.command) }
+        requires framed { IsFramed frame.now }
         requires short { data_len (meaning_of item.now.command) ≤ 2 ^ 18 }
         requires writable { IsWritable item.now.version (meaning_of item.now.command) }
         requires sayable { CanWrite item.now.version (meaning_of item.now.command) }
@@ -92,15 +91,23 @@ impl<R: Origin> Exporter<R> {
     {
         let _names = self.names();
         let start = to.as_slice().len();
-        let Ok(()) = self.push_item(begins, item, frame, to) else {
+        let Ok(opens) = self.push_item(begins, item, frame, to) else {
             return Err(Stop::NoMemory);
         };
         match self.follower.step(&item.command) {
-            Ok(_) => Ok(()),
+            Ok(_) => {}
             Err(stop) => {
                 to.cut(start);
-                Err(stop)
+                return Err(stop);
             }
+        }
+        let Some(path) = opens else {
+            return Ok(());
+        };
+        let found = self.find(path);
+        match self.open_anew(path, found) {
+            Ok(()) => Ok(()),
+            Err(_) => Err(Stop::NoMemory),
         }
     }
 
@@ -114,64 +121,63 @@ impl<R: Origin> Exporter<R> {
         }
     }
 
-    // Appends the bytes of a command, and opens the file that it writes to.
-    fn push_item(
+    // Appends the bytes of a command, and gives the path that it opens, if it writes to one that is not open.
+    fn push_item<'c>(
         &mut self,
         begins: bool,
-        item: &Item,
+        item: &'c Item,
         frame: &[u8],
         to: &mut Blob,
-    ) -> Result<(), AllocError>
+    ) -> Result<Option<&'c [u8]>, AllocError>
         requires frame { item.now.canonical ≡ true
             → frame.now ≡ canonical item.now.version (meaning_of item.now.command) }
+        requires framed { IsFramed frame.now }
         requires writable { IsWritable item.now.version (meaning_of item.now.command) }
         requires sayable { CanWrite item.now.version (meaning_of item.now.command) }
         ensures added { OnOk result (to.new ≡ to.old ++ export_bytes begins self.old
             item.now.version (meaning_of item.now.command)) }
-        ensures opened { OnOk result
-            (self.new ≡ opened_for self.old (meaning_of item.now.command)) }
+        ensures opens { IfOk result (λ path. option_map (λ p. p.now) path
+            ≡ opening self.old.opened (written_path (meaning_of item.now.command))) }
+        ensures ready { OnOk result
+            (self.new ≡ ready_for self.old (meaning_of item.now.command)) }
         ensures kept { IsFront to.old to.new }
     {
         push_header(begins, item.version, to)?;
-        self.push_before(&item.command, item.version, to)?;
-        push_receivable(item, frame, &mut self.room, to)
+        let opens = match self.push_before(&item.command, item.version, to) {
+            Ok(opens) => opens,
+            Err(error) => return Err(error),
+        };
+        push_receivable(item, frame, to)?;
+        Ok(opens)
     }
 
-    // Appends what goes before a command, and opens the file that it writes to.
-    fn push_before(
+    // Appends what goes before a command. Gives the path that the command opens, if it writes to one that is not open.
+    fn push_before<'c>(
         &mut self,
-        command: &Command,
+        command: &'c Command,
         version: u32,
         to: &mut Blob,
-    ) -> Result<(), AllocError>
+    ) -> Result<Option<&'c [u8]>, AllocError>
         ensures added { OnOk result (to.new ≡ to.old
             ++ all_receivable version (before self.old (meaning_of command.now))) }
-        ensures opened { OnOk result (self.new ≡ opened_for self.old (meaning_of command.now)) }
+        ensures opens { IfOk result (λ path. option_map (λ p. p.now) path
+            ≡ opening self.old.opened (written_path (meaning_of command.now))) }
+        ensures ready { OnOk result (self.new ≡ ready_for self.old (meaning_of command.now)) }
         ensures kept { IsFront to.old to.new }
     {
         if closes_file(command) {
             self.ino = None;
-            return Ok(());
+            return Ok(None);
         }
-        match written_path(command) {
-            Some(path) => self.open(path, version, to),
-            None => Ok(()),
-        }
-    }
-
-    // Opens the file that a path names, with a separator in front where another file is open by this path.
-    fn open(&mut self, path: &[u8], version: u32, to: &mut Blob) -> Result<(), AllocError>
-        ensures added { OnOk result (to.new ≡ to.old
-            ++ all_receivable version (before self.old (touch path.now))) }
-        ensures opened { OnOk result (self.new ≡ opened_for self.old (touch path.now)) }
-        ensures kept { IsFront to.old to.new }
-    {
-        match self.open_by(path) {
-            Some(ino) => self.open_again(path, ino, version, to),
-            None => {
-                let found = self.find(path);
-                self.open_anew(path, found)
-            }
+        let Some(path) = written_path(command) else {
+            return Ok(None);
+        };
+        let Some(ino) = self.open_by(path) else {
+            return Ok(Some(path));
+        };
+        match self.open_again(path, ino, version, to) {
+            Ok(()) => Ok(None),
+            Err(error) => Err(error),
         }
     }
 

@@ -3,11 +3,11 @@
 //! an exported stream keeps (`ExportedIsSame`).
 #![tactic(auto)]
 
-mod asked;
 mod exporter;
 mod exporting;
 mod files;
 mod separators;
 mod spelling;
+mod unchanged;
 
 pub use exporting::export;

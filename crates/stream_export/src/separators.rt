@@ -7,6 +7,7 @@ ghost use Rattle.send_commands.specs.Meaning.{time_of};
 ghost use Rattle.inode_tree.specs.Kinds.{time_of as moment_of};
 ghost use Rattle.sx_base.specs.Bytes.{IsFront};
 
+use crate::spelling::push_times;
 use extent_map::Origin;
 use inode_tree::{Timestamp, Tree};
 use itoa::Buffer;
@@ -14,7 +15,7 @@ use send_commands::{Kind, Time};
 use std::alloc::{AllocError, Global};
 use sx_base::Blob;
 use tlv_frame::FrameWriter;
-use tlv_frame::attribute_numbers::{ATIME, CTIME, FILE_OFFSET, MTIME, PATH, PATH_LINK};
+use tlv_frame::attribute_numbers::{FILE_OFFSET, PATH, PATH_LINK};
 
 // The number of the root of each subvolume. Source: BTRFS_FIRST_FREE_OBJECTID of Btrfs.
 const ROOT: u64 = 256;
@@ -75,13 +76,7 @@ pub(crate) fn push_root_times<R: Origin>(
     ensures kept { IsFront to.old to.new }
 {
     let (mtime, atime) = root_times(tree);
-    let mut writer = FrameWriter::begin(to, Kind::Utimes.number(), version)?;
-    writer.attr_bytes(to, CTIME, &mtime.bytes())?;
-    writer.attr_bytes(to, MTIME, &mtime.bytes())?;
-    writer.attr_bytes(to, ATIME, &atime.bytes())?;
-    writer.attr_bytes(to, PATH, b"")?;
-    writer.finish(to);
-    Ok(())
+    push_times(mtime, atime, b"", version, to)
 }
 
 // The times of the root: of its last change, and of its last use.

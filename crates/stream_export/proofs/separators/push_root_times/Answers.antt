@@ -1,58 +1,9 @@
-use Rattle.std.proofs.Common.{[], ◌∷◌, ◌≡◌, ◌++◌, ◌+◌, ℕ, List, length, take, drop, ap, ap₂, sym, refl, ◌∙◌, arith}
-use Rattle.send_model.specs.Command.{row, Utimes}
-use Rattle.send_model.specs.Attribute.{Time, PATH, CTIME, MTIME, ATIME, Moment, field_bytes}
-use Rattle.send_model.specs.Spelling.{Attribute, attribute_bytes, body_of, frame_of}
+use Rattle.std.proofs.Common.{◌≡◌, ◌++◌, [], List, ℕ, ap₂, subst, OnOk}
+use Rattle.send_model.specs.Attribute.{Time}
+use Rattle.send_model.specs.Command.{Utimes}
 use Rattle.send_model.specs.Receivable.{receivable}
-use Rattle.send_commands.specs.Meaning.{time_of}
-use Rattle.tlv_frame.specs.Frame.{Begun, head_room}
-use Rattle.stream_export.proofs.Frames.{text_of, moment_of, four_body, by_writer, with_bytes, can_finish, finished, times_are}
-use Rattle.stream_export.proofs.separators.push_root_times.Given.{Over}
-use Rattle.stream_export.proofs.separators.push_root_times.Goals.{In_ok-attr_bytes-4}
 use Rattle.stream_export.proofs.separators.push_root_times.Goals as goal
-
--- The attributes, by the two times.
-abbrev attributes : Time → Time → List Attribute
-attributes mtime atime = moment_of CTIME mtime ∷ moment_of MTIME mtime ∷ moment_of ATIME atime ∷ text_of PATH [] ∷ []
-
--- Where the frame begins, and what stands there before its header is put in.
-unfinished : (g : Over) (c : In_ok-attr_bytes-4 g) → (c.attr_bytes-4.new.self.start ≡ length c.args.to.now) × (c.attr_bytes-4.new.self.number ≡ 20)
-    × (c.attr_bytes-4.new.to ≡ (c.args.to.now ++ head_room) ++ body_of c.args.version (attributes (time_of c.root_times.result.0) (time_of c.root_times.result.1)))
-unfolding row
-unfinished g c =
-    let m : Time = time_of c.root_times.result.0 in
-    let a : Time = time_of c.root_times.result.1 in
-    let begun = c.in_ok-writer.ensures.begun in
-    let v0 : c.in_ok-writer.writer.version ≡ c.args.version = ap (λ (w : Begun). w.version) begun in
-    let v1 : c.attr_bytes.new.self.version ≡ c.args.version = ap (λ (w : Begun). w.version) c.attr_bytes.ensures.writer ∙ v0 in
-    let v2 : c.attr_bytes-2.new.self.version ≡ c.args.version = ap (λ (w : Begun). w.version) c.attr_bytes-2.ensures.writer ∙ v1 in
-    let v3 : c.attr_bytes-3.new.self.version ≡ c.args.version = ap (λ (w : Begun). w.version) c.attr_bytes-3.ensures.writer ∙ v2 in (
-      ap (λ (w : Begun). w.start) (c.attr_bytes-4.ensures.writer ∙ c.attr_bytes-3.ensures.writer ∙ c.attr_bytes-2.ensures.writer ∙ c.attr_bytes.ensures.writer ∙ begun),
-      ap (λ (w : Begun). w.number) (c.attr_bytes-4.ensures.writer ∙ c.attr_bytes-3.ensures.writer ∙ c.attr_bytes-2.ensures.writer ∙ c.attr_bytes.ensures.writer ∙ begun) ∙ c.number.ensures.number,
-      four_body c.args.version c.args.to.now (moment_of CTIME m) (moment_of MTIME m) (moment_of ATIME a) (text_of PATH []) c.attr_bytes.new.to c.attr_bytes-2.new.to c.attr_bytes-3.new.to c.attr_bytes-4.new.to
-          (with_bytes c.args.version c.in_ok-writer.writer.version CTIME c.begin.new.to c.attr_bytes.new.to c.bytes.result (field_bytes (Moment m)) v0 c.bytes.ensures c.in_ok-attr_bytes.ensures.appended
-          ∙ ap (λ (l : List ℕ). l ++ attribute_bytes c.args.version (moment_of CTIME m)) c.in_ok-writer.ensures.room)
-          (with_bytes c.args.version c.attr_bytes.new.self.version MTIME c.attr_bytes.new.to c.attr_bytes-2.new.to c.bytes-2.result (field_bytes (Moment m)) v1 c.bytes-2.ensures c.in_ok-attr_bytes-2.ensures.appended)
-          (with_bytes c.args.version c.attr_bytes-2.new.self.version ATIME c.attr_bytes-2.new.to c.attr_bytes-3.new.to c.bytes-3.result (field_bytes (Moment a)) v2 c.bytes-3.ensures c.in_ok-attr_bytes-3.ensures.appended)
-          (by_writer c.args.version c.attr_bytes-3.new.self.version c.attr_bytes-3.new.to c.attr_bytes-4.new.to (text_of PATH []) v3 c.in_ok-attr_bytes-4.ensures.appended),
-    )
-
-pub finish-requires-clause-short : goal.finish-requires-clause-short
-finish-requires-clause-short g c =
-    let (start, number, bytes) = unfinished g (goal.at.finish-requires-clause-short g c).In_ok-attr_bytes-4 in
-    (can_finish c.args.version c.attr_bytes-4.new.self.start (attributes (time_of c.root_times.result.0) (time_of c.root_times.result.1)) c.args.to.now c.attr_bytes-4.new.to start bytes (omega (arith))).1
-
--- The frame.
-framed : (g : Over) (c : goal.After-finish g) → c.finish.new.to ≡ c.args.to.now ++ frame_of 20 (body_of c.args.version (attributes (time_of c.root_times.result.0) (time_of c.root_times.result.1)))
-framed g c =
-    let (start, number, bytes) = unfinished g (goal.at.returns-clause-added g c).In_ok-attr_bytes-4 in
-    finished 20 c.attr_bytes-4.new.self.start c.args.to.now (body_of c.args.version (attributes (time_of c.root_times.result.0) (time_of c.root_times.result.1))) c.attr_bytes-4.new.to c.finish.new.to start bytes
-    (c.finish.ensures.framed ∙ ap (λ (n : ℕ). take c.attr_bytes-4.new.self.start c.attr_bytes-4.new.to ++ frame_of n (drop (c.attr_bytes-4.new.self.start + 10) c.attr_bytes-4.new.to)) number)
 
 pub returns-clause-added : goal.returns-clause-added
 returns-clause-added g c =
-    framed g c ∙ ap (λ (l : List ℕ). c.args.to.now ++ l)
-    (times_are c.args.version (time_of c.root_times.result.0) (time_of c.root_times.result.1)
-    ∙ ap₂ (λ (m a : Time). receivable c.args.version (Utimes m a [])) c.root_times.ensures.mtime c.root_times.ensures.atime)
-
-pub returns-clause-kept : goal.returns-clause-kept
-returns-clause-kept g c = (frame_of 20 (body_of c.args.version (attributes (time_of c.root_times.result.0) (time_of c.root_times.result.1))), framed g c)
+    subst (λ (frame : List ℕ). OnOk c.push_times.result (c.push_times.new.to ≡ c.args.to.now ++ frame)) (ap₂ (λ (m a : Time). receivable c.args.version (Utimes m a [])) c.root_times.ensures.mtime c.root_times.ensures.atime) c.push_times.ensures.added
