@@ -1,15 +1,15 @@
 -- Receiving files one after the other: what the loop over them keeps, and each of its ends.
-use Rattle.std.specs.Prelude.{◌≡◌, ⊤, ℕ, ◌+◌, ◌<◌, ◌≤◌, Bool, true, false, List, [], ◌∷◌, ◌++◌, map, length, drop, slice_index_or, String, Option, None, Some, Result, Ok, Err}
+use Rattle.std.specs.Prelude.{◌≡◌, ℕ, ◌+◌, ◌<◌, ◌≤◌, Bool, true, false, List, [], ◌∷◌, ◌++◌, map, length, drop, slice_index_or, String, Option, None, Some, Result, Ok, Err}
 use Rattle.std.specs.String.{string_bytes}
 use Rattle.std.specs.Io.KnownBytes.{Appends}
 use Rattle.std.proofs.KnownBytes.{Appends-nil, Appends-trans}
-use Rattle.std.proofs.Common.{refl, sym, ap, subst, ◌∙◌, append_assoc, append-nil, length-append, arith}
+use Rattle.std.proofs.Common.{refl, sym, ap, subst, ◌∙◌, append_assoc, append-nil, arith}
 use Rattle.std.proofs.lemmas.List.{drop_all}
 use Rattle.send_model.specs.Reading.{Item, Ending, Whole, Faulty, reads}
 use Rattle.send_model.specs.Store.{Store}
 use Rattle.send_model.specs.Guards.{Guard}
 use Rattle.send_model.specs.Lengths.{is_too_long}
-use Rattle.send_model.specs.Due.{Limited, Stop, AtEnd, AtFault, AtLimit, limited_from, then_limited}
+use Rattle.send_model.specs.Due.{Limited, limited_from, then_limited}
 use Rattle.sx_base.specs.Outside.{file_at}
 use Rattle.sx_base.specs.Calls.{contents, IfAllTold}
 use Rattle.sx_base.proofs.NamedFiles.{file_there, count_of_files}
@@ -22,9 +22,10 @@ use Rattle.auditor.specs.Following.{then_read, file_read, read_whole}
 use Rattle.auditor.proofs.TooLong.{by_length, nothing_more, read_is}
 use Rattle.store_journal.specs.Shown.{StoreState}
 use Rattle.receiver.specs.declared.outcome.Received.{Received}
-use Rattle.receiver.specs.Running.{Spot, IsAt, Leads, Stops}
-use Rattle.receiver.specs.FileEnds.{then_others, FileTaken, FileStopped, FileEnds, AllTaken, AllStopped, AllEnds}
+use Rattle.receiver.specs.Running.{Spot, IsAt, Leads, Stops, IsLeft}
+use Rattle.receiver.specs.FileEnds.{then_others, FileEnds, AllEnds}
 use Rattle.receiver.proofs.Leading.{leads_none, leads_on}
+use Rattle.receiver.proofs.LeftGroups.{left_on}
 use Rattle.receiver.proofs.Ends.{stops_from}
 
 -- ---- what is read of files
@@ -79,17 +80,17 @@ then_then : (items more : List Item) (l : Limited) → then_read items (then_rea
 then_then items more l = ap (λ (is : List Item). record { items = is; stop = l.stop }) (sym (append_assoc items more l.items))
 
 -- The next file, of those that are told.
-pub all_next : {Z : Type 0} (told inputs : Option (List (List ℕ × List ℕ))) (names : List (String Z)) (number limit : ℕ) (base : Store ℕ) (spot : Spot) (guards guards_now : List Guard) (store store_now : StoreState) (out out_now out_next : Option (List ℕ)) (K K1 L : List Group → Option Begun → Type 0) (M : Spot → List Group → Type 0) (name : String Z) (spelled : List ℕ) (r : Result (Unit {0}) Received) (u : Unit {0})
+pub all_next : {Z : Type 0} (told inputs : Option (List (List ℕ × List ℕ))) (names : List (String Z)) (number limit : ℕ) (base : Store ℕ) (spot : Spot) (guards guards_now : List Guard) (store store_now : StoreState) (out out_now out_next : Option (List ℕ)) (K K1 L : List Group → Option Begun → Type 0) (M : Spot → List Group → Type 0) (J : Received → ((List Group → Type 0) → Type 0) → Type 0) (name : String Z) (spelled : List ℕ) (r : Result (Unit {0}) Received) (u : Unit {0})
     → inputs ≡ told → number < length names → name ≡ slice_index_or names number name → spelled ≡ string_bytes name → r ≡ Ok u
-    → ((now : Spot) → IsAt now guards store None → IsOn base now.watched.state.store now.watched.state.part → now.begun ≡ None → IfTold inputs spelled (FileEnds (number + 1) limit base now guards_now store_now out_now out_next K1 (M now) r))
+    → ((now : Spot) → IsAt now guards store None → IsOn base now.watched.state.store now.watched.state.part → now.begun ≡ None → IfTold inputs spelled (FileEnds (number + 1) limit base now guards_now store_now out_now out_next K1 (M now) J r))
     → ((groups more : List Group) → K groups None → K1 more None → L (groups ++ more) None)
     → IfAllTold told (map string_bytes names) (AllStand number limit base spot guards store out out_now K) → IfAllTold told (map string_bytes names) (AllStand (number + 1) limit base spot guards_now store_now out out_next L)
-all_next None inputs names number limit base spot guards guards_now store store_now out out_now out_next K K1 L M name spelled r u same less is spelling was ends disk s = tt
-all_next (Some table) inputs names number limit base spot guards guards_now store store_now out out_now out_next K K1 L M name spelled r u same less is spelling was ends disk s =
+all_next None inputs names number limit base spot guards guards_now store store_now out out_now out_next K K1 L M J name spelled r u same less is spelling was ends disk s = tt
+all_next (Some table) inputs names number limit base spot guards guards_now store store_now out out_now out_next K K1 L M J name spelled r u same less is spelling was ends disk s =
     let files : List (List ℕ) = contents table (map string_bytes names) in
     let bytes : List ℕ = file_at table (string_bytes name) in
-    let said = told_next table inputs name spelled (FileEnds (number + 1) limit base s.now guards_now store_now out_now out_next K1 (M s.now) (Ok u)) same spelling
-    (subst (λ (x : Result (Unit {0}) Received). IfTold inputs spelled (FileEnds (number + 1) limit base s.now guards_now store_now out_now out_next K1 (M s.now) x)) was (ends s.now s.at s.leads.on s.none)) in
+    let said = told_next table inputs name spelled (FileEnds (number + 1) limit base s.now guards_now store_now out_now out_next K1 (M s.now) J (Ok u)) same spelling
+    (subst (λ (x : Result (Unit {0}) Received). IfTold inputs spelled (FileEnds (number + 1) limit base s.now guards_now store_now out_now out_next K1 (M s.now) J x)) was (ends s.now s.at s.leads.on s.none)) in
     let here = file_there table names number name less is in
     let more : Limited = limited_from (number + 1 + 1) (drop (number + 1) files) in
     record {
@@ -108,17 +109,18 @@ all_next (Some table) inputs names number limit base spot guards guards_now stor
     }
 
 -- The next file ends it.
-pub all_stop : {Z : Type 0} (told inputs : Option (List (List ℕ × List ℕ))) (names : List (String Z)) (number limit : ℕ) (base : Store ℕ) (spot : Spot) (guards guards_now : List Guard) (store store_now : StoreState) (out out_now out_next : Option (List ℕ)) (K K1 L : List Group → Option Begun → Type 0) (M : Spot → List Group → Type 0) (N : List Group → Type 0) (name : String Z) (spelled : List ℕ) (r : Result (Unit {0}) Received) (why : Received)
+pub all_stop : {Z : Type 0} (told inputs : Option (List (List ℕ × List ℕ))) (names : List (String Z)) (number limit : ℕ) (base : Store ℕ) (spot : Spot) (guards guards_now : List Guard) (store store_now : StoreState) (out out_now out_next : Option (List ℕ)) (K K1 L : List Group → Option Begun → Type 0) (M : Spot → List Group → Type 0) (N : List Group → Type 0) (I J : Received → ((List Group → Type 0) → Type 0) → Type 0) (name : String Z) (spelled : List ℕ) (r : Result (Unit {0}) Received) (why : Received)
     → inputs ≡ told → number < length names → name ≡ slice_index_or names number name → spelled ≡ string_bytes name → r ≡ Err why
-    → ((now : Spot) → IsAt now guards store None → IsOn base now.watched.state.store now.watched.state.part → now.begun ≡ None → IfTold inputs spelled (FileEnds (number + 1) limit base now guards_now store_now out_now out_next K1 (M now) r))
+    → ((now : Spot) → IsAt now guards store None → IsOn base now.watched.state.store now.watched.state.part → now.begun ≡ None → IfTold inputs spelled (FileEnds (number + 1) limit base now guards_now store_now out_now out_next K1 (M now) I r))
     → ((now : Spot) (groups more : List Group) → K groups None → M now more → N (groups ++ more))
-    → IfAllTold told (map string_bytes names) (AllStand number limit base spot guards store out out_now K) → IfAllTold told (map string_bytes names) (AllEnds limit base spot guards_now store_now out out_next L N (Err why))
-all_stop None inputs names number limit base spot guards guards_now store store_now out out_now out_next K K1 L M N name spelled r why same less is spelling was ends disk s = tt
-all_stop (Some table) inputs names number limit base spot guards guards_now store store_now out out_now out_next K K1 L M N name spelled r why same less is spelling was ends disk s =
+    → ((groups : List Group) (W V : (List Group → Type 0) → Type 0) → K groups None → ((H G : List Group → Type 0) → ((first : List Group) → H first → G (groups ++ first)) → W H → V G) → I why W → J why V)
+    → IfAllTold told (map string_bytes names) (AllStand number limit base spot guards store out out_now K) → IfAllTold told (map string_bytes names) (AllEnds limit base spot guards_now store_now out out_next L N J (Err why))
+all_stop None inputs names number limit base spot guards guards_now store store_now out out_now out_next K K1 L M N I J name spelled r why same less is spelling was ends disk left s = tt
+all_stop (Some table) inputs names number limit base spot guards guards_now store store_now out out_now out_next K K1 L M N I J name spelled r why same less is spelling was ends disk left s =
     let files : List (List ℕ) = contents table (map string_bytes names) in
     let bytes : List ℕ = file_at table (string_bytes name) in
-    let said = told_next table inputs name spelled (FileEnds (number + 1) limit base s.now guards_now store_now out_now out_next K1 (M s.now) (Err why)) same spelling
-    (subst (λ (x : Result (Unit {0}) Received). IfTold inputs spelled (FileEnds (number + 1) limit base s.now guards_now store_now out_now out_next K1 (M s.now) x)) was (ends s.now s.at s.leads.on s.none)) in
+    let said = told_next table inputs name spelled (FileEnds (number + 1) limit base s.now guards_now store_now out_now out_next K1 (M s.now) I (Err why)) same spelling
+    (subst (λ (x : Result (Unit {0}) Received). IfTold inputs spelled (FileEnds (number + 1) limit base s.now guards_now store_now out_now out_next K1 (M s.now) I x)) was (ends s.now s.at s.leads.on s.none)) in
     let here = file_there table names number name less is in
     let more : Limited = limited_from (number + 1 + 1) (drop (number + 1) files) in
     let whole : Limited = then_others (file_read (number + 1) bytes) more in
@@ -128,14 +130,17 @@ all_stop (Some table) inputs names number limit base spot guards guards_now stor
       wrote = Appends-trans out out_now out_next s.lines said.lines s.wrote said.wrote;
       stops = subst (λ (l : Limited). Stops why limit base spot l (s.lines ++ said.lines) store_now.core) (sym read) (stops_from why limit base spot s.now s.items s.groups s.lines said.lines whole store_now.core s.leads (said.stops more));
       moments = subst (λ (l : Limited). N (groups_from spot.watched spot.begun l.items)) (sym read) (subst N (sym (s.leads.written whole.items)) (disk s.now s.groups (groups_from s.now.watched s.now.begun whole.items) s.disk (said.moments more)));
+      disk = subst (λ (l : Limited). J why (λ H. IsLeft why limit base spot l (s.lines ++ said.lines) H)) (sym read)
+          (left s.groups (λ H. IsLeft why limit base s.now whole said.lines H) (λ H. IsLeft why limit base spot (then_read s.items whole) (s.lines ++ said.lines) H) s.disk
+          (λ H G moved l. left_on why limit base spot s.now s.items s.groups s.lines said.lines whole H G s.leads moved l) (said.disk more));
     }
 
 -- After the last.
-pub all_end : {Z : Type 0} (told : Option (List (List ℕ × List ℕ))) (names : List (String Z)) (number limit : ℕ) (base : Store ℕ) (spot : Spot) (guards : List Guard) (store : StoreState) (out out_now : Option (List ℕ)) (K : List Group → Option Begun → Type 0) (N : List Group → Type 0) → length names ≤ number
-    → IfAllTold told (map string_bytes names) (AllStand number limit base spot guards store out out_now K) → IfAllTold told (map string_bytes names) (AllEnds limit base spot guards store out out_now K N (Ok tt))
+pub all_end : {Z : Type 0} (told : Option (List (List ℕ × List ℕ))) (names : List (String Z)) (number limit : ℕ) (base : Store ℕ) (spot : Spot) (guards : List Guard) (store : StoreState) (out out_now : Option (List ℕ)) (K : List Group → Option Begun → Type 0) (N : List Group → Type 0) (J : Received → ((List Group → Type 0) → Type 0) → Type 0) → length names ≤ number
+    → IfAllTold told (map string_bytes names) (AllStand number limit base spot guards store out out_now K) → IfAllTold told (map string_bytes names) (AllEnds limit base spot guards store out out_now K N J (Ok tt))
 unfolding limited_from
-all_end None names number limit base spot guards store out out_now K N past s = tt
-all_end (Some table) names number limit base spot guards store out out_now K N past s =
+all_end None names number limit base spot guards store out out_now K N J past s = tt
+all_end (Some table) names number limit base spot guards store out out_now K N J past s =
     let files : List (List ℕ) = contents table (map string_bytes names) in
     let over : length files ≤ number = omega (arith, count_of_files table names, past) in
     record {

@@ -1,37 +1,37 @@
 -- The whole call: from the first spot, and in the words of its contract.
-use Rattle.std.specs.Prelude.{◌≡◌, ⊤, ℕ, ◌<◌, List, [], ◌∷◌, ◌++◌, length, drop, Option, None, Some, Result, Ok, Err}
-use Rattle.std.specs.Io.KnownBytes.{Appends}
+use Rattle.std.specs.Prelude.{◌≡◌, ℕ, List, [], ◌++◌, Option, None, Some, Result, Ok, Err}
 use Rattle.std.specs.List.{filter, flat_map}
-use Rattle.std.proofs.Common.{inl, inr, refl, sym, ap, subst, ◌∙◌, append-nil}
+use Rattle.std.proofs.Common.{sym, ap, subst, ◌∙◌, append-nil}
 use Rattle.sx_base.specs.Disk.{Pending}
 use Rattle.sx_base.specs.Crash.{LeavesOnly}
-use Rattle.sx_base.specs.Calls.{IfAllTold, Wrote, SteadyIfDone, IsStop}
+use Rattle.sx_base.specs.Calls.{IfAllTold, Wrote}
 use Rattle.sx_base.proofs.Ended.{stopped_steady}
 use Rattle.sx_base.specs.declared.outcome.Outcome.TheVariants as ended
-use Rattle.send_model.specs.Reading.{Item}
 use Rattle.send_model.specs.Store.{Store}
-use Rattle.send_model.specs.Receive.{byte_cells, run_by, Ran, start_of}
+use Rattle.send_model.specs.Receive.{byte_cells, start_of}
 use Rattle.send_model.specs.Guards.{Guard, Watched}
-use Rattle.send_model.specs.Due.{Limited, Stop, AtEnd, DoneWhole, limited_from, stop_due}
+use Rattle.send_model.specs.Due.{Limited, AtEnd, DoneWhole, limited_from, stop_due}
 use Rattle.store_model.specs.Image.{Header}
 use Rattle.store_model.specs.Stored.{Group}
 use Rattle.store_model.specs.States.{is_complete, complete_line, received, lines_behind}
-use Rattle.store_model.specs.Dues as dues
 use Rattle.store_model.specs.Dues.{Due, Ends, receive_from, left_from, or_due, receive_due, receive_left}
 use Rattle.store_model.specs.Written.{Begun, groups_from, groups_of}
 use Rattle.store_model.proofs.PassedStates.{IsOn, drop_start, start_closed}
-use Rattle.auditor.specs.Following.{Followed, HaveSameShape, blank, read_whole}
+use Rattle.store_model.proofs.WrittenGroups.{written_is_received}
+use Rattle.auditor.specs.Following.{Followed, HaveSameShape, blank}
 use Rattle.store_groups.specs.declared.place.Place.{Place}
 use Rattle.store_journal.specs.Shown.{StoreState}
-use Rattle.store_journal.specs.Holding.{Holds}
+use Rattle.store_journal.specs.Holding.{HasThese, Holds}
 use Rattle.receiver.specs.declared.outcome.Received.{Received}
 use Rattle.receiver.specs.declared.outcome.Received.TheVariants as how
 use Rattle.receiver.specs.Answers.{IsEnd}
-use Rattle.receiver.specs.Disks.{HasFront, RunsOn, LeavesOn}
-use Rattle.receiver.specs.Running.{byte_step, Spot, first_spot, IsAt, Stops, LinesLeft, IsLineFront}
-use Rattle.receiver.specs.FileEnds.{AllTaken, AllStopped, AllEnds}
-use Rattle.receiver.specs.ReceiveEnds.{ReceiveEnds, SteadyIfReceived, IfDone}
+use Rattle.receiver.specs.Disks.{Keeps, HasFront, RunsOn, LeavesOn, StopsOn}
+use Rattle.receiver.specs.Running.{first_spot, IsAt, Stops, IsLineFront, IsLeft}
+use Rattle.receiver.specs.FileEnds.{AllTaken, AllEnds}
+use Rattle.receiver.specs.ReceiveEnds.{ReceiveEnds, AreLeft, LeavesMore, SteadyIfReceived}
 use Rattle.receiver.proofs.TakenItems.{due_same}
+use Rattle.receiver.proofs.DiskRuns.{leaves_then}
+use Rattle.receiver.proofs.LeftGroups.{left_then, left_all}
 
 pub at_first : (gate : ℕ) (base : Store ℕ) (guards : List Guard) (store : StoreState) → store.log.gate ≡ gate → HaveSameShape store.core base → IsAt (first_spot gate base guards) guards store None
 at_first gate base guards store at same = record { seen = λ i. record { guards = guards; state = record { store = sym same i; part = None } }; place = sym at }
@@ -88,65 +88,79 @@ module _ (limit gate : ℕ) (base : Store ℕ) (guards : List Guard) where
       let first : Watched _ = record { guards = guards; state = start_of base } in
       sym (ap (λ (l : Limited). groups_from first None l.items) t.read ∙ ap (groups_from first None) (sym (append-nil t.items)) ∙ t.leads.written [] ∙ append-nil t.groups)
 
-  -- ---- of files that are told
+  -- ---- what a disk that tells has
 
-  pub told_done : (told : Option (List (List ℕ × List ℕ))) (names : List (List ℕ)) (next_guards : List Guard) (store : StoreState) (old new : Option (List ℕ)) (K : List Group → Option Begun → Type 0) (N : List Group → Type 0) (r : Result (Unit {0}) Received) (u : Unit {0}) → r ≡ Ok u
-      → IfAllTold told names (AllEnds limit base (first_spot gate base guards) next_guards store old new K N r) → IfAllTold told names (λ files. Wrote old new (ReceiveEnds limit gate base guards files (how.Files ended.Done) store.core))
-  told_done None names next_guards store old new K N r u is all = tt
-  told_done (Some table) names next_guards store old new K N r u is all =
-      let t : AllTaken limit base (first_spot gate base guards) next_guards store old new K _ = subst (λ (x : Result (Unit {0}) Received). IfAllTold (Some table) names (AllEnds limit base (first_spot gate base guards) next_guards store old new K N x)) is all in
-      (t.lines, t.wrote, ends_whole _ next_guards store old new K t)
+  first_left : (why : Received) (files : List (List ℕ)) (lines : List ℕ) (H : List Group → Type 0) → IsLeft why limit base (first_spot gate base guards) (limited_from 1 files) lines H → AreLeft limit gate base guards files why lines H
+  unfolding received receive_left
+  first_left why files lines H s = record {
+    first = groups_of base guards s.items;
+    more = s.more;
+    all = s.all;
+    has = s.has;
+    now = (received 0 byte_cells base guards s.items).state.state.store;
+    made = λ place. written_is_received place base guards s.items;
+    unwritten = s.unwritten;
+    printed = s.printed ∙ ap (λ (l : List ℕ). l ++ (lines ++ s.unwritten)) (no_lines base);
+    left = s.left;
+    whole = s.whole;
+  }
 
-  pub told_ended : (told : Option (List (List ℕ × List ℕ))) (names : List (List ℕ)) (next_guards : List Guard) (store : StoreState) (old new : Option (List ℕ)) (K : List Group → Option Begun → Type 0) (N : List Group → Type 0) (r : Result (Unit {0}) Received) (why : Received) → r ≡ Err why
-      → IfAllTold told names (AllEnds limit base (first_spot gate base guards) next_guards store old new K N r) → IfAllTold told names (λ files. Wrote old new (ReceiveEnds limit gate base guards files why store.core))
-  told_ended None names next_guards store old new K N r why is all = tt
-  told_ended (Some table) names next_guards store old new K N r why is all =
-      let s : AllStopped limit base (first_spot gate base guards) store old new N why _ = subst (λ (x : Result (Unit {0}) Received). IfAllTold (Some table) names (AllEnds limit base (first_spot gate base guards) next_guards store old new K N x)) is all in
-      (s.lines, s.wrote, ends_early why _ s.lines store.core s.stops)
+  module _ {D : Type 0} (tells : Type 0) (moment : D → ℕ) (left_since : D → ℕ → List ℕ → Type 0) (seen : D → List ℕ) (pending : D → Pending) (was now : D) (next_guards : List Guard) (before store : StoreState) (old new : Option (List ℕ)) where
+    abbrev pub Says : List (List ℕ) → Received → List ℕ → Type 0
+    Says files why written = ReceiveEnds limit gate base guards files why store.core written × LeavesMore tells seen pending was now before store why (AreLeft limit gate base guards files why written)
 
-  -- What a crash leaves.
-  pub told_moments : {D : Type 0} (tells : Type 0) (moment : D → ℕ) (left_since : D → ℕ → List ℕ → Type 0) (seen : D → List ℕ) (pending : D → Pending) (was now : D) (told : Option (List (List ℕ × List ℕ))) (names : List (List ℕ)) (next_guards : List Guard) (before store : StoreState) (old new : Option (List ℕ)) (r : Result (Unit {0}) Received)
-      → tells → (header : Header) (groups : List Group) → Holds header groups before (seen was) (pending was)
-      → IfAllTold told names (AllEnds limit base (first_spot gate base guards) next_guards store old new (RunsOn tells moment left_since seen pending was now None None None before store) (LeavesOn tells moment left_since seen pending was now None None before) r)
-      → IfAllTold told names (λ files. LeavesOnly moment left_since was now (HasFront header groups (groups_of base guards (limited_from 1 files).items)))
-  told_moments tells moment left_since seen pending was now None names next_guards before store old new r told_too header groups holds all = tt
-  told_moments tells moment left_since seen pending was now (Some table) names next_guards before store old new (Ok u) told_too header groups holds all =
-      due_same header groups all.groups (groups_of base guards _) (whole_groups _ next_guards store old new (RunsOn tells moment left_since seen pending was now None None None before store) all) (all.disk told_too header groups holds).1
-  told_moments tells moment left_since seen pending was now (Some table) names next_guards before store old new (Err why) told_too header groups holds all = all.moments told_too header groups holds
+    abbrev EndsAs : Result (Unit {0}) Received → List (List ℕ) → Type 0
+    EndsAs r files = AllEnds limit base (first_spot gate base guards) next_guards store old new (RunsOn tells moment left_since seen pending was now None None None before store) (LeavesOn tells moment left_since seen pending was now None None before)
+        (StopsOn tells seen pending was now None None before store) r files
 
-  pub told_holds : {D : Type 0} (tells : Type 0) (moment : D → ℕ) (left_since : D → ℕ → List ℕ → Type 0) (seen : D → List ℕ) (pending : D → Pending) (was now : D) (told : Option (List (List ℕ × List ℕ))) (names : List (List ℕ)) (next_guards : List Guard) (before store : StoreState) (old new : Option (List ℕ)) (r : Result (Unit {0}) Received) (u : Unit {0}) → r ≡ Ok u
-      → tells → (header : Header) (groups : List Group) → Holds header groups before (seen was) (pending was)
-      → IfAllTold told names (AllEnds limit base (first_spot gate base guards) next_guards store old new (RunsOn tells moment left_since seen pending was now None None None before store) (LeavesOn tells moment left_since seen pending was now None None before) r)
-      → IfAllTold told names (λ files. Holds header (groups ++ groups_of base guards (limited_from 1 files).items) store (seen now) (pending now))
-  told_holds tells moment left_since seen pending was now None names next_guards before store old new r u is told_too header groups holds all = tt
-  told_holds tells moment left_since seen pending was now (Some table) names next_guards before store old new (Ok v) u is told_too header groups holds all =
-      subst (λ (l : List Group). Holds header (groups ++ l) store (seen now) (pending now)) (whole_groups _ next_guards store old new (RunsOn tells moment left_since seen pending was now None None None before store) all) (all.disk told_too header groups holds).0
-  told_holds tells moment left_since seen pending was now (Some table) names next_guards before store old new (Err why) u is told_too header groups holds all = absurd (apart is)
-    where
-      apart : ◌≡◌ {A = Result (Unit {0}) Received} (Err why) (Ok u) → ⊥
-      apart p = cc
+    whole_left : (files : List (List ℕ)) (t : AllTaken limit base (first_spot gate base guards) next_guards store old new (RunsOn tells moment left_since seen pending was now None None None before store) files)
+        → LeavesMore tells seen pending was now before store (how.Files ended.Done) (AreLeft limit gate base guards files (how.Files ended.Done) t.lines)
+    whole_left files t told header groups holds =
+        let H : List Group → Type 0 = λ first. Holds header (groups ++ first) store (seen now) (pending now) in
+        first_left (how.Files ended.Done) files t.lines H
+        (subst (λ (l : Limited). IsLeft (how.Files ended.Done) limit base (first_spot gate base guards) l t.lines H) (sym t.read)
+        (left_all ended.Done limit base (first_spot gate base guards) t.now t.items t.groups t.lines AtEnd H t.leads (t.disk told header groups holds).0))
+
+    early_left : (why : Received) (files : List (List ℕ)) (lines : List ℕ) → StopsOn tells seen pending was now None None before store why (λ H. IsLeft why limit base (first_spot gate base guards) (limited_from 1 files) lines H)
+        → LeavesMore tells seen pending was now before store why (AreLeft limit gate base guards files why lines)
+    early_left why files lines stops told header groups holds =
+        leaves_then why
+        (λ w. first_left why files lines (λ first. Holds header (groups ++ first) store (seen now) (pending now))
+        (left_then why limit base (first_spot gate base guards) (limited_from 1 files) lines (λ first. (b : Option Begun) × Keeps header (groups ++ first) b None store (seen now) (pending now)) (λ first. Holds header (groups ++ first) store (seen now) (pending now))
+        (λ first k. by_begun (groups ++ first) k.0 k.1) w))
+        (λ each image is. first_left why files lines (λ first. HasThese header (groups ++ first) image) (each image is))
+        (stops told header groups holds)
+      where
+        by_begun : (gs : List Group) (b : Option Begun) → Keeps header gs b None store (seen now) (pending now) → Holds header gs store (seen now) (pending now)
+        by_begun gs None k = k
+        by_begun gs (Some b) k = absurd k
+
+    -- ---- of files that are told
+
+    pub told_done : (told : Option (List (List ℕ × List ℕ))) (names : List (List ℕ)) (r : Result (Unit {0}) Received) (u : Unit {0}) → r ≡ Ok u
+        → IfAllTold told names (EndsAs r) → IfAllTold told names (λ files. Wrote old new (Says files (how.Files ended.Done)))
+    told_done None names r u is all = tt
+    told_done (Some table) names r u is all =
+        let t = subst (λ (x : Result (Unit {0}) Received). IfAllTold (Some table) names (EndsAs x)) is all in
+        (t.lines, t.wrote, (ends_whole _ next_guards store old new (RunsOn tells moment left_since seen pending was now None None None before store) t, whole_left _ t))
+
+    pub told_ended : (told : Option (List (List ℕ × List ℕ))) (names : List (List ℕ)) (r : Result (Unit {0}) Received) (why : Received) → r ≡ Err why
+        → IfAllTold told names (EndsAs r) → IfAllTold told names (λ files. Wrote old new (Says files why))
+    told_ended None names r why is all = tt
+    told_ended (Some table) names r why is all =
+        let s = subst (λ (x : Result (Unit {0}) Received). IfAllTold (Some table) names (EndsAs x)) is all in
+        (s.lines, s.wrote, (ends_early why _ s.lines store.core s.stops, early_left why _ s.lines s.disk))
+
+    -- What a crash leaves.
+    pub told_moments : (told : Option (List (List ℕ × List ℕ))) (names : List (List ℕ)) (r : Result (Unit {0}) Received)
+        → tells → (header : Header) (groups : List Group) → Holds header groups before (seen was) (pending was)
+        → IfAllTold told names (EndsAs r) → IfAllTold told names (λ files. LeavesOnly moment left_since was now (HasFront header groups (groups_of base guards (limited_from 1 files).items)))
+    told_moments None names r told_too header groups holds all = tt
+    told_moments (Some table) names (Ok u) told_too header groups holds all =
+        due_same header groups all.groups (groups_of base guards _) (whole_groups _ next_guards store old new (RunsOn tells moment left_since seen pending was now None None None before store) all) (all.disk told_too header groups holds).1
+    told_moments (Some table) names (Err why) told_too header groups holds all = all.moments told_too header groups holds
 
 pub early_steady : (before now : ℕ) (why : Received) → IsEnd why → SteadyIfReceived before now why
 early_steady before now (how.Files outcome) stops = stopped_steady before now outcome stops
 early_steady before now how.StoreFault stops = tt
 early_steady before now (how.LogFull end wanted limit) stops = tt
-
-always_told : (told : Option (List (List ℕ × List ℕ))) (names : List (List ℕ)) (P : List (List ℕ) → Type 0) → ((files : List (List ℕ)) → P files) → IfAllTold told names P
-always_told None names P f = tt
-always_told (Some table) names P f = f _
-
--- What is said where all was done is not said of another end.
-pub early_done : (told : Option (List (List ℕ × List ℕ))) (names : List (List ℕ)) (why : Received) (P : List (List ℕ) → Type 0) → IsEnd why → IfAllTold told names (λ files. IfDone why (P files))
-early_done told names why P stops = always_told told names (λ files. IfDone why (P files)) (λ files. one why stops (P files))
-  where
-    one : (x : Received) → IsEnd x → (Q : Type 0) → IfDone x Q
-    one (how.Files ended.Done) s Q = absurd s
-    one (how.Files (ended.Refused verdict)) s Q = tt
-    one (how.Files ended.InputFault) s Q = tt
-    one (how.Files ended.OutputFault) s Q = tt
-    one (how.Files ended.NoMemory) s Q = tt
-    one (how.Files (ended.InputTooLong file)) s Q = tt
-    one (how.Files (ended.TooMuch sum)) s Q = tt
-    one (how.Files (ended.InputChanged file place)) s Q = tt
-    one how.StoreFault s Q = tt
-    one (how.LogFull end wanted limit) s Q = tt

@@ -1,6 +1,7 @@
 -- The part of a head begins, or it is refused, or there is no room for its groups.
-use Rattle.std.specs.Prelude.{◌≡◌, ◌⊎◌, ℕ, ◌+◌, List, [], ◌∷◌, ◌++◌, length, map, Option, None, Some, Result, Ok, Err, IfSome, IsErr}
-use Rattle.std.proofs.Common.{refl, sym, ap, subst, ◌∙◌, arith, append-nil}
+use Rattle.std.specs.Prelude.{◌≡◌, ℕ, ◌+◌, List, [], ◌∷◌, ◌++◌, length, Option, None, Some, Result, Ok, Err, IfSome, IsErr}
+use Rattle.std.specs.Option.{option_map}
+use Rattle.std.proofs.Common.{refl, sym, ap, subst, ◌∙◌, append-nil}
 use Rattle.sx_base.specs.Disk.{Pending, IsImage}
 use Rattle.sx_base.specs.Crash.{LeavesOnly}
 use Rattle.sx_base.proofs.DiskMoments.{begins, weakens}
@@ -10,13 +11,13 @@ use Rattle.send_model.specs.Subvolume.{Subvolume}
 use Rattle.send_model.specs.Command.{Command, Subvol, Snapshot, row, kind_of, fields_of, kind_of_number}
 use Rattle.send_model.specs.Spelling.{canonical, IsSpellable}
 use Rattle.send_model.specs.Reading.{Item}
-use Rattle.send_model.specs.Store.{Head, Entry, Part, Store, State, After, head_of, begun, entered, unfinished}
+use Rattle.send_model.specs.Store.{Head, Store, State, head_of, begun, entered, unfinished}
 use Rattle.send_model.proofs.Canonical.{fields_first, spellable_first}
 use Rattle.store_model.specs.Image.{Header}
 use Rattle.store_model.specs.Stored.{Group, Mark}
 use Rattle.store_model.specs.States.{complete_line}
-use Rattle.store_model.specs.Dues.{first_full, item_pieces, end_behind}
-use Rattle.store_model.specs.Written.{mark_of, begun_by}
+use Rattle.store_model.specs.Dues.{Due}
+use Rattle.store_model.specs.Written.{Begun, mark_of, begun_by}
 use Rattle.group_log.proofs.GatedGroups.{rests_has}
 use Rattle.group_log.specs.declared.stops.LogStop.TheVariants as log
 use Rattle.store_groups.specs.declared.place.Place.{Place}
@@ -24,18 +25,19 @@ use Rattle.store_groups.specs.declared.stops.StoreStop.{StoreStop}
 use Rattle.store_groups.specs.declared.stops.StoreStop.TheVariants as stop
 use Rattle.store_groups.specs.Stopping.{IfRefused}
 use Rattle.store_journal.specs.Filling as fill
-use Rattle.store_journal.specs.Filling.{gate_behind, head_asks}
+use Rattle.store_journal.specs.Filling.{Asked, gate_behind, group_asks, head_asks}
 use Rattle.store_journal.specs.Shown.{StoreState, IsOpen}
 use Rattle.store_journal.specs.Holding.{bodies_of, new_group, HasThese, HasOneMore, Holds}
-use Rattle.store_journal.specs.Answers.{BeginsIn}
+use Rattle.store_journal.specs.Answers.{BeginsIn, IfHeadShort}
+use Rattle.store_journal.proofs.Rooms.{as_due, same_full}
 use Rattle.receiver.specs.declared.opened.Opened.{Opened}
 use Rattle.receiver.specs.declared.outcome.Received.{Received}
 use Rattle.receiver.specs.Standing.{state_of, IsReceiving}
-use Rattle.receiver.specs.Disks.{HasFront}
-use Rattle.receiver.specs.Answers.{ended_by, StepSays, PiecesSay}
+use Rattle.receiver.specs.Disks.{Keeps, HasFront, marked}
+use Rattle.receiver.specs.Answers.{ended_by, StepSays, PiecesSay, KeepsSays}
 use Rattle.receiver.specs.Steps.{begun_if}
 use Rattle.receiver.proofs.ClosedParts.{one_front}
-use Rattle.receiver.proofs.RoomLaws.{head_item, head_end, has_room, no_room}
+use Rattle.receiver.proofs.RoomLaws.{head_item, head_end, has_room}
 
 -- A head that a version can say, version 1 can.
 pub head_first : (version : ℕ) (c : Command) (head : Head) → head_of c ≡ Some head → IsSpellable version c → IsSpellable 1 c
@@ -117,3 +119,41 @@ module _ (header : Header) (groups : List Group) where
       by_result : (r : Result (Subvolume (Option Place)) meant.Refusal) → (IsErr r → LeavesOnly moment left_since old new (HasThese header groups)) → LeavesOnly moment left_since old new (HasFront header groups (begun_if (entered core head r) c))
       by_result (Ok start) none = mark_moments c head is run
       by_result (Err refusal) none = weakens (none refl) (λ image has. none_yet [] image has)
+
+  -- Where there is no room, it has the groups for which there was room.
+  full_marks : (limit gate : ℕ) (c : Command) (head : Head) (old new : StoreState) (seen image : List ℕ) (pending : Pending) (end wanted most : ℕ) → head_of c ≡ Some head
+      → IfHeadShort {T = Unit {0}} (Err (stop.Log (log.LogFull end wanted most))) (fill.first_full limit (group_asks gate (1 + length (canonical 1 c)))) (Holds header groups old seen pending) (Holds header (groups ++ new_group (Mark c) ∷ []) new seen pending)
+      → IsImage pending image → HasThese header (groups ++ marked limit gate c) image
+  full_marks limit gate c head old new seen image pending end wanted most is held i =
+      subst (λ (o : Option Due). HasThese header (groups ++ shown o (head_of c)) image) (sym (same_full limit (group_asks gate (1 + length (canonical 1 c)))))
+      (subst (λ (o : Option Head). HasThese header (groups ++ shown (option_map (as_due limit) (fill.first_full limit (group_asks gate (1 + length (canonical 1 c))))) o) image) (sym is)
+      (by_room (fill.first_full limit (group_asks gate (1 + length (canonical 1 c)))) held))
+    where
+      shown : Option Due → Option Head → List Group
+      shown full o = elim full as (λ x. List Group) [ Some due ↦ [] | None ↦ elim o as (λ x. List Group) [ None ↦ [] | Some h ↦ mark_of c ∷ [] ] ]
+
+      by_room : (o : Option Asked) → IfHeadShort {T = Unit {0}} (Err (stop.Log (log.LogFull end wanted most))) o (Holds header groups old seen pending) (Holds header (groups ++ new_group (Mark c) ∷ []) new seen pending)
+          → HasThese header (groups ++ shown (option_map (as_due limit) o) (Some head)) image
+      by_room None h = rests_has header (bodies_of (groups ++ new_group (Mark c) ∷ [])) _ _ _ h.rests image i
+      by_room (Some asked) h = subst (λ (l : List Group). HasThese header l image) (sym (append-nil groups)) (rests_has header (bodies_of groups) _ _ _ h.rests image i)
+
+  pub not_begun_keeps : {D : Type 0} (seen : D → List ℕ) (pending : D → Pending) (was now : D) (item : Item) (head : Head) (old new : StoreState) (current : Option Opened) (why : StoreStop) (r : Received) (all : List Group) (after : Option Begun)
+      → head_of item.command ≡ Some head → current ≡ None → r ≡ ended_by item why → Holds header groups old (seen was) (pending was) → IfRefused {T = Unit {0}} (Err why) (λ _. (new ≡ old) × (now ≡ was))
+      → IfHeadShort {T = Unit {0}} (Err why) (fill.first_full old.log.limit (group_asks old.log.gate (1 + length (canonical 1 item.command)))) (Holds header groups old (seen now) (pending now)) (Holds header (groups ++ new_group (Mark item.command) ∷ []) new (seen now) (pending now))
+      → KeepsSays (Err r) (λ gs b. Keeps header gs b current new (seen now) (pending now)) (λ gs. (image : List ℕ) → IsImage (pending now) image → HasThese header gs image) groups (groups ++ marked old.log.limit old.log.gate item.command) all after
+  not_begun_keeps {D} seen pending was now item head old new current why r all after is none e holds same held =
+      subst (λ (x : Received). KeepsSays (Err x) (λ gs b. Keeps header gs b current new (seen now) (pending now)) (λ gs. (image : List ℕ) → IsImage (pending now) image → HasThese header gs image) groups (groups ++ marked old.log.limit old.log.gate item.command) all after) (sym e)
+      (by_stop why same held)
+    where
+      by_stop : (w : StoreStop) → IfRefused {T = Unit {0}} (Err w) (λ _. (new ≡ old) × (now ≡ was))
+          → IfHeadShort {T = Unit {0}} (Err w) (fill.first_full old.log.limit (group_asks old.log.gate (1 + length (canonical 1 item.command)))) (Holds header groups old (seen now) (pending now)) (Holds header (groups ++ new_group (Mark item.command) ∷ []) new (seen now) (pending now))
+          → KeepsSays (Err (ended_by item w)) (λ gs b. Keeps header gs b current new (seen now) (pending now)) (λ gs. (image : List ℕ) → IsImage (pending now) image → HasThese header gs image) groups (groups ++ marked old.log.limit old.log.gate item.command) all after
+      by_stop (stop.Refused refusal) kept short = (None, subst (λ (c : Option Opened). Keeps header groups None c new (seen now) (pending now)) (sym none) short_held)
+        where
+          short_held : Holds header groups new (seen now) (pending now)
+          short_held = subst (λ (x : StoreState). Holds header groups x (seen now) (pending now)) (sym kept.0) short
+      by_stop stop.NoMemory kept short = tt
+      by_stop (stop.Log (log.LogFull end wanted limit)) kept short = λ image i. full_marks old.log.limit old.log.gate item.command head old new (seen now) image (pending now) end wanted limit is short i
+      by_stop (stop.Log log.DiskFault) kept short = tt
+      by_stop (stop.Log (log.NotStore group)) kept short = tt
+      by_stop (stop.Log (log.StoreThere size)) kept short = tt

@@ -1,6 +1,6 @@
 -- The part that is open is completed.
 use Rattle.std.specs.Prelude.{◌≡◌, ℕ, ◌+◌, List, [], ◌∷◌, ◌++◌, Option, None, Some}
-use Rattle.std.proofs.Common.{inl, inr, refl, sym, ap, subst, ◌∙◌, append-nil}
+use Rattle.std.proofs.Common.{inl, inr, refl, sym, ap, subst, append-nil}
 use Rattle.sx_base.specs.Disk.{Pending, IsImage}
 use Rattle.sx_base.specs.Crash.{LeavesOnly}
 use Rattle.sx_base.proofs.DiskMoments.{begins, weakens}
@@ -8,9 +8,9 @@ use Rattle.send_model.specs.Store.{with_contents, completed}
 use Rattle.store_model.specs.Image.{Header}
 use Rattle.store_model.specs.Stored.{Group, Body}
 use Rattle.store_model.specs.Written.{Begun, body_of, closed}
-use Rattle.group_log.proofs.GatedGroups.{rests_has, grows_has}
+use Rattle.group_log.proofs.GatedGroups.{rests_has}
 use Rattle.store_journal.specs.Shown.{StoreState, IsIdle}
-use Rattle.store_journal.specs.Holding.{bodies_of, new_group, HasThese, HasOneMore, Holds, Builds}
+use Rattle.store_journal.specs.Holding.{bodies_of, new_group, HasThese, HasOneMore, Holds}
 use Rattle.receiver.specs.declared.opened.Opened.{Opened}
 use Rattle.receiver.specs.Standing.{IsReady, IsClosedAs}
 use Rattle.receiver.specs.Disks.{IsBuilt, Keeps, HasFront}

@@ -1,13 +1,14 @@
 -- A disk that tells, over the commands of a file.
-use Rattle.std.specs.Prelude.{◌≡◌, ◌⊎◌, ℕ, Bool, true, false, List, [], ◌∷◌, ◌++◌, Option, None, Some}
+use Rattle.std.specs.Prelude.{◌≡◌, ℕ, Bool, true, List, [], ◌++◌, Option, None, Some}
 use Rattle.std.proofs.Common.{refl, sym, ap, subst, ◌∙◌, append_assoc, append-nil}
 use Rattle.sx_base.specs.Disk.{Pending, IsImage}
 use Rattle.sx_base.specs.Crash.{LeavesOnly}
-use Rattle.sx_base.proofs.DiskMoments.{joins, weakens}
-use Rattle.send_model.specs.Refusal as meant
+use Rattle.sx_base.specs.declared.outcome.Outcome.{Outcome}
+use Rattle.sx_base.specs.declared.outcome.Outcome.TheVariants as ended
+use Rattle.sx_base.proofs.DiskMoments.{weakens}
 use Rattle.send_model.specs.Command.{Command}
-use Rattle.send_model.specs.Reading.{Item, Due, HeaderDue, due_after}
-use Rattle.send_model.specs.Command.{End, row, kind_of}
+use Rattle.send_model.specs.Reading.{Due, HeaderDue, due_after}
+use Rattle.send_model.specs.Command.{End, row}
 use Rattle.send_model.specs.Counts.{is_end}
 use Rattle.send_model.specs.Store.{After}
 use Rattle.send_model.specs.Guards.{Guard}
@@ -15,12 +16,15 @@ use Rattle.cmd_reader.specs.Next.{is_last}
 use Rattle.auditor.specs.Following.{Followed}
 use Rattle.store_model.specs.Image.{Header}
 use Rattle.store_model.specs.Stored.{Group}
-use Rattle.store_model.specs.Written.{Begun, closed_by, begun_by, begun_after}
+use Rattle.store_model.specs.Written.{Begun, closed_by, begun_by}
 use Rattle.store_journal.specs.Shown.{StoreState}
 use Rattle.receiver.specs.declared.opened.Opened.{Opened}
-use Rattle.receiver.specs.Disks.{Keeps, HasVersion, HasFront, RunsOn, LeavesOn}
+use Rattle.receiver.specs.declared.outcome.Received.{Received}
+use Rattle.receiver.specs.declared.outcome.Received.TheVariants as how
+use Rattle.receiver.specs.Disks.{Keeps, HasFront, RunsOn, LeavesOn, OutcomeLeaves, EndLeaves, EndHas, StopsOn}
 use Rattle.receiver.specs.Steps.{begun_if}
-use Rattle.receiver.proofs.FollowedItems.{kept_moments}
+use Rattle.store_journal.specs.Holding.{HasThese, Holds, Builds}
+use Rattle.receiver.proofs.FollowedItems.{keeps_has, kept_moments}
 use Rattle.receiver.proofs.TakenItems.{front_first, both_moments}
 
 module _ {D : Type 0} (tells : Type 0) (moment : D → ℕ) (left_since : D → ℕ → List ℕ → Type 0) (seen : D → List ℕ) (pending : D → Pending) where
@@ -94,3 +98,94 @@ module _ {D : Type 0} (tells : Type 0) (moment : D → ℕ) (left_since : D → 
   run_ends old mid new was now groups more first second told header there keeps =
       let a = first told header there keeps in
       both_moments header there groups more a.1 (second told header (there ++ groups) a.0)
+
+-- ---- where receiving ends
+
+outcome_then : {P Q R S : Type 0} (outcome : Outcome) → (P → R) → (Q → S) → OutcomeLeaves outcome P Q → OutcomeLeaves outcome R S
+outcome_then ended.NoMemory f g l = g l
+outcome_then ended.InputFault f g l = f l
+outcome_then ended.OutputFault f g l = f l
+outcome_then ended.Done f g l = f l
+outcome_then (ended.Refused verdict) f g l = f l
+outcome_then (ended.InputTooLong file) f g l = f l
+outcome_then (ended.TooMuch sum) f g l = f l
+outcome_then (ended.InputChanged file place) f g l = f l
+
+pub leaves_then : {P Q R S : Type 0} (why : Received) → (P → R) → (Q → S) → EndLeaves why P Q → EndLeaves why R S
+leaves_then (how.Files outcome) f g l = outcome_then outcome f g l
+leaves_then how.StoreFault f g l = g l
+leaves_then (how.LogFull end wanted limit) f g l = g l
+
+outcome_both : {P Q : Type 0} (outcome : Outcome) → P → Q → OutcomeLeaves outcome P Q
+outcome_both ended.NoMemory p q = q
+outcome_both ended.InputFault p q = p
+outcome_both ended.OutputFault p q = p
+outcome_both ended.Done p q = p
+outcome_both (ended.Refused verdict) p q = p
+outcome_both (ended.InputTooLong file) p q = p
+outcome_both (ended.TooMuch sum) p q = p
+outcome_both (ended.InputChanged file place) p q = p
+
+outcome_either : {P Q R : Type 0} (outcome : Outcome) → (P → R) → (Q → R) → OutcomeLeaves outcome P Q → R
+outcome_either ended.NoMemory f g l = g l
+outcome_either ended.InputFault f g l = f l
+outcome_either ended.OutputFault f g l = f l
+outcome_either ended.Done f g l = f l
+outcome_either (ended.Refused verdict) f g l = f l
+outcome_either (ended.InputTooLong file) f g l = f l
+outcome_either (ended.TooMuch sum) f g l = f l
+outcome_either (ended.InputChanged file place) f g l = f l
+
+-- What follows from both follows.
+pub leaves_either : {P Q R : Type 0} (why : Received) → (P → R) → (Q → R) → EndLeaves why P Q → R
+leaves_either (how.Files outcome) f g l = outcome_either outcome f g l
+leaves_either how.StoreFault f g l = g l
+leaves_either (how.LogFull end wanted limit) f g l = g l
+
+-- What W says behind more groups is what V says behind those that were there.
+has_from : (why : Received) (header : Header) (there groups : List Group) (current : Option Opened) (store : StoreState) (seen : List ℕ) (pending : Pending) (W V : (List Group → Type 0) → Type 0)
+    → ((H G : List Group → Type 0) → ((first : List Group) → H first → G (groups ++ first)) → W H → V G) → EndHas why header (there ++ groups) current store seen pending W → EndHas why header there current store seen pending V
+has_from why header there groups current store seen pending W V moved has =
+    leaves_then why
+    (λ w. moved (λ first. (begun : Option Begun) × Keeps header ((there ++ groups) ++ first) begun current store seen pending) (λ first. (begun : Option Begun) × Keeps header (there ++ first) begun current store seen pending)
+    (λ first k. (k.0, subst (λ (l : List Group). Keeps header l k.0 current store seen pending) (append_assoc there groups first) k.1)) w)
+    (λ each image is. moved (λ first. HasThese header ((there ++ groups) ++ first) image) (λ first. HasThese header (there ++ first) image) (λ first h. subst (λ (l : List Group). HasThese header l image) (append_assoc there groups first) h) (each image is))
+    has
+
+module _ {D : Type 0} (tells : Type 0) (moment : D → ℕ) (left_since : D → ℕ → List ℕ → Type 0) (seen : D → List ℕ) (pending : D → Pending) where
+  -- a command that ends it
+  pub run_stopped : (old mid new : D) (was now next : StoreState) (current after : Option Opened) (groups : List Group) (begun : Option Begun) (why : Received) (W V : (List Group → Type 0) → Type 0)
+      → RunsOn tells moment left_since seen pending old mid None None current was now groups begun
+      → (tells → (header : Header) (there : List Group) → Keeps header there begun current now (seen mid) (pending mid) → EndHas why header there after next (seen new) (pending new) W)
+      → ((H G : List Group → Type 0) → ((first : List Group) → H first → G (groups ++ first)) → W H → V G) → StopsOn tells seen pending old new None after was next why V
+  run_stopped old mid new was now next current after groups begun why W V run item moved told header there keeps =
+      has_from why header there groups after next (seen new) (pending new) W V moved (item told header (there ++ groups) (run told header there keeps).0)
+
+  -- no more calls
+  pub run_rests : (old new : D) (was now : StoreState) (current : Option Opened) (groups : List Group) (begun : Option Begun) (outcome : Outcome) (V : (List Group → Type 0) → Type 0)
+      → RunsOn tells moment left_since seen pending old new None None current was now groups begun
+      → ((G : List Group → Type 0) → G groups → V G) → StopsOn tells seen pending old new None current was now (how.Files outcome) V
+  run_rests old new was now current groups begun outcome V run is told header there keeps =
+      let r = (run told header there keeps).0 in
+      outcome_both outcome (is (λ first. (b : Option Begun) × Keeps header (there ++ first) b current now (seen new) (pending new)) (begun, r))
+      (λ image i. is (λ first. HasThese header (there ++ first) image) (keeps_has header (there ++ groups) begun current now (seen new) (pending new) image r i))
+
+  -- files that were received, and then one in which it ends
+  pub run_files : (old mid new : D) (was now next : StoreState) (groups : List Group) (why : Received) (W V : (List Group → Type 0) → Type 0) → RunsOn tells moment left_since seen pending old mid None None None was now groups None
+      → ((H G : List Group → Type 0) → ((first : List Group) → H first → G (groups ++ first)) → W H → V G) → StopsOn tells seen pending mid new None None now next why W → StopsOn tells seen pending old new None None was next why V
+  run_files old mid new was now next groups why W V run moved stops told header there keeps =
+      has_from why header there groups None next (seen new) (pending new) W V moved (stops told header (there ++ groups) (run told header there keeps).0)
+
+  -- The part that is open stays unfinished.
+  pub run_abandons : (old new : D) (before : Option Opened) (was now next : StoreState) (current : Option Opened) (o : Opened) (why : Received) (W : (List Group → Type 0) → Type 0) → current ≡ Some o
+      → ((header : Header) (groups : List Group) (version : ℕ) (commands : List Command) (shows : List ℕ) (known : Pending) → Builds header groups version commands o.part now shows known → Holds header groups next shows known)
+      → ((H G : List Group → Type 0) → ((first : List Group) → H first → G first) → W H → W G) → StopsOn tells seen pending old new before current was now why W → StopsOn tells seen pending old new before None was next why W
+  run_abandons old new before was now next current o why W e holds follows stops told header there keeps =
+      leaves_then why
+      (λ w. follows (λ first. (b : Option Begun) × Keeps header (there ++ first) b current now (seen new) (pending new)) (λ first. (b : Option Begun) × Keeps header (there ++ first) b None next (seen new) (pending new))
+      (λ first k. (None, by_begun (there ++ first) k.0 (subst (λ (c : Option Opened). Keeps header (there ++ first) k.0 c now (seen new) (pending new)) e k.1))) w)
+      (λ each. each) (stops told header there keeps)
+    where
+      by_begun : (groups : List Group) (b : Option Begun) → Keeps header groups b (Some o) now (seen new) (pending new) → Holds header groups next (seen new) (pending new)
+      by_begun groups None k = absurd k
+      by_begun groups (Some b) k = holds header groups b.version b.commands (seen new) (pending new) k.builds

@@ -1,6 +1,6 @@
 -- The open part is edited, or the edit is refused, or there is no room for it.
-use Rattle.std.specs.Prelude.{◌≡◌, ◌⊎◌, ℕ, ◌+◌, Bool, true, false, List, [], ◌∷◌, ◌++◌, length, map, Option, None, Some, Result, Ok, Err, if◌then◌else◌}
-use Rattle.std.proofs.Common.{inl, inr, refl, sym, ap, subst, ◌∙◌, arith}
+use Rattle.std.specs.Prelude.{◌≡◌, ℕ, ◌+◌, Bool, true, false, List, [], ◌∷◌, ◌++◌, length, Option, None, Some, Result, Ok, Err, if◌then◌else◌}
+use Rattle.std.proofs.Common.{inr, refl, sym, ap, subst, ◌∙◌}
 use Rattle.sx_base.specs.Disk.{Pending, IsImage}
 use Rattle.sx_base.specs.Crash.{LeavesOnly}
 use Rattle.sx_base.proofs.DiskMoments.{begins, weakens}
@@ -12,14 +12,13 @@ use Rattle.send_model.specs.Subvolume.{Subvolume}
 use Rattle.send_model.specs.Command.{Command}
 use Rattle.send_model.specs.Spelling.{canonical}
 use Rattle.send_model.specs.Reading.{Item}
-use Rattle.send_model.specs.Store.{Head, Part, State, After, head_of, edited, edit_part, step_edit}
-use Rattle.send_model.specs.Counts.{is_end}
+use Rattle.send_model.specs.Store.{Head, Part, edited, edit_part, step_edit}
 use Rattle.clone_resolve.specs.Steps.{cells_put}
 use Rattle.store_model.specs.Image.{Header}
 use Rattle.store_model.specs.Stored.{Group, is_edit}
 use Rattle.store_model.specs.Written.{Begun, and_command, begun_after}
 use Rattle.store_model.proofs.WrittenGroups.{edit_facts}
-use Rattle.group_log.proofs.GatedGroups.{rests_has, grows_has}
+use Rattle.group_log.proofs.GatedGroups.{rests_has}
 use Rattle.group_log.specs.declared.stops.LogStop.TheVariants as log
 use Rattle.store_groups.specs.declared.place.Place.{Place}
 use Rattle.store_groups.specs.Placing.{further}
@@ -29,16 +28,17 @@ use Rattle.store_groups.specs.Stopping.{IfRefused, IfEnded, IfLog}
 use Rattle.store_journal.specs.Filling as fill
 use Rattle.store_journal.specs.Filling.{piece_asks}
 use Rattle.store_journal.specs.Shown.{StoreState, IsOpen}
-use Rattle.store_journal.specs.Holding.{bodies_of, HasThese, Holds, Builds}
-use Rattle.store_journal.specs.Answers.{EditsIn}
+use Rattle.store_journal.specs.Holding.{bodies_of, HasThese, Builds}
+use Rattle.store_journal.specs.Answers.{EditsIn, IfShort}
 use Rattle.receiver.specs.declared.opened.Opened.{Opened}
 use Rattle.receiver.specs.declared.outcome.Received.{Received}
 use Rattle.receiver.specs.Standing.{state_of, place_of, IsReceiving, IsReady}
-use Rattle.receiver.specs.Disks.{IsBuilt, Keeps, HasVersion, HasFront}
+use Rattle.receiver.specs.Disks.{Keeps, HasVersion, HasFront}
 use Rattle.receiver.specs.Answers.{ended_by, IsRefusedWith, StepSays, PiecesSay, ReadySays, KeepsSays}
 use Rattle.receiver.proofs.ClosedParts.{none_held, one_built}
 use Rattle.receiver.proofs.RoomLaws.{edit_item, edit_end, has_room, no_room}
 use Rattle.receiver.proofs.BegunParts.{none_yet}
+use Rattle.receiver.proofs.FollowedItems.{keeps_has}
 
 -- The part and its line again.
 abbrev pub with_part : Part (Option Place) → Opened → Opened
@@ -182,25 +182,25 @@ module _ (header : Header) (groups : List Group) where
 
   pub not_edit_keeps : {D : Type 0} (seen : D → List ℕ) (pending : D → Pending) (was now : D) (item : Item) (begun : Option Begun) (old new : StoreState) (current : Option Opened) (o : Opened) (part : Part (Option Place)) (said : Result (Subvolume (Option Place)) meant.Refusal) (why : StoreStop) (r : Received) (after : Option Begun)
       → Some o ≡ current → part.key ≡ o.part.key → r ≡ ended_by item why → Keeps header groups begun current old (seen was) (pending was) → EditsIn {A = Unit {0}} (Err why) o.part part said
-      → IfRefused {T = Unit {0}} (Err why) (λ _. (new ≡ old) × (now ≡ was))
-      → KeepsSays (Err r) (λ groups b. Keeps header groups b (Some (with_part part o)) new (seen now) (pending now)) groups groups after
-  not_edit_keeps {D} seen pending was now item begun old new current o part said why r after e key is keeps says same =
-      subst (λ (x : Received). KeepsSays (Err x) (λ groups b. Keeps header groups b (Some (with_part part o)) new (seen now) (pending now)) groups groups after) (sym is) (by_stop why says same)
+      → IfRefused {T = Unit {0}} (Err why) (λ _. (new ≡ old) × (now ≡ was)) → IfShort {T = Unit {0}} (Err why) (now ≡ was)
+      → KeepsSays (Err r) (λ groups b. Keeps header groups b (Some (with_part part o)) new (seen now) (pending now)) (λ gs. (image : List ℕ) → IsImage (pending now) image → HasThese header gs image) groups groups groups after
+  not_edit_keeps {D} seen pending was now item begun old new current o part said why r after e key is keeps says same short =
+      subst (λ (x : Received). KeepsSays (Err x) (λ groups b. Keeps header groups b (Some (with_part part o)) new (seen now) (pending now)) (λ gs. (image : List ℕ) → IsImage (pending now) image → HasThese header gs image) groups groups groups after) (sym is) (by_stop why says same short)
     where
-      by_stop : (w : StoreStop) → EditsIn {A = Unit {0}} (Err w) o.part part said → IfRefused {T = Unit {0}} (Err w) (λ _. (new ≡ old) × (now ≡ was))
-          → KeepsSays (Err (ended_by item w)) (λ groups b. Keeps header groups b (Some (with_part part o)) new (seen now) (pending now)) groups groups after
-      by_stop (stop.Refused refusal) edits kept =
+      by_stop : (w : StoreStop) → EditsIn {A = Unit {0}} (Err w) o.part part said → IfRefused {T = Unit {0}} (Err w) (λ _. (new ≡ old) × (now ≡ was)) → IfShort {T = Unit {0}} (Err w) (now ≡ was)
+          → KeepsSays (Err (ended_by item w)) (λ groups b. Keeps header groups b (Some (with_part part o)) new (seen now) (pending now)) (λ gs. (image : List ℕ) → IsImage (pending now) image → HasThese header gs image) groups groups groups after
+      by_stop (stop.Refused refusal) edits kept same_disk =
           let here : Keeps header groups begun (Some o) old (seen was) (pending was) = subst (λ (c : Option Opened). Keeps header groups begun c old (seen was) (pending was)) (sym e) keeps in (
             begun,
             subst (λ (x : Opened). Keeps header groups begun (Some x) new (seen now) (pending now)) (sym (same_part part o key edits.1))
                 (subst (λ (x : StoreState). Keeps header groups begun (Some o) x (seen now) (pending now)) (sym kept.0)
                 (subst (λ (d : D). Keeps header groups begun (Some o) old (seen d) (pending d)) (sym kept.1) here)),
           )
-      by_stop stop.NoMemory edits kept = tt
-      by_stop (stop.Log (log.LogFull end wanted limit)) edits kept = tt
-      by_stop (stop.Log log.DiskFault) edits kept = tt
-      by_stop (stop.Log (log.NotStore group)) edits kept = tt
-      by_stop (stop.Log (log.StoreThere size)) edits kept = tt
+      by_stop stop.NoMemory edits kept same_disk = tt
+      by_stop (stop.Log (log.LogFull end wanted limit)) edits kept same_disk = λ image i. keeps_has header groups begun current old (seen was) (pending was) image keeps (subst (λ (d : D). IsImage (pending d) image) same_disk i)
+      by_stop (stop.Log log.DiskFault) edits kept same_disk = tt
+      by_stop (stop.Log (log.NotStore group)) edits kept same_disk = tt
+      by_stop (stop.Log (log.StoreThere size)) edits kept same_disk = tt
 
   -- before any call
   pub none_edit_moments : {D : Type 0} {moment : D → ℕ} {left_since : D → ℕ → List ℕ → Type 0} {pending : Pending} (disk : D) (begun : Option Begun) (current : Option Opened) (store : StoreState) (seen : List ℕ) → None ≡ current

@@ -1,45 +1,27 @@
 -- How receiving ends early: at an item, at a fault of reading, or where an object of the outside fails.
-use Rattle.std.specs.Prelude.{◌≡◌, ◌⊎◌, ℕ, ◌+◌, ◌<◌, ◌≤◌, Bool, true, false, List, [], ◌∷◌, ◌++◌, length, take, drop, Option, None, Some, Result, Ok, Err, is_some, if◌then◌else◌}
+use Rattle.std.specs.Prelude.{◌≡◌, ℕ, List, [], ◌++◌, length, drop, Option}
 use Rattle.std.specs.List.{filter, flat_map}
-use Rattle.std.specs.Io.KnownBytes.{Appends}
-use Rattle.std.proofs.Common.{inl, inr, refl, sym, ap, subst, ◌∙◌, append_assoc, append-nil, arith, length-append}
-use Rattle.std.proofs.lemmas.List.{take-append-drop}
+use Rattle.std.proofs.Common.{refl, sym, ap, ◌∙◌, append_assoc, append-nil}
 use Rattle.std.proofs.lemmas.List.Concat.{flat_map-append}
-use Rattle.sx_base.specs.Outside.{AppendsPart}
-use Rattle.sx_base.specs.Refusals.{verdict_meant}
-use Rattle.sx_base.specs.declared.outcome.Verdict.{Verdict}
 use Rattle.sx_base.specs.declared.outcome.Outcome.TheVariants as ended
-use Rattle.send_model.specs.Refusal as meant
-use Rattle.send_model.specs.Command.{Command}
-use Rattle.send_model.specs.Spelling.{canonical}
-use Rattle.send_model.specs.Reading as reading
 use Rattle.send_model.specs.Reading.{Item}
-use Rattle.send_model.specs.Store.{Head, Store, Part, State, After, head_of, completed}
-use Rattle.send_model.specs.Receive.{Ran, run_by, then_run, byte_cells}
-use Rattle.send_model.specs.Guards.{Guard, Watched, guarded}
-use Rattle.send_model.specs.Due.{Limited, Stop, AtEnd, AtFault, AtLimit, RefusedAt, TooLong, stop_due}
-use Rattle.send_model.proofs.Guarding.{after_looks, looks_are}
-use Rattle.store_model.specs.Stored.{Group, is_edit}
+use Rattle.send_model.specs.Store.{Store, State}
+use Rattle.send_model.specs.Receive.{Ran, run_by, byte_cells}
+use Rattle.send_model.specs.Guards.{Guard, Watched}
+use Rattle.send_model.specs.Due.{Limited, Stop, stop_due}
+use Rattle.store_model.specs.Stored.{Group}
 use Rattle.store_model.specs.States.{is_complete, complete_line, lines_behind}
 use Rattle.store_model.specs.Dues as dues
 use Rattle.store_model.specs.Dues.{Due, first_full, pieces_from, item_pieces, place_after, left_full, receive_from, left_from, or_due}
-use Rattle.store_model.specs.Written.{Begun, closed_by}
 use Rattle.store_model.proofs.PassedStates.{IsOn, run_on, on_way}
 use Rattle.store_model.proofs.Betweens.{between_has_them}
-use Rattle.store_model.proofs.WrittenGroups.{head_fact}
-use Rattle.auditor.specs.Following.{Followed, blank, beside, follow, then_read}
+use Rattle.auditor.specs.Following.{Followed, blank, then_read}
 use Rattle.store_groups.specs.declared.place.Place.{Place}
 use Rattle.store_journal.specs.Shown.{StoreState}
 use Rattle.receiver.specs.declared.opened.Opened.{Opened}
 use Rattle.receiver.specs.declared.outcome.Received.{Received}
 use Rattle.receiver.specs.declared.outcome.Received.TheVariants as how
-use Rattle.receiver.specs.Standing.{line_due, behind_close, place_of, IsReady}
-use Rattle.receiver.specs.Answers.{StepSays, PiecesSay, ItemWrites}
-use Rattle.receiver.specs.Steps.{blank_of, line_under}
-use Rattle.receiver.specs.Running.{byte_step, Leads, Spot, without_cells, IsAt, due_from, LinesLeft, CoreLeft, IsLineFront, Stops}
-use Rattle.receiver.proofs.Spots.{due_refused, due_full, left_refused, left_where_full, run_taken}
-use Rattle.receiver.proofs.PrintedLines.{completed_lines}
-use Rattle.receiver.proofs.Leading.{after_without, the_guards, the_place, the_line, the_step, the_lines, the_rest}
+use Rattle.receiver.specs.Running.{byte_step, Leads, Spot, IsAt, due_from, LinesLeft, CoreLeft, IsLineFront, Stops}
 
 -- ---- what is printed later
 

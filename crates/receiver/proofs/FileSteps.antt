@@ -1,50 +1,31 @@
 -- What the loop over a file's commands keeps, and each of its ends.
-use Rattle.std.specs.Prelude.{◌≡◌, ⊤, ℕ, ◌+◌, ◌≤◌, Bool, true, false, List, [], ◌∷◌, ◌++◌, length, take, Option, None, Some, Result, Ok, Err, if◌then◌else◌}
+use Rattle.std.specs.Prelude.{◌≡◌, ⊤, ℕ, ◌≤◌, Bool, true, false, List, [], ◌∷◌, ◌++◌, length, Option, None, Some, Ok, if◌then◌else◌}
 use Rattle.std.specs.Io.KnownBytes.{Appends}
 use Rattle.std.proofs.KnownBytes.{Appends-nil, Appends-trans}
-use Rattle.std.proofs.Common.{inl, inr, refl, sym, ap, subst, ◌∙◌, append_assoc, append-nil, arith}
-use Rattle.send_model.specs.Command.{Command, Subvol, Snapshot, End}
-use Rattle.send_model.specs.Reading.{Item, Whole, Faulty, Reading, CommandDue, HeaderDue, due_after, with_item, reads}
+use Rattle.std.proofs.Common.{refl, sym, ap, subst, ◌∙◌, append_assoc, arith}
+use Rattle.send_model.specs.Command.{Command, End}
+use Rattle.send_model.specs.Reading.{Item, Reading, CommandDue, due_after, with_item, reads}
 use Rattle.send_model.specs.Store.{Head, Store, head_of}
 use Rattle.send_model.specs.Guards.{Guard}
 use Rattle.send_model.specs.Counts.{is_end}
-use Rattle.send_model.specs.Lengths.{limit as most, only_ends}
-use Rattle.send_model.specs.Due.{Limited, Stop, AtEnd, AtFault, AtLimit, RefusedAt, TooLong}
-use Rattle.send_model.proofs.TooLong.{short_fits, fault_fits, long_is}
-use Rattle.sx_base.specs.Refusals.{refusal_of, verdict_meant}
-use Rattle.sx_base.specs.declared.outcome.Verdict.{Verdict}
-use Rattle.sx_base.specs.declared.outcome.Outcome.{Outcome}
-use Rattle.sx_base.specs.declared.outcome.Outcome.TheVariants as ended
 use Rattle.cmd_reader.specs.declared.item.Item as read
-use Rattle.cmd_reader.specs.declared.item.ReadStop.{ReadStop}
-use Rattle.cmd_reader.specs.declared.item.ReadStop.TheVariants as stop
 use Rattle.cmd_reader.specs.Places.{IfTold}
-use Rattle.cmd_reader.specs.Fronts.{IsRefused, IsLongAt}
 use Rattle.cmd_reader.specs.Left.{Reader, at_start, left}
-use Rattle.cmd_reader.specs.Next.{item_of, HasEnded, IsFaulty, OnlyEnds, IsNext, NextSays, ItemFits}
-use Rattle.cmd_reader.specs.Stopping.{outcome_at}
-use Rattle.cmd_reader.proofs.Aheads.{next_item, next_end}
-use Rattle.cmd_reader.proofs.Told.{Here, told_both, told_map, told_always, told_here, told_moved}
+use Rattle.cmd_reader.specs.Next.{item_of, IsNext, NextSays, ItemFits}
+use Rattle.cmd_reader.proofs.Aheads.{next_item}
+use Rattle.cmd_reader.proofs.Told.{told_both, told_always}
 use Rattle.store_model.specs.Stored.{Group}
-use Rattle.store_model.specs.Written.{Begun, and_command, begun_after_edit, begun_after, closed_by, begun_by, groups_from}
-use Rattle.store_model.proofs.PassedStates.{IsOn, sort_of}
-use Rattle.store_model.proofs.WrittenGroups.{edit_facts}
-use Rattle.auditor.specs.Following.{Followed, beside, follow, file_read, read_whole, then_read}
-use Rattle.auditor.proofs.TooLong.{whole_read, fault_read, long_read, read_either}
+use Rattle.store_model.specs.Written.{Begun, and_command, begun_after_edit, begun_after, closed_by, begun_by}
+use Rattle.store_model.proofs.PassedStates.{IsOn}
+use Rattle.auditor.specs.Following.{beside, follow}
 use Rattle.store_journal.specs.Shown.{StoreState}
 use Rattle.receiver.specs.declared.opened.Opened.{Opened}
-use Rattle.receiver.specs.declared.outcome.Received.{Received}
-use Rattle.receiver.specs.declared.outcome.Received.TheVariants as how
 use Rattle.receiver.specs.Standing.{behind_close, place_of, IsReady}
 use Rattle.receiver.specs.Disks.{HasVersion}
-use Rattle.receiver.specs.Answers.{StepSays, PiecesSay, ItemWrites}
-use Rattle.receiver.specs.Steps.{blank_of, line_under, begun_if}
-use Rattle.receiver.specs.Running.{byte_step, Spot, IsAt, Leads, Stops}
-use Rattle.receiver.specs.FileEnds.{then_others, FileTaken, FileStopped, FileEnds}
-use Rattle.receiver.proofs.Spots.{groups_first}
-use Rattle.receiver.proofs.Leading.{after_without, the_guards, the_step, next_at, leads_none, leads_on, leads_one}
-use Rattle.receiver.proofs.Ends.{stops_from, no_items_due, no_items_left, no_items_core, whatever_front}
-use Rattle.receiver.proofs.ItemEnds.{item_stops}
+use Rattle.receiver.specs.Answers.{StepSays, PiecesSay}
+use Rattle.receiver.specs.Steps.{blank_of, line_under}
+use Rattle.receiver.specs.Running.{byte_step, Spot, IsAt, Leads}
+use Rattle.receiver.proofs.Leading.{next_at, leads_none, leads_on, leads_one}
 
 -- Items, and then what else is read.
 abbrev pub and_then : List Item → Reading → Reading

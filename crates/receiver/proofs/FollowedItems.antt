@@ -1,15 +1,12 @@
 -- One command under guards.
-use Rattle.std.specs.Prelude.{◌≡◌, ◌⊎◌, ℕ, Bool, true, false, List, [], ◌∷◌, ◌++◌, map, Option, None, Some, Result, Ok, Err, if◌then◌else◌}
-use Rattle.std.proofs.Common.{refl, sym, ap, subst, ◌∙◌, append-nil}
+use Rattle.std.specs.Prelude.{◌≡◌, ℕ, Bool, true, false, List, [], ◌∷◌, ◌++◌, map, Option, None, Some, Result, Ok, Err, if◌then◌else◌}
+use Rattle.std.proofs.Common.{inl, inr, refl, sym, ap, subst, ◌∙◌, append-nil}
 use Rattle.sx_base.specs.Disk.{Pending, IsImage}
 use Rattle.sx_base.specs.Crash.{LeavesOnly}
 use Rattle.sx_base.proofs.DiskMoments.{begins}
-use Rattle.sx_base.specs.Refusals.{refusal_of, verdict_meant}
-use Rattle.sx_base.specs.declared.stop.Stop.{Stop}
+use Rattle.sx_base.specs.Refusals.{refusal_of}
 use Rattle.sx_base.specs.declared.stop.Stop.TheVariants as why
-use Rattle.sx_base.specs.declared.outcome.Outcome.{Outcome}
 use Rattle.sx_base.specs.declared.outcome.Outcome.TheVariants as ended
-use Rattle.sx_base.specs.declared.outcome.Verdict.{Verdict}
 use Rattle.send_model.specs.Refusal as meant
 use Rattle.send_model.specs.Command.{Command}
 use Rattle.send_model.specs.Reading as reading
@@ -20,7 +17,7 @@ use Rattle.send_model.proofs.Sorts.{head_step}
 use Rattle.send_model.proofs.CellClones.{all_steps-cells}
 use Rattle.send_model.specs.Guards.{Guard, guarded, looked, watched}
 use Rattle.send_model.specs.Cells.{recelled_state}
-use Rattle.clone_resolve.specs.Steps.{cells_put, Answers}
+use Rattle.clone_resolve.specs.Steps.{cells_put}
 use Rattle.auditor.specs.Following.{Followed, blank_step, beside, follow}
 use Rattle.auditor.proofs.Steps.{answers_blank}
 use Rattle.store_model.specs.Image.{Header}
@@ -34,9 +31,10 @@ use Rattle.store_journal.specs.Holding.{bodies_of, HasThese}
 use Rattle.receiver.specs.declared.opened.Opened.{Opened}
 use Rattle.receiver.specs.declared.outcome.Received.{Received}
 use Rattle.receiver.specs.declared.outcome.Received.TheVariants as how
-use Rattle.receiver.specs.Disks.{Keeps, HasFront, closing}
-use Rattle.receiver.specs.Answers.{IsRefusedWith, StepSays}
-use Rattle.receiver.specs.Steps.{TakesAs, begun_if}
+use Rattle.receiver.specs.Standing.{state_of, line_by}
+use Rattle.receiver.specs.Disks.{Keeps, HasFront, HasNow, closing}
+use Rattle.receiver.specs.Answers.{StepSays, ItemWrites, KeepsSays}
+use Rattle.receiver.specs.Steps.{TakesAs, line_under, begun_if}
 use Rattle.receiver.proofs.BegunParts.{none_yet}
 
 -- ---- a guard refuses the command
@@ -155,9 +153,49 @@ begun_alike place old c guards = one (head_of c) refl
     one None is = ap (λ (o : Option Head). shown o before) is ∙ nothing before ∙ sym (nothing after) ∙ ap (λ (o : Option Head). shown o after) (sym is)
     one (Some head) is = ap (shown (head_of c)) (sym (head_blank place old c head is))
 
+allowed_begins : (guards : List Guard) (item : Item) (place : Place) (old : State (Option Place)) → guarded guards item.command ≡ None
+    → begun_if (step None (cells_put further place item.command) old item.command) item.command ≡ begun_if (follow (beside guards (blank old)) item) item.command
+allowed_begins guards item place old none =
+    begun_alike place old item.command (looked guards item.command) ∙ ap (λ (a : After Followed). begun_if a item.command) (sym (follow_allowed (beside guards (blank old)) item none))
+
 pub allowed_due : (guards : List Guard) (item : Item) (begun : Option Begun) (place : Place) (old : State (Option Place)) → guarded guards item.command ≡ None
     → closing item.command begun ++ begun_if (step None (cells_put further place item.command) old item.command) item.command
     ≡ closed_by guards item.command begun ++ begun_if (follow (beside guards (blank old)) item) item.command
-allowed_due guards item begun place old none =
-    let same = begun_alike place old item.command (looked guards item.command) ∙ ap (λ (a : After Followed). begun_if a item.command) (sym (follow_allowed (beside guards (blank old)) item none)) in
-    λ i. sym (allowed_closes guards item.command begun none) i ++ same i
+allowed_due guards item begun place old none = λ i. sym (allowed_closes guards item.command begun none) i ++ allowed_begins guards item place old none i
+
+-- ---- what stands then
+
+writes_then : (r : Result (Unit {0}) Received) (Sure Sure_now : Type 0) (line : List ℕ) (old new : Option (List ℕ)) → (Sure → Sure_now) → ItemWrites r Sure line old new → ItemWrites r Sure_now line old new
+writes_then (Ok u) Sure Sure_now line old new f w = w
+writes_then (Err (how.Files (ended.Refused verdict))) Sure Sure_now line old new f w = w
+writes_then (Err (how.Files ended.NoMemory)) Sure Sure_now line old new f w = (w.0, f w.1)
+writes_then (Err (how.Files ended.OutputFault)) Sure Sure_now line old new f w = w
+writes_then (Err (how.Files ended.InputFault)) Sure Sure_now line old new f w = w
+writes_then (Err (how.Files ended.Done)) Sure Sure_now line old new f w = w
+writes_then (Err (how.Files (ended.InputTooLong file))) Sure Sure_now line old new f w = w
+writes_then (Err (how.Files (ended.TooMuch sum))) Sure Sure_now line old new f w = w
+writes_then (Err (how.Files (ended.InputChanged file at))) Sure Sure_now line old new f w = w
+writes_then (Err how.StoreFault) Sure Sure_now line old new f (inl none) = inl none
+writes_then (Err how.StoreFault) Sure Sure_now line old new f (inr sure) = inr (sure.0, f sure.1)
+writes_then (Err (how.LogFull end wanted limit)) Sure Sure_now line old new f w = w
+
+module _ {D : Type 0} (tells : Type 0) (seen : D → List ℕ) (pending : D → Pending) (old new : D) (guards : List Guard) (item : Item) (current : Option Opened) (store : StoreState) (none : guarded guards item.command ≡ None) where
+  pub allowed_writes : (r : Result (Unit {0}) Received) (old_out new_out : Option (List ℕ))
+      → ItemWrites r ((place : Place) → HasNow tells seen pending old new item.version current store (closing item.command) (begun_if (step None (cells_put further place item.command) (state_of store current) item.command) item.command)) (line_by current item.command) old_out new_out
+      → ItemWrites r (HasNow tells seen pending old new item.version current store (closed_by guards item.command) (begun_if (follow (beside guards (blank (state_of store current))) item) item.command)) (line_under guards current item.command) old_out new_out
+  allowed_writes r old_out new_out w =
+      let place : Place = record { at = 0 } in
+      let begins : List Group = begun_if (follow (beside guards (blank (state_of store current))) item) item.command in
+      subst (λ (o : Option meant.Refusal). ItemWrites r (HasNow tells seen pending old new item.version current store (closed_by guards item.command) begins) (elim o as (λ x. List ℕ) [ Some refusal ↦ [] | None ↦ line_by current item.command ]) old_out new_out) (sym none)
+      (writes_then r ((place : Place) → HasNow tells seen pending old new item.version current store (closing item.command) (begun_if (step None (cells_put further place item.command) (state_of store current) item.command) item.command))
+      (HasNow tells seen pending old new item.version current store (closed_by guards item.command) begins) (line_by current item.command) old_out new_out
+      (λ sure told header there begun version keeps image is.
+      subst (λ (l : List Group). HasFront header (there ++ l) begins image) (sym (allowed_closes guards item.command begun none))
+      (subst (λ (l : List Group). HasFront header (there ++ closing item.command begun) l image) (allowed_begins guards item place (state_of store current) none) (sure place told header there begun version keeps image is))) w)
+
+-- The part that a command closes which no guard refuses.
+pub allowed_keeps : (r : Result (Unit {0}) Received) (K : List Group → Option Begun → Type 0) (L : List Group → Type 0) (groups marks begins : List Group) (guards : List Guard) (c : Command) (begun after : Option Begun) → guarded guards c ≡ None
+    → KeepsSays r K L (groups ++ closing c begun) (groups ++ (closing c begun ++ marks)) (groups ++ (closing c begun ++ begins)) after
+    → KeepsSays r K L (groups ++ closed_by guards c begun) (groups ++ (closed_by guards c begun ++ marks)) (groups ++ (closed_by guards c begun ++ begins)) after
+allowed_keeps r K L groups marks begins guards c begun after none says =
+    subst (λ (l : List Group). KeepsSays r K L (groups ++ l) (groups ++ (l ++ marks)) (groups ++ (l ++ begins)) after) (sym (allowed_closes guards c begun none)) says

@@ -1,31 +1,24 @@
 -- Receiving ends at an item: it is refused, there is no room for it, or something fails there.
-use Rattle.std.specs.Prelude.{◌≡◌, ◌⊎◌, ℕ, ◌+◌, ◌-◌, ◌<◌, ◌≤◌, Bool, true, false, List, [], ◌∷◌, ◌++◌, length, take, drop, Option, None, Some, Result, Ok, Err, is_some, if◌then◌else◌}
+use Rattle.std.specs.Prelude.{◌≡◌, ◌⊎◌, ℕ, ◌+◌, Bool, List, [], ◌∷◌, ◌++◌, length, take, drop, Option, None, Some, Err, is_some, if◌then◌else◌}
 use Rattle.std.specs.Io.KnownBytes.{Appends}
-use Rattle.std.proofs.Common.{inl, inr, refl, sym, ap, subst, ◌∙◌, append_assoc, append-nil, arith, length-append}
+use Rattle.std.proofs.Common.{inl, inr, refl, sym, ap, ◌∙◌, append_assoc, append-nil, arith, length-append}
 use Rattle.std.proofs.lemmas.List.{take-append-drop, length-drop}
-use Rattle.sx_base.specs.Outside.{AppendsPart}
-use Rattle.sx_base.specs.Refusals.{verdict_meant}
 use Rattle.sx_base.specs.declared.outcome.Verdict.{Verdict}
-use Rattle.sx_base.specs.declared.outcome.Outcome.{Outcome}
 use Rattle.sx_base.specs.declared.outcome.Outcome.TheVariants as ended
 use Rattle.send_model.specs.Refusal as meant
-use Rattle.send_model.specs.Command.{Command}
 use Rattle.send_model.specs.Spelling.{canonical}
 use Rattle.send_model.specs.Reading as reading
 use Rattle.send_model.specs.Reading.{Item}
-use Rattle.send_model.specs.Store.{Head, Store, Part, State, After, head_of, completed, step}
-use Rattle.send_model.specs.Receive.{Ran, run_by, then_run, verdict_of, byte_cells}
-use Rattle.send_model.specs.Guards.{Guard, Watched, guarded, looked}
-use Rattle.send_model.specs.Due.{Limited, Stop, RefusedAt, stop_due}
-use Rattle.send_model.proofs.Guarding.{after_looks, looks_are}
-use Rattle.store_model.specs.Stored.{is_edit}
+use Rattle.send_model.specs.Store.{Head, Store, State, After, head_of, completed}
+use Rattle.send_model.specs.Receive.{run_by, then_run}
+use Rattle.send_model.specs.Guards.{Guard, Watched, guarded}
+use Rattle.send_model.specs.Due.{Stop, RefusedAt, stop_due}
 use Rattle.store_model.specs.States.{lines_behind}
 use Rattle.store_model.specs.Dues as dues
 use Rattle.store_model.specs.Dues.{Due, first_full, pieces_from, item_pieces, place_after, left_full, receive_from, left_from, or_due}
 use Rattle.store_model.proofs.PassedStates.{IsOn}
 use Rattle.store_model.proofs.WrittenGroups.{head_fact}
 use Rattle.auditor.specs.Following.{Followed, blank, beside, follow}
-use Rattle.store_groups.specs.declared.place.Place.{Place}
 use Rattle.store_journal.specs.Shown.{StoreState}
 use Rattle.receiver.specs.declared.opened.Opened.{Opened}
 use Rattle.receiver.specs.declared.outcome.Received.{Received}
@@ -33,19 +26,25 @@ use Rattle.receiver.specs.declared.outcome.Received.TheVariants as how
 use Rattle.receiver.specs.Standing.{line_due, line_by, behind_close, place_of, IsReady}
 use Rattle.receiver.specs.Answers.{StepSays, PiecesSay, ItemWrites}
 use Rattle.receiver.specs.Steps.{blank_of, line_under}
-use Rattle.receiver.specs.Running.{byte_step, Spot, without_cells, IsAt, due_from, LinesLeft, CoreLeft, IsLineFront, Stops}
-use Rattle.receiver.proofs.Spots.{due_refused, due_full, left_refused, left_where_full, run_taken}
-use Rattle.receiver.proofs.PrintedLines.{completed_lines, PartLine}
-use Rattle.receiver.proofs.Leading.{after_without, the_guards, the_place, the_line, the_step, the_lines, the_rest}
+use Rattle.receiver.specs.Running.{byte_step, Spot, IsAt, IsLineFront, Stops}
+use Rattle.receiver.proofs.Spots.{due_refused, due_full, left_refused, left_where_full}
+use Rattle.receiver.proofs.PrintedLines.{completed_lines}
+use Rattle.receiver.proofs.LeftItems.{not_guarded}
+use Rattle.receiver.proofs.Leading.{the_guards, the_place, the_line, the_step, the_lines, the_rest}
 use Rattle.receiver.proofs.Ends.{later_lines}
 
--- A command that is not refused was not refused by a guard.
-not_guarded : (w : Watched (State ℕ)) (item : Item) → (byte_step w item).refusal ≡ None → guarded w.guards item.command ≡ None
-not_guarded w item none = one (guarded w.guards item.command) (sym (ap (λ (a : After (Watched (State ℕ))). a.refusal) (looks_are (State ℕ) (λ s i. step 0 (byte_cells i) s i.command) w item)) ∙ none)
-  where
-    one : (o : Option meant.Refusal) → (after_looks (State ℕ) (λ s i. step 0 (byte_cells i) s i.command) w item o).refusal ≡ None → o ≡ None
-    one None e = refl
-    one (Some refusal) e = cc
+-- What was written of the line of an item at which receiving ends. Sure says that the group of its part is there.
+abbrev pub WrittenAs : Received → Type 0 → (line lines : List ℕ) → Type 0
+WrittenAs (how.Files (ended.Refused verdict)) Sure line lines = lines ≡ line
+WrittenAs (how.Files ended.NoMemory) Sure line lines = (lines ≡ line) × Sure
+WrittenAs (how.Files ended.OutputFault) Sure line lines = (unwritten : List ℕ) × (line ≡ lines ++ unwritten)
+WrittenAs (how.Files ended.InputFault) Sure line lines = ⊥
+WrittenAs (how.Files ended.Done) Sure line lines = ⊥
+WrittenAs (how.Files (ended.InputTooLong file)) Sure line lines = ⊥
+WrittenAs (how.Files (ended.TooMuch sum)) Sure line lines = ⊥
+WrittenAs (how.Files (ended.InputChanged file place)) Sure line lines = ⊥
+WrittenAs how.StoreFault Sure line lines = (lines ≡ []) ⊎ ((lines ≡ line) × Sure)
+WrittenAs (how.LogFull end wanted most) Sure line lines = lines ≡ line
 
 -- What is printed of an item and all behind it.
 run_lines : (base : Store ℕ) (w : Watched (State ℕ)) (item : Item) (extra : List Item) → IsOn base (byte_step w item).state.state.store (byte_step w item).state.state.part
@@ -136,26 +135,28 @@ module _ (limit : ℕ) (base : Store ℕ) (old : Spot) (item : Item) (guards : L
   none_front extra stop = let f = line_front extra stop in (line_under guards current item.command ++ f.0, record { all = f.1.all })
 
   -- Whatever ended it there.
-  pub item_stops : (why : Received) (old_out new_out : Option (List ℕ)) → said why → PiecesSay (Err why) limit (behind_close current item.command (place_of store current)) (place_of next next_current) item
-      → ItemWrites (Err why) (line_under guards current item.command) old_out new_out
-      → (lines : List ℕ) × Appends old_out new_out lines × ((extra : List Item) (stop : Stop) → Stops why limit base old (record { items = item ∷ extra; stop = stop }) lines next.core)
-  item_stops (how.Files (ended.Refused verdict)) old_out new_out says pieces writes = (line_under guards current item.command, writes, λ extra stop. refused_stops extra stop verdict says)
-  item_stops (how.Files ended.NoMemory) old_out new_out says pieces writes = (line_under guards current item.command, writes, λ extra stop. line_front extra stop)
-  item_stops (how.Files ended.OutputFault) old_out new_out says pieces writes =
+  pub item_stops : (Sure : Type 0) (why : Received) (old_out new_out : Option (List ℕ)) → said why → PiecesSay (Err why) limit (behind_close current item.command (place_of store current)) (place_of next next_current) item
+      → ItemWrites (Err why) Sure (line_under guards current item.command) old_out new_out
+      → (lines : List ℕ) × Appends old_out new_out lines × WrittenAs why Sure (line_under guards current item.command) lines
+      × ((extra : List Item) (stop : Stop) → Stops why limit base old (record { items = item ∷ extra; stop = stop }) lines next.core)
+  item_stops Sure (how.Files (ended.Refused verdict)) old_out new_out says pieces writes = (line_under guards current item.command, writes, refl, λ extra stop. refused_stops extra stop verdict says)
+  item_stops Sure (how.Files ended.NoMemory) old_out new_out says pieces writes = (line_under guards current item.command, writes.0, (refl, writes.1), λ extra stop. line_front extra stop)
+  item_stops Sure (how.Files ended.OutputFault) old_out new_out says pieces writes =
       let line : List ℕ = line_under guards current item.command in (
         take writes.0 line,
         writes.2,
+        (drop writes.0 line, sym (take-append-drop writes.0 line)),
         λ extra stop. let f = part_front extra stop writes.0 in (
           drop writes.0 line ++ f.0,
           f.1,
           omega (arith, writes.1, length-append (drop writes.0 line) f.0, length-drop writes.0 line),
         ),
       )
-  item_stops (how.Files ended.InputFault) old_out new_out says pieces writes = absurd says
-  item_stops (how.Files ended.Done) old_out new_out says pieces writes = absurd says
-  item_stops (how.Files (ended.InputTooLong file)) old_out new_out says pieces writes = absurd says
-  item_stops (how.Files (ended.TooMuch sum)) old_out new_out says pieces writes = absurd says
-  item_stops (how.Files (ended.InputChanged file place)) old_out new_out says pieces writes = absurd says
-  item_stops how.StoreFault old_out new_out says pieces (inl none) = ([], none, λ extra stop. none_front extra stop)
-  item_stops how.StoreFault old_out new_out says pieces (inr all) = (line_under guards current item.command, all, λ extra stop. line_front extra stop)
-  item_stops (how.LogFull end wanted most) old_out new_out says pieces writes = (line_under guards current item.command, writes, λ extra stop. full_stops extra stop end wanted most says pieces)
+  item_stops Sure (how.Files ended.InputFault) old_out new_out says pieces writes = absurd says
+  item_stops Sure (how.Files ended.Done) old_out new_out says pieces writes = absurd says
+  item_stops Sure (how.Files (ended.InputTooLong file)) old_out new_out says pieces writes = absurd says
+  item_stops Sure (how.Files (ended.TooMuch sum)) old_out new_out says pieces writes = absurd says
+  item_stops Sure (how.Files (ended.InputChanged file place)) old_out new_out says pieces writes = absurd says
+  item_stops Sure how.StoreFault old_out new_out says pieces (inl none) = ([], none, inl refl, λ extra stop. none_front extra stop)
+  item_stops Sure how.StoreFault old_out new_out says pieces (inr all) = (line_under guards current item.command, all.0, inr (refl, all.1), λ extra stop. line_front extra stop)
+  item_stops Sure (how.LogFull end wanted most) old_out new_out says pieces writes = (line_under guards current item.command, writes, refl, λ extra stop. full_stops extra stop end wanted most says pieces)

@@ -1,27 +1,25 @@
 -- Items that lead from one spot to another: what is due, what is left, which groups are written and which lines printed.
-use Rattle.std.specs.Prelude.{◌≡◌, ◌⊎◌, ℕ, ◌+◌, Bool, true, false, List, [], ◌∷◌, ◌++◌, map, Option, None, Some, Result, Ok, Err, is_some, if◌then◌else◌}
+use Rattle.std.specs.Prelude.{◌≡◌, ℕ, Bool, true, false, List, [], ◌∷◌, ◌++◌, Option, None, Some, Ok, if◌then◌else◌}
 use Rattle.std.specs.Option.{option_map}
-use Rattle.std.proofs.Common.{inl, inr, refl, sym, ap, subst, ◌∙◌, append_assoc, append-nil}
+use Rattle.std.proofs.Common.{refl, sym, ap, subst, ◌∙◌, append_assoc, append-nil}
 use Rattle.std.proofs.lemmas.List.{map-append}
 use Rattle.send_model.specs.Refusal as meant
 use Rattle.send_model.specs.Command.{Command}
 use Rattle.send_model.specs.Reading.{Item}
-use Rattle.send_model.specs.Store.{Entry, Store, Part, State, After, Stepped, step}
-use Rattle.send_model.specs.Subvolume.{Subvolume}
-use Rattle.send_model.specs.Receive.{Ran, run_by, byte_cells}
-use Rattle.send_model.specs.Guards.{Guard, Watched, watched_step, guarded, looked, watched}
+use Rattle.send_model.specs.Store.{Store, Part, State, After, step}
+use Rattle.send_model.specs.Receive.{run_by, byte_cells}
+use Rattle.send_model.specs.Guards.{Guard, Watched, guarded, looked, watched}
 use Rattle.send_model.specs.Cells.{recelled_entry, recelled_store, recelled_part, recelled_state, recelled_step}
 use Rattle.send_model.proofs.CellClones.{all_steps-cells}
 use Rattle.store_model.specs.Stored.{Group, is_edit}
 use Rattle.store_model.specs.States.{complete_line, lines_behind}
-use Rattle.store_model.specs.Dues.{Due, first_full, end_behind, item_pieces, place_after, receive_from, left_from}
-use Rattle.store_model.specs.Written.{Begun, closed_by, begun_by, begun_after, groups_from}
+use Rattle.store_model.specs.Dues.{first_full, end_behind, item_pieces, place_after, receive_from, left_from}
+use Rattle.store_model.specs.Written.{closed_by, begun_by, begun_after, groups_from}
 use Rattle.store_model.proofs.PassedStates.{IsOn, item_on}
-use Rattle.auditor.specs.Following.{Followed, blank, blank_step, beside, follow}
-use Rattle.store_groups.specs.declared.place.Place.{Place}
+use Rattle.auditor.specs.Following.{Followed, blank_step, beside, follow}
 use Rattle.store_journal.specs.Shown.{StoreState}
 use Rattle.receiver.specs.declared.opened.Opened.{Opened}
-use Rattle.receiver.specs.Standing.{line_due, line_by, behind_close, place_of, IsLastLine, IsReady}
+use Rattle.receiver.specs.Standing.{line_due, behind_close, place_of, IsLastLine, IsReady}
 use Rattle.receiver.specs.Answers.{PiecesSay}
 use Rattle.receiver.specs.Steps.{blank_of, line_under}
 use Rattle.receiver.specs.Running.{byte_step, Spot, without_cells, IsAt, Leads}

@@ -1,25 +1,23 @@
 -- What one item prints: the line of the part that it completes.
-use Rattle.std.specs.Prelude.{◌≡◌, ◌⊎◌, ℕ, Bool, true, false, List, [], ◌∷◌, ◌++◌, length, drop, map, Option, None, Some, Result, Ok, Err, is_some, if◌then◌else◌}
+use Rattle.std.specs.Prelude.{◌≡◌, ℕ, Bool, true, false, List, [], ◌∷◌, ◌++◌, Option, None, Some, Result, Ok, Err, is_some, if◌then◌else◌}
 use Rattle.std.specs.Str.{bytes_eq}
 use Rattle.std.specs.List.{AllByRecursion, filter, flat_map}
-use Rattle.std.proofs.Common.{inl, inr, refl, sym, ap, subst, ◌∙◌, append_assoc, append-nil}
+use Rattle.std.proofs.Common.{inl, inr, refl, sym, ap, ◌∙◌, append_assoc, append-nil}
 use Rattle.std.proofs.lemmas.List.{map-append}
 use Rattle.std.proofs.lemmas.List.Concat.{flat_map-append}
 use Rattle.send_model.specs.Refusal as meant
 use Rattle.send_model.specs.Command.{Command, End}
 use Rattle.send_model.specs.Reading.{Item}
-use Rattle.send_model.specs.Spelling.{canonical}
 use Rattle.send_model.specs.Subvolume.{Subvolume}
-use Rattle.send_model.specs.Store.{Head, Entry, Store, Part, State, After, Stepped, head_of, completed, begun, entered, edited, edit_part, unfinished, with_contents, has_uuid, step_head, step_edit, step}
-use Rattle.send_model.specs.Receive.{bytes_of, byte_cells}
-use Rattle.send_model.specs.Guards.{Guard, Watched, watched_step, guarded, looked}
+use Rattle.send_model.specs.Store.{Head, Entry, Store, Part, State, After, Stepped, completed, begun, entered, edited, edit_part, unfinished, with_contents, has_uuid, step_head, step_edit, step}
+use Rattle.send_model.specs.Receive.{byte_cells}
+use Rattle.send_model.specs.Guards.{Watched, guarded}
 use Rattle.send_model.specs.Cells.{recelled_entry, recelled_store}
 use Rattle.send_model.proofs.Sorts.{head_step, same_inside}
 use Rattle.send_model.proofs.Stores.{or_parts, bytes_eq_same}
 use Rattle.send_model.proofs.Guarding.{after_looks, looks_are}
 use Rattle.store_model.specs.Stored.{is_edit}
 use Rattle.store_model.specs.States.{is_complete, complete_line, lines_behind}
-use Rattle.store_model.specs.Dues.{Due, first_full, pieces_from, left_full}
 use Rattle.store_model.proofs.PassedStates.{sort_of, IsOn, IsOpen, filtered_all, filtered_last, drop_start, completed_on}
 use Rattle.store_model.proofs.LawfulGroups.{edit_step}
 use Rattle.store_model.proofs.WrittenGroups.{head_fact}

@@ -1,13 +1,11 @@
 -- Whether there is room: of the journal's calls, and of the pieces of the definitions.
-use Rattle.std.specs.Prelude.{◌≡◌, ◌⊎◌, ℕ, ◌+◌, Bool, true, false, List, [], ◌∷◌, map, length, Option, None, Some, Ok, Err, nat_lt, is_some, if◌then◌else◌}
+use Rattle.std.specs.Prelude.{◌≡◌, ℕ, ◌+◌, Bool, false, List, [], ◌∷◌, map, length, Option, None, Some, Err, is_some, if◌then◌else◌}
 use Rattle.std.specs.Option.{option_map}
 use Rattle.std.proofs.Common.{inl, inr, refl, sym, ap, subst, ◌∙◌, arith}
-use Rattle.send_model.specs.Command.{Command}
 use Rattle.send_model.specs.Spelling.{canonical}
 use Rattle.send_model.specs.Reading.{Item}
 use Rattle.send_model.specs.Store.{Head, head_of}
 use Rattle.send_model.specs.Counts.{is_end}
-use Rattle.store_model.specs.Image.{reserve}
 use Rattle.store_model.specs.Dues as dues
 use Rattle.store_model.specs.Dues.{Due, end_behind, head_pieces, item_pieces}
 use Rattle.group_log.specs.declared.stops.LogStop.{LogStop}
@@ -15,25 +13,9 @@ use Rattle.group_log.specs.declared.stops.LogStop.TheVariants as log
 use Rattle.store_groups.specs.declared.stops.StoreStop.{StoreStop}
 use Rattle.store_groups.specs.declared.stops.StoreStop.TheVariants as stop
 use Rattle.store_groups.specs.Stopping.{IfLog}
-use Rattle.store_journal.specs.Filling.{Asked, first_full, head_asks, piece_asks, gate_behind, IsFullAt, IsStopOf}
-use Rattle.receiver.specs.declared.outcome.Received.{Received}
+use Rattle.store_journal.specs.Filling.{Asked, first_full, head_asks, piece_asks, gate_behind, IsStopOf}
+use Rattle.store_journal.proofs.Rooms.{as_piece, as_due, same_full}
 use Rattle.receiver.specs.Answers.{ended_by, PiecesSay}
-
-abbrev pub as_piece : Asked → ℕ × ℕ
-as_piece a = (a.place, a.wanted)
-
-abbrev pub as_due : ℕ → Asked → Due
-as_due limit a = dues.LogFull a.place a.wanted limit
-
-pub same_full : (limit : ℕ) (asks : List Asked) → dues.first_full limit (map as_piece asks) ≡ option_map (as_due limit) (first_full limit asks)
-unfolding dues.first_full
-same_full limit [] = refl
-same_full limit (a ∷ asks) = one (nat_lt limit (a.place + a.wanted + reserve)) (same_full limit asks)
-  where
-    one : (b : Bool) → dues.first_full limit (map as_piece asks) ≡ option_map (as_due limit) (first_full limit asks)
-        → (if b then Some (as_due limit a) else dues.first_full limit (map as_piece asks)) ≡ option_map (as_due limit) (if b then Some a else first_full limit asks)
-    one true more = refl
-    one false more = more
 
 -- What an item puts, by its sort.
 pub head_item : (at : ℕ) (item : Item) (head : Head) → head_of item.command ≡ Some head → item_pieces at item ≡ map as_piece (head_asks at (1 + length (canonical 1 item.command)))

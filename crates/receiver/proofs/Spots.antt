@@ -1,18 +1,14 @@
 -- What one item makes of all that is due from a spot on, where it is taken, refused, or has no room; and what it prints.
-use Rattle.std.specs.Prelude.{◌≡◌, ◌⊎◌, ℕ, ◌+◌, Bool, true, false, List, [], ◌∷◌, ◌++◌, length, drop, Option, None, Some, Result, Ok, Err, is_some, if◌then◌else◌}
-use Rattle.std.specs.List.{filter, flat_map}
-use Rattle.std.proofs.Common.{inl, inr, refl, sym, ap, subst, ◌∙◌, append_assoc, append-nil}
+use Rattle.std.specs.Prelude.{◌≡◌, ℕ, List, [], ◌∷◌, ◌++◌, Option, None, Some}
+use Rattle.std.proofs.Common.{refl, sym, ap, ◌∙◌, append_assoc, append-nil}
 use Rattle.send_model.specs.Refusal as meant
-use Rattle.send_model.specs.Command.{Command, End}
 use Rattle.send_model.specs.Reading.{Item}
-use Rattle.send_model.specs.Spelling.{canonical}
-use Rattle.send_model.specs.Store.{Head, Entry, Store, Part, State, After, Stepped, head_of, completed, begun, entered, unfinished, step}
-use Rattle.send_model.specs.Receive.{Ran, run_by, then_run, verdict_of, byte_cells}
-use Rattle.send_model.specs.Guards.{Guard, Watched, watched_step, guarded, looked}
+use Rattle.send_model.specs.Store.{Store, State, After, begun}
+use Rattle.send_model.specs.Receive.{Ran, run_by, then_run, verdict_of}
+use Rattle.send_model.specs.Guards.{Watched}
 use Rattle.send_model.specs.Due.{RefusedAt}
-use Rattle.store_model.specs.Stored.{Group, is_edit}
-use Rattle.store_model.specs.States.{is_complete, complete_line, lines_behind}
-use Rattle.store_model.specs.Dues.{Due, Ends, first_full, pieces_from, item_pieces, place_after, end_behind, left_full, receive_from, left_from}
+use Rattle.store_model.specs.Stored.{Group}
+use Rattle.store_model.specs.Dues.{Due, Ends, first_full, item_pieces, place_after, end_behind, left_full, receive_from, left_from}
 use Rattle.store_model.specs.Written.{Begun, closed_by, begun_by, begun_after, groups_from}
 use Rattle.receiver.specs.Steps.{begun_if}
 use Rattle.receiver.specs.Running.{byte_step}

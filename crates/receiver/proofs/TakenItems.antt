@@ -1,35 +1,38 @@
 -- One command: a head, END or an edit, by the calls that do it.
-use Rattle.std.specs.Prelude.{◌≡◌, ◌⊎◌, ℕ, ◌+◌, Bool, true, false, not, ◌&&◌, List, [], ◌∷◌, ◌++◌, Option, None, Some, Result, Ok, Err, is_none, if◌then◌else◌}
+use Rattle.std.specs.Prelude.{◌≡◌, ℕ, ◌+◌, Bool, true, false, not, ◌&&◌, List, [], ◌∷◌, ◌++◌, length, Option, None, Some, Result, Ok, Err, is_none, if◌then◌else◌}
 use Rattle.std.specs.Io.KnownBytes.{Appends}
-use Rattle.std.proofs.Common.{inl, inr, refl, sym, ap, subst, ◌∙◌, append_assoc, append-nil}
-use Rattle.sx_base.specs.Disk.{Pending}
+use Rattle.std.proofs.Common.{inl, inr, refl, sym, ap, subst, ◌∙◌, append_assoc, append-nil, arith}
+use Rattle.sx_base.specs.Causes.{Rose}
+use Rattle.sx_base.specs.Disk.{Pending, IsImage}
 use Rattle.sx_base.specs.Crash.{LeavesOnly}
+use Rattle.sx_base.specs.Outside.{AppendsPart}
 use Rattle.sx_base.proofs.DiskMoments.{joins, weakens}
 use Rattle.sx_base.specs.declared.outcome.Outcome.{Outcome}
 use Rattle.sx_base.specs.declared.outcome.Outcome.TheVariants as ended
 use Rattle.send_model.specs.Refusal as meant
 use Rattle.send_model.specs.Command.{Command, End}
 use Rattle.send_model.specs.Reading.{Item}
-use Rattle.send_model.specs.Store.{Head, Store, State, After, head_of, begun, entered, completed, step_head, step_edit, step}
+use Rattle.send_model.specs.Spelling.{canonical}
+use Rattle.send_model.specs.Store.{Head, Store, State, After, head_of, begun, entered, completed, step_head, step}
 use Rattle.send_model.specs.Counts.{is_end}
 use Rattle.send_model.proofs.Sorts.{head_step}
 use Rattle.clone_resolve.specs.Steps.{cells_put}
 use Rattle.store_model.specs.Image.{Header}
 use Rattle.store_model.specs.Stored.{Group, is_edit}
-use Rattle.store_model.specs.Written.{Begun, mark_of, begun_by, closed}
-use Rattle.store_model.specs.Dues.{first_full}
+use Rattle.store_model.specs.Written.{Begun, mark_of, begun_by, begun_after, closed}
+use Rattle.store_model.specs.Dues.{Due, first_full, pieces_from}
 use Rattle.store_model.proofs.LawfulGroups.{edit_step}
 use Rattle.store_model.proofs.WrittenGroups.{head_fact, edit_facts}
 use Rattle.store_groups.specs.declared.place.Place.{Place}
 use Rattle.store_groups.specs.Placing.{further}
-use Rattle.store_journal.specs.Shown.{StoreState, IsIdle}
+use Rattle.store_journal.specs.Shown.{StoreState}
 use Rattle.store_journal.specs.Holding.{HasThese, Holds}
 use Rattle.receiver.specs.declared.opened.Opened.{Opened}
 use Rattle.receiver.specs.declared.outcome.Received.{Received}
 use Rattle.receiver.specs.declared.outcome.Received.TheVariants as how
-use Rattle.receiver.specs.Standing.{state_of, place_of, behind_part, behind_close, line_by, IsReady, IsClosedAs}
-use Rattle.receiver.specs.Disks.{Keeps, HasFront, closing}
-use Rattle.receiver.specs.Answers.{IfClosed, IfStoreFault, WritesLine, StepSays, PiecesSay, ReadySays, ItemWrites, KeepsSays}
+use Rattle.receiver.specs.Standing.{state_of, place_of, behind_part, behind_close, line_due, line_by, IsClosedAs}
+use Rattle.receiver.specs.Disks.{Keeps, HasVersion, HasFront, HasNow, closing, marked}
+use Rattle.receiver.specs.Answers.{IfClosed, WritesLine, StepSays, PiecesSay, ItemWrites, KeepsSays, ErrCaused}
 use Rattle.receiver.specs.Steps.{EditsAs, TakesAs, begun_if}
 
 -- ---- the part before could not be completed, or its line not be written
@@ -42,6 +45,45 @@ unclosed_step line old_out new_out before now (how.LogFull end wanted limit) ite
 pub unclosed_takes : (line : List ℕ) (old_out new_out : Option (List ℕ)) (before now : ℕ) (why : Received) (item : Item) (old new : State (Option Place)) → WritesLine line old_out new_out before now (Err why) → TakesAs (Err why) item old new
 unclosed_takes line old_out new_out before now why item old new w =
     (record { at = 0 }, unclosed_step line old_out new_out before now why item new (step None (cells_put further (record { at = 0 }) item.command) old item.command) w)
+
+pub unclosed_writes : (Sure : Type 0) (line due : List ℕ) (old_out new_out : Option (List ℕ)) (before now : ℕ) (why : Received) → line ≡ due → WritesLine line old_out new_out before now (Err why) → ItemWrites (Err why) Sure due old_out new_out
+unclosed_writes Sure line due old_out new_out before now (how.Files outcome) is w =
+    subst (λ (o : Outcome). ItemWrites (Err (how.Files o)) Sure due old_out new_out) (sym w.0) (subst (λ (l : List ℕ). AppendsPart old_out new_out l) is w.2)
+unclosed_writes Sure line due old_out new_out before now how.StoreFault is w = inl w
+unclosed_writes Sure line due old_out new_out before now (how.LogFull end wanted limit) is w = absurd w
+
+pub unclosed_keeps : (K : List Group → Option Begun → Type 0) (L : List Group → Type 0) (done full all : List Group) (after : Option Begun) (line : List ℕ) (old_out new_out : Option (List ℕ)) (before now : ℕ) (why : Received) → WritesLine line old_out new_out before now (Err why)
+    → IfClosed (Err why) (K done None) → KeepsSays (Err why) K L done full all after
+unclosed_keeps K L done full all after line old_out new_out before now (how.Files outcome) w closed = subst (λ (o : Outcome). KeepsSays (Err (how.Files o)) K L done full all after) (sym w.0) (None, closed)
+unclosed_keeps K L done full all after line old_out new_out before now how.StoreFault w closed = tt
+unclosed_keeps K L done full all after line old_out new_out before now (how.LogFull end wanted limit) w closed = absurd w
+
+-- The part was completed, or it could not be.
+pub closed_writes : (Sure : Type 0) (line due : List ℕ) (old_out new_out : Option (List ℕ)) (before now : ℕ) (r : Result (Unit {0}) Received) → line ≡ due → WritesLine line old_out new_out before now r → ItemWrites r Sure due old_out new_out
+closed_writes Sure line due old_out new_out before now (Ok u) is w = subst (λ (l : List ℕ). Appends old_out new_out l) is w
+closed_writes Sure line due old_out new_out before now (Err why) is w = unclosed_writes Sure line due old_out new_out before now why is w
+
+pub closed_keeps : (K : List Group → Option Begun → Type 0) (L : List Group → Type 0) (done full all : List Group) (after : Option Begun) (line : List ℕ) (old_out new_out : Option (List ℕ)) (before now : ℕ) (r : Result (Unit {0}) Received) → WritesLine line old_out new_out before now r
+    → IfClosed r (K done None) → all ≡ done → after ≡ None → KeepsSays r K L done full all after
+closed_keeps K L done full all after line old_out new_out before now (Ok u) w closed same none = subst (λ (b : Option Begun). K all b) (sym none) (subst (λ (l : List Group). K l None) (sym same) closed)
+closed_keeps K L done full all after line old_out new_out before now (Err why) w closed same none = unclosed_keeps K L done full all after line old_out new_out before now why w closed
+
+-- Its line was written, and then no more.
+never_rose : Rose 0 0 → ⊥
+never_rose rose = omega (arith, rose)
+
+pub line_stands : (Sure : Type 0) (line due : List ℕ) (old_out new_out : Option (List ℕ)) (before now : ℕ) (r : Result (Unit {0}) Received) → ErrCaused 0 0 0 0 before now r → Sure → line ≡ due → Appends old_out new_out line → ItemWrites r Sure due old_out new_out
+line_stands Sure line due old_out new_out before now (Ok u) cause sure is wrote = subst (λ (l : List ℕ). Appends old_out new_out l) is wrote
+line_stands Sure line due old_out new_out before now (Err (how.Files (ended.Refused verdict))) cause sure is wrote = subst (λ (l : List ℕ). Appends old_out new_out l) is wrote
+line_stands Sure line due old_out new_out before now (Err (how.Files ended.NoMemory)) cause sure is wrote = (subst (λ (l : List ℕ). Appends old_out new_out l) is wrote, sure)
+line_stands Sure line due old_out new_out before now (Err (how.Files ended.OutputFault)) cause sure is wrote = absurd (never_rose cause)
+line_stands Sure line due old_out new_out before now (Err (how.Files ended.InputFault)) cause sure is wrote = subst (λ (l : List ℕ). Appends old_out new_out l) is wrote
+line_stands Sure line due old_out new_out before now (Err (how.Files ended.Done)) cause sure is wrote = subst (λ (l : List ℕ). Appends old_out new_out l) is wrote
+line_stands Sure line due old_out new_out before now (Err (how.Files (ended.InputTooLong file))) cause sure is wrote = subst (λ (l : List ℕ). Appends old_out new_out l) is wrote
+line_stands Sure line due old_out new_out before now (Err (how.Files (ended.TooMuch sum))) cause sure is wrote = subst (λ (l : List ℕ). Appends old_out new_out l) is wrote
+line_stands Sure line due old_out new_out before now (Err (how.Files (ended.InputChanged file place))) cause sure is wrote = subst (λ (l : List ℕ). Appends old_out new_out l) is wrote
+line_stands Sure line due old_out new_out before now (Err how.StoreFault) cause sure is wrote = inr (subst (λ (l : List ℕ). Appends old_out new_out l) is wrote, sure)
+line_stands Sure line due old_out new_out before now (Err (how.LogFull end wanted limit)) cause sure is wrote = subst (λ (l : List ℕ). Appends old_out new_out l) is wrote
 
 -- ---- a head
 
@@ -60,12 +102,30 @@ pub head_closes : (c : Command) (head : Head) (begun : Option Begun) → head_of
 head_closes c head begun is = ap (λ (b : Bool). if b then [] else closed begun) (head_fact c head is)
 
 -- The groups of the head stand behind that of the part.
-pub head_keeps : (r : Result (Unit {0}) Received) (K : List Group → Option Begun → Type 0) (groups more : List Group) (c : Command) (head : Head) (begun after : Option Begun) → head_of c ≡ Some head
-    → KeepsSays r K (groups ++ closed begun) ((groups ++ closed begun) ++ more) after → KeepsSays r K (groups ++ closing c begun) (groups ++ (closing c begun ++ more)) after
-head_keeps r K groups more c head begun after is says =
+pub head_keeps : (r : Result (Unit {0}) Received) (K : List Group → Option Begun → Type 0) (L : List Group → Type 0) (groups marks marks_now more : List Group) (c : Command) (head : Head) (begun after : Option Begun) → head_of c ≡ Some head → marks ≡ marks_now
+    → KeepsSays r K L (groups ++ closed begun) ((groups ++ closed begun) ++ marks) ((groups ++ closed begun) ++ more) after → KeepsSays r K L (groups ++ closing c begun) (groups ++ (closing c begun ++ marks_now)) (groups ++ (closing c begun ++ more)) after
+head_keeps r K L groups marks marks_now more c head begun after is same_marks says =
     let same = head_closes c head begun is in
-    subst (λ (l : List Group). KeepsSays r K (groups ++ l) (groups ++ (l ++ more)) after) (sym same)
-    (subst (λ (l : List Group). KeepsSays r K (groups ++ closed begun) l after) (append_assoc groups (closed begun) more) says)
+    subst (λ (l : List Group). KeepsSays r K L (groups ++ l) (groups ++ (l ++ marks_now)) (groups ++ (l ++ more)) after) (sym same)
+    (subst (λ (l : List Group). KeepsSays r K L (groups ++ closed begun) l (groups ++ (closed begun ++ more)) after) (append_assoc groups (closed begun) marks ∙ ap (λ (l : List Group). groups ++ (closed begun ++ l)) same_marks)
+    (subst (λ (l : List Group). KeepsSays r K L (groups ++ closed begun) ((groups ++ closed begun) ++ marks) l after) (append_assoc groups (closed begun) more) says))
+
+-- What was completed before it, where its line could not be written.
+pub unclosed_held : (header : Header) (groups : List Group) (why : Received) (c : Command) (head : Head) (begun : Option Begun) (current : Option Opened) (store : StoreState) (seen : List ℕ) (pending : Pending) → head_of c ≡ Some head → current ≡ None
+    → IfClosed (Err why) (Holds header (groups ++ closed begun) store seen pending) → IfClosed (Err why) (Keeps header (groups ++ closing c begun) None current store seen pending)
+unclosed_held header groups why c head begun current store seen pending is none closed =
+    subst (λ (o : Option Opened). IfClosed (Err why) (Keeps header (groups ++ closing c begun) None o store seen pending)) (sym none)
+    (subst (λ (l : List Group). IfClosed (Err why) (Holds header (groups ++ l) store seen pending)) (sym (head_closes c head begun is)) closed)
+
+-- There is room for it behind the part.
+pub marks_alike : (c : Command) (head : Head) (len : ℕ) (current : Option Opened) (old mid : StoreState) → head_of c ≡ Some head → IsClosedAs len current old mid → mid.log.limit ≡ old.log.limit
+    → marked mid.log.limit mid.log.gate c ≡ marked old.log.limit (behind_close current c (place_of old current)) c
+marks_alike c head len current old mid is whole limit =
+    let place : mid.log.gate ≡ behind_close current c (place_of old current) = whole.gate ∙ ap (λ (b : Bool). if b then place_of old current else behind_part current (place_of old current)) (sym (head_fact c head is)) in
+    λ i. marked (limit i) (place i) c
+
+pub head_lines : (c : Command) (head : Head) (current : Option Opened) → head_of c ≡ Some head → line_due current ≡ line_by current c
+head_lines c head current is = ap (λ (b : Bool). if b then [] else line_due current) (sym (head_fact c head is))
 
 -- ---- images with some of the groups
 
@@ -170,6 +230,45 @@ module _ (header : Header) (groups : List Group) where
   edits_moments c begun_part after edits run =
       due_same [] (closing c begun_part ++ begun_if after c) (λ i. (if sym edits i then [] else closed begun_part) ++ sym (no_head after c (edit_facts c edits).0) i) run
 
+-- ---- what each image has now
+
+module _ {D : Type 0} (tells : Type 0) (seen : D → List ℕ) (pending : D → Pending) (old mid new : D) where
+  -- the part before a head is complete, and the group of the head may be there
+  pub enter_sure : (version : ℕ) (c : Command) (head : Head) (len : ℕ) (current : Option Opened) (store now : StoreState) → head_of c ≡ Some head → IsClosedAs len current store now
+      → (tells → (header : Header) (groups : List Group) (part : Option Begun) → Keeps header groups part current store (seen old) (pending old) → Holds header (groups ++ closed part) now (seen mid) (pending mid))
+      → (tells → (header : Header) (groups : List Group) → Holds header groups now (seen mid) (pending mid) → (image : List ℕ) → IsImage (pending new) image → HasFront header groups (begun_if (entered now.core head (begun now.core head)) c) image)
+      → (place : Place) → HasNow tells seen pending old new version current store (closing c) (begun_if (step None (cells_put further place c) (state_of store current) c) c)
+  enter_sure version c head len current store now is whole holds fronts place told header there part same keeps image i =
+      let step_is : step None (cells_put further place c) (state_of store current) c ≡ entered now.core head (begun now.core head) =
+      head_entered place (state_of store current) c head is ∙ ap (λ (core : Store (Option Place)). entered core head (begun core head)) (sym whole.core) in
+      subst (λ (l : List Group). HasFront header (there ++ l) (begun_if (step None (cells_put further place c) (state_of store current) c) c) image) (sym (head_closes c head part is))
+      (subst (λ (a : After (State (Option Place))). HasFront header (there ++ closed part) (begun_if a c) image) (sym step_is)
+      (fronts told header (there ++ closed part) (holds told header there part keeps) image i))
+
+  -- an edit brings no group
+  pub edit_sure : {S : Type 0} (version : ℕ) (c : Command) (current : Option Opened) (store : StoreState) (after : After S) → is_edit c ≡ true
+      → (tells → (header : Header) (groups : List Group) (part : Option Begun) → HasVersion version part → Keeps header groups part current store (seen old) (pending old) → (image : List ℕ) → IsImage (pending new) image → HasFront header groups [] image)
+      → HasNow tells seen pending old new version current store (closing c) (begun_if after c)
+  edit_sure version c current store after edits fronts told header there part same keeps image i =
+      subst (λ (l : List Group). HasFront header (there ++ l) (begun_if after c) image) (ap (λ (b : Bool). if b then [] else closed part) (sym edits))
+      (subst (λ (l : List Group). HasFront header (there ++ []) l image) (sym (no_head after c (edit_facts c edits).0))
+      (subst (λ (l : List Group). HasFront header l [] image) (sym (append-nil there)) (fronts told header there part same keeps image i)))
+
+-- An edit keeps the groups that there were.
+pub edit_keeps_all : (r : Result (Unit {0}) Received) (K : List Group → Option Begun → Type 0) (L : List Group → Type 0) (groups : List Group) (limit place : ℕ) (c : Command) (begun after : Option Begun) → is_edit c ≡ true → KeepsSays r K L groups groups groups after
+    → KeepsSays r K L (groups ++ closing c begun) (groups ++ (closing c begun ++ marked limit place c)) (groups ++ (closing c begun ++ begun_by c)) after
+edit_keeps_all r K L groups limit place c begun after edits says =
+    let closes : closing c begun ≡ [] = ap (λ (b : Bool). if b then [] else closed begun) edits in
+    let begins : begun_by c ≡ [] = ap (λ (o : Option Head). elim o as (λ x. List Group) [ None ↦ [] | Some head ↦ mark_of c ∷ [] ]) (edit_facts c edits).0 in
+    let marks : marked limit place c ≡ [] = ap (λ (l : List Group). elim (first_full limit (pieces_from place (9 ∷ (1 + length (canonical 1 c)) ∷ []))) as (λ x. List Group) [ Some full ↦ [] | None ↦ l ]) begins ∙ nothing (first_full limit (pieces_from place (9 ∷ (1 + length (canonical 1 c)) ∷ []))) in
+    subst (λ (l : List Group). KeepsSays r K L (groups ++ closing c begun) (groups ++ (closing c begun ++ marked limit place c)) l after) (sym ((λ i. groups ++ (closes i ++ begins i)) ∙ append-nil groups))
+    (subst (λ (l : List Group). KeepsSays r K L (groups ++ closing c begun) l groups after) (sym ((λ i. groups ++ (closes i ++ marks i)) ∙ append-nil groups))
+    (subst (λ (l : List Group). KeepsSays r K L l groups groups after) (sym (ap (λ (l : List Group). groups ++ l) closes ∙ append-nil groups)) says))
+  where
+    nothing : (o : Option Due) → ◌≡◌ {A = List Group} (elim o as (λ x. List Group) [ Some full ↦ [] | None ↦ [] ]) []
+    nothing None = refl
+    nothing (Some full) = refl
+
 end_edits : (c : Command) → true ≡ is_end c → is_edit c ≡ false
 end_edits c ends = ap is_edit (end_command c ends)
 
@@ -177,3 +276,25 @@ module _ (header : Header) (groups : List Group) where
   pub end_moments : {D : Type 0} {moment : D → ℕ} {left_since : D → ℕ → List ℕ → Type 0} {old new : D} (c : Command) (begun_part : Option Begun) (more : List Group) → true ≡ is_end c → LeavesOnly moment left_since old new (HasFront header groups (closed begun_part))
       → LeavesOnly moment left_since old new (HasFront header groups (closing c begun_part ++ more))
   end_moments c begun_part more ends run = close_moments header groups c begun_part more (end_edits c ends) run
+
+-- END brings the line of the part and its group, and no other.
+pub end_lines : (c : Command) (current : Option Opened) → true ≡ is_end c → line_due current ≡ line_by current c
+end_lines c current ends = ap (λ (b : Bool). if b then [] else line_due current) (sym (end_edits c ends))
+
+pub end_groups : (groups : List Group) (c : Command) (begun : Option Begun) → true ≡ is_end c → (closing c begun ≡ closed begun) × (groups ++ (closing c begun ++ begun_by c) ≡ groups ++ closing c begun)
+end_groups groups c begun ends = (
+  ap (λ (b : Bool). if b then [] else closed begun) (end_edits c ends),
+  ap (λ (d : Command). groups ++ (closing d begun ++ begun_by d)) (end_command c ends) ∙ ap (λ (l : List Group). groups ++ l) (append-nil (closed begun)) ∙ ap (λ (d : Command). groups ++ closing d begun) (sym (end_command c ends)),
+)
+
+pub end_begun : (item : Item) (begun : Option Begun) → true ≡ is_end item.command → begun_after begun item ≡ None
+end_begun item begun ends = ap (λ (c : Command). begun_after begun (record item { command = c })) (end_command item.command ends)
+
+pub end_held : (header : Header) (groups : List Group) (r : Result (Unit {0}) Received) (c : Command) (begun : Option Begun) (current : Option Opened) (store : StoreState) (seen : List ℕ) (pending : Pending) → true ≡ is_end c → current ≡ None
+    → IfClosed r (Holds header (groups ++ closed begun) store seen pending) → IfClosed r (Keeps header (groups ++ closing c begun) None current store seen pending)
+end_held header groups r c begun current store seen pending ends none closed =
+    subst (λ (o : Option Opened). IfClosed r (Keeps header (groups ++ closing c begun) None o store seen pending)) (sym none)
+    (subst (λ (l : List Group). IfClosed r (Holds header (groups ++ l) store seen pending)) (sym (end_groups groups c begun ends).0) closed)
+
+pub edit_lines : (c : Command) (current : Option Opened) → is_edit c ≡ true → [] ≡ line_by current c
+edit_lines c current edits = ap (λ (b : Bool). if b then [] else line_due current) (sym edits)

@@ -1,5 +1,5 @@
 -- What the calls of receiving answer. This program's own.
-use Rattle.std.specs.Prelude.{◌≡◌, ◌⊎◌, ⊤, ℕ, false, List, [], ◌∷◌, ◌++◌, Option, None, Some, Result, Ok, Err}
+use Rattle.std.specs.Prelude.{◌≡◌, ◌⊎◌, ⊤, ℕ, false, List, [], Option, None, Some, Result, Ok, Err}
 use Rattle.std.specs.Io.KnownBytes.{Appends}
 use Rattle.send_model.specs.Refusal as meant
 use Rattle.send_model.specs.Reading.{Item}
@@ -131,24 +131,25 @@ ReadySays (Err (how.Files outcome)) len current store = OutcomeReady outcome len
 ReadySays (Err how.StoreFault) len current store = store.is_live ≡ false
 ReadySays (Err (how.LogFull end wanted limit)) len current store = store.is_live ≡ false
 
--- A line was written, or a part of it where the output failed. Where the store's disk failed, it was written or not.
-abbrev pub OutcomeWrites : Outcome → List ℕ → Option (List ℕ) → Option (List ℕ) → Type 0
-OutcomeWrites ended.OutputFault line old new = AppendsPart old new line
-OutcomeWrites ended.NoMemory line old new = Appends old new line
-OutcomeWrites ended.InputFault line old new = Appends old new line
-OutcomeWrites ended.Done line old new = Appends old new line
-OutcomeWrites (ended.Refused verdict) line old new = Appends old new line
-OutcomeWrites (ended.InputTooLong file) line old new = Appends old new line
-OutcomeWrites (ended.TooMuch sum) line old new = Appends old new line
-OutcomeWrites (ended.InputChanged file place) line old new = Appends old new line
+-- A line was written, or a part of it where the output failed. Where the store's disk failed, it was written or not. Sure says that the
+-- group of the part is on the disk then.
+abbrev pub OutcomeWrites : Outcome → Type 0 → List ℕ → Option (List ℕ) → Option (List ℕ) → Type 0
+OutcomeWrites ended.OutputFault Sure line old new = AppendsPart old new line
+OutcomeWrites ended.NoMemory Sure line old new = Appends old new line × Sure
+OutcomeWrites ended.InputFault Sure line old new = Appends old new line
+OutcomeWrites ended.Done Sure line old new = Appends old new line
+OutcomeWrites (ended.Refused verdict) Sure line old new = Appends old new line
+OutcomeWrites (ended.InputTooLong file) Sure line old new = Appends old new line
+OutcomeWrites (ended.TooMuch sum) Sure line old new = Appends old new line
+OutcomeWrites (ended.InputChanged file place) Sure line old new = Appends old new line
 
-abbrev pub ItemWrites : Result (Unit {0}) Received → List ℕ → Option (List ℕ) → Option (List ℕ) → Type 0
-ItemWrites (Ok u) line old new = Appends old new line
-ItemWrites (Err (how.Files outcome)) line old new = OutcomeWrites outcome line old new
-ItemWrites (Err how.StoreFault) line old new = Appends old new [] ⊎ Appends old new line
-ItemWrites (Err (how.LogFull end wanted limit)) line old new = Appends old new line
+abbrev pub ItemWrites : Result (Unit {0}) Received → Type 0 → List ℕ → Option (List ℕ) → Option (List ℕ) → Type 0
+ItemWrites (Ok u) Sure line old new = Appends old new line
+ItemWrites (Err (how.Files outcome)) Sure line old new = OutcomeWrites outcome Sure line old new
+ItemWrites (Err how.StoreFault) Sure line old new = Appends old new [] ⊎ (Appends old new line × Sure)
+ItemWrites (Err (how.LogFull end wanted limit)) Sure line old new = Appends old new line
 
--- What a disk that tells has then: all groups of an item, or those that it completed.
+-- What a disk that tells has then: all groups of an item, or those that it completed, or those that there was room for.
 abbrev pub OutcomeKeeps : Outcome → (List Group → Option Begun → Type 0) → List Group → Type 0
 OutcomeKeeps ended.OutputFault K done = (begun : Option Begun) × K done begun
 OutcomeKeeps (ended.Refused verdict) K done = (begun : Option Begun) × K done begun
@@ -159,11 +160,11 @@ OutcomeKeeps (ended.InputTooLong file) K done = ⊥
 OutcomeKeeps (ended.TooMuch sum) K done = ⊥
 OutcomeKeeps (ended.InputChanged file place) K done = ⊥
 
-abbrev pub KeepsSays : Result (Unit {0}) Received → (List Group → Option Begun → Type 0) → (done all : List Group) → Option Begun → Type 0
-KeepsSays (Ok u) K done all begun = K all begun
-KeepsSays (Err (how.Files outcome)) K done all begun = OutcomeKeeps outcome K done
-KeepsSays (Err how.StoreFault) K done all begun = ⊤
-KeepsSays (Err (how.LogFull end wanted limit)) K done all begun = ⊤
+abbrev pub KeepsSays : Result (Unit {0}) Received → (List Group → Option Begun → Type 0) → (List Group → Type 0) → (done full all : List Group) → Option Begun → Type 0
+KeepsSays (Ok u) K L done full all begun = K all begun
+KeepsSays (Err (how.Files outcome)) K L done full all begun = OutcomeKeeps outcome K done
+KeepsSays (Err how.StoreFault) K L done full all begun = ⊤
+KeepsSays (Err (how.LogFull end wanted limit)) K L done full all begun = L full
 
 -- An end that is not that all was done.
 abbrev pub IsEnd : Received → Type 0

@@ -1,5 +1,5 @@
 -- What receiving one file answers. This program's own.
-use Rattle.std.specs.Prelude.{◌≡◌, ⊤, ℕ, List, [], ◌∷◌, ◌++◌, Option, None, Some, Result, Ok, Err}
+use Rattle.std.specs.Prelude.{◌≡◌, ℕ, List, Option, None, Result, Ok, Err}
 use Rattle.std.specs.Io.KnownBytes.{Appends}
 use Rattle.send_model.specs.Reading.{Item}
 use Rattle.send_model.specs.Store.{Store}
@@ -9,9 +9,8 @@ use Rattle.auditor.specs.Following.{file_read, read_whole, then_read}
 use Rattle.store_model.specs.Stored.{Group}
 use Rattle.store_model.specs.Written.{Begun, groups_from}
 use Rattle.store_journal.specs.Shown.{StoreState}
-use Rattle.receiver.specs.declared.opened.Opened.{Opened}
 use Rattle.receiver.specs.declared.outcome.Received.{Received}
-use Rattle.receiver.specs.Running.{Spot, IsAt, Leads, Stops}
+use Rattle.receiver.specs.Running.{Spot, IsAt, Leads, Stops, IsLeft}
 
 -- What is read of a file, and what is read of the others if that is all of it.
 abbrev pub then_others : Limited → Limited → Limited
@@ -34,16 +33,17 @@ pub record FileTaken (file limit : ℕ) (base : Store ℕ) (spot : Spot) (guards
   pub none : now.begun ≡ None
   pub disk : K groups None
 
--- Receiving ends in a file, whatever files follow it. M says what a crash leaves of some groups.
-pub record FileStopped (file limit : ℕ) (base : Store ℕ) (spot : Spot) (store : StoreState) (old new : Option (List ℕ)) (M : List Group → Type 0) (why : Received) (bytes : List ℕ) : Type 0 where
+-- Receiving ends in a file, whatever files follow it. M says what a crash leaves of some groups, and J what a disk that tells has then.
+pub record FileStopped (file limit : ℕ) (base : Store ℕ) (spot : Spot) (store : StoreState) (old new : Option (List ℕ)) (M : List Group → Type 0) (J : ((List Group → Type 0) → Type 0) → Type 0) (why : Received) (bytes : List ℕ) : Type 0 where
   pub lines : List ℕ
   pub wrote : Appends old new lines
   pub stops : (more : Limited) → Stops why limit base spot (then_others (file_read file bytes) more) lines store.core
   pub moments : (more : Limited) → M (groups_from spot.watched spot.begun (then_others (file_read file bytes) more).items)
+  pub disk : (more : Limited) → J (λ H. IsLeft why limit base spot (then_others (file_read file bytes) more) lines H)
 
-abbrev pub FileEnds : ℕ → ℕ → Store ℕ → Spot → List Guard → StoreState → Option (List ℕ) → Option (List ℕ) → (List Group → Option Begun → Type 0) → (List Group → Type 0) → Result (Unit {0}) Received → List ℕ → Type 0
-FileEnds file limit base spot guards store old new K M (Ok u) bytes = FileTaken file limit base spot guards store old new K bytes
-FileEnds file limit base spot guards store old new K M (Err why) bytes = FileStopped file limit base spot store old new M why bytes
+abbrev pub FileEnds : ℕ → ℕ → Store ℕ → Spot → List Guard → StoreState → Option (List ℕ) → Option (List ℕ) → (List Group → Option Begun → Type 0) → (List Group → Type 0) → (Received → ((List Group → Type 0) → Type 0) → Type 0) → Result (Unit {0}) Received → List ℕ → Type 0
+FileEnds file limit base spot guards store old new K M J (Ok u) bytes = FileTaken file limit base spot guards store old new K bytes
+FileEnds file limit base spot guards store old new K M J (Err why) bytes = FileStopped file limit base spot store old new M (J why) why bytes
 
 -- All commands of all files are taken, and no part is open behind them.
 pub record AllTaken (limit : ℕ) (base : Store ℕ) (spot : Spot) (guards : List Guard) (store : StoreState) (old new : Option (List ℕ)) (K : List Group → Option Begun → Type 0) (files : List (List ℕ)) : Type 0 where
@@ -58,12 +58,13 @@ pub record AllTaken (limit : ℕ) (base : Store ℕ) (spot : Spot) (guards : Lis
   pub disk : K groups None
 
 -- Receiving ends in one of the files.
-pub record AllStopped (limit : ℕ) (base : Store ℕ) (spot : Spot) (store : StoreState) (old new : Option (List ℕ)) (M : List Group → Type 0) (why : Received) (files : List (List ℕ)) : Type 0 where
+pub record AllStopped (limit : ℕ) (base : Store ℕ) (spot : Spot) (store : StoreState) (old new : Option (List ℕ)) (M : List Group → Type 0) (J : ((List Group → Type 0) → Type 0) → Type 0) (why : Received) (files : List (List ℕ)) : Type 0 where
   pub lines : List ℕ
   pub wrote : Appends old new lines
   pub stops : Stops why limit base spot (limited_from 1 files) lines store.core
   pub moments : M (groups_from spot.watched spot.begun (limited_from 1 files).items)
+  pub disk : J (λ H. IsLeft why limit base spot (limited_from 1 files) lines H)
 
-abbrev pub AllEnds : ℕ → Store ℕ → Spot → List Guard → StoreState → Option (List ℕ) → Option (List ℕ) → (List Group → Option Begun → Type 0) → (List Group → Type 0) → Result (Unit {0}) Received → List (List ℕ) → Type 0
-AllEnds limit base spot guards store old new K M (Ok u) files = AllTaken limit base spot guards store old new K files
-AllEnds limit base spot guards store old new K M (Err why) files = AllStopped limit base spot store old new M why files
+abbrev pub AllEnds : ℕ → Store ℕ → Spot → List Guard → StoreState → Option (List ℕ) → Option (List ℕ) → (List Group → Option Begun → Type 0) → (List Group → Type 0) → (Received → ((List Group → Type 0) → Type 0) → Type 0) → Result (Unit {0}) Received → List (List ℕ) → Type 0
+AllEnds limit base spot guards store old new K M J (Ok u) files = AllTaken limit base spot guards store old new K files
+AllEnds limit base spot guards store old new K M J (Err why) files = AllStopped limit base spot store old new M (J why) why files

@@ -1,10 +1,14 @@
 -- What receiving files into a store answers. This program's own.
 use Rattle.std.specs.Prelude.{◌≡◌, ⊤, ℕ, ◌<◌, List, [], ◌++◌, length, Option, None, Some, Err}
+use Rattle.sx_base.specs.Disk.{Pending}
 use Rattle.send_model.specs.Store.{Store}
 use Rattle.send_model.specs.Receive.{byte_cells}
 use Rattle.send_model.specs.Guards.{Guard}
 use Rattle.send_model.specs.Due.{DoneWhole, RefusedAt, TooLong, limited_from}
+use Rattle.store_model.specs.Image.{Header}
+use Rattle.store_model.specs.Stored.{Group, as_bytes, made_all}
 use Rattle.store_model.specs.States.{received, lines_behind}
+use Rattle.store_model.specs.Written.{groups_of}
 use Rattle.store_model.specs.Dues as dues
 use Rattle.store_model.specs.Dues.{Due, Ends, receive_due, receive_left}
 use Rattle.auditor.specs.Following.{HaveSameShape}
@@ -14,9 +18,12 @@ use Rattle.sx_base.specs.declared.outcome.Outcome.{Outcome}
 use Rattle.sx_base.specs.declared.outcome.Outcome.TheVariants as ended
 use Rattle.store_groups.specs.declared.place.Place.{Place}
 use Rattle.store_journal.specs.Shown.{StoreState}
+use Rattle.store_journal.specs.Holding.{Holds}
 use Rattle.receiver.specs.declared.outcome.Received.{Received}
 use Rattle.receiver.specs.declared.outcome.Received.TheVariants as how
 use Rattle.receiver.specs.Answers.{ReadySays}
+use Rattle.receiver.specs.Disks.{EndLeaves, EachHas}
+use Rattle.receiver.specs.Running.{IfAllRead, IfDecided}
 
 module _ (limit gate : ℕ) (base : Store ℕ) (guards : List Guard) (files : List (List ℕ)) where
   -- This answer is due, and the lines of the parts that are complete were written.
@@ -57,15 +64,24 @@ SteadyIfReceived before now (how.LogFull end wanted limit) = ⊤
 abbrev pub IdleAfter : Received → ℕ → StoreState → Type 0
 IdleAfter result len store = ReadySays (Err result) len None store
 
--- What holds where all was done.
-abbrev pub IfDone : Received → Type 0 → Type 0
-IfDone (how.Files ended.Done) P = P
-IfDone (how.Files (ended.Refused verdict)) P = ⊤
-IfDone (how.Files ended.InputFault) P = ⊤
-IfDone (how.Files ended.OutputFault) P = ⊤
-IfDone (how.Files ended.NoMemory) P = ⊤
-IfDone (how.Files (ended.InputTooLong file)) P = ⊤
-IfDone (how.Files (ended.TooMuch sum)) P = ⊤
-IfDone (how.Files (ended.InputChanged file place)) P = ⊤
-IfDone how.StoreFault P = ⊤
-IfDone (how.LogFull end wanted limit) P = ⊤
+module _ (limit gate : ℕ) (base : Store ℕ) (guards : List Guard) (files : List (List ℕ)) where
+  -- H holds of the first of the groups that are due. They make a store in which each part is complete of whose line something was written.
+  -- Where the answer is due, that is what is left; and where all was read, these are all groups.
+  pub record AreLeft (why : Received) (written : List ℕ) (H : List Group → Type 0) : Type 0 where
+    pub first : List Group
+    pub more : List Group
+    pub all : groups_of base guards (limited_from 1 files).items ≡ first ++ more
+    pub has : H first
+    pub now : Store ℕ
+    pub made : (place : ℕ) → made_all 0 as_bytes place base first ≡ Some now
+    pub unwritten : List ℕ
+    pub printed : lines_behind base now ≡ written ++ unwritten
+    pub left : IfDecided why (now ≡ receive_left limit gate base guards files)
+    pub whole : IfAllRead why (more ≡ [])
+
+-- Behind the groups that a disk that tells had it has some more, of which W holds: with the store, which can be used again, or in each image
+-- that a crash may leave.
+abbrev pub LeavesMore : {D : Type 0} → Type 0 → (D → List ℕ) → (D → Pending) → (old new : D) → (was now : StoreState) → Received → ((List Group → Type 0) → Type 0) → Type 0
+LeavesMore tells seen pending old new was now why W =
+    tells → (header : Header) (groups : List Group) → Holds header groups was (seen old) (pending old)
+    → EndLeaves why (W (λ first. Holds header (groups ++ first) now (seen new) (pending new))) (EachHas header groups (pending new) W)

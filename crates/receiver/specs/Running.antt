@@ -1,12 +1,11 @@
 -- Where receiving is between two commands, by the definitions, and how it ends. This program's own.
-use Rattle.std.specs.Prelude.{◌≡◌, ⊤, ℕ, ◌<◌, List, [], ◌∷◌, ◌++◌, length, Option, None, Some}
+use Rattle.std.specs.Prelude.{◌≡◌, ⊤, ℕ, ◌<◌, List, [], ◌++◌, length, Option, None}
 use Rattle.send_model.specs.Reading.{Item}
 use Rattle.send_model.specs.Store.{Store, State, After, step}
-use Rattle.send_model.specs.Receive.{Ran, run_by, byte_cells, start_of}
+use Rattle.send_model.specs.Receive.{run_by, byte_cells, start_of}
 use Rattle.send_model.specs.Guards.{Guard, Watched, watched_step}
 use Rattle.send_model.specs.Cells.{recelled_state}
-use Rattle.send_model.specs.Due as stream_dues
-use Rattle.send_model.specs.Due.{Limited, stop_due, RefusedAt, TooLong, DoneWhole}
+use Rattle.send_model.specs.Due.{Limited, stop_due, RefusedAt, TooLong}
 use Rattle.store_model.specs.States.{lines_behind}
 use Rattle.store_model.specs.Stored.{Group}
 use Rattle.store_model.specs.Written.{Begun, groups_from}
@@ -88,3 +87,39 @@ abbrev pub Stops : Received → ℕ → Store ℕ → Spot → Limited → List 
 Stops (how.Files outcome) limit base spot read lines core = OutcomeStops outcome limit base spot read lines core
 Stops how.StoreFault limit base spot read lines core = (unwritten : List ℕ) × IsLineFront base spot read lines unwritten
 Stops (how.LogFull end wanted most) limit base spot read lines core = (due_from limit spot read ≡ LogFull end wanted most) × LinesLeft limit base spot read lines
+
+-- ---- the groups that are left
+
+-- All that was read was received or refused.
+abbrev pub IfRead : Outcome → Type 0 → Type 0
+IfRead ended.Done P = P
+IfRead (ended.Refused verdict) P = P
+IfRead (ended.InputTooLong file) P = P
+IfRead ended.InputFault P = ⊤
+IfRead ended.OutputFault P = ⊤
+IfRead ended.NoMemory P = ⊤
+IfRead (ended.TooMuch sum) P = ⊤
+IfRead (ended.InputChanged file place) P = ⊤
+
+abbrev pub IfAllRead : Received → Type 0 → Type 0
+IfAllRead (how.Files outcome) P = IfRead outcome P
+IfAllRead how.StoreFault P = ⊤
+IfAllRead (how.LogFull end wanted limit) P = ⊤
+
+-- Or there was no room for the rest: the answer is one that is due.
+abbrev pub IfDecided : Received → Type 0 → Type 0
+IfDecided (how.Files outcome) P = IfRead outcome P
+IfDecided how.StoreFault P = ⊤
+IfDecided (how.LogFull end wanted limit) P = P
+
+-- H holds of the first of the groups that are due from a spot on. They make what some items leave, and each part is complete there of whose
+-- line something was written. Where the answer is due, that is what is left; and where all was read, these are all groups.
+pub record IsLeft (why : Received) (limit : ℕ) (base : Store ℕ) (spot : Spot) (read : Limited) (lines : List ℕ) (H : List Group → Type 0) : Type 0 where
+  pub items : List Item
+  pub more : List Group
+  pub all : groups_from spot.watched spot.begun read.items ≡ groups_from spot.watched spot.begun items ++ more
+  pub has : H (groups_from spot.watched spot.begun items)
+  pub unwritten : List ℕ
+  pub printed : lines_behind base (run_by byte_step spot.watched items).state.state.store ≡ lines_behind base spot.watched.state.store ++ (lines ++ unwritten)
+  pub left : IfDecided why ((run_by byte_step spot.watched items).state.state.store ≡ left_from limit spot.place spot.watched read.items)
+  pub whole : IfAllRead why (more ≡ [])

@@ -2,7 +2,7 @@
 use Rattle.std.specs.Prelude.{◌≡◌, ℕ, ◌+◌, List, [], ◌∷◌, ◌++◌, Option, None, Some, if◌then◌else◌}
 use Rattle.std.specs.Option.{option_map}
 use Rattle.send_model.specs.Command.{Command}
-use Rattle.send_model.specs.Store.{Entry, Part, State, completed}
+use Rattle.send_model.specs.Store.{Entry, State, completed}
 use Rattle.store_model.specs.Stored.{is_edit}
 use Rattle.store_model.specs.States.{complete_line}
 use Rattle.store_model.specs.Dues.{seal_len}

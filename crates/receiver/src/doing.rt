@@ -15,7 +15,9 @@ ghost use Rattle.store_journal.specs.Shown.{IsIdle};
 ghost use Rattle.store_journal.specs.Holding.{Holds};
 ghost use Rattle.receiver.specs.Standing.{state_of, place_of, IsReady};
 ghost use Rattle.receiver.specs.Steps.{EditsAs, begun_if};
-ghost use Rattle.receiver.specs.Disks.{Keeps, HasVersion, HasFront};
+ghost use Rattle.receiver.specs.Disks.{Keeps, HasVersion, HasFront, marked};
+ghost use Rattle.sx_base.specs.Disk.{IsImage};
+ghost use Rattle.store_journal.specs.Holding.{HasThese};
 ghost use Rattle.receiver.specs.Answers.{ended_log, ended_by, IsUsualLog, IsUsualStop, StepSays, PiecesSay, ReadySays, KeepsSays, ErrCaused};
 
 use crate::opened::{Opened, line_of};
@@ -99,7 +101,10 @@ pub(crate) fn begin<D: Disk>(
     ensures keeps { D.tells → (header : Header) (groups : List Group) (begun : Option Begun) →
         Holds header groups store.old (D.seen disk.old) (D.pending disk.old) →
         KeepsSays result (λ groups begun. Keeps header groups begun current.new store.new
-        (D.seen disk.new) (D.pending disk.new)) groups
+        (D.seen disk.new) (D.pending disk.new))
+        (λ groups. (image : List ℕ) → IsImage (D.pending disk.new) image →
+        HasThese header groups image) groups
+        (groups ++ marked store.old.log.limit store.old.log.gate (meaning_of item.now.command))
         (groups ++ begun_by (meaning_of item.now.command))
         (begun_after begun (item_of file item.now)) }
     ensures any_moment { D.tells → (header : Header) (groups : List Group) →
@@ -147,7 +152,9 @@ pub(crate) fn edit<D: Disk>(
         HasVersion item.now.version begun →
         Keeps header groups begun current.old store.old (D.seen disk.old) (D.pending disk.old) →
         KeepsSays result (λ groups begun. Keeps header groups begun current.new store.new
-        (D.seen disk.new) (D.pending disk.new)) groups groups
+        (D.seen disk.new) (D.pending disk.new))
+        (λ groups. (image : List ℕ) → IsImage (D.pending disk.new) image →
+        HasThese header groups image) groups groups groups
         (begun_after begun (item_of file item.now)) }
     ensures any_moment { D.tells → (header : Header) (groups : List Group) (begun : Option Begun) →
         HasVersion item.now.version begun →

@@ -8,12 +8,14 @@ ghost use Rattle.send_model.specs.Reading.{is_version};
 ghost use Rattle.store_model.specs.Image.{Header};
 ghost use Rattle.store_model.specs.Stored.{Group};
 ghost use Rattle.store_model.specs.Written.{Begun, closed_by, begun_by, begun_after};
+ghost use Rattle.sx_base.specs.Disk.{IsImage};
+ghost use Rattle.store_journal.specs.Holding.{HasThese};
 ghost use Rattle.send_commands.specs.Meaning.{meaning_of};
 ghost use Rattle.cmd_reader.specs.Next.{item_of};
 ghost use Rattle.auditor.specs.Following.{beside, follow};
 ghost use Rattle.receiver.specs.Standing.{place_of, behind_close, IsReady};
 ghost use Rattle.receiver.specs.Steps.{blank_of, line_under, begun_if};
-ghost use Rattle.receiver.specs.Disks.{Keeps, HasVersion, HasFront};
+ghost use Rattle.receiver.specs.Disks.{Keeps, HasVersion, HasFront, HasNow, marked};
 ghost use Rattle.receiver.specs.Answers.{StepSays, PiecesSay, ReadySays, ItemWrites, KeepsSays, ErrCaused};
 
 use crate::doing::refused;
@@ -49,14 +51,24 @@ pub(crate) fn receive_item<D: Disk, O: Sink, G: Guarding>(
         (behind_close current.old (meaning_of item.now.command) (place_of store.old current.old))
         (place_of store.new current.new) (item_of file item.now) }
     ensures ready { ReadySays result (D.len disk.new) current.new store.new }
-    ensures written { ItemWrites result (line_under (G.kept guards.old) current.old
-        (meaning_of item.now.command)) (O.taken out.old) (O.taken out.new) }
+    ensures written { ItemWrites result (HasNow D.tells D.seen D.pending disk.old disk.new
+        item.now.version current.old store.old
+        (closed_by (G.kept guards.old) (meaning_of item.now.command))
+        (begun_if (follow (beside (G.kept guards.old) (blank_of store.old current.old))
+        (item_of file item.now)) (meaning_of item.now.command)))
+        (line_under (G.kept guards.old) current.old (meaning_of item.now.command))
+        (O.taken out.old) (O.taken out.new) }
     ensures keeps { D.tells → (header : Header) (groups : List Group) (begun : Option Begun) →
         HasVersion item.now.version begun →
         Keeps header groups begun current.old store.old (D.seen disk.old) (D.pending disk.old) →
         KeepsSays result (λ groups begun. Keeps header groups begun current.new store.new
         (D.seen disk.new) (D.pending disk.new))
+        (λ groups. (image : List ℕ) → IsImage (D.pending disk.new) image →
+        HasThese header groups image)
         (groups ++ closed_by (G.kept guards.old) (meaning_of item.now.command) begun)
+        (groups ++ (closed_by (G.kept guards.old) (meaning_of item.now.command) begun
+        ++ marked store.old.log.limit (behind_close current.old (meaning_of item.now.command)
+        (place_of store.old current.old)) (meaning_of item.now.command)))
         (groups ++ (closed_by (G.kept guards.old) (meaning_of item.now.command) begun
         ++ begun_by (meaning_of item.now.command)))
         (begun_after begun (item_of file item.now)) }

@@ -1,5 +1,5 @@
 // Receiving files into a store.
-ghost use Rattle.std.specs.Prelude.{◌≡◌, ◌++◌, ℕ, List, None, map};
+ghost use Rattle.std.specs.Prelude.{◌≡◌, ◌≤◌, ℕ, List, None, map};
 ghost use Rattle.std.specs.String.{string_bytes};
 ghost use Rattle.sx_base.specs.Calls.{IfAllTold, Wrote};
 ghost use Rattle.sx_base.specs.Crash.{LeavesOnly};
@@ -13,7 +13,7 @@ ghost use Rattle.store_journal.specs.Shown.{IsIdle};
 ghost use Rattle.store_journal.specs.Holding.{Holds};
 ghost use Rattle.receiver.specs.Answers.{Caused};
 ghost use Rattle.receiver.specs.Disks.{HasFront};
-ghost use Rattle.receiver.specs.ReceiveEnds.{ReceiveEnds, SteadyIfReceived, IdleAfter, IfDone};
+ghost use Rattle.receiver.specs.ReceiveEnds.{ReceiveEnds, AreLeft, LeavesMore, SteadyIfReceived, IdleAfter};
 
 use crate::files::receive_files;
 use crate::guarding::Guarding;
@@ -27,7 +27,8 @@ use sx_base::{Disk, Inputs, Outcome, Sink};
 /// is open: its group is published, and then `out` gets its line, `complete NAME UUID CTRANSID`. A part that is open where receiving
 /// ends early stays unfinished. The answer is the one that is due, and the lines are those of the parts that are complete; else an
 /// object of the outside failed, or there was no memory, and some of the lines were written. Where the disk tells, a crash at any
-/// moment leaves the groups that there were and the first of those that are due.
+/// moment leaves the groups that there were and the first of those that are due; and whatever ends it, it then has the groups of each
+/// part of whose line something was written.
 pub fn receive<I: Inputs, O: Sink, D: Disk, G: Guarding>(
     alloc: Global,
     store: &mut Store,
@@ -43,24 +44,21 @@ pub fn receive<I: Inputs, O: Sink, D: Disk, G: Guarding>(
     ensures idle { IdleAfter result (D.len disk.new) store.new }
     ensures received { (base : meant.Store ℕ) → HaveSameShape store.old.core base →
         IfAllTold (I.told inputs.old) (map string_bytes files.now)
-        (λ files. Wrote (O.taken out.old) (O.taken out.new)
-        (ReceiveEnds store.old.log.limit store.old.log.gate base (G.kept guards.old) files
-        result store.new.core)) }
+        (λ files. Wrote (O.taken out.old) (O.taken out.new) (λ written.
+        ReceiveEnds store.old.log.limit store.old.log.gate base (G.kept guards.old) files
+        result store.new.core written
+        × LeavesMore D.tells D.seen D.pending disk.old disk.new store.old store.new result
+        (AreLeft store.old.log.limit store.old.log.gate base (G.kept guards.old) files
+        result written))) }
     ensures any_moment { D.tells → (header : Header) (groups : List Group) →
         Holds header groups store.old (D.seen disk.old) (D.pending disk.old) →
         (base : meant.Store ℕ) → HaveSameShape store.old.core base →
         IfAllTold (I.told inputs.old) (map string_bytes files.now)
         (λ files. LeavesOnly D.moment D.left_since disk.old disk.new (HasFront header groups
         (groups_of base (G.kept guards.old) (limited_from 1 files).items))) }
-    ensures holds { D.tells → (header : Header) (groups : List Group) →
-        Holds header groups store.old (D.seen disk.old) (D.pending disk.old) →
-        (base : meant.Store ℕ) → HaveSameShape store.old.core base →
-        IfAllTold (I.told inputs.old) (map string_bytes files.now)
-        (λ files. IfDone result (Holds header
-        (groups ++ groups_of base (G.kept guards.old) (limited_from 1 files).items) store.new
-        (D.seen disk.new) (D.pending disk.new))) }
     ensures cause { Caused (I.faults inputs.old) (I.faults inputs.new)
         (O.faults out.old) (O.faults out.new) (D.faults disk.old) (D.faults disk.new) result }
+    ensures later { D.faults disk.old ≤ D.faults disk.new }
     ensures steady { SteadyIfReceived (I.faults inputs.old) (I.faults inputs.new) result }
     ensures ends_steady { SteadyIfReceived (I.ends inputs.old) (I.ends inputs.new) result }
     ensures out_steady { SteadyIfReceived (O.faults out.old) (O.faults out.new) result }

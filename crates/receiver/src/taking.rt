@@ -17,7 +17,9 @@ ghost use Rattle.store_groups.specs.declared.place.Place as here;
 ghost use Rattle.cmd_reader.specs.Next.{item_of};
 ghost use Rattle.receiver.specs.Standing.{state_of, place_of, behind_close, line_by, IsReady};
 ghost use Rattle.receiver.specs.Steps.{TakesAs, begun_if};
-ghost use Rattle.receiver.specs.Disks.{Keeps, HasVersion, HasFront, closing};
+ghost use Rattle.receiver.specs.Disks.{Keeps, HasVersion, HasFront, HasNow, closing, marked};
+ghost use Rattle.sx_base.specs.Disk.{IsImage};
+ghost use Rattle.store_journal.specs.Holding.{HasThese};
 ghost use Rattle.receiver.specs.Answers.{StepSays, PiecesSay, ReadySays, ItemWrites, KeepsSays, ErrCaused};
 
 use crate::closing::close;
@@ -59,14 +61,24 @@ pub(crate) fn do_item<D: Disk, O: Sink>(
         (behind_close current.old (meaning_of item.now.command) (place_of store.old current.old))
         (place_of store.new current.new) (item_of file item.now) }
     ensures ready { ReadySays result (D.len disk.new) current.new store.new }
-    ensures written { ItemWrites result (line_by current.old (meaning_of item.now.command))
-        (O.taken out.old) (O.taken out.new) }
+    ensures written { ItemWrites result ((place : here.Place) → HasNow D.tells D.seen D.pending
+        disk.old disk.new item.now.version current.old store.old
+        (closing (meaning_of item.now.command))
+        (begun_if (step None (cells_put further place (meaning_of item.now.command))
+        (state_of store.old current.old) (meaning_of item.now.command))
+        (meaning_of item.now.command)))
+        (line_by current.old (meaning_of item.now.command)) (O.taken out.old) (O.taken out.new) }
     ensures keeps { D.tells → (header : Header) (groups : List Group) (begun : Option Begun) →
         HasVersion item.now.version begun →
         Keeps header groups begun current.old store.old (D.seen disk.old) (D.pending disk.old) →
         KeepsSays result (λ groups begun. Keeps header groups begun current.new store.new
         (D.seen disk.new) (D.pending disk.new))
+        (λ groups. (image : List ℕ) → IsImage (D.pending disk.new) image →
+        HasThese header groups image)
         (groups ++ closing (meaning_of item.now.command) begun)
+        (groups ++ (closing (meaning_of item.now.command) begun
+        ++ marked store.old.log.limit (behind_close current.old (meaning_of item.now.command)
+        (place_of store.old current.old)) (meaning_of item.now.command)))
         (groups ++ (closing (meaning_of item.now.command) begun
         ++ begun_by (meaning_of item.now.command)))
         (begun_after begun (item_of file item.now)) }
@@ -118,14 +130,24 @@ fn enter<D: Disk, O: Sink>(
         (behind_close current.old (meaning_of item.now.command) (place_of store.old current.old))
         (place_of store.new current.new) (item_of file item.now) }
     ensures ready { ReadySays result (D.len disk.new) current.new store.new }
-    ensures written { ItemWrites result (line_by current.old (meaning_of item.now.command))
-        (O.taken out.old) (O.taken out.new) }
+    ensures written { ItemWrites result ((place : here.Place) → HasNow D.tells D.seen D.pending
+        disk.old disk.new item.now.version current.old store.old
+        (closing (meaning_of item.now.command))
+        (begun_if (step None (cells_put further place (meaning_of item.now.command))
+        (state_of store.old current.old) (meaning_of item.now.command))
+        (meaning_of item.now.command)))
+        (line_by current.old (meaning_of item.now.command)) (O.taken out.old) (O.taken out.new) }
     ensures keeps { D.tells → (header : Header) (groups : List Group) (begun : Option Begun) →
         HasVersion item.now.version begun →
         Keeps header groups begun current.old store.old (D.seen disk.old) (D.pending disk.old) →
         KeepsSays result (λ groups begun. Keeps header groups begun current.new store.new
         (D.seen disk.new) (D.pending disk.new))
+        (λ groups. (image : List ℕ) → IsImage (D.pending disk.new) image →
+        HasThese header groups image)
         (groups ++ closing (meaning_of item.now.command) begun)
+        (groups ++ (closing (meaning_of item.now.command) begun
+        ++ marked store.old.log.limit (behind_close current.old (meaning_of item.now.command)
+        (place_of store.old current.old)) (meaning_of item.now.command)))
         (groups ++ (closing (meaning_of item.now.command) begun
         ++ begun_by (meaning_of item.now.command)))
         (begun_after begun (item_of file item.now)) }

@@ -1,5 +1,5 @@
 use Rattle.std.specs.Prelude.{◌≡◌, ◌+◌, length}
-use Rattle.std.proofs.Common.{refl, sym, ap, ◌∙◌, arith}
+use Rattle.std.proofs.Common.{arith}
 use Rattle.sx_base.specs.Causes.{Rose}
 use Rattle.send_model.specs.Spelling.{canonical}
 use Rattle.store_journal.specs.Filling.{head_asks}
@@ -8,10 +8,9 @@ use Rattle.send_model.specs.Store.{head_of, begun, entered}
 use Rattle.clone_resolve.specs.Heads.{head_meant}
 use Rattle.cmd_reader.specs.Next.{item_of}
 use Rattle.receiver.specs.Steps.{begun_if}
-use Rattle.receiver.specs.declared.outcome.Received.{Received}
 use Rattle.receiver.specs.Standing.{place_of}
 use Rattle.receiver.proofs.RoomLaws.{head_item, no_room}
-use Rattle.receiver.proofs.BegunParts.{head_first, begun_ready, begun_room, not_begun, holds_now, begin_moments}
+use Rattle.receiver.proofs.BegunParts.{head_first, begun_ready, begun_room, not_begun, not_begun_keeps, holds_now, begin_moments}
 use Rattle.receiver.proofs.doing.begin.Goals as goal
 
 pub returns-in_default-clause-any_moment : goal.returns-in_default-clause-any_moment
@@ -47,3 +46,8 @@ returns-in-Err-clause-pieces g c =
 pub returns-in-Err-clause-any_moment : goal.returns-in-Err-clause-any_moment
 returns-in-Err-clause-any_moment g c tells header groups holds =
     begin_moments header groups (meaning_of c.args.item.now.command) (head_meant c.args.head.now) c.args.store.now.core c.requires.head (c.begin.ensures.any_moment tells header groups holds) (c.begin.ensures.unmarked tells header groups holds)
+
+pub returns-in-Err-clause-keeps : goal.returns-in-Err-clause-keeps
+returns-in-Err-clause-keeps g c tells header groups begun holds =
+    not_begun_keeps header groups g.D.Disk.seen g.D.Disk.pending c.args.disk.now c.begin.new.disk (item_of c.args.file c.args.item.now) (head_meant c.args.head.now) c.args.store.now c.begin.new.self c.args.current.now c.in-Err.stop c.stopped.result _ _
+    c.requires.head c.requires.none c.stopped.ensures holds c.in-Err.ensures.refused (c.in-Err.ensures.held tells header groups holds)

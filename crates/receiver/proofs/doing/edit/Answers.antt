@@ -1,5 +1,5 @@
-use Rattle.std.specs.Prelude.{◌≡◌, ◌+◌, ◌-◌, ◌∷◌, ◌++◌, Some, None}
-use Rattle.std.proofs.Common.{refl, sym, ap, ◌∙◌, arith}
+use Rattle.std.specs.Prelude.{◌≡◌, None}
+use Rattle.std.proofs.Common.{sym, ◌∙◌}
 use Rattle.sx_base.specs.Causes.{Rose}
 use Rattle.send_model.specs.Reading.{data_place}
 use Rattle.send_model.specs.Spelling.{attributes_of}
@@ -9,7 +9,6 @@ use Rattle.send_commands.specs.Meaning.{meaning_of}
 use Rattle.cmd_reader.specs.Next.{item_of}
 use Rattle.store_groups.specs.Taking.{as_runs}
 use Rattle.store_groups.specs.declared.place.Place.{Place}
-use Rattle.receiver.proofs.ClosedParts.{none_moments}
 use Rattle.receiver.proofs.EditedParts.{none_edited, none_edit_moments, one_edited, not_edited, edit_room, no_edit_room, not_edit_ready, edit_keeps, edit_moments, not_edit_keeps}
 use Rattle.receiver.proofs.doing.edit.Goals as goal
 
@@ -66,7 +65,7 @@ returns-in-Err-clause-keeps g c tells header groups begun version keeps =
     let m = meaning_of c.args.item.now.command in
     not_edit_keeps header groups g.D.Disk.seen g.D.Disk.pending c.args.disk.now c.edit-edited.new.disk (item_of c.args.file c.args.item.now) begun c.args.store.now c.edit-edited.new.self c.args.current.now c.in-Some.opened c.edit-edited.new.part
     (edit_part None (as_runs (data_place c.args.item.now.version c.args.store.now.log.size (attributes_of m)) (bytes_of m)) c.args.store.now.core c.in-Some.opened.part m) c.in-Err.stop c.stopped.result _
-    (sym c.in-Some.is ∙ c.take.ensures.value) c.edit-edited.ensures.key c.stopped.ensures keeps c.in-Err.ensures.edited c.in-Err.ensures.refused
+    (sym c.in-Some.is ∙ c.take.ensures.value) c.edit-edited.ensures.key c.stopped.ensures keeps c.in-Err.ensures.edited c.in-Err.ensures.refused c.in-Err.ensures.short
 
 pub returns-in-Err-clause-any_moment : goal.returns-in-Err-clause-any_moment
 returns-in-Err-clause-any_moment g c tells header groups begun version keeps =

@@ -1,11 +1,11 @@
-use Rattle.std.specs.Prelude.{ℕ, List, Option, None, map, ◌+◌}
+use Rattle.std.specs.Prelude.{ℕ, None, map, ◌+◌}
 use Rattle.std.specs.String.{string_bytes}
-use Rattle.std.proofs.Common.{refl, sym, ap, subst, ◌∙◌, arith}
+use Rattle.std.proofs.Common.{refl, subst, ◌∙◌, arith}
 use Rattle.cmd_reader.specs.Places.{IfTold}
-use Rattle.receiver.specs.Disks.{RunsOn, LeavesOn}
+use Rattle.receiver.specs.Disks.{RunsOn, LeavesOn, StopsOn}
 use Rattle.receiver.specs.FileEnds.{FileEnds}
 use Rattle.receiver.proofs.AllTheFiles.{all_start, all_next, all_stop, all_end}
-use Rattle.receiver.proofs.DiskRuns.{run_starts, run_both, run_ends}
+use Rattle.receiver.proofs.DiskRuns.{run_starts, run_both, run_ends, run_files}
 use Rattle.receiver.proofs.files.receive_files.Goals as goal
 
 pub loop-file-init : goal.loop-file-init
@@ -44,10 +44,12 @@ loop-file-preserved g c =
           (RunsOn g.D.Disk.tells g.D.Disk.moment g.D.Disk.left_since g.D.Disk.seen g.D.Disk.pending c.loop-file.disk c.receive_file.new.disk None None None c.loop-file.store c.receive_file.new.store)
           (RunsOn g.D.Disk.tells g.D.Disk.moment g.D.Disk.left_since g.D.Disk.seen g.D.Disk.pending c.args.disk.now c.receive_file.new.disk None None None c.args.store.now c.receive_file.new.store)
           (λ now. LeavesOn g.D.Disk.tells g.D.Disk.moment g.D.Disk.left_since g.D.Disk.seen g.D.Disk.pending c.loop-file.disk c.receive_file.new.disk None None c.loop-file.store)
+          (StopsOn g.D.Disk.tells g.D.Disk.seen g.D.Disk.pending c.loop-file.disk c.receive_file.new.disk None None c.loop-file.store c.receive_file.new.store)
           c.index-files-file.result c.as_str-name.result.now c.receive_file.result c.in-Ok.field-0 i.same c.loop-file-test.true c.index-files-file.is c.as_str-name.ensures.value c.in-Ok.is
           (λ now here onward open_none. subst (λ (n : ℕ). IfTold (g.I.Inputs.told c.loop-file.inputs) c.as_str-name.result.now (FileEnds (c.loop-file.file + 1) n base now (g.G.Guarding.kept c.receive_file.new.guards) c.receive_file.new.store (g.O.Sink.taken c.loop-file.out) (g.O.Sink.taken c.receive_file.new.out)
           (RunsOn g.D.Disk.tells g.D.Disk.moment g.D.Disk.left_since g.D.Disk.seen g.D.Disk.pending c.loop-file.disk c.receive_file.new.disk None None None c.loop-file.store c.receive_file.new.store)
-          (LeavesOn g.D.Disk.tells g.D.Disk.moment g.D.Disk.left_since g.D.Disk.seen g.D.Disk.pending c.loop-file.disk c.receive_file.new.disk None None c.loop-file.store) c.receive_file.result)) i.most
+          (LeavesOn g.D.Disk.tells g.D.Disk.moment g.D.Disk.left_since g.D.Disk.seen g.D.Disk.pending c.loop-file.disk c.receive_file.new.disk None None c.loop-file.store)
+          (StopsOn g.D.Disk.tells g.D.Disk.seen g.D.Disk.pending c.loop-file.disk c.receive_file.new.disk None None c.loop-file.store c.receive_file.new.store) c.receive_file.result)) i.most
           (c.receive_file.ensures.received base now here onward open_none))
           (λ groups more. run_both g.D.Disk.tells g.D.Disk.moment g.D.Disk.left_since g.D.Disk.seen g.D.Disk.pending c.args.disk.now c.loop-file.disk c.receive_file.new.disk c.args.store.now c.loop-file.store c.receive_file.new.store groups more)
           (i.stand base spot at on none);
@@ -62,12 +64,16 @@ returns-in-Err-clause-received g c base spot at on none =
     (RunsOn g.D.Disk.tells g.D.Disk.moment g.D.Disk.left_since g.D.Disk.seen g.D.Disk.pending c.args.disk.now c.receive_file.new.disk None None None c.args.store.now c.receive_file.new.store)
     (λ now. LeavesOn g.D.Disk.tells g.D.Disk.moment g.D.Disk.left_since g.D.Disk.seen g.D.Disk.pending c.loop-file.disk c.receive_file.new.disk None None c.loop-file.store)
     (LeavesOn g.D.Disk.tells g.D.Disk.moment g.D.Disk.left_since g.D.Disk.seen g.D.Disk.pending c.args.disk.now c.receive_file.new.disk None None c.args.store.now)
+    (StopsOn g.D.Disk.tells g.D.Disk.seen g.D.Disk.pending c.loop-file.disk c.receive_file.new.disk None None c.loop-file.store c.receive_file.new.store)
+    (StopsOn g.D.Disk.tells g.D.Disk.seen g.D.Disk.pending c.args.disk.now c.receive_file.new.disk None None c.args.store.now c.receive_file.new.store)
     c.index-files-file.result c.as_str-name.result.now c.receive_file.result c.in-Err.ended i.same c.loop-file-test.true c.index-files-file.is c.as_str-name.ensures.value c.in-Err.is
     (λ now here onward open_none. subst (λ (n : ℕ). IfTold (g.I.Inputs.told c.loop-file.inputs) c.as_str-name.result.now (FileEnds (c.loop-file.file + 1) n base now (g.G.Guarding.kept c.receive_file.new.guards) c.receive_file.new.store (g.O.Sink.taken c.loop-file.out) (g.O.Sink.taken c.receive_file.new.out)
     (RunsOn g.D.Disk.tells g.D.Disk.moment g.D.Disk.left_since g.D.Disk.seen g.D.Disk.pending c.loop-file.disk c.receive_file.new.disk None None None c.loop-file.store c.receive_file.new.store)
-    (LeavesOn g.D.Disk.tells g.D.Disk.moment g.D.Disk.left_since g.D.Disk.seen g.D.Disk.pending c.loop-file.disk c.receive_file.new.disk None None c.loop-file.store) c.receive_file.result)) i.most
+    (LeavesOn g.D.Disk.tells g.D.Disk.moment g.D.Disk.left_since g.D.Disk.seen g.D.Disk.pending c.loop-file.disk c.receive_file.new.disk None None c.loop-file.store)
+    (StopsOn g.D.Disk.tells g.D.Disk.seen g.D.Disk.pending c.loop-file.disk c.receive_file.new.disk None None c.loop-file.store c.receive_file.new.store) c.receive_file.result)) i.most
     (c.receive_file.ensures.received base now here onward open_none))
     (λ now groups more. run_ends g.D.Disk.tells g.D.Disk.moment g.D.Disk.left_since g.D.Disk.seen g.D.Disk.pending c.args.disk.now c.loop-file.disk c.receive_file.new.disk c.args.store.now c.loop-file.store groups more)
+    (λ groups W V run moved stops. run_files g.D.Disk.tells g.D.Disk.moment g.D.Disk.left_since g.D.Disk.seen g.D.Disk.pending c.args.disk.now c.loop-file.disk c.receive_file.new.disk c.args.store.now c.loop-file.store c.receive_file.new.store groups c.in-Err.ended W V run moved stops)
     (i.stand base spot at on none)
 
 pub returns-clause-received : goal.returns-clause-received
@@ -75,4 +81,5 @@ returns-clause-received g c base spot at on none =
     all_end _ c.args.files.now c.loop-file.file c.args.store.now.log.limit base spot (g.G.Guarding.kept c.loop-file.guards) c.loop-file.store _ (g.O.Sink.taken c.loop-file.out)
     (RunsOn g.D.Disk.tells g.D.Disk.moment g.D.Disk.left_since g.D.Disk.seen g.D.Disk.pending c.args.disk.now c.loop-file.disk None None None c.args.store.now c.loop-file.store)
     (LeavesOn g.D.Disk.tells g.D.Disk.moment g.D.Disk.left_since g.D.Disk.seen g.D.Disk.pending c.args.disk.now c.loop-file.disk None None c.args.store.now)
+    (StopsOn g.D.Disk.tells g.D.Disk.seen g.D.Disk.pending c.args.disk.now c.loop-file.disk None None c.args.store.now c.loop-file.store)
     c.loop-file-test.false (c.loop-file.invariant.stand base spot at on none)

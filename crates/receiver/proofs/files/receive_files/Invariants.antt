@@ -1,4 +1,4 @@
-use Rattle.std.specs.Prelude.{ℕ, List, Option, None, map}
+use Rattle.std.specs.Prelude.{ℕ, None, map}
 use Rattle.std.specs.String.{string_bytes}
 use Rattle.std.proofs.Common.{◌≡◌, ◌≤◌, ◌-◌, length}
 use Rattle.sx_base.specs.Calls.{IfAllTold}

@@ -1,4 +1,5 @@
-use Rattle.std.specs.Prelude.{ℕ, List, Option, None, Ok, Err, ◌++◌}
+use Rattle.std.specs.Prelude.{ℕ, [], Option, None, Ok, Err, ◌++◌}
+use Rattle.sx_base.specs.declared.outcome.Outcome.TheVariants as ended
 use Rattle.std.proofs.Common.{rules, refl, sym, ap, subst, ◌∙◌, arith}
 use Rattle.std.proofs.lemmas.Bool.{false≢true}
 use Rattle.send_commands.specs.Meaning.{meaning_of}
@@ -12,19 +13,23 @@ use Rattle.receiver.specs.declared.opened.Opened.{Opened}
 use Rattle.receiver.specs.Standing.{behind_close, place_of}
 use Rattle.receiver.specs.Steps.{blank_of, begun_if}
 use Rattle.receiver.specs.Answers.{PiecesSay}
-use Rattle.receiver.specs.Disks.{RunsOn, LeavesOn}
+use Rattle.receiver.specs.Disks.{HasNow, RunsOn, LeavesOn, StopsOn}
 use Rattle.receiver.specs.Running.{IsAt}
 use Rattle.receiver.proofs.FileSteps.{stands_at_start, stands_after}
 use Rattle.receiver.proofs.FileStops.{file_done, file_unopened, file_item, file_read_stops, ended_at_end}
-use Rattle.receiver.proofs.DiskRuns.{run_starts, none_leaves, run_leaves, run_item, run_goes, taken_due, at_stream_end}
+use Rattle.receiver.proofs.DiskRuns.{run_starts, none_leaves, run_leaves, run_item, run_goes, run_rests, taken_due, at_stream_end}
+use Rattle.receiver.proofs.EndedItems.{run_left}
 use Rattle.receiver.proofs.files.receive_items.Goals as goal
 
 pub returns-in_default-clause-received : goal.returns-in_default-clause-received
 returns-in_default-clause-received g c base spot at on none =
     file_unopened (g.I.Inputs.told c.args.inputs.now) c.args.file c.args.store.now.log.limit c.args.name.now base spot (g.G.Guarding.kept c.args.guards.now) c.args.store.now (g.O.Sink.taken c.args.out.now)
     (RunsOn g.D.Disk.tells g.D.Disk.moment g.D.Disk.left_since g.D.Disk.seen g.D.Disk.pending c.args.disk.now c.args.disk.now None None c.args.current.now c.args.store.now c.args.store.now)
-    (LeavesOn g.D.Disk.tells g.D.Disk.moment g.D.Disk.left_since g.D.Disk.seen g.D.Disk.pending c.args.disk.now c.args.disk.now None None c.args.store.now) on
+    (LeavesOn g.D.Disk.tells g.D.Disk.moment g.D.Disk.left_since g.D.Disk.seen g.D.Disk.pending c.args.disk.now c.args.disk.now None None c.args.store.now)
+    (StopsOn g.D.Disk.tells g.D.Disk.seen g.D.Disk.pending c.args.disk.now c.args.disk.now None c.args.current.now c.args.store.now c.args.store.now) on
     (none_leaves g.D.Disk.tells g.D.Disk.moment g.D.Disk.left_since g.D.Disk.seen g.D.Disk.pending c.args.disk.now c.args.store.now (λ tells image. g.met.D.Disk.only_now c.args.disk.now image tells))
+    (λ V is. run_rests g.D.Disk.tells g.D.Disk.moment g.D.Disk.left_since g.D.Disk.seen g.D.Disk.pending c.args.disk.now c.args.disk.now c.args.store.now c.args.store.now c.args.current.now [] None ended.NoMemory V
+    (run_starts g.D.Disk.tells g.D.Disk.moment g.D.Disk.left_since g.D.Disk.seen g.D.Disk.pending c.args.disk.now c.args.store.now c.args.current.now c.requires.none (λ tells image. g.met.D.Disk.only_now c.args.disk.now image tells)) is)
 
 pub loop-reader-init : goal.loop-reader-init
 loop-reader-init g c =
@@ -54,7 +59,8 @@ returns-in-Ok-None-clause-received g c base spot at on none =
     let ends = i.at_end (ended_at_end c.in-Ok-None.field-0 c.loop-reader.reader c.in-Ok-None.field-0-is c.in-Ok-None.ensures.end) in
     file_done _ _ c.args.file c.args.store.now.log.limit c.args.name.now base spot c.loop-reader.reader c.next.new.self (g.G.Guarding.kept c.loop-reader.guards) c.loop-reader.store c.loop-reader.current _ _
     (RunsOn g.D.Disk.tells g.D.Disk.moment g.D.Disk.left_since g.D.Disk.seen g.D.Disk.pending c.args.disk.now c.loop-reader.disk None None c.loop-reader.current c.args.store.now c.loop-reader.store)
-    (LeavesOn g.D.Disk.tells g.D.Disk.moment g.D.Disk.left_since g.D.Disk.seen g.D.Disk.pending c.args.disk.now c.loop-reader.disk None None c.args.store.now) 0 0
+    (LeavesOn g.D.Disk.tells g.D.Disk.moment g.D.Disk.left_since g.D.Disk.seen g.D.Disk.pending c.args.disk.now c.loop-reader.disk None None c.args.store.now)
+    (StopsOn g.D.Disk.tells g.D.Disk.seen g.D.Disk.pending c.args.disk.now c.loop-reader.disk None c.loop-reader.current c.args.store.now c.loop-reader.store) 0 0
     c.in-Ok-None.field-0 c.in-Ok-None.field-0-is i.same i.name c.in-Ok-None.ensures.read ends.0 ends.1 (i.stands base spot at on none)
 
 pub loop-reader-preserved : goal.loop-reader-preserved
@@ -107,6 +113,9 @@ returns-in-Err-received-clause-received g c base spot at on none =
     (RunsOn g.D.Disk.tells g.D.Disk.moment g.D.Disk.left_since g.D.Disk.seen g.D.Disk.pending c.args.disk.now c.loop-reader.disk None None c.loop-reader.current c.args.store.now c.loop-reader.store)
     (RunsOn g.D.Disk.tells g.D.Disk.moment g.D.Disk.left_since g.D.Disk.seen g.D.Disk.pending c.args.disk.now c.receive_item-received.new.disk None None c.receive_item-received.new.current c.args.store.now c.receive_item-received.new.store)
     (LeavesOn g.D.Disk.tells g.D.Disk.moment g.D.Disk.left_since g.D.Disk.seen g.D.Disk.pending c.args.disk.now c.receive_item-received.new.disk None None c.args.store.now)
+    (StopsOn g.D.Disk.tells g.D.Disk.seen g.D.Disk.pending c.args.disk.now c.receive_item-received.new.disk None c.receive_item-received.new.current c.args.store.now c.receive_item-received.new.store)
+    (HasNow g.D.Disk.tells g.D.Disk.seen g.D.Disk.pending c.loop-reader.disk c.receive_item-received.new.disk c.in-Ok-Some.item.version c.loop-reader.current c.loop-reader.store (closed_by guards item.command)
+    (begun_if (follow (beside guards (blank_of c.loop-reader.store c.loop-reader.current)) item) item.command))
     0 0 c.in-Ok-Some.field-0 c.in-Ok-Some.item c.in-Err-received.ended c.in-Ok-Some.field-0-is i.same i.name i.file e.read m i.ready r.followed
     (subst (λ (n : ℕ). PiecesSay (Err c.in-Err-received.ended) n (behind_close c.loop-reader.current item.command (place_of c.loop-reader.store c.loop-reader.current)) (place_of c.receive_item-received.new.store c.receive_item-received.new.current) item) i.most r.pieces)
     r.written
@@ -114,6 +123,12 @@ returns-in-Err-received-clause-received g c base spot at on none =
     run_item g.D.Disk.tells g.D.Disk.moment g.D.Disk.left_since g.D.Disk.seen g.D.Disk.pending c.args.disk.now c.loop-reader.disk c.receive_item-received.new.disk c.args.store.now c.loop-reader.store c.loop-reader.current
     groups (closed_by guards item.command begun ++ begun_if (follow (beside guards (blank_of c.loop-reader.store c.loop-reader.current)) item) item.command) more begun run
     (λ tells header there keeps. r.any_moment tells header there begun version keeps))
+    (run_left g.D.Disk.tells g.D.Disk.moment g.D.Disk.left_since g.D.Disk.seen g.D.Disk.pending c.args.disk.now c.loop-reader.disk c.receive_item-received.new.disk
+    (λ tells image later is. g.met.D.Disk.counts_now c.receive_item-received.new.disk (g.D.Disk.moment c.loop-reader.disk) image tells later is)
+    c.args.store.now.log.limit base item guards _ c.args.store.now c.loop-reader.store c.loop-reader.current i.ready (g.G.Guarding.kept c.receive_item-received.new.guards) c.receive_item-received.new.store c.receive_item-received.new.current i.most
+    c.in-Err-received.ended (λ begun groups. groups ++ (closed_by guards item.command begun ++ begun_by item.command)) (λ begun. begun_after begun item) r.followed
+    (subst (λ (n : ℕ). PiecesSay (Err c.in-Err-received.ended) n (behind_close c.loop-reader.current item.command (place_of c.loop-reader.store c.loop-reader.current)) (place_of c.receive_item-received.new.store c.receive_item-received.new.current) item) i.most r.pieces)
+    r.keeps r.any_moment)
     (i.stands base spot at on none)
 
 pub returns-in-Err-clause-received : goal.returns-in-Err-clause-received
@@ -123,6 +138,8 @@ returns-in-Err-clause-received g c base spot at on none =
     (RunsOn g.D.Disk.tells g.D.Disk.moment g.D.Disk.left_since g.D.Disk.seen g.D.Disk.pending c.args.disk.now c.loop-reader.disk None None c.loop-reader.current c.args.store.now c.loop-reader.store)
     (RunsOn g.D.Disk.tells g.D.Disk.moment g.D.Disk.left_since g.D.Disk.seen g.D.Disk.pending c.args.disk.now c.loop-reader.disk None None c.loop-reader.current c.args.store.now c.loop-reader.store)
     (LeavesOn g.D.Disk.tells g.D.Disk.moment g.D.Disk.left_since g.D.Disk.seen g.D.Disk.pending c.args.disk.now c.loop-reader.disk None None c.args.store.now)
+    (StopsOn g.D.Disk.tells g.D.Disk.seen g.D.Disk.pending c.args.disk.now c.loop-reader.disk None c.loop-reader.current c.args.store.now c.loop-reader.store)
     _ _ c.in-Err.stop c.outcome_of.result i.same i.name c.in-Err.ensures.read c.outcome_of.ensures.outcome
     (λ groups more begun run. run_leaves g.D.Disk.tells g.D.Disk.moment g.D.Disk.left_since g.D.Disk.seen g.D.Disk.pending c.args.disk.now c.loop-reader.disk c.args.store.now c.loop-reader.store c.loop-reader.current groups more begun run)
+    (λ groups begun x V run is. run_rests g.D.Disk.tells g.D.Disk.moment g.D.Disk.left_since g.D.Disk.seen g.D.Disk.pending c.args.disk.now c.loop-reader.disk c.args.store.now c.loop-reader.store c.loop-reader.current groups begun x V run is)
     (i.stands base spot at on none)

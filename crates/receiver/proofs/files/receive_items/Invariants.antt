@@ -1,5 +1,5 @@
-use Rattle.std.specs.Prelude.{true, None, List, Option, ℕ}
-use Rattle.std.proofs.Common.{◌≡◌, ◌≤◌, ◌-◌, ◌+◌}
+use Rattle.std.specs.Prelude.{true, None, ℕ}
+use Rattle.std.proofs.Common.{◌≡◌, ◌≤◌, ◌-◌}
 use Rattle.send_model.specs.Reading.{HeaderDue}
 use Rattle.send_model.specs.Store.{Store}
 use Rattle.send_model.specs.Lengths.{limit}

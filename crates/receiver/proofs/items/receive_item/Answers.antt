@@ -1,5 +1,4 @@
 use Rattle.std.specs.Prelude.{List, Option, ◌++◌}
-use Rattle.std.proofs.Common.{refl, sym, ap, ◌∙◌}
 use Rattle.send_commands.specs.Meaning.{meaning_of}
 use Rattle.cmd_reader.specs.Next.{item_of}
 use Rattle.store_model.specs.Stored.{Group}
@@ -8,7 +7,7 @@ use Rattle.store_model.specs.Written.{Begun, closed_by}
 use Rattle.receiver.specs.Steps.{blank_of, begun_if}
 use Rattle.receiver.specs.Standing.{state_of}
 use Rattle.receiver.specs.Disks.{Keeps}
-use Rattle.receiver.proofs.FollowedItems.{refused_keeps, kept_moments, allowed_says, allowed_due}
+use Rattle.receiver.proofs.FollowedItems.{refused_keeps, kept_moments, allowed_says, allowed_due, allowed_writes, allowed_keeps}
 use Rattle.receiver.proofs.TakenItems.{due_same}
 use Rattle.receiver.proofs.items.receive_item.Goals as goal
 
@@ -29,3 +28,11 @@ pub returns-clause-any_moment : goal.returns-clause-any_moment
 returns-clause-any_moment g c tells header groups begun version keeps =
     due_same header groups _ _ (allowed_due (g.G.Guarding.kept c.args.guards.now) (item_of c.args.file c.args.item.now) begun (record { at = 0 }) (state_of c.args.store.now c.args.current.now) c.in_default.ensures.refused)
     (c.do_item.ensures.any_moment tells header groups begun (record { at = 0 }) version keeps)
+
+pub returns-clause-written : goal.returns-clause-written
+returns-clause-written g c =
+    allowed_writes g.D.Disk.tells g.D.Disk.seen g.D.Disk.pending c.args.disk.now c.do_item.new.disk (g.G.Guarding.kept c.args.guards.now) (item_of c.args.file c.args.item.now) c.args.current.now c.args.store.now c.in_default.ensures.refused c.do_item.result _ _ c.do_item.ensures.written
+
+pub returns-clause-keeps : goal.returns-clause-keeps
+returns-clause-keeps g c tells header groups begun version keeps =
+    allowed_keeps c.do_item.result _ _ groups _ _ (g.G.Guarding.kept c.args.guards.now) (meaning_of c.args.item.now.command) begun _ c.in_default.ensures.refused (c.do_item.ensures.keeps tells header groups begun version keeps)
