@@ -14,7 +14,6 @@ use Rattle.send_model.specs.Words.{Audit, new_guards, due, whole_of}
 use Rattle.sx_base.specs.Outside.{file_at}
 use Rattle.sx_base.specs.Calls.{IfAllTold, Wrote}
 use Rattle.std.proofs.KnownBytes.{Appends-nil}
-use Rattle.sx_base.specs.Causes.{Rose}
 use Rattle.sx_base.specs.declared.outcome.Outcome.{Outcome}
 use Rattle.sx_base.specs.declared.outcome.Outcome.TheVariants as ended
 use Rattle.store_model.specs.Stored.{byte_of, StandsFor, StandsForNone}
@@ -24,17 +23,15 @@ use Rattle.store_model.specs.Requests.{OfStreams, reads_store, base_over, Stream
 use Rattle.store_model.specs.Answers.{Answers, OfAnyWord, DueSays, StandsBefore, StandsFault, StreamsBefore, StreamsCut, StreamsFault}
 use Rattle.auditor.specs.Answers.{AuditEnds}
 use Rattle.auditor.specs.Following.{blank, HaveSameShape}
-use Rattle.group_log.specs.declared.stops.LogStop.TheVariants as log
 use Rattle.store_groups.specs.declared.place.Place.{Place}
 use Rattle.store_groups.specs.declared.stops.StoreStop.{StoreStop}
-use Rattle.store_groups.specs.declared.stops.StoreStop.TheVariants as stop
 use Rattle.store_groups.specs.Stopping.{IfLog, IsNoRefusal}
 use Rattle.store_journal.specs.Shown.{StoreState}
 use Rattle.store_journal.specs.Opening.{OpenSays, IsOpenStop}
 use Rattle.store_journal.specs.Standing.{with_bytes}
 use Rattle.store_words.specs.declared.ends.StoreEnd.{StoreEnd}
 use Rattle.store_words.specs.declared.ends.StoreEnd.TheVariants as made
-use Rattle.store_words.specs.Ending.{outcome_meant, answer_of, end_by, AuditCaused}
+use Rattle.store_words.specs.Ending.{outcome_meant, answer_of, end_by}
 use Rattle.store_words.proofs.Opened.{by_store, by_none, not_opened}
 
 -- ---- the shape of a store
@@ -113,21 +110,13 @@ module _ (words : List (List ℕ)) (specs : List GuardSpec) (store at : ℕ) (im
     pub audit_answers : (guards : List Guard) (outcome : Outcome) → guards ≡ new_guards specs → AuditEnds s guards files outcome written → Answers (OfStreams request) words image files (OfAnyWord (outcome_meant outcome)) written image
     audit_answers guards outcome same p = by_outcome outcome (subst (λ (gs : List Guard). AuditEnds s gs files outcome written) same p)
 
-pub audit_stops : (before now inputs ends out : ℕ) (why : StoreStop) → IsNoRefusal why → IfLog {T = StoreState} (Err why) (IsOpenStop (Rose before now)) → AuditCaused before now inputs inputs ends ends out out (end_by why)
-audit_stops before now inputs ends out (stop.Refused refusal) kind stops = absurd kind
-audit_stops before now inputs ends out stop.NoMemory kind stops = tt
-audit_stops before now inputs ends out (stop.Log log.DiskFault) kind stops = stops
-audit_stops before now inputs ends out (stop.Log (log.NotStore group)) kind stops = tt
-audit_stops before now inputs ends out (stop.Log (log.LogFull end wanted limit)) kind stops = absurd stops
-audit_stops before now inputs ends out (stop.Log (log.StoreThere size)) kind stops = absurd stops
-
 -- ---- files that are told
 
-always_told : (told : Option (List (List ℕ × List ℕ))) (names : List (List ℕ)) (P : List (List ℕ) → Type 0) → ((files : List (List ℕ)) → P files) → IfAllTold told names P
+pub always_told : (told : Option (List (List ℕ × List ℕ))) (names : List (List ℕ)) (P : List (List ℕ) → Type 0) → ((files : List (List ℕ)) → P files) → IfAllTold told names P
 always_told None names P holds = tt
 always_told (Some table) names P holds = holds (map (file_at table) names)
 
-then_told : (told : Option (List (List ℕ × List ℕ))) (names : List (List ℕ)) (P Q : List (List ℕ) → Type 0) → ((files : List (List ℕ)) → P files → Q files) → IfAllTold told names P → IfAllTold told names Q
+pub then_told : (told : Option (List (List ℕ × List ℕ))) (names : List (List ℕ)) (P Q : List (List ℕ) → Type 0) → ((files : List (List ℕ)) → P files → Q files) → IfAllTold told names P → IfAllTold told names Q
 then_told None names P Q follows holds = tt
 then_told (Some table) names P Q follows holds = follows (map (file_at table) names) holds
 

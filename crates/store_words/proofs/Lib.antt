@@ -1,11 +1,14 @@
 pub mod AuditAnswers
 pub mod CatAnswers
 pub mod CatBytes
+pub mod Dropped
 pub mod FoundFiles
 pub mod Named
 pub mod NamedBytes
 pub mod NewStores
 pub mod Opened
 pub mod Printed
+pub mod ReceiveAnswers
+pub mod ReceivedWays
 pub mod SameLines
 pub mod Scrubbed

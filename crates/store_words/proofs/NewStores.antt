@@ -3,7 +3,6 @@ use Rattle.std.proofs.Math.Dec.{eqb-suc-zero}
 use Rattle.send_model.specs.Due.{DoneWhole}
 use Rattle.std.specs.Prelude.{◌≡◌, ℕ, zero, suc, Bool, if◌then◌else◌, ◌<◌, List, [], ◌∷◌, ◌++◌, length}
 use Rattle.std.proofs.Common.{refl, sym, ap, ◌∙◌, inl, inr, arith}
-use Rattle.sx_base.specs.Causes.{Rose}
 use Rattle.store_model.specs.Image.{header_of, usual_header}
 use Rattle.store_model.specs.Dues as dues
 use Rattle.store_model.specs.Dues.{init_due}
@@ -13,7 +12,7 @@ use Rattle.send_model.specs.Answer.{Done}
 use Rattle.group_log.specs.declared.stops.LogStop.{LogStop}
 use Rattle.group_log.specs.declared.stops.LogStop.TheVariants as log
 use Rattle.group_log.specs.Stopping.{IsFault, IsFaultOr}
-use Rattle.store_words.specs.Ending.{answer_of, end_at, MakingCaused}
+use Rattle.store_words.specs.Ending.{answer_of, end_at, init_ways, EndCaused}
 
 pub init_done : (words : List (List ℕ)) (store : ℕ) (seen left : List ℕ) (len : ℕ) → len ≡ length seen → (0 < len → ⊥) → left ≡ header_of usual_header ++ 0 ∷ [] → Answers (InitStore store) words seen [] (OfAnyWord Done) [] left
 unfolding init_due
@@ -41,17 +40,17 @@ init_stops words store (byte ∷ seen) left len cause why sized empty there kept
     some (log.StoreThere size) (inl e) = let same : size ≡ len = cc in (ap (λ (n : ℕ). dues.StoreThere n) (same ∙ sized) ∙ sym (ap (λ (b : Bool). if b then dues.Ends DoneWhole else dues.StoreThere (length (byte ∷ seen))) (eqb-suc-zero (length seen))), (refl, kept long))
     some (log.StoreThere size) (inr f) = absurd f
 
-pub making_stops : (before now len : ℕ) (why : LogStop) → (len ≡ 0 → IsFault (Rose before now) why) → (0 < len → IsFaultOr (Rose before now) (log.StoreThere len) why) → MakingCaused before now (end_at why)
-making_stops before now zero why empty there = by_fault why (empty refl)
+pub making_stops : (done rose : Type 0) (len : ℕ) (why : LogStop) → (len ≡ 0 → IsFault rose why) → (0 < len → IsFaultOr rose (log.StoreThere len) why) → EndCaused init_ways done rose ⊥ ⊥ (end_at why)
+making_stops done rose zero why empty there = by_fault why (empty refl)
   where
-    by_fault : (why : LogStop) → IsFault (Rose before now) why → MakingCaused before now (end_at why)
+    by_fault : (why : LogStop) → IsFault rose why → EndCaused init_ways done rose ⊥ ⊥ (end_at why)
     by_fault log.DiskFault f = f
     by_fault (log.NotStore group) f = absurd f
     by_fault (log.LogFull end wanted limit) f = absurd f
     by_fault (log.StoreThere size) f = absurd f
-making_stops before now (suc len) why empty there = some why (there (omega arith))
+making_stops done rose (suc len) why empty there = some why (there (omega arith))
   where
-    some : (why : LogStop) → IsFaultOr (Rose before now) (log.StoreThere (suc len)) why → MakingCaused before now (end_at why)
+    some : (why : LogStop) → IsFaultOr rose (log.StoreThere (suc len)) why → EndCaused init_ways done rose ⊥ ⊥ (end_at why)
     some log.DiskFault (inl e) = cc
     some log.DiskFault (inr f) = f
     some (log.NotStore group) (inl e) = cc

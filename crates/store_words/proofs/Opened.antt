@@ -2,7 +2,6 @@
 use Rattle.std.specs.Prelude.{ℕ, List, [], Err}
 use Rattle.std.proofs.Common.{refl, subst}
 use Rattle.send_model.specs.Store.{Store}
-use Rattle.sx_base.specs.Causes.{Rose}
 use Rattle.send_model.specs.Headline.{IsFrontOf}
 use Rattle.send_model.proofs.Fronts.{is_front}
 use Rattle.store_model.specs.Stored.{as_bytes, StandsFor, StandsForNone}
@@ -16,7 +15,7 @@ use Rattle.store_groups.specs.declared.stops.StoreStop.TheVariants as stop
 use Rattle.store_groups.specs.Stopping.{IfLog, IsNoRefusal}
 use Rattle.store_journal.specs.Shown.{StoreState}
 use Rattle.store_journal.specs.Opening.{OpenSays, IsOpenStop}
-use Rattle.store_words.specs.Ending.{answer_of, end_by, PrintingCaused, CatCaused}
+use Rattle.store_words.specs.Ending.{answer_of, end_by, Ways, EndCaused}
 
 pub by_store : (image : List ℕ) (s : Store ℕ) (P : Store ℕ → Type 0) (none : Type 0) → StandsFor image s → P s → ByImage image P none
 by_store image s P none stands p = ((λ t other. subst P (one_store 0 as_bytes image s t stands other) p), (λ group fails. absurd (never_both image s group stands fails)))
@@ -43,18 +42,11 @@ not_opened request words image files name path cause (stop.Log (log.LogFull end 
 not_opened request words image files name path cause (stop.Log (log.StoreThere size)) before fault none kind stops says = absurd stops
 
 -- What is said of it whether or not anything tells.
-pub printing_stops : (before now out : ℕ) (missing : Type 0) (why : StoreStop) → IsNoRefusal why → IfLog {T = StoreState} (Err why) (IsOpenStop (Rose before now)) → PrintingCaused before now out out missing (end_by why)
-printing_stops before now out missing (stop.Refused refusal) kind stops = absurd kind
-printing_stops before now out missing stop.NoMemory kind stops = tt
-printing_stops before now out missing (stop.Log log.DiskFault) kind stops = stops
-printing_stops before now out missing (stop.Log (log.NotStore group)) kind stops = tt
-printing_stops before now out missing (stop.Log (log.LogFull end wanted limit)) kind stops = absurd stops
-printing_stops before now out missing (stop.Log (log.StoreThere size)) kind stops = absurd stops
-
-pub cat_stops : (before now out : ℕ) (why : StoreStop) → IsNoRefusal why → IfLog {T = StoreState} (Err why) (IsOpenStop (Rose before now)) → CatCaused before now out out (end_by why)
-cat_stops before now out (stop.Refused refusal) kind stops = absurd kind
-cat_stops before now out stop.NoMemory kind stops = tt
-cat_stops before now out (stop.Log log.DiskFault) kind stops = stops
-cat_stops before now out (stop.Log (log.NotStore group)) kind stops = tt
-cat_stops before now out (stop.Log (log.LogFull end wanted limit)) kind stops = absurd stops
-cat_stops before now out (stop.Log (log.StoreThere size)) kind stops = absurd stops
+pub opening_stops : (ways : Ways) (done store_rose inputs_rose out_rose : Type 0) (why : StoreStop) → ways.memory → ways.not_store → IsNoRefusal why → IfLog {T = StoreState} (Err why) (IsOpenStop store_rose)
+    → EndCaused ways done store_rose inputs_rose out_rose (end_by why)
+opening_stops ways done store_rose inputs_rose out_rose (stop.Refused refusal) memory none kind stops = absurd kind
+opening_stops ways done store_rose inputs_rose out_rose stop.NoMemory memory none kind stops = memory
+opening_stops ways done store_rose inputs_rose out_rose (stop.Log log.DiskFault) memory none kind stops = stops
+opening_stops ways done store_rose inputs_rose out_rose (stop.Log (log.NotStore group)) memory none kind stops = none
+opening_stops ways done store_rose inputs_rose out_rose (stop.Log (log.LogFull end wanted limit)) memory none kind stops = absurd stops
+opening_stops ways done store_rose inputs_rose out_rose (stop.Log (log.StoreThere size)) memory none kind stops = absurd stops

@@ -3,7 +3,6 @@ use Rattle.std.specs.Prelude.{◌≡◌, ℕ, ◌<◌, List, [], length, take}
 use Rattle.std.proofs.Common.{refl, subst}
 use Rattle.send_model.specs.Answer.{Done, OutputFault}
 use Rattle.send_model.specs.Headline.{IsProperFrontOf}
-use Rattle.sx_base.specs.Causes.{Rose}
 use Rattle.store_model.specs.Scrub.{IsScrubbed, scrub_line}
 use Rattle.store_model.specs.Requests.{ScrubStore}
 use Rattle.store_model.specs.Answers.{Answers, OfAnyWord}
@@ -11,7 +10,7 @@ use Rattle.group_log.specs.declared.stops.LogStop.TheVariants as log
 use Rattle.store_scrub.specs.declared.stops.ScrubStop.{ScrubStop}
 use Rattle.store_scrub.specs.declared.stops.ScrubStop.TheVariants as stop
 use Rattle.store_scrub.specs.Found.{IsStopAt, IsStop}
-use Rattle.store_words.specs.Ending.{answer_of, end_scrub, ScrubCaused}
+use Rattle.store_words.specs.Ending.{answer_of, end_scrub, scrub_ways, EndCaused}
 
 pub scrub_done : (words : List (List ℕ)) (store : ℕ) (image : List ℕ) (groups plain : ℕ) (written : List ℕ) → IsScrubbed image groups plain → written ≡ scrub_line groups plain → Answers (ScrubStore store) words image [] (OfAnyWord Done) written image
 scrub_done words store image groups plain written is all = ((written, (refl, (groups, plain, is, all))), (refl, (refl, (groups, plain, is, all))))
@@ -28,9 +27,9 @@ scrub_stops words store image cause (stop.Log (log.LogFull end wanted limit)) sa
 scrub_stops words store image cause (stop.Log (log.StoreThere size)) says stops = absurd stops
 scrub_stops words store image cause (stop.Damaged group stored computed) says stops = (([], (says, refl)), (refl, (says, refl)))
 
-pub scrub_caused : (before now out : ℕ) (why : ScrubStop) → IsStop (Rose before now) why → ScrubCaused before now out out (end_scrub why)
-scrub_caused before now out (stop.Log log.DiskFault) stops = stops
-scrub_caused before now out (stop.Log (log.NotStore group)) stops = tt
-scrub_caused before now out (stop.Log (log.LogFull end wanted limit)) stops = absurd stops
-scrub_caused before now out (stop.Log (log.StoreThere size)) stops = absurd stops
-scrub_caused before now out (stop.Damaged group stored computed) stops = stops
+pub scrub_caused : (done rose out_rose : Type 0) (why : ScrubStop) → IsStop rose why → EndCaused scrub_ways done rose ⊥ out_rose (end_scrub why)
+scrub_caused done rose out_rose (stop.Log log.DiskFault) stops = stops
+scrub_caused done rose out_rose (stop.Log (log.NotStore group)) stops = tt
+scrub_caused done rose out_rose (stop.Log (log.LogFull end wanted limit)) stops = absurd stops
+scrub_caused done rose out_rose (stop.Log (log.StoreThere size)) stops = absurd stops
+scrub_caused done rose out_rose (stop.Damaged group stored computed) stops = (tt, stops)

@@ -12,6 +12,8 @@ use Rattle.store_groups.specs.declared.stops.StoreStop.{StoreStop}
 use Rattle.store_groups.specs.declared.stops.StoreStop.TheVariants as stop
 use Rattle.store_scrub.specs.declared.stops.ScrubStop.{ScrubStop}
 use Rattle.store_scrub.specs.declared.stops.ScrubStop.TheVariants as scrub
+use Rattle.receiver.specs.declared.outcome.Received.{Received}
+use Rattle.receiver.specs.declared.outcome.Received.TheVariants as how
 use Rattle.store_words.specs.declared.ends.StoreEnd.{StoreEnd}
 use Rattle.store_words.specs.declared.ends.StoreEnd.TheVariants as made
 
@@ -48,98 +50,86 @@ end_by (stop.Refused refusal) = made.StoreFault
 end_by stop.NoMemory = made.Ends ended.NoMemory
 end_by (stop.Log why) = end_at why
 
+abbrev pub end_received : Received → StoreEnd
+end_received (how.Files outcome) = made.Ends outcome
+end_received how.StoreFault = made.StoreFault
+end_received (how.LogFull end wanted limit) = made.LogFull end wanted limit
+
 abbrev pub end_scrub : ScrubStop → StoreEnd
 end_scrub (scrub.Log why) = end_at why
 end_scrub (scrub.Damaged group stored computed) = made.Damaged group stored computed
 
--- A fault is the answer only where the count of its object rose. A word that reads a store and prints ends in these ways, and one that
--- asks for a name in one more.
-abbrev pub PrintingCaused : (store_before store_now out_before out_now : ℕ) → (missing : Type 0) → StoreEnd → Type 0
-PrintingCaused store_before store_now out_before out_now missing (made.Ends ended.Done) = (store_now ≡ store_before) × (out_now ≡ out_before)
-PrintingCaused store_before store_now out_before out_now missing (made.Ends ended.OutputFault) = Rose out_before out_now
-PrintingCaused store_before store_now out_before out_now missing (made.Ends ended.NoMemory) = ⊤
-PrintingCaused store_before store_now out_before out_now missing (made.Ends (ended.Refused verdict)) = ⊥
-PrintingCaused store_before store_now out_before out_now missing (made.Ends ended.InputFault) = ⊥
-PrintingCaused store_before store_now out_before out_now missing (made.Ends (ended.InputTooLong file)) = ⊥
-PrintingCaused store_before store_now out_before out_now missing (made.Ends (ended.TooMuch sum)) = ⊥
-PrintingCaused store_before store_now out_before out_now missing (made.Ends (ended.InputChanged file place)) = ⊥
-PrintingCaused store_before store_now out_before out_now missing made.StoreFault = Rose store_before store_now
-PrintingCaused store_before store_now out_before out_now missing (made.NotStore group) = ⊤
-PrintingCaused store_before store_now out_before out_now missing made.NoName = missing
-PrintingCaused store_before store_now out_before out_now missing made.NoFile = ⊥
-PrintingCaused store_before store_now out_before out_now missing (made.LogFull end wanted limit) = ⊥
-PrintingCaused store_before store_now out_before out_now missing (made.StoreThere size) = ⊥
-PrintingCaused store_before store_now out_before out_now missing (made.Damaged group stored computed) = ⊥
+-- For which reasons a word ends that are no fault of an object of the outside: there is no memory; a command is refused; a file is too
+-- long; there is no store; no complete subvolume of the name; no file; no room; a store already; a group is damaged.
+pub record Ways : Type 1 where
+  pub memory : Type 0
+  pub refused : Type 0
+  pub too_long : Type 0
+  pub not_store : Type 0
+  pub no_name : Type 0
+  pub no_file : Type 0
+  pub log_full : Type 0
+  pub store_there : Type 0
+  pub damaged : Type 0
 
--- Making a store ends in these ways.
-abbrev pub MakingCaused : (before now : ℕ) → StoreEnd → Type 0
-MakingCaused before now (made.Ends ended.Done) = now ≡ before
-MakingCaused before now (made.Ends ended.OutputFault) = ⊥
-MakingCaused before now (made.Ends ended.NoMemory) = ⊥
-MakingCaused before now (made.Ends (ended.Refused verdict)) = ⊥
-MakingCaused before now (made.Ends ended.InputFault) = ⊥
-MakingCaused before now (made.Ends (ended.InputTooLong file)) = ⊥
-MakingCaused before now (made.Ends (ended.TooMuch sum)) = ⊥
-MakingCaused before now (made.Ends (ended.InputChanged file place)) = ⊥
-MakingCaused before now made.StoreFault = Rose before now
-MakingCaused before now (made.NotStore group) = ⊥
-MakingCaused before now made.NoName = ⊥
-MakingCaused before now made.NoFile = ⊥
-MakingCaused before now (made.LogFull end wanted limit) = ⊥
-MakingCaused before now (made.StoreThere size) = ⊤
-MakingCaused before now (made.Damaged group stored computed) = ⊥
+abbrev pub no_ways : Ways
+no_ways = record {
+  memory = ⊥;
+  refused = ⊥;
+  too_long = ⊥;
+  not_store = ⊥;
+  no_name = ⊥;
+  no_file = ⊥;
+  log_full = ⊥;
+  store_there = ⊥;
+  damaged = ⊥;
+}
 
--- So does scrubbing.
-abbrev pub ScrubCaused : (store_before store_now out_before out_now : ℕ) → StoreEnd → Type 0
-ScrubCaused store_before store_now out_before out_now (made.Ends ended.Done) = (store_now ≡ store_before) × (out_now ≡ out_before)
-ScrubCaused store_before store_now out_before out_now (made.Ends ended.OutputFault) = Rose out_before out_now
-ScrubCaused store_before store_now out_before out_now (made.Ends ended.NoMemory) = ⊤
-ScrubCaused store_before store_now out_before out_now (made.Ends (ended.Refused verdict)) = ⊥
-ScrubCaused store_before store_now out_before out_now (made.Ends ended.InputFault) = ⊥
-ScrubCaused store_before store_now out_before out_now (made.Ends (ended.InputTooLong file)) = ⊥
-ScrubCaused store_before store_now out_before out_now (made.Ends (ended.TooMuch sum)) = ⊥
-ScrubCaused store_before store_now out_before out_now (made.Ends (ended.InputChanged file place)) = ⊥
-ScrubCaused store_before store_now out_before out_now made.StoreFault = Rose store_before store_now
-ScrubCaused store_before store_now out_before out_now (made.NotStore group) = ⊤
-ScrubCaused store_before store_now out_before out_now made.NoName = ⊥
-ScrubCaused store_before store_now out_before out_now made.NoFile = ⊥
-ScrubCaused store_before store_now out_before out_now (made.LogFull end wanted limit) = ⊥
-ScrubCaused store_before store_now out_before out_now (made.StoreThere size) = ⊥
-ScrubCaused store_before store_now out_before out_now (made.Damaged group stored computed) = stored ≢ computed
+-- The ways of each word. Only making a store does not open one, and takes no memory.
+abbrev pub init_ways : Ways
+init_ways = record no_ways { store_there = ⊤ }
 
--- Printing a file ends in the ways of printing, and where there is no such name or file.
-abbrev pub CatCaused : (store_before store_now out_before out_now : ℕ) → StoreEnd → Type 0
-CatCaused store_before store_now out_before out_now (made.Ends ended.Done) = (store_now ≡ store_before) × (out_now ≡ out_before)
-CatCaused store_before store_now out_before out_now (made.Ends ended.OutputFault) = Rose out_before out_now
-CatCaused store_before store_now out_before out_now (made.Ends ended.NoMemory) = ⊤
-CatCaused store_before store_now out_before out_now (made.Ends (ended.Refused verdict)) = ⊥
-CatCaused store_before store_now out_before out_now (made.Ends ended.InputFault) = ⊥
-CatCaused store_before store_now out_before out_now (made.Ends (ended.InputTooLong file)) = ⊥
-CatCaused store_before store_now out_before out_now (made.Ends (ended.TooMuch sum)) = ⊥
-CatCaused store_before store_now out_before out_now (made.Ends (ended.InputChanged file place)) = ⊥
-CatCaused store_before store_now out_before out_now made.StoreFault = Rose store_before store_now
-CatCaused store_before store_now out_before out_now (made.NotStore group) = ⊤
-CatCaused store_before store_now out_before out_now made.NoName = ⊤
-CatCaused store_before store_now out_before out_now made.NoFile = ⊤
-CatCaused store_before store_now out_before out_now (made.LogFull end wanted limit) = ⊥
-CatCaused store_before store_now out_before out_now (made.StoreThere size) = ⊥
-CatCaused store_before store_now out_before out_now (made.Damaged group stored computed) = ⊥
+abbrev pub list_ways : Ways
+list_ways = record no_ways { memory = ⊤; not_store = ⊤ }
 
--- So does auditing.
-abbrev pub AuditCaused : (store_before store_now inputs_before inputs_now ends_before ends_now out_before out_now : ℕ) → StoreEnd → Type 0
-AuditCaused store_before store_now inputs_before inputs_now ends_before ends_now out_before out_now (made.Ends ended.Done) =
-    (store_now ≡ store_before) × (inputs_now ≡ inputs_before) × (ends_now ≡ ends_before) × (out_now ≡ out_before)
-AuditCaused store_before store_now inputs_before inputs_now ends_before ends_now out_before out_now (made.Ends ended.OutputFault) = Rose out_before out_now
-AuditCaused store_before store_now inputs_before inputs_now ends_before ends_now out_before out_now (made.Ends ended.NoMemory) = ⊤
-AuditCaused store_before store_now inputs_before inputs_now ends_before ends_now out_before out_now (made.Ends (ended.Refused verdict)) = ⊤
-AuditCaused store_before store_now inputs_before inputs_now ends_before ends_now out_before out_now (made.Ends ended.InputFault) = Rose inputs_before inputs_now
-AuditCaused store_before store_now inputs_before inputs_now ends_before ends_now out_before out_now (made.Ends (ended.InputTooLong file)) = ⊤
-AuditCaused store_before store_now inputs_before inputs_now ends_before ends_now out_before out_now (made.Ends (ended.TooMuch sum)) = ⊥
-AuditCaused store_before store_now inputs_before inputs_now ends_before ends_now out_before out_now (made.Ends (ended.InputChanged file place)) = ⊥
-AuditCaused store_before store_now inputs_before inputs_now ends_before ends_now out_before out_now made.StoreFault = Rose store_before store_now
-AuditCaused store_before store_now inputs_before inputs_now ends_before ends_now out_before out_now (made.NotStore group) = ⊤
-AuditCaused store_before store_now inputs_before inputs_now ends_before ends_now out_before out_now made.NoName = ⊥
-AuditCaused store_before store_now inputs_before inputs_now ends_before ends_now out_before out_now made.NoFile = ⊥
-AuditCaused store_before store_now inputs_before inputs_now ends_before ends_now out_before out_now (made.LogFull end wanted limit) = ⊥
-AuditCaused store_before store_now inputs_before inputs_now ends_before ends_now out_before out_now (made.StoreThere size) = ⊥
-AuditCaused store_before store_now inputs_before inputs_now ends_before ends_now out_before out_now (made.Damaged group stored computed) = ⊥
+abbrev pub show_ways : Ways
+show_ways = record list_ways { no_name = ⊤ }
+
+abbrev pub cat_ways : Ways
+cat_ways = record show_ways { no_file = ⊤ }
+
+abbrev pub drop_ways : Ways
+drop_ways = record show_ways { log_full = ⊤ }
+
+abbrev pub audit_ways : Ways
+audit_ways = record list_ways { refused = ⊤; too_long = ⊤ }
+
+abbrev pub receive_ways : Ways
+receive_ways = record audit_ways { log_full = ⊤ }
+
+abbrev pub scrub_ways : Ways
+scrub_ways = record list_ways { damaged = ⊤ }
+
+-- A word ends in its ways, or all was done, of which this is said; or the store's device, the inputs or the output failed, which is the
+-- answer only for this cause.
+abbrev pub EndCaused : Ways → (done store_rose inputs_rose out_rose : Type 0) → StoreEnd → Type 0
+EndCaused ways done store_rose inputs_rose out_rose (made.Ends ended.Done) = done
+EndCaused ways done store_rose inputs_rose out_rose (made.Ends ended.InputFault) = inputs_rose
+EndCaused ways done store_rose inputs_rose out_rose (made.Ends ended.OutputFault) = out_rose
+EndCaused ways done store_rose inputs_rose out_rose (made.Ends ended.NoMemory) = ways.memory
+EndCaused ways done store_rose inputs_rose out_rose (made.Ends (ended.Refused verdict)) = ways.refused
+EndCaused ways done store_rose inputs_rose out_rose (made.Ends (ended.InputTooLong file)) = ways.too_long
+EndCaused ways done store_rose inputs_rose out_rose (made.Ends (ended.TooMuch sum)) = ⊥
+EndCaused ways done store_rose inputs_rose out_rose (made.Ends (ended.InputChanged file place)) = ⊥
+EndCaused ways done store_rose inputs_rose out_rose made.StoreFault = store_rose
+EndCaused ways done store_rose inputs_rose out_rose (made.NotStore group) = ways.not_store
+EndCaused ways done store_rose inputs_rose out_rose made.NoName = ways.no_name
+EndCaused ways done store_rose inputs_rose out_rose made.NoFile = ways.no_file
+EndCaused ways done store_rose inputs_rose out_rose (made.LogFull end wanted limit) = ways.log_full
+EndCaused ways done store_rose inputs_rose out_rose (made.StoreThere size) = ways.store_there
+EndCaused ways done store_rose inputs_rose out_rose (made.Damaged group stored computed) = ways.damaged × (stored ≢ computed)
+
+-- So does a word that prints and reads no file.
+abbrev pub PrintingCaused : Ways → (store_before store_now out_before out_now : ℕ) → StoreEnd → Type 0
+PrintingCaused ways store_before store_now out_before out_now end =
+    EndCaused ways ((store_now ≡ store_before) × (out_now ≡ out_before)) (Rose store_before store_now) ⊥ (Rose out_before out_now) end

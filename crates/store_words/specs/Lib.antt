@@ -1,3 +1,5 @@
+pub mod Dropping
 pub mod Ending
 pub mod Files
 pub mod Naming
+pub mod Receiving

@@ -6,9 +6,10 @@ ghost use Rattle.send_model.specs.Words.{Audit, new_guards};
 ghost use Rattle.store_model.specs.Requests.{OfStreams, reads_store};
 ghost use Rattle.store_model.specs.Answers.{Answers};
 ghost use Rattle.sx_base.specs.Calls.{IfAllTold, Wrote};
+ghost use Rattle.sx_base.specs.Causes.{Rose};
 ghost use Rattle.sx_base.specs.Crash.{LeavesOnly};
 ghost use Rattle.sx_base.specs.Disk.{IsImage};
-ghost use Rattle.store_words.specs.Ending.{answer_of, AuditCaused};
+ghost use Rattle.store_words.specs.Ending.{answer_of, audit_ways, EndCaused};
 
 use crate::ends::{StoreEnd, ended_by};
 use auditor::audit;
@@ -36,9 +37,12 @@ pub fn audit_store<D: Disk, I: Inputs, O: Sink>(
         → map (λ g. kept g) guards.old ≡ new_guards specs
         → Answers (OfStreams (Audit specs store at)) words (D.seen disk.old) files
         (answer_of [] [] result) written (D.seen disk.new))) }
-    ensures cause { AuditCaused (D.faults disk.old) (D.faults disk.new)
-        (I.faults inputs.old) (I.faults inputs.new) (I.ends inputs.old) (I.ends inputs.new)
-        (O.faults out.old) (O.faults out.new) result }
+    ensures cause { EndCaused audit_ways
+        ((D.faults disk.new ≡ D.faults disk.old) × (I.faults inputs.new ≡ I.faults inputs.old)
+        × (I.ends inputs.new ≡ I.ends inputs.old) × (O.faults out.new ≡ O.faults out.old))
+        (Rose (D.faults disk.old) (D.faults disk.new))
+        (Rose (I.faults inputs.old) (I.faults inputs.new))
+        (Rose (O.faults out.old) (O.faults out.new)) result }
     ensures len { D.len disk.new ≡ D.len disk.old }
     ensures seen { D.tells → D.seen disk.new ≡ D.seen disk.old }
     ensures any_moment { D.tells →

@@ -9,7 +9,7 @@ ghost use Rattle.sx_base.specs.Crash.{LeavesOnly};
 ghost use Rattle.sx_base.specs.Disk.{IsAsBefore, IsImage};
 ghost use Rattle.store_journal.specs.Reading.{HasSize, file_cells};
 ghost use Rattle.store_journal.specs.Standing.{with_bytes};
-ghost use Rattle.store_words.specs.Ending.{answer_of, CatCaused};
+ghost use Rattle.store_words.specs.Ending.{answer_of, cat_ways, PrintingCaused};
 ghost use Rattle.store_words.specs.Files.{found_file, PieceEnds, FileEnds};
 
 use crate::ends::{StoreEnd, ended_by};
@@ -38,8 +38,8 @@ pub fn cat_file<D: Disk, O: Sink>(
         → word_at words to ≡ path.now
         → Answers (CatFile store at to) words (D.seen disk.old) []
         (answer_of name.now path.now result) written (D.seen disk.new)) }
-    ensures cause { CatCaused (D.faults disk.old) (D.faults disk.new)
-        (O.faults out.old) (O.faults out.new) result }
+    ensures cause { PrintingCaused cat_ways
+        (D.faults disk.old) (D.faults disk.new) (O.faults out.old) (O.faults out.new) result }
     ensures len { D.len disk.new ≡ D.len disk.old }
     ensures seen { D.tells → D.seen disk.new ≡ D.seen disk.old }
     ensures any_moment { D.tells →
@@ -90,8 +90,8 @@ fn write_file<D: Disk, O: Sink>(
     ensures written { D.tells → Wrote (O.taken out.old) (O.taken out.new)
         (FileEnds (file_cells (with_bytes (D.seen disk.old) store.now.core) (key_of key) ino)
         result) }
-    ensures cause { CatCaused (D.faults disk.old) (D.faults disk.new)
-        (O.faults out.old) (O.faults out.new) result }
+    ensures cause { PrintingCaused cat_ways
+        (D.faults disk.old) (D.faults disk.new) (O.faults out.old) (O.faults out.new) result }
     ensures len { D.len disk.new ≡ D.len disk.old }
     ensures same { D.tells → IsAsBefore D.seen D.pending disk.old disk.new }
     ensures any_moment { D.tells →
@@ -133,8 +133,8 @@ fn write_some<D: Disk, O: Sink>(
     ensures written { D.tells → PieceEnds (take count (drop at
         (file_cells (with_bytes (D.seen disk.old) store.now.core) (key_of key.now) ino)))
         (O.taken out.old) (O.taken out.new) result }
-    ensures cause { IfErr result (CatCaused (D.faults disk.old) (D.faults disk.new)
-        (O.faults out.old) (O.faults out.new)) }
+    ensures cause { IfErr result (PrintingCaused cat_ways
+        (D.faults disk.old) (D.faults disk.new) (O.faults out.old) (O.faults out.new)) }
     ensures len { D.len disk.new ≡ D.len disk.old }
     ensures same { D.tells → IsAsBefore D.seen D.pending disk.old disk.new }
     ensures any_moment { D.tells →
@@ -164,8 +164,8 @@ fn write_piece<D: Disk, O: Sink>(
     ensures written { D.tells → PieceEnds (take (length part.old) (drop at
         (file_cells (with_bytes (D.seen disk.old) store.now.core) (key_of key) ino)))
         (O.taken out.old) (O.taken out.new) result }
-    ensures cause { IfErr result (CatCaused (D.faults disk.old) (D.faults disk.new)
-        (O.faults out.old) (O.faults out.new)) }
+    ensures cause { IfErr result (PrintingCaused cat_ways
+        (D.faults disk.old) (D.faults disk.new) (O.faults out.old) (O.faults out.new)) }
     ensures len { D.len disk.new ≡ D.len disk.old }
     ensures same { D.tells → IsAsBefore D.seen D.pending disk.old disk.new }
     ensures any_moment { D.tells →

@@ -5,7 +5,7 @@ ghost use Rattle.store_model.specs.Answers.{Answers};
 ghost use Rattle.sx_base.specs.Calls.{Wrote};
 ghost use Rattle.sx_base.specs.Crash.{LeavesOnly};
 ghost use Rattle.sx_base.specs.Disk.{IsImage};
-ghost use Rattle.store_words.specs.Ending.{answer_of, PrintingCaused};
+ghost use Rattle.store_words.specs.Ending.{answer_of, list_ways, PrintingCaused};
 
 use crate::ends::{StoreEnd, ended_by};
 use std::alloc::Global;
@@ -19,8 +19,8 @@ pub fn list_store<D: Disk, O: Sink>(alloc: Global, disk: &mut D, out: &mut O) ->
         (λ written. (words : List (List ℕ)) (store : ℕ)
         → Answers (ListStore store) words (D.seen disk.old) [] (answer_of [] [] result) written
         (D.seen disk.new)) }
-    ensures cause { PrintingCaused (D.faults disk.old) (D.faults disk.new)
-        (O.faults out.old) (O.faults out.new) ⊥ result }
+    ensures cause { PrintingCaused list_ways
+        (D.faults disk.old) (D.faults disk.new) (O.faults out.old) (O.faults out.new) result }
     ensures len { D.len disk.new ≡ D.len disk.old }
     ensures seen { D.tells → D.seen disk.new ≡ D.seen disk.old }
     ensures any_moment { D.tells →

@@ -2,10 +2,11 @@
 ghost use Rattle.std.specs.Prelude.{◌≡◌, ◌≤◌, ◌<◌, ℕ, List, []};
 ghost use Rattle.store_model.specs.Requests.{InitStore};
 ghost use Rattle.store_model.specs.Answers.{Answers};
+ghost use Rattle.sx_base.specs.Causes.{Rose};
 ghost use Rattle.sx_base.specs.Crash.{LeavesOnly};
 ghost use Rattle.sx_base.specs.Disk.{IsImage, settled};
 ghost use Rattle.sx_base.specs.declared.outcome.Outcome.TheVariants as ended;
-ghost use Rattle.store_words.specs.Ending.{answer_of, MakingCaused};
+ghost use Rattle.store_words.specs.Ending.{answer_of, init_ways, EndCaused};
 ghost use Rattle.store_words.specs.declared.ends.StoreEnd.TheVariants as made;
 
 use crate::ends::{StoreEnd, ended_at};
@@ -19,7 +20,8 @@ pub fn init_store<D: Disk>(disk: &mut D) -> StoreEnd
         (D.seen disk.new) }
     ensures durable { D.tells → result ≡ made.Ends ended.Done
         → D.pending disk.new ≡ settled (D.seen disk.new) }
-    ensures cause { MakingCaused (D.faults disk.old) (D.faults disk.new) result }
+    ensures cause { EndCaused init_ways (D.faults disk.new ≡ D.faults disk.old)
+        (Rose (D.faults disk.old) (D.faults disk.new)) ⊥ ⊥ result }
     ensures any_moment { D.tells → 0 < D.len disk.old →
         LeavesOnly D.moment D.left_since disk.old disk.new (IsImage (D.pending disk.old)) }
     ensures later { D.faults disk.old ≤ D.faults disk.new }

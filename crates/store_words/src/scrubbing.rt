@@ -7,7 +7,7 @@ ghost use Rattle.store_model.specs.Answers.{Answers};
 ghost use Rattle.sx_base.specs.Calls.{Wrote};
 ghost use Rattle.sx_base.specs.Crash.{LeavesOnly};
 ghost use Rattle.sx_base.specs.Disk.{IsImage};
-ghost use Rattle.store_words.specs.Ending.{answer_of, ScrubCaused};
+ghost use Rattle.store_words.specs.Ending.{answer_of, scrub_ways, PrintingCaused};
 
 use crate::ends::{StoreEnd, ended_scrub};
 use std::alloc::{AllocError, Global};
@@ -22,8 +22,8 @@ pub fn scrub_store<D: Disk, O: Sink>(alloc: Global, disk: &mut D, out: &mut O) -
         (λ written. (words : List (List ℕ)) (store : ℕ)
         → Answers (ScrubStore store) words (D.seen disk.old) [] (answer_of [] [] result) written
         (D.seen disk.new)) }
-    ensures cause { ScrubCaused (D.faults disk.old) (D.faults disk.new)
-        (O.faults out.old) (O.faults out.new) result }
+    ensures cause { PrintingCaused scrub_ways
+        (D.faults disk.old) (D.faults disk.new) (O.faults out.old) (O.faults out.new) result }
     ensures len { D.len disk.new ≡ D.len disk.old }
     ensures seen { D.tells → D.seen disk.new ≡ D.seen disk.old }
     ensures any_moment { D.tells →

@@ -1,11 +1,11 @@
 // Showing one subvolume of a store.
-ghost use Rattle.std.specs.Prelude.{◌≡◌, ◌≤◌, ⊤, ℕ, List, []};
+ghost use Rattle.std.specs.Prelude.{◌≡◌, ◌≤◌, ℕ, List, []};
 ghost use Rattle.store_model.specs.Requests.{ShowEntry, word_at};
 ghost use Rattle.store_model.specs.Answers.{Answers};
 ghost use Rattle.sx_base.specs.Calls.{Wrote};
 ghost use Rattle.sx_base.specs.Crash.{LeavesOnly};
 ghost use Rattle.sx_base.specs.Disk.{IsImage};
-ghost use Rattle.store_words.specs.Ending.{answer_of, PrintingCaused};
+ghost use Rattle.store_words.specs.Ending.{answer_of, show_ways, PrintingCaused};
 
 use crate::ends::{StoreEnd, ended_by};
 use crate::naming::entry_named;
@@ -26,8 +26,8 @@ pub fn show_entry<D: Disk, O: Sink>(
         (λ written. (words : List (List ℕ)) (store at : ℕ) → word_at words at ≡ name.now
         → Answers (ShowEntry store at) words (D.seen disk.old) [] (answer_of name.now [] result)
         written (D.seen disk.new)) }
-    ensures cause { PrintingCaused (D.faults disk.old) (D.faults disk.new)
-        (O.faults out.old) (O.faults out.new) ⊤ result }
+    ensures cause { PrintingCaused show_ways
+        (D.faults disk.old) (D.faults disk.new) (O.faults out.old) (O.faults out.new) result }
     ensures len { D.len disk.new ≡ D.len disk.old }
     ensures seen { D.tells → D.seen disk.new ≡ D.seen disk.old }
     ensures any_moment { D.tells →

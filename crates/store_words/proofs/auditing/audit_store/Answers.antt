@@ -4,8 +4,9 @@ use Rattle.send_model.specs.Store.{Store}
 use Rattle.auditor.specs.Following.{HaveSameShape}
 use Rattle.store_groups.specs.declared.place.Place.{Place}
 use Rattle.store_journal.specs.Standing.{with_bytes}
-use Rattle.store_words.specs.Ending.{AuditCaused}
-use Rattle.store_words.proofs.AuditAnswers.{same_shape, not_audited, is_audited, audit_stops}
+use Rattle.store_words.specs.Ending.{audit_ways, EndCaused}
+use Rattle.store_words.proofs.Opened.{opening_stops}
+use Rattle.store_words.proofs.AuditAnswers.{same_shape, not_audited, is_audited}
 use Rattle.store_words.proofs.auditing.audit_store.Goals as goal
 
 pub returns-in-Err-clause-answered : goal.returns-in-Err-clause-answered
@@ -15,8 +16,7 @@ returns-in-Err-clause-answered g c tells =
 
 pub returns-in-Err-clause-cause : goal.returns-in-Err-clause-cause
 returns-in-Err-clause-cause g c =
-    subst (AuditCaused _ _ _ _ _ _ _ _) (sym c.ended_by.ensures)
-    (audit_stops _ _ (g.I.Inputs.faults c.args.inputs.now) (g.I.Inputs.ends c.args.inputs.now) (g.O.Sink.faults c.args.out.now) c.in-Err.stop c.in-Err.ensures.not_refused c.in-Err.ensures.stops)
+    subst (EndCaused audit_ways _ _ _ _) (sym c.ended_by.ensures) (opening_stops audit_ways _ _ _ _ c.in-Err.stop tt tt c.in-Err.ensures.not_refused c.in-Err.ensures.stops)
 
 pub returns-clause-answered : goal.returns-clause-answered
 returns-clause-answered g c tells =

@@ -7,8 +7,8 @@ use Rattle.store_model.specs.StoreLines.{listed}
 use Rattle.store_words.specs.declared.ends.StoreEnd.{StoreEnd}
 use Rattle.store_words.specs.declared.ends.StoreEnd.TheVariants as made
 use Rattle.store_journal.specs.Standing.{with_bytes}
-use Rattle.store_words.specs.Ending.{answer_of, PrintingCaused}
-use Rattle.store_words.proofs.Opened.{not_opened, nothing_printed, printing_stops}
+use Rattle.store_words.specs.Ending.{answer_of, list_ways, EndCaused}
+use Rattle.store_words.proofs.Opened.{not_opened, nothing_printed, opening_stops}
 use Rattle.store_words.proofs.Printed.{list_answers, list_of_none}
 use Rattle.store_words.proofs.SameLines.{same_bytes}
 use Rattle.store_words.proofs.listing.list_store.Goals as goal
@@ -26,7 +26,7 @@ returns-in-Err-clause-answered g c tells =
     )
 
 pub returns-in-Err-clause-cause : goal.returns-in-Err-clause-cause
-returns-in-Err-clause-cause g c = subst (PrintingCaused _ _ _ _ ⊥) (sym c.ended_by.ensures) (printing_stops _ _ (g.O.Sink.faults c.args.out.now) ⊥ c.in-Err.stop c.in-Err.ensures.not_refused c.in-Err.ensures.stops)
+returns-in-Err-clause-cause g c = subst (EndCaused list_ways _ _ _ _) (sym c.ended_by.ensures) (opening_stops list_ways _ _ _ _ c.in-Err.stop tt tt c.in-Err.ensures.not_refused c.in-Err.ensures.stops)
 
 pub returns-clause-answered : goal.returns-clause-answered
 returns-clause-answered g c tells =

@@ -3,7 +3,7 @@ use Rattle.std.proofs.Common.{sym, subst}
 use Rattle.store_model.specs.Requests.{InitStore}
 use Rattle.store_model.specs.Answers.{Answers}
 use Rattle.store_words.specs.declared.ends.StoreEnd.{StoreEnd}
-use Rattle.store_words.specs.Ending.{answer_of, MakingCaused}
+use Rattle.store_words.specs.Ending.{answer_of, init_ways, EndCaused}
 use Rattle.store_words.proofs.NewStores.{init_done, init_stops, making_stops}
 use Rattle.store_words.proofs.making.init_store.Goals as goal
 
@@ -20,4 +20,4 @@ returns-in-Err-clause-answered g c tells words store =
     (λ long. (c.in-Err.ensures.kept tells long).seen))
 
 pub returns-in-Err-clause-cause : goal.returns-in-Err-clause-cause
-returns-in-Err-clause-cause g c = subst (MakingCaused _ _) (sym c.ended_at.ensures) (making_stops _ _ (g.D.Disk.len c.args.disk.now) c.in-Err.stop c.in-Err.ensures.empty c.in-Err.ensures.there)
+returns-in-Err-clause-cause g c = subst (EndCaused init_ways _ _ _ _) (sym c.ended_at.ensures) (making_stops _ _ (g.D.Disk.len c.args.disk.now) c.in-Err.stop c.in-Err.ensures.empty c.in-Err.ensures.there)

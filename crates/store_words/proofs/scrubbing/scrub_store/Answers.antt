@@ -4,7 +4,7 @@ use Rattle.std.proofs.KnownBytes.{Appends-nil}
 use Rattle.store_model.specs.Requests.{ScrubStore}
 use Rattle.store_model.specs.Answers.{Answers}
 use Rattle.store_words.specs.declared.ends.StoreEnd.{StoreEnd}
-use Rattle.store_words.specs.Ending.{answer_of, ScrubCaused}
+use Rattle.store_words.specs.Ending.{answer_of, scrub_ways, EndCaused}
 use Rattle.store_words.proofs.Scrubbed.{scrub_stops, scrub_caused}
 use Rattle.store_words.proofs.scrubbing.scrub_store.Goals as goal
 
@@ -20,4 +20,4 @@ returns-in-Err-clause-answered g c tells =
     )
 
 pub returns-in-Err-clause-cause : goal.returns-in-Err-clause-cause
-returns-in-Err-clause-cause g c = subst (ScrubCaused _ _ _ _) (sym c.ended_scrub.ensures) (scrub_caused _ _ (g.O.Sink.faults c.args.out.now) c.in-Err.stop c.in-Err.ensures.stops)
+returns-in-Err-clause-cause g c = subst (EndCaused scrub_ways _ _ _ _) (sym c.ended_scrub.ensures) (scrub_caused _ _ _ c.in-Err.stop c.in-Err.ensures.stops)

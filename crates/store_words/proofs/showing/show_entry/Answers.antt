@@ -1,4 +1,4 @@
-use Rattle.std.specs.Prelude.{◌≡◌, ⊤, ℕ, List, [], Some, None}
+use Rattle.std.specs.Prelude.{◌≡◌, ℕ, List, [], Some, None}
 use Rattle.std.proofs.Common.{sym, ap, subst, ◌∙◌}
 use Rattle.std.proofs.KnownBytes.{Appends-nil}
 use Rattle.store_model.specs.Dues.{show_output}
@@ -8,10 +8,10 @@ use Rattle.store_model.specs.Answers.{Answers}
 use Rattle.subvol_catalog.specs.Entries.{entry_of}
 use Rattle.store_words.specs.declared.ends.StoreEnd.{StoreEnd}
 use Rattle.store_words.specs.declared.ends.StoreEnd.TheVariants as made
-use Rattle.store_words.specs.Ending.{answer_of, PrintingCaused}
+use Rattle.store_words.specs.Ending.{answer_of, show_ways, EndCaused}
 use Rattle.store_words.specs.Naming.{named}
 use Rattle.store_journal.specs.Standing.{with_bytes}
-use Rattle.store_words.proofs.Opened.{not_opened, nothing_printed, printing_stops}
+use Rattle.store_words.proofs.Opened.{not_opened, nothing_printed, opening_stops}
 use Rattle.store_words.proofs.NamedBytes.{gone, unfinished_one, complete_one_there, named_lawful}
 use Rattle.store_words.proofs.Printed.{show_missing, show_answers, show_of_none}
 use Rattle.store_words.proofs.SameLines.{same_bytes_shown}
@@ -31,7 +31,7 @@ returns-in-Err-clause-answered g c tells =
     )
 
 pub returns-in-Err-clause-cause : goal.returns-in-Err-clause-cause
-returns-in-Err-clause-cause g c = subst (PrintingCaused _ _ _ _ ⊤) (sym c.ended_by.ensures) (printing_stops _ _ (g.O.Sink.faults c.args.out.now) ⊤ c.in-Err.stop c.in-Err.ensures.not_refused c.in-Err.ensures.stops)
+returns-in-Err-clause-cause g c = subst (EndCaused show_ways _ _ _ _) (sym c.ended_by.ensures) (opening_stops show_ways _ _ _ _ c.in-Err.stop tt tt c.in-Err.ensures.not_refused c.in-Err.ensures.stops)
 
 pub returns-in_default-clause-answered : goal.returns-in_default-clause-answered
 returns-in_default-clause-answered g c tells =
