@@ -1,10 +1,11 @@
 // Files that are received over objects in memory. The frames and the store are from another program.
 use disk_model::{FuseDisk, MemDisk};
-use guard_rules::CommandGuard;
+use guard_rules::{AnyGuard, GuardSpec};
 use receiver::{GuardList, Received, receive};
 use std::alloc::{AllocError, Global};
 use std::test::Fail;
 use store_journal::{Store, StoreStop};
+use store_words::{StoreEnd, receive_store};
 use sx_base::{Disk, MemInputs, MemSink, Outcome, Refusal, Verdict};
 
 // SUBVOL a; MKFILE x; WRITE x 3 "hi"; TRUNCATE x 6; END
@@ -22,6 +23,10 @@ const C: &[u8] =
 // The store that has `a` then.
 const STORE: &[u8] =
     b"sndstore\x02\0\0\0\0\0\0\0\0\x01\0\0\x014\0\0\0\0\0\0\0\x04%\0\0\0\x01\0\x85\x0fH{\x01\0\x10\0AAAAAAAAAAAAAAAA\x02\0\x08\0\x01\0\0\0\0\0\0\0\x0f\0\x01\0a0X\xa4W\x01a\0\0\0\0\0\0\0\x05AAAAAAAAAAAAAAAA\x01\x05\0\0\0\x03\0/\x8a6s\x0f\0\x01\0x\x17\0\0\0\x0f\0\x89\x81\xe7\xa3\x0f\0\x01\0x\x12\0\x08\0\x03\0\0\0\0\0\0\0\x13\0\x02\0hi\x11\0\0\0\x11\0[\xd8\"G\x04\0\x08\0\x06\0\0\0\0\0\0\0\x0f\0\x01\0x\xe9\x85pe\0";
+
+// The group that begins `b`.
+const MARK_B: &[u8] =
+    b"\x01T\0\0\0\0\0\0\0\x04E\0\0\0\x02\0\xa1\xed\xd8\xb7\x01\0\x10\0BBBBBBBBBBBBBBBB\x02\0\x08\0\x02\0\0\0\0\0\0\0\x0f\0\x01\0b\x14\0\x10\0AAAAAAAAAAAAAAAA\x15\0\x08\0\x01\0\0\0\0\0\0\0\xb9\x7f\x0a\xb0";
 
 const LINE_A: &[u8] = b"complete a 41414141-4141-4141-4141-414141414141 1\n";
 
@@ -46,14 +51,15 @@ fn input_files(alloc: Global, all: &[&[u8]]) -> Result<Files, AllocError> {
     Ok(Files { inputs, names })
 }
 
-// A guard of so many commands.
-fn guard_of(alloc: Global, most: u64) -> Result<GuardList<CommandGuard>, AllocError> {
+// Guards of two kinds: of so many commands, and against devices.
+fn guards_of(alloc: Global, most: u64) -> Result<GuardList<AnyGuard>, AllocError> {
     let mut list = Vec::new(alloc);
-    list.push(CommandGuard::new(most))?;
+    list.push(AnyGuard::new(GuardSpec::NoDevices))?;
+    list.push(AnyGuard::new(GuardSpec::Commands(most)))?;
     Ok(GuardList::new(list))
 }
 
-// How receiving files into the store of a disk ends, under a guard of so many commands.
+// How receiving files into the store of a disk ends, under guards of so many commands and against devices.
 fn received<D: Disk>(
     alloc: Global,
     disk: &mut D,
@@ -63,7 +69,7 @@ fn received<D: Disk>(
 ) -> Result<Received, StoreStop> {
     let mut store = Store::open(disk, alloc)?;
     let Files { mut inputs, names } = input_files(alloc, all)?;
-    let mut guards = guard_of(alloc, most)?;
+    let mut guards = guards_of(alloc, most)?;
     let end = receive(
         alloc,
         &mut store,
@@ -130,7 +136,7 @@ fn a_refused_part_stays_unfinished(rt: HostRuntime) -> Result<(), Fail> {
     let mut disk = new_store(alloc)?;
     let mut out = MemSink::new(alloc);
     let end = received(alloc, &mut disk, &[A, B], 6, &mut out)?;
-    assert_eq!(rt; end, refusal(Refusal::Guarded { guard: 0, used: 6 }));
+    assert_eq!(rt; end, refusal(Refusal::Guarded { guard: 1, used: 6 }));
     assert_eq!(rt; out.bytes(), LINE_A);
     Ok(())
 }
@@ -162,5 +168,121 @@ fn a_disk_that_fails_is_told(rt: HostRuntime) -> Result<(), Fail> {
     for calls in 0..MOST {
         assert!(rt; fault_is_told(alloc, calls)?);
     }
+    Ok(())
+}
+
+// A new store of at most so many bytes.
+fn store_of(alloc: Global, limit: u64) -> Result<MemDisk, Fail> {
+    let mut bytes = Vec::new(alloc);
+    for byte in b"sndstore\x02\0\0\0" {
+        bytes.push(*byte)?;
+    }
+    for byte in limit.to_le_bytes() {
+        bytes.push(byte)?;
+    }
+    bytes.push(0)?;
+    Ok(MemDisk::new(alloc, bytes.as_slice())?)
+}
+
+// Whether behind its header a disk has these groups and then a closed gate, and nothing of what follows counts.
+fn has_groups(disk: &mut MemDisk, groups: &[&[u8]]) -> Result<bool, Fail> {
+    let mut at = 20;
+    for group in groups {
+        let mut room = [0; 200];
+        let count = disk.read(at, &mut room)?;
+        let len = group.len();
+        if count < len || len > 200 || &room[..len] != *group {
+            return Ok(false);
+        }
+        at += len as u64;
+    }
+    let mut gate = [1];
+    let count = disk.read(at, &mut gate)?;
+    Ok(count == 1 && gate[0] != 1)
+}
+
+// The groups of `a`.
+fn groups_a() -> &'static [u8] {
+    let end = STORE.len().max(21) - 1;
+    &STORE[20..end]
+}
+
+// Whether receiving files into the store of a disk ends so, with the line of `a`, and leaves these groups.
+fn leaves(
+    alloc: Global,
+    disk: &mut MemDisk,
+    all: &[&[u8]],
+    end: Received,
+    groups: &[&[u8]],
+) -> Result<bool, Fail> {
+    let mut out = MemSink::new(alloc);
+    let found = received(alloc, disk, all, 100, &mut out)?;
+    Ok(found == end && out.bytes() == LINE_A && has_groups(disk, groups)?)
+}
+
+#[test]
+fn a_refused_part_has_begun(rt: HostRuntime) -> Result<(), Fail> {
+    let alloc = rt.alloc();
+    let mut disk = new_store(alloc)?;
+    let end = refusal(Refusal::NoEntry);
+    assert!(rt; leaves(alloc, &mut disk, &[A, C], end, &[groups_a(), MARK_B])?);
+    Ok(())
+}
+
+// Where there is no room for bytes of a group at the gate, within so many bytes.
+fn no_room(end: u64, limit: u64) -> Received {
+    Received::LogFull {
+        end,
+        wanted: 9,
+        limit,
+    }
+}
+
+#[test]
+fn a_head_without_room_leaves_what_had_room(rt: HostRuntime) -> Result<(), Fail> {
+    let alloc = rt.alloc();
+    let mut disk = store_of(alloc, 188)?;
+    let end = no_room(187, 188);
+    assert!(rt; leaves(alloc, &mut disk, &[A, B], end, &[groups_a()])?);
+    let mut disk = store_of(alloc, 281)?;
+    let end = no_room(280, 281);
+    assert!(rt; leaves(alloc, &mut disk, &[A, B], end, &[groups_a(), MARK_B])?);
+    Ok(())
+}
+
+#[test]
+fn a_part_whose_line_fails_is_complete(rt: HostRuntime) -> Result<(), Fail> {
+    let alloc = rt.alloc();
+    let mut disk = new_store(alloc)?;
+    let mut out = MemSink::new(alloc);
+    out.fail_call(1)?;
+    let end = received(alloc, &mut disk, &[A, B], 100, &mut out)?;
+    assert_eq!(rt; end, Received::Files(Outcome::OutputFault));
+    assert!(rt; out.bytes().is_empty());
+    assert!(rt; has_groups(&mut disk, &[groups_a()])?);
+    Ok(())
+}
+
+// How receiving `a` into a store ends, as a word does it.
+fn word_ends(alloc: Global, disk: &mut MemDisk, out: &mut MemSink) -> Result<StoreEnd, AllocError> {
+    let Files { mut inputs, names } = input_files(alloc, &[A])?;
+    let mut guards = guards_of(alloc, 100)?;
+    Ok(receive_store(alloc, disk, &mut inputs, &names, &mut guards, out))
+}
+
+#[test]
+fn the_word_opens_the_store_first(rt: HostRuntime) -> Result<(), Fail> {
+    let alloc = rt.alloc();
+    let mut disk = new_store(alloc)?;
+    let mut out = MemSink::new(alloc);
+    let end = word_ends(alloc, &mut disk, &mut out)?;
+    assert_eq!(rt; end, StoreEnd::Ends(Outcome::Done));
+    assert_eq!(rt; out.bytes(), LINE_A);
+    assert!(rt; has_groups(&mut disk, &[groups_a()])?);
+    let mut disk = MemDisk::new(alloc, b"sndstore")?;
+    let mut out = MemSink::new(alloc);
+    let end = word_ends(alloc, &mut disk, &mut out)?;
+    assert_eq!(rt; end, StoreEnd::NotStore { group: 0 });
+    assert!(rt; out.bytes().is_empty());
     Ok(())
 }
