@@ -14,7 +14,7 @@ use Rattle.send_model.specs.Counts.{is_clone}
 use Rattle.send_model.specs.Due.{Due, TooMuch, most_literal, uncarried_of, then_due, due_from}
 use Rattle.send_model.proofs.Sorts.{by_sort, plain_step_without}
 use Rattle.send_model.proofs.Judging.{previous_after, AreOrdered}
-use Rattle.send_model.proofs.Dues.{uncarried_split}
+use Rattle.send_model.proofs.UncarriedSums.{uncarried_split}
 use Rattle.composer.specs.OverBase.{AreTaken, current_after}
 
 pub AreTaken-append : (items more : List Item) (state middle end : State Traced) → AreTaken state items middle → AreTaken middle more end → AreTaken state (items ++ more) end

@@ -18,7 +18,7 @@ use Rattle.send_model.proofs.Judging.{previous_after, AreOrdered, AreOrdered-app
 use Rattle.send_model.proofs.Writing.{canonical_all-append}
 use Rattle.composer.specs.OverBase.{Plan, Composing, at_start, Halt, Exceeds, halt_due, begin_bytes, added_with, after_item, is_unforeseen, then_kept, advance, then_items, advance_all, composed_up_to, written_with, written_up_to, current_after, AreTaken}
 use Rattle.composer.proofs.LastHeads.{heads_more}
-use Rattle.send_model.proofs.Dues.{uncarried_split}
+use Rattle.send_model.proofs.UncarriedSums.{uncarried_split}
 use Rattle.composer.proofs.OneMore.{AreTaken-append, current_after-append, composed_from-append, uncarried-append, only_end, quiet}
 
 -- The state over the base before the first command.

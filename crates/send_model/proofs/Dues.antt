@@ -1,47 +1,20 @@
 -- The answer of compose is the verdict on the files, unless a file is too long or there is too much.
-use Rattle.std.specs.Prelude.{◌≡◌, ℕ, ◌+◌, ◌<◌, ◌≤◌, Bool, true, false, List, [], ◌∷◌, map, Option, None, Some, nat_lt, if◌then◌else◌}
-use Rattle.std.specs.List.{sum_by}
+use Rattle.std.specs.Prelude.{◌≡◌, ℕ, ◌+◌, ◌<◌, ◌≤◌, Bool, true, false, List, [], ◌∷◌, Option, None, Some, nat_lt, if◌then◌else◌}
 use Rattle.std.proofs.Common.{refl, sym, ap, subst, ◌∙◌, arith, zero-le}
 use Rattle.std.proofs.lemmas.Bool.{ltb-true, ltb-false}
-use Rattle.std.proofs.lemmas.List.Sums.{sum_by-cons}
 use Rattle.send_model.specs.Refusal.{Refusal}
 use Rattle.send_model.specs.Reading.{Item, Verdict, Reading, input}
 use Rattle.send_model.specs.Lengths.{too_long}
-use Rattle.send_model.specs.Store.{Key, Store, State, Stepped, head_of, step}
-use Rattle.send_model.specs.Receive.{bytes_of, byte_cells, first_of, fault_of, start_of}
+use Rattle.send_model.specs.Store.{Key, Store, State, Stepped, head_of}
+use Rattle.send_model.specs.Receive.{byte_cells, first_of, fault_of, start_of}
 use Rattle.send_model.specs.Order.{heads, breaks_order, part_after, then_judge, judge_items, judge_reading, judge_of, without_parts}
 use Rattle.send_model.specs.Outside.{part_uuids}
-use Rattle.send_model.specs.Provenance.{Traced, fresh, Piece, traced_store, traced_step, uuid_after, is_redirected, clone_range, ranges_from, pieces_of, literal_len, uncarried_in, uncarried_cells}
+use Rattle.send_model.specs.Provenance.{Traced, traced_store, traced_step, uuid_after, ranges_from, uncarried_in, uncarried_cells}
 use Rattle.send_model.specs.Cells.{recelled_state, recelled_step}
 use Rattle.send_model.specs.Due.{Due, DoneWhole, RefusedAt, TooLong, TooMuch, most_literal, uncarried_of, then_due, due_from, refused_due, or_due, reading_due, IsJudgedOf, IsJudged}
-use Rattle.send_model.proofs.CellClones.{all_steps-cells}
-use Rattle.send_model.proofs.Tracing.{byte_of, bytes_fresh, untraced_store}
-
--- A traced step is the plain one.
-plain_is : (state : State Traced) (item : Item) → step 0 (byte_cells item) (recelled_state byte_of state) item.command ≡ recelled_step byte_of (traced_step state item)
-plain_is state item =
-    ap (λ (put : List ℕ). step 0 put (recelled_state byte_of state) item.command) (sym (bytes_fresh (bytes_of item.command)))
-    ∙ all_steps-cells byte_of item.command (fresh 0) (map fresh (bytes_of item.command)) state
-
-abbrev pub literal_in : List Piece → ℕ
-literal_in pieces = sum_by literal_len pieces
-
--- The uncarried bytes of an item and of those after it.
-pub uncarried_split : (base : Store ℕ) (parts : List (List ℕ)) (state : State Traced) (current : Option (List ℕ)) (item : Item) (items : List Item)
-    → uncarried_in base (ranges_from parts state current (item ∷ items)) ≡ uncarried_of base parts state current item + uncarried_in base (ranges_from parts (traced_step state item).state (uuid_after current item.command) items)
-unfolding ranges_from
-uncarried_split base parts state current item items = one (is_redirected parts current item.command)
-  where
-    others : List (List Traced)
-    others = ranges_from parts (traced_step state item).state (uuid_after current item.command) items
-
-    one : (b : Bool) → uncarried_in base (if b then clone_range state item.command ∷ others else others) ≡ (if b then uncarried_in base (clone_range state item.command ∷ []) else 0) + uncarried_in base others
-    one true =
-        let x : List Piece = pieces_of base (clone_range state item.command) in
-        let a = sum_by-cons literal_in x (map (pieces_of base) others) in
-        let b = sum_by-cons literal_in x [] in
-        omega (arith, a, b)
-    one false = omega arith
+use Rattle.send_model.proofs.Tracing.{byte_of, untraced_store}
+use Rattle.send_model.proofs.UncarriedSums.{plain_is, uncarried_split}
+use Rattle.send_model.proofs.FirstMuch.{items_due, is_first_much, first_much_is_due}
 
 -- What an answer says of the verdict on the same items, and of their uncarried bytes.
 abbrev Says : Option Due → Option Verdict → ℕ → Type 0
@@ -165,9 +138,24 @@ reading_ends base reading = ends due (judge_items 0 byte_cells (start_of base) N
         subst (λ (s : Store ℕ). Says due (judge_items 0 byte_cells (start_of s) None reading.items) (uncarried_cells base reading.items)) (untraced_store base)
         (subst (λ (n : ℕ). Says due (judge_items 0 byte_cells (recelled_state byte_of (start_of (traced_store base))) None reading.items) n) (omega arith) own)
 
+-- The answer on items is that of the reading where it is one.
+same_answer : (o : Option Due) (verdict : Option Verdict) (sum : ℕ) → or_due o (refused_due verdict) ≡ TooMuch sum → o ≡ Some (TooMuch sum)
+same_answer None verdict sum e = absurd (refused_not_much verdict sum e)
+same_answer (Some due) verdict sum e = ap Some e
+
 pub is_judged_of : (long : Option ℕ) (base : Store ℕ) (reading : Reading) → IsJudgedOf long base reading
-is_judged_of None base reading = let e = reading_ends base reading in record { done = e.done; refused = e.refused; long = λ file d. absurd (e.never file d); much = e.much }
-is_judged_of (Some file) base reading = record { done = λ d. cc; refused = λ v d. cc; long = λ other d. ap Some (same_file file other d); much = λ sum d. cc }
+is_judged_of None base reading =
+    let e = reading_ends base reading in
+    let rest : Option Verdict = first_of (fault_of reading.end) (without_parts reading.items (heads reading.items)) in
+    record {
+      done = e.done;
+      refused = e.refused;
+      long = λ file d. absurd (e.never file d);
+      much = e.much;
+      first = λ sum d. is_first_much base reading.items sum (same_answer (items_due base reading.items) rest sum d);
+      answered = λ sum n f. ap (λ (o : Option Due). or_due o (refused_due rest)) (first_much_is_due base reading.items sum f);
+    }
+is_judged_of (Some file) base reading = record { done = λ d. cc; refused = λ v d. cc; long = λ other d. ap Some (same_file file other d); much = λ sum d. cc; first = λ sum d. cc; answered = λ sum n f. cc }
 
 -- And of files.
 pub is_judged : (base : Store ℕ) (files : List (List ℕ)) → IsJudged base files

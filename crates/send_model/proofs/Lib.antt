@@ -76,6 +76,8 @@ pub mod HeadlineLaw
 pub mod LawfulEdits
 pub mod LawfulStores
 mod BaseReceives
+pub mod UncarriedSums
+mod FirstMuch
 pub mod Dues
 mod HeadlineExample
 pub mod Thinning

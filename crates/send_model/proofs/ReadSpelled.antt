@@ -22,11 +22,11 @@ use Rattle.send_model.proofs.Sound.{bytes_take, bytes_drop, small16, IsShort, Ar
 
 -- ---- numbers at the front
 
-two_back : (bytes : List ℕ) → IsBytes bytes → 2 ≤ length bytes → to_le_bytes w16 (number16 bytes) ≡ take 2 bytes
+pub two_back : (bytes : List ℕ) → IsBytes bytes → 2 ≤ length bytes → to_le_bytes w16 (number16 bytes) ≡ take 2 bytes
 unfolding number16
 two_back bytes b long = le_bytes_2 (take 2 bytes) (from_le_bytes w16 (take 2 bytes)) (omega (arith, length-take 2 bytes, long)) (byte_at (take 2 bytes) (bytes_take 2 bytes b)) refl
 
-four_back : (bytes : List ℕ) → IsBytes bytes → 4 ≤ length bytes → to_le_bytes w32 (number32 bytes) ≡ take 4 bytes
+pub four_back : (bytes : List ℕ) → IsBytes bytes → 4 ≤ length bytes → to_le_bytes w32 (number32 bytes) ≡ take 4 bytes
 unfolding number32
 four_back bytes b long = le_bytes_4 (take 4 bytes) (from_le_bytes w32 (take 4 bytes)) (omega (arith, length-take 4 bytes, long)) (byte_at (take 4 bytes) (bytes_take 4 bytes b)) refl
 
@@ -37,7 +37,7 @@ record WasFramed (bytes : List ℕ) (frame : Frame) : Type 0 where
   short : length frame.body ≤ greatest_body
   is_bytes : IsBytes frame.body
 
-ten_in_parts : (bytes : List ℕ) → bytes ≡ take 4 bytes ++ (take 2 (drop 4 bytes) ++ (take 4 (drop 6 bytes) ++ drop 10 bytes))
+pub ten_in_parts : (bytes : List ℕ) → bytes ≡ take 4 bytes ++ (take 2 (drop 4 bytes) ++ (take 4 (drop 6 bytes) ++ drop 10 bytes))
 ten_in_parts bytes =
     sym (take-append-drop 4 bytes)
     ∙ ap (λ (r : List ℕ). take 4 bytes ++ r) (sym (take-append-drop 2 (drop 4 bytes)) ∙ ap (λ (r : List ℕ). take 2 (drop 4 bytes) ++ r) (drop-drop 2 4 bytes ∙ sym (take-append-drop 4 (drop 6 bytes)) ∙ ap (λ (r : List ℕ). take 4 (drop 6 bytes) ++ r) (drop-drop 4 6 bytes)))

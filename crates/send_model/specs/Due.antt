@@ -8,9 +8,9 @@ use Rattle.send_model.specs.Lengths.{limit, is_too_long, too_long}
 use Rattle.send_model.specs.Store.{Key, Store, State, Stepped, head_of, step}
 use Rattle.send_model.specs.Receive.{Ran, run_by, verdict_of, first_of, fault_of, byte_cells, start_of}
 use Rattle.send_model.specs.Guards.{Guard, Watched, watched_step}
-use Rattle.send_model.specs.Order.{heads, breaks_order, part_after, without_parts, judge_of}
+use Rattle.send_model.specs.Order.{heads, breaks_order, part_after, judge_items, without_parts, judge_of}
 use Rattle.send_model.specs.Outside.{part_uuids}
-use Rattle.send_model.specs.Provenance.{Traced, traced_store, traced_step, uuid_after, is_redirected, clone_range, uncarried_in, uncarried_cells}
+use Rattle.send_model.specs.Provenance.{Traced, traced_store, traced_step, uuid_after, is_redirected, clone_range, ranges_from, uncarried_in, uncarried_cells}
 
 -- An answer that the files decide: all was done, a command is refused, a file is too long, or the bytes of redirected clones that
 -- no outside subvolume carries are too many.
@@ -68,6 +68,24 @@ compose_due_of None base reading = reading_due base reading
 abbrev pub compose_due : Store ℕ → List (List ℕ) → Due
 compose_due base files = compose_due_of (too_long files) base (input files)
 
+-- ---- what it means that too much would be written
+
+-- The uncarried bytes of commands in front, where all parts of all items count as parts of the same files.
+abbrev pub uncarried_up_to : Store ℕ → List Item → List Item → ℕ
+uncarried_up_to base items front = uncarried_in base (ranges_from (part_uuids items) (start_of (traced_store base)) None front)
+
+-- A command is the first with which too much would be written: it and all before it are accepted, and in order; their redirected
+-- clones have so many bytes that no outside subvolume carries, more than are written; and without it they are not more.
+pub record IsFirstMuch (base : Store ℕ) (items : List Item) (sum : ℕ) : Type 0 where
+  pub before : List Item
+  pub item : Item
+  pub after : List Item
+  pub parts : items ≡ before ++ item ∷ after
+  pub accepted : judge_items 0 byte_cells (start_of base) None (before ++ item ∷ []) ≡ None
+  pub within : uncarried_up_to base items before ≤ most_literal
+  pub sum_is : sum ≡ uncarried_up_to base items (before ++ item ∷ [])
+  pub much : most_literal < sum
+
 -- ---- audit
 
 -- How far files are read: to the end of the last, to a fault, or to the limit of one that is too long.
@@ -122,12 +140,14 @@ file_due bytes = if is_too_long 1 bytes then TooLong 1 else refused_due (fault_o
 -- ---- laws
 
 -- The answer of compose is the verdict on what was read, unless a file is too long or there is too much: then more bytes than are
--- written are uncarried.
+-- written are uncarried, up to the first command with which they are; and where there is such a command, that is the answer.
 pub record IsJudgedOf (first_long : Option ℕ) (base : Store ℕ) (reading : Reading) : Type 0 where
   pub done : compose_due_of first_long base reading ≡ DoneWhole → (judge_of base reading ≡ None) × (uncarried_cells base reading.items ≤ most_literal)
   pub refused : (verdict : Verdict) → compose_due_of first_long base reading ≡ RefusedAt verdict → judge_of base reading ≡ Some verdict
   pub long : (file : ℕ) → compose_due_of first_long base reading ≡ TooLong file → first_long ≡ Some file
   pub much : (sum : ℕ) → compose_due_of first_long base reading ≡ TooMuch sum → (most_literal < sum) × (sum ≤ uncarried_cells base reading.items)
+  pub first : (sum : ℕ) → compose_due_of first_long base reading ≡ TooMuch sum → IsFirstMuch base reading.items sum
+  pub answered : (sum : ℕ) → first_long ≡ None → IsFirstMuch base reading.items sum → compose_due_of first_long base reading ≡ TooMuch sum
 
 -- So it is of files.
 abbrev pub IsJudged : (base : Store ℕ) (files : List (List ℕ)) → Type 0

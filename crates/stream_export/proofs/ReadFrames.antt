@@ -1,10 +1,9 @@
 -- A frame that was read, as one that is spelled, and the attributes in front of its body.
 use Rattle.std.specs.Prelude.{Bool, if◌then◌else◌, ◌≡◌, ℕ, ◌≤◌, ◌==◌, true, false, List, [], ◌∷◌, ◌++◌, length, take, drop, Result, Ok, nat_lt, nat_le}
-use Rattle.std.specs.Int.{w16, w32, to_le_bytes, from_le_bytes}
-use Rattle.std.proofs.Common.{refl, sym, ap, ◌∙◌, arith, append_assoc, append-nil, length-take, length-drop, take-append-drop, drop-drop}
+use Rattle.std.specs.Int.{w16, w32, to_le_bytes}
+use Rattle.std.proofs.Common.{refl, sym, ap, ◌∙◌, arith, append_assoc, append-nil, length-drop, take-append-drop, drop-drop}
 use Rattle.std.proofs.lemmas.Bool.{leb-true, eqb-true, and_right}
 use Rattle.std.proofs.lemmas.List.{take_all, nil_from_length}
-use Rattle.std.proofs.lemmas.Nat.{le_bytes_2, le_bytes_4}
 use Rattle.send_model.specs.Refusal.{Truncated, LongCommand, BadChecksum}
 use Rattle.send_model.specs.Refusal as meant
 use Rattle.send_model.specs.Chain.{◌>>◌, require}
@@ -14,22 +13,9 @@ use Rattle.send_model.specs.Spelling.{Attribute, attribute_bytes, attributes_of,
 use Rattle.send_model.specs.Receivable.{receivable_attributes, receivable}
 use Rattle.send_model.specs.Reading.{Frame, number16, number32, frame_with, frame_at, frame_header_len}
 use Rattle.send_model.proofs.Fuel.{required, not_refused}
-use Rattle.send_model.proofs.Canonical.{bytes_at}
-use Rattle.send_model.proofs.Sound.{bytes_take, bytes_drop}
+use Rattle.send_model.proofs.ReadSpelled.{two_back, four_back, ten_in_parts}
+use Rattle.send_model.proofs.Sound.{bytes_drop}
 use Rattle.stream_export.proofs.Frames.{text_of}
-
-two_back : (bytes : List ℕ) → IsBytes bytes → 2 ≤ length bytes → to_le_bytes w16 (number16 bytes) ≡ take 2 bytes
-unfolding number16
-two_back bytes b long = le_bytes_2 (take 2 bytes) (from_le_bytes w16 (take 2 bytes)) (omega (arith, length-take 2 bytes, long)) (bytes_at (take 2 bytes) (bytes_take 2 bytes b)) refl
-
-four_back : (bytes : List ℕ) → IsBytes bytes → 4 ≤ length bytes → to_le_bytes w32 (number32 bytes) ≡ take 4 bytes
-unfolding number32
-four_back bytes b long = le_bytes_4 (take 4 bytes) (from_le_bytes w32 (take 4 bytes)) (omega (arith, length-take 4 bytes, long)) (bytes_at (take 4 bytes) (bytes_take 4 bytes b)) refl
-
-ten_in_parts : (bytes : List ℕ) → bytes ≡ take 4 bytes ++ (take 2 (drop 4 bytes) ++ (take 4 (drop 6 bytes) ++ drop 10 bytes))
-ten_in_parts bytes =
-    sym (take-append-drop 4 bytes)
-    ∙ ap (λ (r : List ℕ). take 4 bytes ++ r) (sym (take-append-drop 2 (drop 4 bytes)) ∙ ap (λ (r : List ℕ). take 2 (drop 4 bytes) ++ r) (drop-drop 2 4 bytes ∙ sym (take-append-drop 4 (drop 6 bytes)) ∙ ap (λ (r : List ℕ). take 4 (drop 6 bytes) ++ r) (drop-drop 4 6 bytes)))
 
 pub long_frame : (bytes : List ℕ) (frame : Frame) → frame_at bytes ≡ Ok frame → 10 ≤ length bytes
 unfolding frame_at
