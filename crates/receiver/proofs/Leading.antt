@@ -126,9 +126,6 @@ module _ (limit : ℕ) (base : Store ℕ) (old : Spot) (item : Item) (guards : L
   module _ (next_guards : List Guard) (next_store : StoreState) (next_current : Option Opened)
       (taken : follow (beside guards (blank_of store current)) item ≡ record { state = beside next_guards (blank_of next_store next_current); refusal = None })
       (room : PiecesSay (Ok tt) limit (behind_close current item.command (place_of store current)) (place_of next_store next_current) item) where
-    abbrev pub next_spot : Spot
-    next_spot = record { watched = (byte_step old.watched item).state; place = place_of next_store next_current; begun = begun_after old.begun item }
-
     pub next_at : IsAt (record { watched = (byte_step old.watched item).state; place = place_of next_store next_current; begun = begun_after old.begun item }) next_guards next_store next_current
     next_at = record { seen = ap (λ (a : After Followed). a.state) (the_step (record { state = beside next_guards (blank_of next_store next_current); refusal = None }) taken); place = refl }
 

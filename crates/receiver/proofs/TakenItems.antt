@@ -148,11 +148,6 @@ module _ (header : Header) (groups : List Group) where
       → LeavesOnly moment left_since middle new (HasFront header (groups ++ a) b) → LeavesOnly moment left_since old new (HasFront header groups (a ++ b))
   both_moments a b first second = joins (weakens first (λ image f. front_first a b image f)) (weakens second (λ image f. front_behind a b image f))
 
-  pub head_moments : {D : Type 0} {moment : D → ℕ} {left_since : D → ℕ → List ℕ → Type 0} {old new : D} (c : Command) (head : Head) (begun : Option Begun) (more : List Group) → head_of c ≡ Some head
-      → LeavesOnly moment left_since old new (HasFront header groups (closed begun ++ more)) → LeavesOnly moment left_since old new (HasFront header groups (closing c begun ++ more))
-  head_moments {D} {moment} {left_since} {old} {new} c head begun more is run =
-      subst (λ (l : List Group). LeavesOnly moment left_since old new (HasFront header groups (l ++ more))) (sym (head_closes c head begun is)) run
-
 -- ---- END, and an edit
 
 end_command : (c : Command) → true ≡ is_end c → c ≡ End
