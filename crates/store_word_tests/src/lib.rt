@@ -2,4 +2,8 @@
 #![tactic(auto)]
 
 #[cfg(test)]
+mod drop_tests;
+#[cfg(test)]
+mod images;
+#[cfg(test)]
 mod word_tests;

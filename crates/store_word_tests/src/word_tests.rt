@@ -1,4 +1,5 @@
 // The words over a store, over images that another program made.
+use crate::images::{BEGUN, BEGUN_LIST, DONE, LIST, STORE};
 use disk_model::{FuseDisk, MemDisk};
 use std::alloc::Global;
 use std::test::Fail;
@@ -6,18 +7,6 @@ use store_words::{
     StoreEnd, audit_store, cat_file, init_store, list_store, scrub_store, show_entry,
 };
 use sx_base::{Disk, MemInputs, MemSink, Outcome, Refusal, Verdict};
-
-// A store of the second format with the subvolume `a`: a file x with "hi" at 3, six bytes long.
-const STORE: &[u8] =
-    b"sndstore\x02\0\0\0\0\0\0\0\0\x01\0\0\x014\0\0\0\0\0\0\0\x04%\0\0\0\x01\0\x85\x0fH{\x01\0\x10\0AAAAAAAAAAAAAAAA\x02\0\x08\0\x01\0\0\0\0\0\0\0\x0f\0\x01\0a0X\xa4W\x01a\0\0\0\0\0\0\0\x05AAAAAAAAAAAAAAAA\x01\x05\0\0\0\x03\0/\x8a6s\x0f\0\x01\0x\x17\0\0\0\x0f\0\x89\x81\xe7\xa3\x0f\0\x01\0x\x12\0\x08\0\x03\0\0\0\0\0\0\0\x13\0\x02\0hi\x11\0\0\0\x11\0[\xd8\"G\x04\0\x08\0\x06\0\0\0\0\0\0\0\x0f\0\x01\0x\xe9\x85pe\0";
-
-// The same before its edits.
-const BEGUN: &[u8] =
-    b"sndstore\x02\0\0\0\0\0\0\0\0\x01\0\0\x014\0\0\0\0\0\0\0\x04%\0\0\0\x01\0\x85\x0fH{\x01\0\x10\0AAAAAAAAAAAAAAAA\x02\0\x08\0\x01\0\0\0\0\0\0\0\x0f\0\x01\0a0X\xa4W\0";
-
-const LIST: &[u8] = b"a 41414141-4141-4141-4141-414141414141 1 complete -\n";
-
-const BEGUN_LIST: &[u8] = b"a 41414141-4141-4141-4141-414141414141 1 unfinished -\n";
 
 const SHOW: &[u8] =
     b"subvol a 41414141-4141-4141-4141-414141414141 1 258\ninode 256 dir 700 0 0 0.000000000 0.000000000 0 -\ninode 257 file 600 0 0 0.000000000 0.000000000 0 6\nname 256 x 257\n";
@@ -56,8 +45,6 @@ fn says(
     let ended = said(alloc, &mut disk, word, &mut out);
     Ok(ended == end && out.bytes() == bytes)
 }
-
-const DONE: StoreEnd = StoreEnd::Ends(Outcome::Done);
 
 #[test]
 fn words_write_what_is_there(rt: HostRuntime) -> Result<(), Fail> {
