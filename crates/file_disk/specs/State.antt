@@ -15,11 +15,16 @@ pub record FileState : Type 0 where
   pub faults : ℕ
   pub moment : ℕ
 
--- The gathered bytes lie in the file, and there is room for 1 MiB of them.
-pub record IsHeld (size from filled : ℕ) (room : List ℕ) : Type 0 where
+-- There is room for 1 MiB where bytes may be gathered, and else none.
+abbrev pub HasRoom : Bool → List ℕ → Type 0
+HasRoom true room = length room ≡ 2 ^ 20
+HasRoom false room = room ≡ []
+
+-- The gathered bytes lie in the file, and there is room for them, 1 MiB if the file may be written.
+pub record IsHeld (writable : Bool) (size from filled : ℕ) (room : List ℕ) : Type 0 where
   pub small : size < 2 ^ 63
-  pub room_is : length room ≡ 2 ^ 20
-  pub fits : filled ≤ 2 ^ 20
+  pub room_is : HasRoom writable room
+  pub fits : filled ≤ length room
   pub within : from + filled ≤ size
 
 -- A file that was opened.

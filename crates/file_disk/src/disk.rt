@@ -2,7 +2,7 @@
 ghost use Rattle.std.specs.Prelude.{◌≡◌, ◌⊎◌, ◌-◌, ◌+◌, ◌^◌, ◌<◌, ◌≤◌, [], true, false, IsTrue, IsOk, IsErr, is_some, length, min, max, IfOk, OnOk, OnErr};
 ghost use Rattle.sx_base.specs.Causes.{Steady};
 ghost use Rattle.sx_base.specs.Disk.{Passes};
-ghost use Rattle.file_disk.specs.State.{opened, passed, failed, size_of, moment_of, faults_of, unseen, unknown, never, sent, broken_down, follows, after_write, IsBroken, IsCounted};
+ghost use Rattle.file_disk.specs.State.{opened, passed, failed, size_of, moment_of, faults_of, unseen, unknown, never, sent, broken_down, follows, after_write, HasRoom, IsBroken, IsCounted};
 
 use std::alloc::{AllocError, Global};
 use std::fs::OpenFile;
@@ -30,7 +30,7 @@ pub struct FileDisk<F> {
     folder: Option<F>,
     writable: bool,
     size: u64,
-    // The bytes that are gathered stand first.
+    // The bytes that are gathered stand first. A file that is only read has no room for them.
     room: Vec<u8>,
     filled: usize,
     // Where the first of them goes.
@@ -59,7 +59,7 @@ impl<F> Model for FileDisk<F> {
 
     ghost use Rattle.file_disk.specs.State.{IsHeld};
 
-    ghost invariant = { λ d. IsHeld d.size d.from d.filled d.room.items };
+    ghost invariant = { λ d. IsHeld d.writable d.size d.from d.filled d.room.items };
 }
 
 impl<F: FileExt + OpenFile + Drop> FileDisk<F> {
@@ -80,7 +80,7 @@ impl<F: FileExt + OpenFile + Drop> FileDisk<F> {
             folder,
             writable,
             size,
-            room: vec![in alloc; 0; ROOM]?,
+            room: room_for(alloc, writable)?,
             filled: 0,
             from: 0,
             broken: false,
@@ -144,6 +144,7 @@ impl<F: FileExt + OpenFile + Drop> FileDisk<F> {
     fn gather(&mut self, at: u64, piece: &[u8])
         requires room { at + length piece.now < 2 ^ 63 }
         requires follows { follows at (length piece.now) self.old ≡ true }
+        requires writable { self.old.writable ≡ true }
         ensures { self.new ≡ after_write at piece.now self.old }
     {
         let end = self.filled + piece.len();
@@ -156,6 +157,7 @@ impl<F: FileExt + OpenFile + Drop> FileDisk<F> {
     fn begin(&mut self, at: u64, piece: &[u8])
         requires room { at + length piece.now < 2 ^ 63 }
         requires short { length piece.now ≤ 2 ^ 20 }
+        requires writable { self.old.writable ≡ true }
         ensures { self.new ≡ record self.old {
           size = max self.old.size (at + length piece.now);
           from = at;
@@ -183,6 +185,17 @@ impl<F: FileExt + OpenFile + Drop> FileDisk<F> {
             Err(error) if !self.writable && takes_no_sync(&error) => Ok(()),
             answer => answer,
         }
+    }
+}
+
+// Room for what is gathered, where anything may be.
+fn room_for(alloc: Global, writable: bool) -> Result<Vec<u8>, AllocError>
+    ensures { IfOk result (λ room. HasRoom writable room.items) }
+{
+    if writable {
+        vec![in alloc; 0; ROOM]
+    } else {
+        Ok(Vec::new(alloc))
     }
 }
 

@@ -4,7 +4,7 @@ use Rattle.store_groups.specs.declared.window.Ahead.{Ahead}
 
 -- How many bytes are kept at once.
 abbrev pub window_len : ℕ
-window_len = 1_048_576
+window_len = 524_288
 
 -- The greatest frame has ten bytes and the greatest body.
 abbrev pub greatest_frame : ℕ

@@ -12,12 +12,12 @@ use std::alloc::{AllocError, Global};
 use sx_base::Disk;
 
 // How many bytes of a group are kept at once.
-pub(crate) const WINDOW: usize = 1 << 20;
+pub(crate) const WINDOW: usize = 1 << 19;
 
 // The greatest frame: a header of ten bytes and 262,144 bytes.
 const GREATEST_FRAME: usize = 262_154;
 
-/// Where bytes of a disk are kept while groups are read. It grows to what a group needs, 1 MiB at the most.
+/// Where bytes of a disk are kept while groups are read. It grows to what a group needs, 512 KiB at the most.
 #[derive(Drop)]
 pub struct Window {
     pub(crate) alloc: Global,
