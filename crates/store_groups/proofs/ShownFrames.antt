@@ -58,7 +58,7 @@ module _ (frames : Frames) (ahead : Ahead) (window : List ℕ) (s u : State (Opt
             begun = omega (arith, short, few, is.begun);
             fits = is.fits;
             within = omega (arith, short, few, is.within, is.begun);
-            room = subst (λ (n : ℕ). (frames.stop ≤ n) ⊎ (1_048_576 ≤ length window)) (let e : ahead.at + (ahead.have - ahead.used) ≡ ahead.at + len + (ahead.have - (ahead.used + len)) = omega (arith, short, few, is.begun) in e) is.room;
+            room = subst (λ (n : ℕ). (frames.stop ≤ n) ⊎ (524_288 ≤ length window)) (let e : ahead.at + (ahead.have - ahead.used) ≡ ahead.at + len + (ahead.have - (ahead.used + len)) = omega (arith, short, few, is.begun) in e) is.room;
           };
         }
 

@@ -34,7 +34,7 @@ module _ (g : Over) (c : After-seal_len g) where
   begun : c.args.group.at ≤ c.args.group.at + c.args.group.len - c.seal_len.result
   begun = let long = c.requires.long in omega (arith, long, c.seal_len.ensures)
 
-  eighteen : 18 ≤ c.args.group.at + c.args.group.len - c.seal_len.result - c.args.group.at → 18 ≤ min c.args.group.len 1_048_576
+  eighteen : 18 ≤ c.args.group.at + c.args.group.len - c.seal_len.result - c.args.group.at → 18 ≤ min c.args.group.len 524_288
   eighteen long = omega (arith, long)
 
 pub returns-then-end-group-clause-taken : goal.returns-then-end-group-clause-taken
@@ -57,7 +57,7 @@ returns-in_default-clause-taken g c tells right =
     let window = c.args.window.now in
     let end : ℕ = group.at + group.len - c.seal_len.result in
     let bytes : List ℕ = drop 1 (in_front sealed (take group.len (drop group.at seen))) in
-    let n : ℕ = min group.len 1_048_576 in
+    let n : ℕ = min group.len 524_288 in
     let size = head_size sealed group.at group.len end seen (there g at tells) (ends g at) (begun g at) window n (c.requires.shows tells) (eighteen g at c.if-end-group.false) c.requires.room in
     let parts = content_parts sealed group.at group.len end seen (there g at tells) (ends g at) (begun g at) window n (c.requires.shows tells) (eighteen g at c.if-end-group.false) c.requires.room c.if-end-group.false in
     subst (λ (k : Kind). IsBadContent k group.at bytes c.args.core.now) (sym c.requires.kind)
@@ -73,7 +73,7 @@ returns-in_default-2-clause-taken g c tells right =
     let window = c.args.window.now in
     let end : ℕ = group.at + group.len - c.seal_len.result in
     let bytes : List ℕ = drop 1 (in_front sealed (take group.len (drop group.at seen))) in
-    let n : ℕ = min group.len 1_048_576 in
+    let n : ℕ = min group.len 524_288 in
     let size = head_size sealed group.at group.len end seen (there g at tells) (ends g at) (begun g at) window n (c.requires.shows tells) (eighteen g at c.if-end-group.false) c.requires.room in
     let parts = content_parts sealed group.at group.len end seen (there g at tells) (ends g at) (begun g at) window n (c.requires.shows tells) (eighteen g at c.if-end-group.false) c.requires.room c.if-end-group.false in
     let found = subst (λ (o : Option BodyHead). FindsHead (take 17 (drop 1 window)) o) c.in-Some.is c.body_head.ensures.found in
@@ -87,7 +87,7 @@ take_frames-requires-clause-shows g c tells =
     let seen = g.D.Disk.seen c.args.disk.now in
     let group = c.args.group in
     let window = c.args.window.now in
-    let n : ℕ = min group.len 1_048_576 in
+    let n : ℕ = min group.len 524_288 in
     subst (λ (k : ℕ). take (k - 18) (drop 18 window) ≡ take (k - 18) (drop (group.at + 18) seen)) (sym c.min.ensures)
     (shown_behind c.args.tag.is_sealed group.at group.len (group.at + group.len - c.seal_len.result) seen (there g at tells) (ends g at) (begun g at) window n (c.requires.shows tells) (eighteen g at c.if-end-group.false) c.requires.room)
 
@@ -104,7 +104,7 @@ returns-then-not-branch-clause-taken g c tells right =
     let window = c.args.window.now in
     let end : ℕ = group.at + group.len - c.seal_len.result in
     let bytes : List ℕ = drop 1 (in_front sealed (take group.len (drop group.at seen))) in
-    let n : ℕ = min group.len 1_048_576 in
+    let n : ℕ = min group.len 524_288 in
     let head = c.in-Some.head in
     let part = c.in-Some-2.part in
     let size = head_size sealed group.at group.len end seen (there g at tells) (ends g at) (begun g at) window n (c.requires.shows tells) (eighteen g at c.if-end-group.false) c.requires.room in
@@ -127,7 +127,7 @@ returns-clause-taken g c tells =
     let window = c.args.window.now in
     let end : ℕ = group.at + group.len - c.seal_len.result in
     let bytes : List ℕ = drop 1 (in_front sealed (take group.len (drop group.at seen))) in
-    let n : ℕ = min group.len 1_048_576 in
+    let n : ℕ = min group.len 524_288 in
     let head = c.in-Some.head in
     let part = c.in-Some-2.part in
     let done = c.take_frames.new.part in
