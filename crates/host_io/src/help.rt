@@ -1,9 +1,17 @@
 // The texts that --help and --version write.
 
 pub(crate) const HELP: &str = "\
-btrsend checks Btrfs send streams, merges a chain of them into one, and prints them. It needs no Btrfs.
+btrsend receives Btrfs send streams into a store file, checks them, merges a chain of them into one, and prints
+them. It needs no Btrfs.
 
-usage: btrsend audit [GUARD..] none FILE..
+usage: btrsend init STORE
+       btrsend receive [GUARD..] STORE FILE..
+       btrsend list STORE
+       btrsend show STORE NAME
+       btrsend cat STORE NAME PATH > BYTES
+       btrsend drop STORE NAME
+       btrsend scrub STORE
+       btrsend audit [GUARD..] STORE|none FILE..
        btrsend compose none FILE.. > MERGED
        btrsend export none FILE.. > STREAM
        btrsend dump FILE
@@ -11,6 +19,15 @@ usage: btrsend audit [GUARD..] none FILE..
        btrsend trial COUNT SEED
        btrsend --help | --version
 
+  init      makes STORE, a file, where there is none
+  receive   receives the streams of all FILEs into STORE. Writes `complete NAME UUID CTRANSID` for each subvolume once
+            it is safe, also from a loss of power. A subvolume that is cut off stays unfinished, and its stream is
+            received again after `drop`. Each FILE is read once: a pipe serves
+  list      writes a line for each subvolume of STORE: NAME UUID CTRANSID complete|unfinished PARENT
+  show      writes a line for each inode, extended attribute and name of a subvolume
+  cat       writes the bytes of the file at PATH of a subvolume
+  drop      takes a subvolume out of STORE, also one that others stand on. The file does not get smaller
+  scrub     reads all of STORE, compares the checksums, and writes `scrub GROUPS UNSEALED`
   audit     checks each command of all FILEs in order, as a receiver would, and names the first that it would
             refuse; where there is none it writes `accepted PARTS COMMANDS`. Each FILE is read once: a pipe serves
   compose   writes one stream that makes the last subvolume of a chain in a single part. The first FILE is a full
@@ -25,7 +42,9 @@ usage: btrsend audit [GUARD..] none FILE..
   trial     composes that chain in memory and writes `trial PARTS COMMANDS IN OUT CLONES REDIRECTED`: of the chain its
             parts, commands and bytes; of the merged stream its bytes and clones, and the bytes written for a clone
 
-  none      where the subvolumes are that the streams stand on: nowhere
+  STORE     a file that `btrsend init` made. While a program writes to it no other may use it
+  none      no store: the streams stand on nothing else. `compose` and `export` take only this yet
+  NAME      the name of a subvolume, PATH a path in it: `dir/file`
   FILE      a file that `btrfs send` wrote, with one stream or several
   GUARD     guard:bytes=N, guard:commands=N, guard:nodev or guard:end=N: refuses more bytes of data, more
             commands, device nodes, and a WRITE, CLONE or TRUNCATE that ends above N
@@ -48,10 +67,16 @@ The exit status is 0 where all was done. Else a line on standard error says why:
    2  usage             the words mean nothing
    3  input fault       a file could not be read
    4  output fault      standard output could not be written
+   5  store fault       STORE could not be opened, read or written, or is in use
+   6  not a store GROUP   STORE is damaged in this group of it, counted from 1, or is no store at all, which is 0
    7  no memory
+   8  missing WHAT      STORE has no complete subvolume of this name, or that has no file at this path
    9  too much SUM      clones take more than 2^40 bytes from earlier parts; only of compose
+  10  log full END WANTED LIMIT   STORE has no room: WANTED bytes at END do not fit below LIMIT
   11  input too long FILE   a file of 2^62 bytes or more
+  12  store there SIZE  there is something already where `init` was to make a store
   13  input changed FILE PLACE   a file has ended before bytes that were read of it once; only of compose
+  14  damaged GROUP STORED COMPUTED   a group of STORE has the checksum COMPUTED and not STORED; only of scrub
 ";
 
 pub(crate) const VERSION: &str = "btrsend 0.1.0\n";

@@ -3,6 +3,7 @@
 
 mod help;
 mod line;
+mod no_disk;
 mod out_sink;
 mod path_inputs;
 mod program;
@@ -10,6 +11,7 @@ mod progress;
 mod screen;
 
 pub use line::line_of;
+pub use no_disk::NoDisk;
 pub use out_sink::OutSink;
 pub use path_inputs::PathInputs;
 pub use program::start;

@@ -1,18 +1,21 @@
 // From the system's arguments, files and streams to the call that does the work.
 use crate::help::{HELP, VERSION};
+use crate::no_disk::NoDisk;
 use crate::out_sink::OutSink;
 use crate::path_inputs::PathInputs;
 use crate::progress::{Progress, millis_of};
 use crate::screen::{AfterLine, Screen, end_line};
-use guard_rules::{ByteGuard, CommandGuard, DeviceGuard, EndGuard, Guard, GuardSpec, parse_guard};
-use send_top::{Answer, run, status, write_note};
+use file_disk::{FileDisk, OpenStop};
+use guard_rules::{AnyGuard, Guard, parse_guard};
+use send_top::{Answer, StoreUse, run, status, store_use, store_word, write_note};
 use std::alloc::AllocError;
 use std::cell::RefCell;
+use std::fs::File;
 use std::io::{ErrorKind, IsTerminal};
 use std::process::ExitCode;
 use std::rt::Files;
 use std::{env, fs, io};
-use sx_base::{Outcome, Sink, write_whole};
+use sx_base::{Disk, Outcome, Sink, write_whole};
 
 /// Does what the words after the program's name ask for, over the files and standard streams of the system, and gives the
 /// status to end with. A lone `--help` or `--version` is answered here.
@@ -33,51 +36,72 @@ pub fn start(rt: &HostRuntime) -> ExitCode {
             Err(_) => answered(&Answer::Ended(Outcome::OutputFault), &mut notes),
         };
     }
-    match run_words(rt, &words, &mut out, &mut notes) {
+    match run_over(rt, &words, &mut out, &mut notes) {
         Ok(status) => ExitCode::from(status),
         Err(AllocError) => answered(&Answer::Ended(Outcome::NoMemory), &mut notes),
     }
 }
 
-// Runs the words, with one guard for each guard word of `audit`.
-fn run_words<O: Sink, N: Sink>(
+// Runs the words over the store that they name.
+fn run_over<O: Sink, N: Sink>(
     rt: &HostRuntime,
     words: &[String],
     out: &mut O,
     notes: &mut N,
 ) -> Result<u8, AllocError> {
+    match open_store(rt, words)? {
+        Some(mut disk) => run_words(rt, words, out, notes, &mut disk),
+        None => run_words(rt, words, out, notes, &mut NoDisk::new()),
+    }
+}
+
+// The store that the words name, open for what is done with it. None where they name none, or it can not be opened.
+fn open_store(rt: &HostRuntime, words: &[String]) -> Result<Option<FileDisk<File>>, AllocError> {
+    let (Some(path), Some(usage)) = (store_word(words), store_use(words)) else {
+        return Ok(None);
+    };
+    let opened = match usage {
+        StoreUse::Make => FileDisk::create(rt, rt.alloc(), path),
+        StoreUse::Write => FileDisk::open(rt, rt.alloc(), path),
+        StoreUse::Read => FileDisk::open_to_read(rt, rt.alloc(), path),
+    };
+    match opened {
+        Ok(disk) => Ok(Some(disk)),
+        Err(OpenStop::NoMemory) => Err(AllocError),
+        Err(_) => Ok(None),
+    }
+}
+
+// Runs the words, with one guard for each guard word of `audit` and `receive`.
+fn run_words<O: Sink, N: Sink, D: Disk>(
+    rt: &HostRuntime,
+    words: &[String],
+    out: &mut O,
+    notes: &mut N,
+    disk: &mut D,
+) -> Result<u8, AllocError> {
     let mut guards: Vec<Box<dyn Guard>> = Vec::new(rt.alloc());
     for word in guard_words(words) {
-        match parse_guard(word.as_str()) {
-            Some(GuardSpec::Bytes(most)) => {
-                guards.push(Box::new(rt.alloc(), ByteGuard::new(most))?)?;
-            }
-            Some(GuardSpec::Commands(most)) => {
-                guards.push(Box::new(rt.alloc(), CommandGuard::new(most))?)?;
-            }
-            Some(GuardSpec::NoDevices) => {
-                guards.push(Box::new(rt.alloc(), DeviceGuard::new())?)?;
-            }
-            Some(GuardSpec::End(most)) => {
-                guards.push(Box::new(rt.alloc(), EndGuard::new(most))?)?;
-            }
-            None => break,
-        }
+        let Some(spec) = parse_guard(word.as_str()) else {
+            break;
+        };
+        guards.push(Box::new(rt.alloc(), AnyGuard::new(spec))?)?;
     }
     if let Some((began, first)) = what_to_show(rt, words) {
-        return Ok(run_shown(rt, words, guards, began, first));
+        return Ok(run_shown(rt, words, guards, began, first, disk));
     }
     let mut inputs = PathInputs::new(rt, rt.alloc());
-    Ok(run(rt.alloc(), words, guards, &mut inputs, out, notes))
+    Ok(run(rt.alloc(), words, guards, &mut inputs, out, notes, disk))
 }
 
 // Runs the words, and shows meanwhile on standard error, a terminal, how far the run is.
-fn run_shown(
+fn run_shown<D: Disk>(
     rt: &HostRuntime,
     words: &[String],
     guards: Vec<Box<dyn Guard>>,
     began: u64,
     first: String,
+    disk: &mut D,
 ) -> u8 {
     let alloc = rt.alloc();
     let screen = RefCell::new(Screen::new(OutSink::new(rt.stderr()), began));
@@ -87,10 +111,10 @@ fn run_shown(
     let mut notes = AfterLine::new(OutSink::new(rt.stderr()), &screen);
     let status = if rt.stdout().is_terminal() {
         let mut out = AfterLine::new(OutSink::new(rt.stdout()), &screen);
-        run(alloc, words, guards, &mut inputs, &mut out, &mut notes)
+        run(alloc, words, guards, &mut inputs, &mut out, &mut notes, disk)
     } else {
         let mut out = OutSink::new(rt.stdout());
-        run(alloc, words, guards, &mut inputs, &mut out, &mut notes)
+        run(alloc, words, guards, &mut inputs, &mut out, &mut notes, disk)
     };
     end_line(&screen);
     status
@@ -114,16 +138,28 @@ fn files_of(words: &[String]) -> &[String] {
         return &[];
     };
     match word.as_str() {
-        "audit" | "compose" | "export" => behind_none(&words[1..]),
+        "audit" | "receive" => behind_first(behind_guards(&words[1..])),
+        "compose" | "export" => behind_first(&words[1..]),
         "dump" => &words[1..],
         _ => &[],
     }
 }
 
-// The words behind the first `none`.
-fn behind_none(words: &[String]) -> &[String] {
-    match words.iter().position(|word| word.as_str() == "none") {
-        Some(place) => &words[place + 1..],
+// The words behind the first, the store.
+fn behind_first(words: &[String]) -> &[String] {
+    match words {
+        [_, files @ ..] => files,
+        [] => &[],
+    }
+}
+
+// The words behind those that begin as guard words.
+fn behind_guards(words: &[String]) -> &[String] {
+    match words
+        .iter()
+        .position(|word| !word.as_bytes().starts_with(b"guard:"))
+    {
+        Some(place) => &words[place..],
         None => &[],
     }
 }
@@ -141,10 +177,10 @@ fn all_bytes<R: Files>(files: &R, names: &[String]) -> Option<u64> {
     Some(sum)
 }
 
-// The words behind `audit`, of which the first are guard words; none of any other request.
+// The words behind `audit` and `receive`, of which the first are guard words; none of any other request.
 fn guard_words(words: &[String]) -> &[String] {
     match words.first() {
-        Some(word) if word.as_str() == "audit" => &words[1..],
+        Some(word) if matches!(word.as_str(), "audit" | "receive") => &words[1..],
         _ => &[],
     }
 }
@@ -166,7 +202,7 @@ fn text_for(words: &[String]) -> Option<&'static str> {
     }
 }
 
-fn answered<N: Sink>(answer: &Answer, notes: &mut N) -> ExitCode {
+fn answered<N: Sink>(answer: &Answer<'_>, notes: &mut N) -> ExitCode {
     let _ = write_note(answer, notes);
     ExitCode::from(status(answer))
 }

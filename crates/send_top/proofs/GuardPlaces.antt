@@ -1,7 +1,7 @@
 -- Guards beside the words that give them, place by place.
-use Rattle.std.specs.Prelude.{◌≡◌, ◌↔◌, ℕ, ◌<◌, ◌+◌, List, [], ◌∷◌, length, drop, Option, None, Some, IsTrue, is_some}
+use Rattle.std.specs.Prelude.{◌≡◌, ◌↔◌, ℕ, ◌<◌, ◌+◌, List, [], ◌∷◌, ◌++◌, length, drop, Option, None, Some, IsTrue, is_some}
 use Rattle.std.specs.Option.{option_map}
-use Rattle.std.proofs.Common.{refl, sym, ap, zero, suc, ◌≤◌, true, false, map, subst, ◌∙◌, arith, drop-cons, add-one, slice_index_or}
+use Rattle.std.proofs.Common.{refl, sym, ap, zero, suc, ◌≤◌, true, false, map, subst, ◌∙◌, arith, drop-cons, add-one, slice_index_or, append_assoc, append-nil}
 use Rattle.std.proofs.lemmas.Bool.{false≢true}
 use Rattle.std.proofs.lemmas.List.{drop_all, get_or-map, length-map}
 use Rattle.send_model.specs.Guards.{Guard, GuardSpec, new_guard, guard_of}
@@ -91,6 +91,30 @@ as_stopped guards words place guard word all here at differ from those =
     let left = subst AreGuardWords at (left_given place words all) in
     stops guard (drop (place + 1) guards) word (drop (place + 1) words) left.0 differ
     (subst (λ (ws : List (List ℕ)). AreThose (guard ∷ drop (place + 1) guards) ws) at (subst (λ (gs : List Guard). AreThose gs (drop place words)) here (from.0 those)))
+
+-- ---- guards that are made of words
+
+pub made_next : (made all : List Guard) (words : List (List ℕ)) (place : ℕ) (word : List ℕ) (spec : GuardSpec) → drop place words ≡ word ∷ drop (place + 1) words → guard_of word ≡ Some spec
+    → made ++ new_guards (guards_in (drop place words)) ≡ all → (made ++ new_guard spec ∷ []) ++ new_guards (guards_in (drop (place + 1) words)) ≡ all
+made_next made all words place word spec here means so_far =
+    append_assoc made (new_guard spec ∷ []) (new_guards (guards_in (drop (place + 1) words)))
+    ∙ ap (λ (l : List Guard). made ++ l) (sym (ap (λ (ws : List (List ℕ)). new_guards (guards_in ws)) here ∙ given_by word (drop (place + 1) words) spec means)) ∙ so_far
+
+pub made_all : (made all : List Guard) (words : List (List ℕ)) (place : ℕ) → length words ≤ place → made ++ new_guards (guards_in (drop place words)) ≡ all → made ≡ all
+made_all made all words place past so_far =
+    sym (append-nil made) ∙ ap (λ (ws : List (List ℕ)). made ++ new_guards (guards_in ws)) (sym (drop_all place words past)) ∙ so_far
+
+pub means_one : (words : List (List ℕ)) (place : ℕ) (word : List ℕ) → AreGuardWords words → drop place words ≡ word ∷ drop (place + 1) words → guard_of word ≡ None → ⊥
+means_one words place word all here none =
+    let left = subst AreGuardWords here (left_given place words all) in
+    false≢true (sym (ap (λ (o : Option GuardSpec). is_some o) none) ∙ left.0)
+
+pub word_here : {S : Type 0} (text : S → List ℕ) (words : List S) (place : ℕ) (word : S) → place < length words → word ≡ slice_index_or words place word
+    → drop place (map text words) ≡ text word ∷ drop (place + 1) (map text words)
+word_here text words place word less is =
+    drop-cons (map text words) place (text word) (omega (arith, less, length-map words text))
+    ∙ ap (λ (w : List ℕ). w ∷ drop (suc place) (map text words)) (get_or-map text words place word (text word) less ∙ ap text (sym is))
+    ∙ ap (λ (k : ℕ). text word ∷ drop k (map text words)) (sym (add-one place))
 
 -- ---- boxes and words of any kind
 

@@ -3,5 +3,10 @@ pub mod Notes
 pub mod Statuses
 pub mod GuardPlaces
 pub mod AuditWords
-pub mod Asked
 pub mod OtherWords
+pub mod StreamsEnds
+pub mod AskedFor
+pub mod StreamsAnswers
+pub mod MissingNote
+pub mod StoreEnds
+pub mod ReceiveAnswers

@@ -1,5 +1,4 @@
 pub mod Requests
 pub mod AuditWords
 pub mod Answered
-pub mod Ending
 pub mod Run

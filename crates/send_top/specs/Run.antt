@@ -1,38 +1,86 @@
--- What a run does: its words and guards, its answer, and the headline.
-use Rattle.std.specs.Prelude.{◌≡◌, ℕ, List, [], Option, ⊤}
-use Rattle.send_model.specs.Guards.{Guard}
+-- What a run does: its words and guards, its answer, and the headline. This program's own.
+use Rattle.std.specs.Prelude.{◌≡◌, ◌⊎◌, ℕ, ◌<◌, Bool, true, false, List, [], ◌∷◌, drop, length, Option, Some, ⊤}
 use Rattle.std.specs.List.{AllByRecursion}
+use Rattle.send_model.specs.Guards.{Guard, GuardSpec}
 use Rattle.send_model.specs.Attribute.{IsBytes}
 use Rattle.send_model.specs.Headline.{IsComposed}
 use Rattle.send_model.specs.Exported.{IsExported}
-use Rattle.send_model.specs.Answer.{Answer, Done, Refused, Usage, InputFault, OutputFault, NoMemory, InputTooLong, TooMuch, InputChanged}
-use Rattle.send_model.specs.Words.{Request, Compose, Audit, Dump, Export, Gen, Trial}
+use Rattle.send_model.specs.Answer.{Done, Refused, Usage, InputFault, OutputFault, NoMemory, InputTooLong, TooMuch, InputChanged}
+use Rattle.send_model.specs.Words as streams
+use Rattle.send_model.specs.Words.{Compose, Audit, Dump, Export, Gen, Trial, new_guards}
+use Rattle.store_model.specs.Requests.{Request, OfStreams, InitStore, DropEntry, ReceiveFiles, ListStore, ShowEntry, CatFile, ScrubStore, reads_store, word_at}
+use Rattle.store_model.specs.Answers.{Answer, OfAnyWord, StoreFault, NotStore, Missing, LogFull, StoreThere, Damaged, Answers}
 use Rattle.sx_base.specs.Again.{EarlyEnd}
 use Rattle.sx_base.specs.Calls.{IfAllTold, Wrote, Caused, CausedAgain, IsEndOf}
+use Rattle.sx_base.specs.Disk.{Pending, IsImage}
 use Rattle.sx_base.specs.declared.outcome.Outcome.{Outcome}
-use Rattle.send_top.specs.Requests.{Asks, names_asked}
-use Rattle.send_top.specs.Ending.{Answers}
+use Rattle.store_words.specs.Dropping.{LeftByDrop}
+use Rattle.store_words.specs.Receiving.{LeftByReceive}
+use Rattle.send_top.specs.Requests.{Asks, names_asked, uses_store}
 
--- A fact about the request that words and guards ask for, and about the bytes of the files that it names, where the inputs tell
--- their files.
-abbrev pub OfRequest : Option (List (List ℕ × List ℕ)) → List (List ℕ) → List Guard → (Request → List (List ℕ) → Type 0) → Type 0
-OfRequest told words guards P = (request : Request) → Asks words guards request → IfAllTold told (names_asked request words) (P request)
+-- ---- the answer
 
--- The answer is the one that is due to what is asked for, over no store.
-abbrev pub IsAnswered : Option (List (List ℕ × List ℕ)) → List (List ℕ) → List Guard → (old new : Option (List ℕ)) → Answer → Type 0
-IsAnswered told words guards old new answer = OfRequest told words guards (λ request files. Wrote old new (Answers request [] files answer))
+-- A fact about named files, where the inputs tell their files. Of no files it is said in any case.
+abbrev pub IfAllRead : Option (List (List ℕ × List ℕ)) → List (List ℕ) → (List (List ℕ) → Type 0) → Type 0
+IfAllRead told [] P = P []
+IfAllRead told (name ∷ names) P = IfAllTold told (name ∷ names) P
+
+-- A fact that leans on what the disk has: it is owed where the disk tells, or is not used.
+abbrev pub OfDisk : (tells : Type 0) → (uses : Bool) → Type 0 → Type 0
+OfDisk tells true P = tells → P
+OfDisk tells false P = P
+
+-- What is said of receiving is said of files of bytes.
+abbrev pub IfBytes : Request → List (List ℕ) → Type 0 → Type 0
+IfBytes (OfStreams request) files P = P
+IfBytes (InitStore store) files P = P
+IfBytes (DropEntry store name) files P = P
+IfBytes (ReceiveFiles guards store at) files P = AllByRecursion IsBytes files → P
+IfBytes (ListStore store) files P = P
+IfBytes (ShowEntry store name) files P = P
+IfBytes (CatFile store name path) files P = P
+IfBytes (ScrubStore store) files P = P
+
+-- Of the request that words and guards ask for the answer is one that it may get, by the image at entry, the files that it names, what
+-- was written and the image that is left.
+abbrev pub IsAnswered : (told : Option (List (List ℕ × List ℕ))) → (tells : Type 0) → List (List ℕ) → List Guard → (old new : Option (List ℕ)) → (image left : List ℕ) → Answer → Type 0
+IsAnswered told tells words guards old new image left answer = (request : Request) → Asks words guards request
+    → OfDisk tells (uses_store words request) (IfAllRead told (names_asked request words)
+    (λ files. Wrote old new (λ written. IfBytes request files (Answers request words image files answer written left))))
 
 -- The headline, of what was written where files are composed over no store.
-abbrev pub IfComposes : Request → List (List ℕ) → List ℕ → Type 0
-IfComposes request files written = (store at : ℕ) → request ≡ Compose store at → IsComposed [] files written
+abbrev pub Composes : Option (List (List ℕ × List ℕ)) → List (List ℕ) → List Guard → (old new : Option (List ℕ)) → Type 0
+Composes told words guards old new = (store at : ℕ) → Asks words guards (OfStreams (Compose store at))
+    → IfAllTold told (drop at words) (λ files. Wrote old new (λ written. IsComposed [] files written))
 
 -- What is promised of an exported stream, of what was written where files of bytes are exported over no store.
-abbrev pub IfExports : Request → List (List ℕ) → List ℕ → Type 0
-IfExports request files written = (store at : ℕ) → request ≡ Export store at → AllByRecursion IsBytes files → IsExported [] files written
+abbrev pub Exports : Option (List (List ℕ × List ℕ)) → List (List ℕ) → List Guard → (old new : Option (List ℕ)) → Type 0
+Exports told words guards old new = (store at : ℕ) → Asks words guards (OfStreams (Export store at))
+    → IfAllTold told (drop at words) (λ files. Wrote old new (λ written. AllByRecursion IsBytes files → IsExported [] files written))
+
+-- ---- causes
+
+-- What an answer says of the objects of the outside: whether all are as they were, and which of them failed or had ended.
+abbrev pub IsCaused : (steady inputs_rose ends_rose out_rose disk_rose : Type 0) → Answer → Type 0
+IsCaused steady inputs_rose ends_rose out_rose disk_rose (OfAnyWord Done) = steady
+IsCaused steady inputs_rose ends_rose out_rose disk_rose (OfAnyWord (Refused verdict)) = ⊤
+IsCaused steady inputs_rose ends_rose out_rose disk_rose (OfAnyWord Usage) = ⊤
+IsCaused steady inputs_rose ends_rose out_rose disk_rose (OfAnyWord InputFault) = inputs_rose
+IsCaused steady inputs_rose ends_rose out_rose disk_rose (OfAnyWord OutputFault) = out_rose
+IsCaused steady inputs_rose ends_rose out_rose disk_rose (OfAnyWord NoMemory) = ⊤
+IsCaused steady inputs_rose ends_rose out_rose disk_rose (OfAnyWord (InputTooLong file)) = ⊤
+IsCaused steady inputs_rose ends_rose out_rose disk_rose (OfAnyWord (TooMuch sum)) = ⊤
+IsCaused steady inputs_rose ends_rose out_rose disk_rose (OfAnyWord (InputChanged file place)) = ends_rose
+IsCaused steady inputs_rose ends_rose out_rose disk_rose StoreFault = disk_rose
+IsCaused steady inputs_rose ends_rose out_rose disk_rose (NotStore group) = ⊤
+IsCaused steady inputs_rose ends_rose out_rose disk_rose (Missing what) = ⊤
+IsCaused steady inputs_rose ends_rose out_rose disk_rose (LogFull end wanted limit) = ⊤
+IsCaused steady inputs_rose ends_rose out_rose disk_rose (StoreThere size) = ⊤
+IsCaused steady inputs_rose ends_rose out_rose disk_rose (Damaged group stored computed) = ⊤
 
 -- What an outcome says of its cause, by what is asked for. Composing alone reads bytes again and writes cloned bytes, so it alone
 -- may find a file changed, or too much to write.
-abbrev pub EndCaused : Request → (ends_before ends_now inputs_before inputs_now out_before out_now : ℕ) → Outcome → Type 0
+abbrev pub EndCaused : streams.Request → (ends_before ends_now inputs_before inputs_now out_before out_now : ℕ) → Outcome → Type 0
 EndCaused (Compose store files) ends_before ends_now inputs_before inputs_now out_before out_now outcome = CausedAgain ends_before ends_now inputs_before inputs_now out_before out_now outcome
 EndCaused (Audit guards store files) ends_before ends_now inputs_before inputs_now out_before out_now outcome = Caused inputs_before inputs_now out_before out_now outcome
 EndCaused (Dump file) ends_before ends_now inputs_before inputs_now out_before out_now outcome = Caused inputs_before inputs_now out_before out_now outcome
@@ -42,29 +90,109 @@ EndCaused (Trial count seed) ends_before ends_now inputs_before inputs_now out_b
 
 -- Words and guards ask for a composed stream.
 abbrev pub AskToCompose : List (List ℕ) → List Guard → Type 0
-AskToCompose words guards = (store : ℕ) × (files : ℕ) × Asks words guards (Compose store files)
+AskToCompose words guards = (store : ℕ) × (files : ℕ) × Asks words guards (OfStreams (Compose store files))
 
 -- What holds of the answers that composing alone gives.
 abbrev pub IfOfCompose : Answer → Type 0 → Type 0
-IfOfCompose (TooMuch sum) P = P
-IfOfCompose (InputChanged file place) P = P
-IfOfCompose Done P = ⊤
-IfOfCompose (Refused verdict) P = ⊤
-IfOfCompose Usage P = ⊤
-IfOfCompose InputFault P = ⊤
-IfOfCompose OutputFault P = ⊤
-IfOfCompose NoMemory P = ⊤
-IfOfCompose (InputTooLong file) P = ⊤
+IfOfCompose (OfAnyWord (TooMuch sum)) P = P
+IfOfCompose (OfAnyWord (InputChanged file place)) P = P
+IfOfCompose (OfAnyWord Done) P = ⊤
+IfOfCompose (OfAnyWord (Refused verdict)) P = ⊤
+IfOfCompose (OfAnyWord Usage) P = ⊤
+IfOfCompose (OfAnyWord InputFault) P = ⊤
+IfOfCompose (OfAnyWord OutputFault) P = ⊤
+IfOfCompose (OfAnyWord NoMemory) P = ⊤
+IfOfCompose (OfAnyWord (InputTooLong file)) P = ⊤
+IfOfCompose StoreFault P = ⊤
+IfOfCompose (NotStore group) P = ⊤
+IfOfCompose (Missing what) P = ⊤
+IfOfCompose (LogFull end wanted limit) P = ⊤
+IfOfCompose (StoreThere size) P = ⊤
+IfOfCompose (Damaged group stored computed) P = ⊤
 
--- Where a file was found changed, it is the one among the files that words and guards ask for which the inputs answered last to have
--- ended too early, and the place is that of this end.
+-- Words and guards ask for something that is answered by the disk.
+abbrev pub AskForStore : List (List ℕ) → List Guard → Type 0
+AskForStore words guards = (request : Request) × Asks words guards request × (uses_store words request ≡ true)
+
+-- The statuses that only such a request gets.
+abbrev pub IsStoreStatus : ℕ → Type 0
+IsStoreStatus status = (status ≡ 5) ⊎ ((status ≡ 6) ⊎ ((status ≡ 8) ⊎ ((status ≡ 10) ⊎ ((status ≡ 12) ⊎ (status ≡ 14)))))
+
+-- What holds of the answers that only such a request gets.
+abbrev pub IfOfStore : Answer → Type 0 → Type 0
+IfOfStore (OfAnyWord answer) P = ⊤
+IfOfStore StoreFault P = P
+IfOfStore (NotStore group) P = P
+IfOfStore (Missing what) P = P
+IfOfStore (LogFull end wanted limit) P = P
+IfOfStore (StoreThere size) P = P
+IfOfStore (Damaged group stored computed) P = P
+
+-- Where a file was found changed, it is the one among some names which the inputs answered last to have ended too early, and the place is
+-- that of this end.
+abbrev pub IsChangedIn : List (List ℕ) → EarlyEnd → Answer → Type 0
+IsChangedIn names last (OfAnyWord (InputChanged file place)) = IsEndOf names last file place
+IsChangedIn names last (OfAnyWord Done) = ⊤
+IsChangedIn names last (OfAnyWord (Refused verdict)) = ⊤
+IsChangedIn names last (OfAnyWord Usage) = ⊤
+IsChangedIn names last (OfAnyWord InputFault) = ⊤
+IsChangedIn names last (OfAnyWord OutputFault) = ⊤
+IsChangedIn names last (OfAnyWord NoMemory) = ⊤
+IsChangedIn names last (OfAnyWord (InputTooLong file)) = ⊤
+IsChangedIn names last (OfAnyWord (TooMuch sum)) = ⊤
+IsChangedIn names last StoreFault = ⊤
+IsChangedIn names last (NotStore group) = ⊤
+IsChangedIn names last (Missing what) = ⊤
+IsChangedIn names last (LogFull end wanted limit) = ⊤
+IsChangedIn names last (StoreThere size) = ⊤
+IsChangedIn names last (Damaged group stored computed) = ⊤
+
+-- The same among the files that words and guards ask for.
 abbrev pub IsChangedAt : List (List ℕ) → List Guard → EarlyEnd → Answer → Type 0
-IsChangedAt words guards last (InputChanged file place) = (request : Request) → Asks words guards request → IsEndOf (names_asked request words) last file place
-IsChangedAt words guards last Done = ⊤
-IsChangedAt words guards last (Refused verdict) = ⊤
-IsChangedAt words guards last Usage = ⊤
-IsChangedAt words guards last InputFault = ⊤
-IsChangedAt words guards last OutputFault = ⊤
-IsChangedAt words guards last NoMemory = ⊤
-IsChangedAt words guards last (InputTooLong file) = ⊤
-IsChangedAt words guards last (TooMuch sum) = ⊤
+IsChangedAt words guards last answer = (request : Request) → Asks words guards request → IsChangedIn (names_asked request words) last answer
+
+-- No count of the inputs and the output rose.
+abbrev pub AreSteady : (inputs_before inputs_now ends_before ends_now out_before out_now : ℕ) → Type 0
+AreSteady inputs_before inputs_now ends_before ends_now out_before out_now = (inputs_now ≡ inputs_before) × (ends_now ≡ ends_before) × (out_now ≡ out_before)
+
+-- ---- audits over a store
+
+-- A request is an audit over a store, of the files from this place on.
+pub record AuditsOver (words : List (List ℕ)) (request : streams.Request) (files : ℕ) : Type 0 where
+  pub store : ℕ
+  pub guards : List GuardSpec
+  pub is : request ≡ Audit guards store files
+  pub reads : reads_store words (Some store) ≡ true
+  pub within : files < length words
+
+-- ---- crashes
+
+-- What a crash at any moment of a run may leave, by what is asked for; L says of some images that it leaves no others. A request that
+-- only reads leaves what a crash could leave before, and so does one that makes a store where there is something.
+abbrev pub AtAnyMoment : Request → List (List ℕ) → Pending → (seen : List ℕ) → List (List ℕ) → (L : (List ℕ → Type 0) → Type 0) → Type 0
+AtAnyMoment (OfStreams request) words pending seen files L = L (IsImage pending)
+AtAnyMoment (InitStore store) words pending seen files L = 0 < length seen → L (IsImage pending)
+AtAnyMoment (DropEntry store name) words pending seen files L = L (LeftByDrop pending seen (word_at words name))
+AtAnyMoment (ReceiveFiles guards store at) words pending seen files L = AllByRecursion IsBytes files → L (LeftByReceive pending seen (new_guards guards) files [])
+AtAnyMoment (ListStore store) words pending seen files L = L (IsImage pending)
+AtAnyMoment (ShowEntry store name) words pending seen files L = L (IsImage pending)
+AtAnyMoment (CatFile store name path) words pending seen files L = L (IsImage pending)
+AtAnyMoment (ScrubStore store) words pending seen files L = L (IsImage pending)
+
+-- What holds where a store was made, or an entry dropped.
+abbrev pub IfMadeOrDropped : Request → Type 0 → Type 0
+IfMadeOrDropped (OfStreams request) P = ⊤
+IfMadeOrDropped (InitStore store) P = P
+IfMadeOrDropped (DropEntry store name) P = P
+IfMadeOrDropped (ReceiveFiles guards store at) P = ⊤
+IfMadeOrDropped (ListStore store) P = ⊤
+IfMadeOrDropped (ShowEntry store name) P = ⊤
+IfMadeOrDropped (CatFile store name path) P = ⊤
+IfMadeOrDropped (ScrubStore store) P = ⊤
+
+-- Where files are received, each image that a crash may leave when the run has ended has each part complete whose line stands whole in
+-- what was written.
+abbrev pub Acknowledges : Option (List (List ℕ × List ℕ)) → List (List ℕ) → List Guard → (old new : Option (List ℕ)) → (early late : Pending) → (seen : List ℕ) → Type 0
+Acknowledges told words guards old new early late seen = (specs : List GuardSpec) (store at : ℕ) → Asks words guards (ReceiveFiles specs store at)
+    → IfAllTold told (drop at words) (λ files. Wrote old new (λ written. AllByRecursion IsBytes files
+    → (image : List ℕ) → IsImage late image → LeftByReceive early seen (new_guards specs) files written image))

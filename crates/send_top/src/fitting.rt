@@ -7,7 +7,7 @@ ghost use Rattle.send_model.specs.Words.{new_guards};
 ghost use Rattle.guard_rules.specs.Meaning.{spec_meant};
 ghost use Rattle.send_top.specs.Requests.{request_meant, specs_of, guard_words, guards_in, before_store, AreGuardWords, IsWithin};
 
-use crate::words::Request;
+use crate::words::{Request, StoreRequest, StreamsRequest};
 use guard_rules::{Guard, GuardSpec, parse_guard};
 
 /// Whether the guards are those that the words of a request give, in order, and none of them has counted anything. Takes no
@@ -20,13 +20,18 @@ pub fn guards_fit(words: &[String], request: Request, guards: &[Box<dyn Guard>])
         (specs_of (request_meant (map string_bytes words.now) request))) }
 {
     match request {
-        Request::Audit { store, .. } => are_new(guards, words_before(words, store)),
+        Request::Streams(StreamsRequest::Audit { store, .. }) => {
+            are_new(guards, words_before(words, store))
+        }
+        Request::Store(StoreRequest::Receive { store, .. }) => {
+            are_new(guards, words_before(words, store))
+        }
         _ => guards.is_empty(),
     }
 }
 
 // The words in front of the store, but for the first.
-fn words_before(words: &[String], store: usize) -> &[String]
+pub(crate) fn words_before(words: &[String], store: usize) -> &[String]
     requires some { 1 ≤ store }
     requires within { store ≤ length words.now }
     ensures { map string_bytes result.now ≡ before_store (map string_bytes words.now) store }

@@ -3,9 +3,14 @@
 
 mod fitting;
 mod noting;
+mod on_streams;
 mod one_line;
+mod over_store;
+mod receiving;
+mod store_named;
 mod top_call;
 mod words;
 
 pub use noting::{Answer, status, write_note};
+pub use store_named::{StoreUse, store_use, store_word};
 pub use top_call::run;

@@ -1,27 +1,63 @@
 // How a run answers: its exit status, and the line on standard error.
 ghost use Rattle.std.specs.Prelude.{◌≡◌, ◌+◌, ◌≤◌, ◌++◌, length, OnOk, OnErr};
 ghost use Rattle.std.specs.Io.KnownBytes.{Appends};
-ghost use Rattle.send_model.specs.Answer.{Done, status_of, note_of, kept_values, verdict_text};
+ghost use Rattle.send_model.specs.Answer.{Done, kept_values, verdict_text};
+ghost use Rattle.store_model.specs.Answers.{OfAnyWord, Missing, status_of, note_of};
 ghost use Rattle.sx_base.specs.Causes.{HasCause};
 ghost use Rattle.sx_base.specs.Outside.{AppendsPart};
 ghost use Rattle.sx_base.specs.Refusals.{refusal_of, verdict_meant};
-ghost use Rattle.send_top.specs.Answered.{answer_of};
+ghost use Rattle.send_top.specs.Answered.{answer_of, HandedOn, HasShortNote};
 
 use crate::one_line::Line;
 use sx_base::{Failed, Outcome, Refusal, Sink, Verdict, write_whole};
 
 /// What a run answers.
 #[derive(Debug, Clone, Copy, PartialEq, Eq)]
-pub enum Answer {
+pub enum Answer<'a> {
     /// The words mean nothing.
     Usage,
     /// What the words ask for ended so.
     Ended(Outcome),
+    /// The store's device failed.
+    StoreFault,
+    /// The bytes stand for no store.
+    NotStore {
+        /// The first group at fault, counted from 1; the header counts as group 0.
+        group: u64,
+    },
+    /// The store has nothing of this name or path.
+    Missing {
+        /// The name or the path.
+        what: &'a [u8],
+    },
+    /// There is no room in the store.
+    LogFull {
+        /// The place where the next bytes would stand, in bytes.
+        end: u64,
+        /// How many bytes they are.
+        wanted: u64,
+        /// The greatest size of the store, in bytes.
+        limit: u64,
+    },
+    /// There is something already where a store was to be made.
+    StoreThere {
+        /// Its size, in bytes.
+        size: u64,
+    },
+    /// A group of the store has another checksum than the one that stands behind it.
+    Damaged {
+        /// The group, counted from 1.
+        group: u64,
+        /// The checksum that stands there.
+        stored: u32,
+        /// The checksum of the bytes in front of it.
+        computed: u32,
+    },
 }
 
 /// The exit status of an answer.
-#[tactic(auto, unfolding(send_model::specs::Answer::status_of))]
-pub fn status(answer: &Answer) -> u8
+#[tactic(auto, unfolding(send_model::specs::Answer::status_of, store_model::specs::Answers::status_of))]
+pub fn status(answer: &Answer<'_>) -> u8
     ensures { result ≡ status_of (answer_of answer.now) }
 {
     match answer {
@@ -30,32 +66,77 @@ pub fn status(answer: &Answer) -> u8
         Answer::Usage => 2,
         Answer::Ended(Outcome::InputFault) => 3,
         Answer::Ended(Outcome::OutputFault) => 4,
+        Answer::StoreFault => 5,
+        Answer::NotStore { .. } => 6,
         Answer::Ended(Outcome::NoMemory) => 7,
+        Answer::Missing { .. } => 8,
         Answer::Ended(Outcome::TooMuch { .. }) => 9,
+        Answer::LogFull { .. } => 10,
         Answer::Ended(Outcome::InputTooLong { .. }) => 11,
+        Answer::StoreThere { .. } => 12,
         Answer::Ended(Outcome::InputChanged { .. }) => 13,
+        Answer::Damaged { .. } => 14,
     }
 }
 
 /// Writes the note of an answer, a line with its newline, and nothing where all was done. At `Failed`, which comes
 /// only where the count of the notes rose, they got a proper prefix of it. Takes no memory.
-pub fn write_note<N: Sink>(answer: &Answer, notes: &mut N) -> Result<(), Failed>
+pub fn write_note<N: Sink>(answer: &Answer<'_>, notes: &mut N) -> Result<(), Failed>
     ensures whole { OnOk result
         (Appends (N.taken notes.old) (N.taken notes.new) (note_of (answer_of answer.now))) }
     ensures part { OnErr result
         (AppendsPart (N.taken notes.old) (N.taken notes.new) (note_of (answer_of answer.now))) }
     ensures cause { HasCause (N.faults notes.old) (N.faults notes.new) result }
-    ensures quiet { answer_of answer.now ≡ Done → notes.new ≡ notes.old }
+    ensures quiet { answer_of answer.now ≡ OfAnyWord Done → notes.new ≡ notes.old }
 {
     if status(answer) == 0 {
         return Ok(());
+    }
+    if let Answer::Missing { what } = answer {
+        return write_missing(what, notes);
     }
     let line = note_line(answer);
     write_whole(notes, line.as_slice())
 }
 
-#[tactic(auto, unfolding(send_model::specs::Answer::note_of))]
-fn note_line(answer: &Answer) -> Line
+// Writes the note of what is missing, of any length, a line's room at a time.
+fn write_missing<N: Sink>(what: &[u8], notes: &mut N) -> Result<(), Failed>
+    ensures whole { OnOk result
+        (Appends (N.taken notes.old) (N.taken notes.new) (note_of (Missing what.now))) }
+    ensures part { OnErr result
+        (AppendsPart (N.taken notes.old) (N.taken notes.new) (note_of (Missing what.now))) }
+    ensures cause { HasCause (N.faults notes.old) (N.faults notes.new) result }
+{
+    let mut line = Line::new();
+    line.push(b"missing ");
+    for place in 0..what.len() {
+        make_room(&mut line, notes)?;
+        line.push_escaped(what[place]);
+    }
+    make_room(&mut line, notes)?;
+    line.push(b"\n");
+    write_whole(notes, line.as_slice())
+}
+
+// Writes a line that has no room for four bytes more, and begins another.
+fn make_room<N: Sink>(line: &mut Line, notes: &mut N) -> Result<(), Failed>
+    ensures room { OnOk result (length line.new + 4 ≤ 160) }
+    ensures whole { OnOk result (HandedOn line.old line.new (N.taken notes.old) (N.taken notes.new)) }
+    ensures part { OnErr result (AppendsPart (N.taken notes.old) (N.taken notes.new) line.old) }
+    ensures cause { HasCause (N.faults notes.old) (N.faults notes.new) result }
+{
+    if line.len() <= 156 {
+        return Ok(());
+    }
+    write_whole(notes, line.as_slice())?;
+    *line = Line::new();
+    Ok(())
+}
+
+// The note of an answer that is missing nothing.
+#[tactic(auto, unfolding(send_model::specs::Answer::note_of, store_model::specs::Answers::note_of))]
+fn note_line(answer: &Answer<'_>) -> Line
+    requires short { HasShortNote (answer_of answer.now) }
     ensures { result ≡ note_of (answer_of answer.now) }
 {
     let mut line = Line::new();
@@ -65,19 +146,45 @@ fn note_line(answer: &Answer) -> Line
         Answer::Usage => line.push(b"usage"),
         Answer::Ended(Outcome::InputFault) => line.push(b"input fault"),
         Answer::Ended(Outcome::OutputFault) => line.push(b"output fault"),
+        Answer::StoreFault => line.push(b"store fault"),
+        Answer::NotStore { group } => {
+            line.push(b"not a store");
+            line.push_number(*group);
+        }
         Answer::Ended(Outcome::NoMemory) => line.push(b"no memory"),
+        Answer::Missing { .. } => unreachable!(),
+        Answer::Ended(Outcome::TooMuch { sum }) => {
+            line.push(b"too much");
+            line.push_number(*sum);
+        }
+        Answer::LogFull { end, wanted, limit } => {
+            line.push(b"log full");
+            line.push_number(*end);
+            line.push_number(*wanted);
+            line.push_number(*limit);
+        }
         Answer::Ended(Outcome::InputTooLong { file }) => {
             line.push(b"input too long");
             line.push_number(*file);
         }
-        Answer::Ended(Outcome::TooMuch { sum }) => {
-            line.push(b"too much");
-            line.push_number(*sum);
+        Answer::StoreThere { size } => {
+            line.push(b"store there");
+            line.push_number(*size);
         }
         Answer::Ended(Outcome::InputChanged { file, place }) => {
             line.push(b"input changed");
             line.push_number(*file);
             line.push_number(*place);
+        }
+        Answer::Damaged {
+            group,
+            stored,
+            computed,
+        } => {
+            line.push(b"damaged");
+            line.push_number(*group);
+            line.push_checksum(*stored);
+            line.push_checksum(*computed);
         }
     }
     line.push(b"\n");

@@ -2,6 +2,7 @@
 ghost use Rattle.std.specs.Prelude.{◌≡◌, ◌+◌, ◌≤◌, ◌<◌, [], ◌++◌, length, false};
 ghost use Rattle.std.specs.Fmt.{digit_glyph};
 ghost use Rattle.send_model.specs.Answer.{and_field, and_number, eight_digits};
+ghost use Rattle.send_model.specs.Printed.{escaped_byte, is_plain, hex_digit};
 
 use itoa::Buffer;
 use std::marker::Model;
@@ -39,6 +40,13 @@ impl Line {
         ensures bytes { result.now ≡ self.now }
     {
         &self.bytes[..self.len]
+    }
+
+    /// How many bytes it has.
+    pub fn len(&self) -> usize
+        ensures len { result ≡ length self.now }
+    {
+        self.len
     }
 
     /// Appends bytes, for which there is room.
@@ -80,6 +88,34 @@ impl Line {
     {
         self.push_field(&hexadecimal(sum));
     }
+
+    /// Appends a byte in its escaped form.
+    #[tactic(auto, unfolding(send_model::specs::Printed::escaped_byte))]
+    pub fn push_escaped(&mut self, byte: u8)
+        requires room { length self.old + 4 ≤ 160 }
+        ensures pushed { self.new ≡ self.old ++ escaped_byte byte }
+        ensures len { length self.new ≤ length self.old + 4 }
+    {
+        if stands_for_itself(byte) {
+            return self.push(&[byte]);
+        }
+        self.push(&[b'\\', b'x', hexadecimal_digit(byte / 16), hexadecimal_digit(byte % 16)]);
+    }
+}
+
+#[tactic(auto, unfolding(send_model::specs::Printed::is_plain))]
+fn stands_for_itself(byte: u8) -> bool
+    ensures { result ≡ is_plain byte }
+{
+    0x21 <= byte && byte <= 0x7e && byte != b'\\'
+}
+
+#[tactic(auto, unfolding(send_model::specs::Printed::hex_digit))]
+fn hexadecimal_digit(n: u8) -> u8
+    requires { n < 16 }
+    ensures { result ≡ hex_digit n }
+{
+    if n < 10 { b'0' + n } else { b'a' - 10 + n }
 }
 
 fn hexadecimal(n: u32) -> [u8; 8]

@@ -4,7 +4,8 @@ ghost use Rattle.std.specs.Option.{IfNone};
 ghost use Rattle.std.specs.String.{string_bytes};
 ghost use Rattle.send_model.specs.Guards.{is_guard_word};
 ghost use Rattle.send_model.specs.Words.{Compose, Dump, Export, Gen, Trial, store_and_files, one_file, guards_and_files, count_and_seed};
-ghost use Rattle.send_top.specs.Requests.{request_meant, answered_request, if_answered, guard_words, AreGuardWords, IsWithin};
+ghost use Rattle.store_model.specs.Requests.{InitStore, DropEntry, ListStore, ShowEntry, CatFile, ScrubStore, of_one, of_two, of_three, as_receive};
+ghost use Rattle.send_top.specs.Requests.{request_meant, answered_request, if_answered, of_streams, guard_words, AreGuardWords, IsWithin};
 ghost use Rattle.send_top.specs.AuditWords.{HasStore};
 
 use guard_rules::{number_of, parse_guard};
@@ -12,6 +13,15 @@ use guard_rules::{number_of, parse_guard};
 /// What the words ask for. Places among the words are counted from 0.
 #[derive(Debug, Clone, Copy, PartialEq, Eq)]
 pub enum Request {
+    /// Something of streams.
+    Streams(StreamsRequest),
+    /// Something of a store.
+    Store(StoreRequest),
+}
+
+/// What words on streams ask for.
+#[derive(Debug, Clone, Copy, PartialEq, Eq)]
+pub enum StreamsRequest {
     /// The streams of some files are to be composed over a store.
     Compose {
         /// The place of the store.
@@ -54,14 +64,64 @@ pub enum Request {
     },
 }
 
+/// What words over a store ask for.
+#[derive(Debug, Clone, Copy, PartialEq, Eq)]
+pub enum StoreRequest {
+    /// A store is to be made.
+    Init {
+        /// The place of the store.
+        store: usize,
+    },
+    /// An entry is to be taken out of a store.
+    Drop {
+        /// The place of the store.
+        store: usize,
+        /// The place of the entry's name.
+        name: usize,
+    },
+    /// The streams of some files are to be received into a store. Guard words stand between the first word and the store.
+    Receive {
+        /// The place of the store.
+        store: usize,
+        /// The place of the first file. All words from there on are files.
+        files: usize,
+    },
+    /// The entries of a store are to be listed.
+    List {
+        /// The place of the store.
+        store: usize,
+    },
+    /// A subvolume of a store is to be printed.
+    Show {
+        /// The place of the store.
+        store: usize,
+        /// The place of the subvolume's name.
+        name: usize,
+    },
+    /// The bytes of a file of a store are to be written.
+    Cat {
+        /// The place of the store.
+        store: usize,
+        /// The place of the subvolume's name.
+        name: usize,
+        /// The place of the file's path.
+        path: usize,
+    },
+    /// The checksums of a store are to be compared.
+    Scrub {
+        /// The place of the store.
+        store: usize,
+    },
+}
+
 // The word that stands for the store without subvolumes.
-const NO_STORE: &str = "none";
+pub(crate) const NO_STORE: &str = "none";
 
 // The most parts of a chain.
 const MOST_PARTS: u64 = 4_096;
 
 /// What the words after the program's name ask for; `None` exactly where they mean nothing. Takes no memory.
-#[tactic(auto, unfolding(send_model::specs::Words::request_of, crate::specs::Requests::answered_request))]
+#[tactic(auto, unfolding(send_model::specs::Words::request_of, store_model::specs::Requests::request_of, store_model::specs::Requests::over_store, crate::specs::Requests::answered_request))]
 pub fn read_words(words: &[String]) -> Option<Request>
     ensures meaning { option_map (request_meant (map string_bytes words.now)) result
         ≡ answered_request (map string_bytes words.now) }
@@ -77,6 +137,13 @@ pub fn read_words(words: &[String]) -> Option<Request>
         "export" => read_export(words),
         "gen" => read_gen(words),
         "trial" => read_trial(words),
+        "init" => read_init(words),
+        "drop" => read_drop(words),
+        "receive" => read_receive(words),
+        "list" => read_list(words),
+        "show" => read_show(words),
+        "cat" => read_cat(words),
+        "scrub" => read_scrub(words),
         _ => None,
     }
 }
@@ -85,7 +152,7 @@ pub fn read_words(words: &[String]) -> Option<Request>
 fn read_compose(words: &[String]) -> Option<Request>
     ensures meaning { option_map (request_meant (map string_bytes words.now)) result
         ≡ if_answered (map string_bytes words.now)
-        (store_and_files Compose 1 (drop 1 (map string_bytes words.now))) }
+        (of_streams (store_and_files Compose 1 (drop 1 (map string_bytes words.now)))) }
     ensures within { IfSome result (IsWithin (length words.now)) }
     ensures guards { IfSome result
         (λ request. AreGuardWords (guard_words (map string_bytes words.now) request)) }
@@ -94,7 +161,7 @@ fn read_compose(words: &[String]) -> Option<Request>
         return None;
     };
     if store.as_str() == NO_STORE {
-        return Some(Request::Compose { store: 1, files: 2 });
+        return Some(Request::Streams(StreamsRequest::Compose { store: 1, files: 2 }));
     }
     None
 }
@@ -104,7 +171,7 @@ fn read_audit(words: &[String]) -> Option<Request>
     requires some { 1 ≤ length words.now }
     ensures meaning { option_map (request_meant (map string_bytes words.now)) result
         ≡ if_answered (map string_bytes words.now)
-        (guards_and_files 1 (drop 1 (map string_bytes words.now))) }
+        (of_streams (guards_and_files 1 (drop 1 (map string_bytes words.now)))) }
     ensures within { IfSome result (IsWithin (length words.now)) }
     ensures guards { IfSome result
         (λ request. AreGuardWords (guard_words (map string_bytes words.now) request)) }
@@ -114,10 +181,7 @@ fn read_audit(words: &[String]) -> Option<Request>
     if files == words.len() {
         return None;
     }
-    if words[store].as_str() != NO_STORE {
-        return None;
-    }
-    Some(Request::Audit { store, files })
+    Some(Request::Streams(StreamsRequest::Audit { store, files }))
 }
 
 // The place of the store behind the guard words. None where a guard word means no guard, or there is no store.
@@ -149,7 +213,7 @@ fn is_guard_word(word: &str) -> bool
 fn read_dump(words: &[String]) -> Option<Request>
     ensures meaning { option_map (request_meant (map string_bytes words.now)) result
         ≡ if_answered (map string_bytes words.now)
-        (one_file Dump (drop 1 (map string_bytes words.now))) }
+        (of_streams (one_file Dump (drop 1 (map string_bytes words.now)))) }
     ensures within { IfSome result (IsWithin (length words.now)) }
     ensures guards { IfSome result
         (λ request. AreGuardWords (guard_words (map string_bytes words.now) request)) }
@@ -157,14 +221,14 @@ fn read_dump(words: &[String]) -> Option<Request>
     let [_, _] = words else {
         return None;
     };
-    Some(Request::Dump { file: 1 })
+    Some(Request::Streams(StreamsRequest::Dump { file: 1 }))
 }
 
 // `export STORE FILE..`
 fn read_export(words: &[String]) -> Option<Request>
     ensures meaning { option_map (request_meant (map string_bytes words.now)) result
         ≡ if_answered (map string_bytes words.now)
-        (store_and_files Export 1 (drop 1 (map string_bytes words.now))) }
+        (of_streams (store_and_files Export 1 (drop 1 (map string_bytes words.now)))) }
     ensures within { IfSome result (IsWithin (length words.now)) }
     ensures guards { IfSome result
         (λ request. AreGuardWords (guard_words (map string_bytes words.now) request)) }
@@ -173,7 +237,7 @@ fn read_export(words: &[String]) -> Option<Request>
         return None;
     };
     if store.as_str() == NO_STORE {
-        return Some(Request::Export { store: 1, files: 2 });
+        return Some(Request::Streams(StreamsRequest::Export { store: 1, files: 2 }));
     }
     None
 }
@@ -182,7 +246,7 @@ fn read_export(words: &[String]) -> Option<Request>
 fn read_gen(words: &[String]) -> Option<Request>
     ensures meaning { option_map (request_meant (map string_bytes words.now)) result
         ≡ if_answered (map string_bytes words.now)
-        (count_and_seed Gen (drop 1 (map string_bytes words.now))) }
+        (of_streams (count_and_seed Gen (drop 1 (map string_bytes words.now)))) }
     ensures within { IfSome result (IsWithin (length words.now)) }
     ensures guards { IfSome result
         (λ request. AreGuardWords (guard_words (map string_bytes words.now) request)) }
@@ -195,14 +259,14 @@ fn read_gen(words: &[String]) -> Option<Request>
     if count == 0 || count > MOST_PARTS {
         return None;
     }
-    Some(Request::Gen { count, seed })
+    Some(Request::Streams(StreamsRequest::Gen { count, seed }))
 }
 
 // `trial COUNT SEED`
 fn read_trial(words: &[String]) -> Option<Request>
     ensures meaning { option_map (request_meant (map string_bytes words.now)) result
         ≡ if_answered (map string_bytes words.now)
-        (count_and_seed Trial (drop 1 (map string_bytes words.now))) }
+        (of_streams (count_and_seed Trial (drop 1 (map string_bytes words.now)))) }
     ensures within { IfSome result (IsWithin (length words.now)) }
     ensures guards { IfSome result
         (λ request. AreGuardWords (guard_words (map string_bytes words.now) request)) }
@@ -215,5 +279,117 @@ fn read_trial(words: &[String]) -> Option<Request>
     if count == 0 || count > MOST_PARTS {
         return None;
     }
-    Some(Request::Trial { count, seed })
+    Some(Request::Streams(StreamsRequest::Trial { count, seed }))
+}
+
+// `init STORE`
+fn read_init(words: &[String]) -> Option<Request>
+    ensures meaning { option_map (request_meant (map string_bytes words.now)) result
+        ≡ if_answered (map string_bytes words.now)
+        (of_one (InitStore 1) (drop 1 (map string_bytes words.now))) }
+    ensures within { IfSome result (IsWithin (length words.now)) }
+    ensures guards { IfSome result
+        (λ request. AreGuardWords (guard_words (map string_bytes words.now) request)) }
+{
+    let [_, _] = words else {
+        return None;
+    };
+    Some(Request::Store(StoreRequest::Init { store: 1 }))
+}
+
+// `drop STORE NAME`
+fn read_drop(words: &[String]) -> Option<Request>
+    ensures meaning { option_map (request_meant (map string_bytes words.now)) result
+        ≡ if_answered (map string_bytes words.now)
+        (of_two (DropEntry 1 2) (drop 1 (map string_bytes words.now))) }
+    ensures within { IfSome result (IsWithin (length words.now)) }
+    ensures guards { IfSome result
+        (λ request. AreGuardWords (guard_words (map string_bytes words.now) request)) }
+{
+    let [_, _, _] = words else {
+        return None;
+    };
+    Some(Request::Store(StoreRequest::Drop { store: 1, name: 2 }))
+}
+
+// `receive [GUARD..] STORE FILE..`
+fn read_receive(words: &[String]) -> Option<Request>
+    requires some { 1 ≤ length words.now }
+    ensures meaning { option_map (request_meant (map string_bytes words.now)) result
+        ≡ if_answered (map string_bytes words.now)
+        (as_receive (guards_and_files 1 (drop 1 (map string_bytes words.now)))) }
+    ensures within { IfSome result (IsWithin (length words.now)) }
+    ensures guards { IfSome result
+        (λ request. AreGuardWords (guard_words (map string_bytes words.now) request)) }
+{
+    let store = store_place(words)?;
+    let files = store + 1;
+    if files == words.len() {
+        return None;
+    }
+    Some(Request::Store(StoreRequest::Receive { store, files }))
+}
+
+// `list STORE`
+fn read_list(words: &[String]) -> Option<Request>
+    ensures meaning { option_map (request_meant (map string_bytes words.now)) result
+        ≡ if_answered (map string_bytes words.now)
+        (of_one (ListStore 1) (drop 1 (map string_bytes words.now))) }
+    ensures within { IfSome result (IsWithin (length words.now)) }
+    ensures guards { IfSome result
+        (λ request. AreGuardWords (guard_words (map string_bytes words.now) request)) }
+{
+    let [_, _] = words else {
+        return None;
+    };
+    Some(Request::Store(StoreRequest::List { store: 1 }))
+}
+
+// `show STORE NAME`
+fn read_show(words: &[String]) -> Option<Request>
+    ensures meaning { option_map (request_meant (map string_bytes words.now)) result
+        ≡ if_answered (map string_bytes words.now)
+        (of_two (ShowEntry 1 2) (drop 1 (map string_bytes words.now))) }
+    ensures within { IfSome result (IsWithin (length words.now)) }
+    ensures guards { IfSome result
+        (λ request. AreGuardWords (guard_words (map string_bytes words.now) request)) }
+{
+    let [_, _, _] = words else {
+        return None;
+    };
+    Some(Request::Store(StoreRequest::Show { store: 1, name: 2 }))
+}
+
+// `cat STORE NAME PATH`
+fn read_cat(words: &[String]) -> Option<Request>
+    ensures meaning { option_map (request_meant (map string_bytes words.now)) result
+        ≡ if_answered (map string_bytes words.now)
+        (of_three (CatFile 1 2 3) (drop 1 (map string_bytes words.now))) }
+    ensures within { IfSome result (IsWithin (length words.now)) }
+    ensures guards { IfSome result
+        (λ request. AreGuardWords (guard_words (map string_bytes words.now) request)) }
+{
+    let [_, _, _, _] = words else {
+        return None;
+    };
+    Some(Request::Store(StoreRequest::Cat {
+        store: 1,
+        name: 2,
+        path: 3,
+    }))
+}
+
+// `scrub STORE`
+fn read_scrub(words: &[String]) -> Option<Request>
+    ensures meaning { option_map (request_meant (map string_bytes words.now)) result
+        ≡ if_answered (map string_bytes words.now)
+        (of_one (ScrubStore 1) (drop 1 (map string_bytes words.now))) }
+    ensures within { IfSome result (IsWithin (length words.now)) }
+    ensures guards { IfSome result
+        (λ request. AreGuardWords (guard_words (map string_bytes words.now) request)) }
+{
+    let [_, _] = words else {
+        return None;
+    };
+    Some(Request::Store(StoreRequest::Scrub { store: 1 }))
 }

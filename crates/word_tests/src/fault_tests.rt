@@ -1,5 +1,6 @@
 // What a run answers where calls of both the inputs and the output fail: the fault that comes first.
 use crate::streams::{END, HEADER, MKFILE_X, SUBVOL_A, words_of};
+use host_io::NoDisk;
 use send_top::run;
 use std::alloc::{AllocError, Global};
 use std::process::Abort;
@@ -56,6 +57,7 @@ fn status_with(alloc: Global, file: &[u8], read: u64, write: u64) -> Result<u8, 
         &mut inputs,
         &mut out,
         &mut notes,
+        &mut NoDisk::new(),
     ))
 }
 

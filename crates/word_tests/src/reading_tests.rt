@@ -4,6 +4,7 @@ use crate::streams::{
     DUMPED, END, FIRST, HEADER, HEADER_OF_VERSION_2, MKFILE_X, MKFILE_X_WITH_INO, SUBVOL_A,
     WRITE_HI, joined, words_of,
 };
+use host_io::NoDisk;
 use send_top::run;
 use std::alloc::{AllocError, Global};
 use std::process::Abort;
@@ -161,6 +162,7 @@ fn expect_refused(
             &mut inputs,
             &mut out,
             &mut notes,
+            &mut NoDisk::new(),
         );
         assert_eq!(rt; notes.bytes(), note);
         assert_eq!(rt; status, 1);

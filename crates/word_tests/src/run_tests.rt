@@ -9,6 +9,7 @@ use crate::streams::{
     WRITE_Y, joined, words_of,
 };
 use guard_rules::{CommandGuard, Guard};
+use host_io::NoDisk;
 use send_top::run;
 use std::alloc::{AllocError, Global};
 use std::process::Abort;
@@ -176,7 +177,15 @@ fn compose_files(
         inputs.add(name, joined(alloc, pieces)?.as_slice())?;
         words.push(String::from_str(alloc, name)?)?;
     }
-    Ok(run(alloc, &words, Vec::new(alloc), inputs, out, notes))
+    Ok(run(
+        alloc,
+        &words,
+        Vec::new(alloc),
+        inputs,
+        out,
+        notes,
+        &mut NoDisk::new(),
+    ))
 }
 
 #[test]
@@ -304,7 +313,7 @@ fn a_failed_note_leaves_the_status(rt: HostRuntime) -> Result<(), Fail> {
 
 #[test]
 fn other_words_mean_nothing(rt: HostRuntime) -> Result<(), Fail> {
-    let table: [&[&str]; 23] = [
+    let table: [&[&str]; 36] = [
         &[],
         &["compose"],
         &["compose", "none"],
@@ -312,7 +321,7 @@ fn other_words_mean_nothing(rt: HostRuntime) -> Result<(), Fail> {
         &["compose", "", "first"],
         &["Compose", "none", "first"],
         &["audit", "none"],
-        &["audit", "store", "first"],
+        &["audit", "store"],
         &["audit", "guard:bits=1", "none", "first"],
         &["audit", "guard:nodev", "none", "first"],
         &["dump"],
@@ -328,6 +337,19 @@ fn other_words_mean_nothing(rt: HostRuntime) -> Result<(), Fail> {
         &["trial", "0", "1"],
         &["trial", "4097", "1"],
         &["trial", "1"],
+        &["init"],
+        &["init", "store", "more"],
+        &["drop", "store"],
+        &["drop", "store", "A", "more"],
+        &["receive", "store"],
+        &["receive", "guard:bits=1", "store", "first"],
+        &["receive", "guard:nodev", "store", "first"],
+        &["list"],
+        &["list", "store", "more"],
+        &["show", "store"],
+        &["cat", "store", "A"],
+        &["cat", "store", "A", "x", "more"],
+        &["scrub", "store", "more"],
     ];
     for words in table {
         let words = words_of(rt.alloc(), words)?;
@@ -342,7 +364,8 @@ fn other_words_mean_nothing(rt: HostRuntime) -> Result<(), Fail> {
                 Vec::new(rt.alloc()),
                 &mut inputs,
                 &mut out,
-                &mut notes
+                &mut notes,
+                &mut NoDisk::new(),
             ),
             2
         );
@@ -402,6 +425,7 @@ fn files_are_checked_and_printed(rt: HostRuntime) -> Result<(), Fail> {
             &mut inputs,
             &mut out,
             &mut notes,
+            &mut NoDisk::new(),
         );
         assert_eq!(rt; out.bytes(), written);
         assert_eq!(rt; notes.bytes(), note);
@@ -426,6 +450,7 @@ fn guards_are_asked(rt: HostRuntime) -> Result<(), Fail> {
         &mut inputs,
         &mut out,
         &mut notes,
+        &mut NoDisk::new(),
     );
     assert_eq!(rt;
         notes.bytes(),

@@ -1,13 +1,25 @@
-use Rattle.std.specs.Prelude.{◌≡◌, ◌↔◌, ◌⊎◌, ℕ, map}
+use Rattle.std.specs.Prelude.{◌≡◌, ◌↔◌, ◌⊎◌, ℕ, false, map}
 use Rattle.std.specs.String.{string_bytes}
-use Rattle.sx_base.specs.Calls.{Wrote}
-use Rattle.send_top.specs.Requests.{AskNothing}
-use Rattle.send_top.specs.Run.{OfRequest, IsAnswered, IfComposes, IfExports, AskToCompose, IsChangedAt}
 use Rattle.std.proofs.Common.{sym, ◌∙◌, ap, subst, rules}
-use Rattle.send_model.specs.Answer.{status_of}
+use Rattle.store_model.specs.Requests.{Request}
+use Rattle.store_model.specs.Answers.{ReadsOnly, status_of}
+use Rattle.sx_base.specs.Causes.{Rose}
 use Rattle.send_top.specs.Answered.{answer_of}
-use Rattle.send_top.proofs.Statuses.{usage-of_two, two-of_usage, input_fault-of_three, output_fault-of_four, changed-of_thirteen, done-of_zero, of_compose}
+use Rattle.send_top.specs.Requests.{AskNothing, Asks, uses_store}
+use Rattle.send_top.specs.Run.{Acknowledges, AreSteady, AskForStore, AskToCompose, Composes, Exports, IsAnswered, IsChangedAt, IsStoreStatus}
+use Rattle.send_top.proofs.Statuses.{usage-of_two, two-of_usage, done-of_zero, steady-of_zero, input_fault-of_three, output_fault-of_four, store_fault-of_five, changed-of_thirteen, of_compose, of_store}
+use Rattle.send_top.proofs.top_call.run.Given.{Over}
+use Rattle.send_top.proofs.top_call.run.Goals.{After-status}
 use Rattle.send_top.proofs.top_call.run.Goals as goal
+
+-- What the answer says where the status is 0.
+steady : (g : Over) (c : After-status g) → c.status.result ≡ 0
+    → AreSteady (g.I.Inputs.faults c.args.inputs.now) (g.I.Inputs.faults c.answer_to-answer.new.inputs) (g.I.Inputs.ends c.args.inputs.now) (g.I.Inputs.ends c.answer_to-answer.new.inputs) (g.O.Sink.faults c.args.out.now) (g.O.Sink.faults c.answer_to-answer.new.out)
+    × (g.D.Disk.faults c.answer_to-answer.new.disk ≡ g.D.Disk.faults c.args.disk.now)
+steady g c none = steady-of_zero (AreSteady (g.I.Inputs.faults c.args.inputs.now) (g.I.Inputs.faults c.answer_to-answer.new.inputs) (g.I.Inputs.ends c.args.inputs.now) (g.I.Inputs.ends c.answer_to-answer.new.inputs) (g.O.Sink.faults c.args.out.now) (g.O.Sink.faults c.answer_to-answer.new.out) × (g.D.Disk.faults c.answer_to-answer.new.disk ≡ g.D.Disk.faults c.args.disk.now))
+    (Rose (g.I.Inputs.faults c.args.inputs.now) (g.I.Inputs.faults c.answer_to-answer.new.inputs)) (Rose (g.I.Inputs.ends c.args.inputs.now) (g.I.Inputs.ends c.answer_to-answer.new.inputs))
+    (Rose (g.O.Sink.faults c.args.out.now) (g.O.Sink.faults c.answer_to-answer.new.out)) (Rose (g.D.Disk.faults c.args.disk.now) (g.D.Disk.faults c.answer_to-answer.new.disk))
+    (answer_of c.answer_to-answer.result) (sym c.status.ensures ∙ none) c.answer_to-answer.ensures.caused
 
 pub returns-clause-usage : goal.returns-clause-usage
 returns-clause-usage g c = subst (λ gs. (c.status.result ≡ 2) ↔ AskNothing (map string_bytes c.args.words.now) (map (λ b. (goal.Guard-dyn g (b.vtable, b.value)).kept b.value) gs)) c.deref_mut.ensures.value (
@@ -18,34 +30,64 @@ returns-clause-usage g c = subst (λ gs. (c.status.result ≡ 2) ↔ AskNothing 
 pub returns-clause-untouched : goal.returns-clause-untouched
 returns-clause-untouched g c two = c.answer_to-answer.ensures.untouched (usage-of_two (answer_of c.answer_to-answer.result) (sym c.status.ensures ∙ two))
 
+pub returns-clause-read_whole : goal.returns-clause-read_whole
+returns-clause-read_whole g c none = (steady g (goal.at.returns-clause-read_whole g c).After-status none).0.0
+
+pub returns-clause-ends_met : goal.returns-clause-ends_met
+returns-clause-ends_met g c none = (steady g (goal.at.returns-clause-ends_met g c).After-status none).0.1
+
+pub returns-clause-written : goal.returns-clause-written
+returns-clause-written g c none = (steady g (goal.at.returns-clause-written g c).After-status none).0.2
+
+pub returns-clause-stored : goal.returns-clause-stored
+returns-clause-stored g c none = (steady g (goal.at.returns-clause-stored g c).After-status none).1
+
 pub returns-clause-input_fault : goal.returns-clause-input_fault
-returns-clause-input_fault g c three = c.answer_to-answer.ensures.input_fault (input_fault-of_three (answer_of c.answer_to-answer.result) (sym c.status.ensures ∙ three))
+returns-clause-input_fault g c status = input_fault-of_three (AreSteady (g.I.Inputs.faults c.args.inputs.now) (g.I.Inputs.faults c.answer_to-answer.new.inputs) (g.I.Inputs.ends c.args.inputs.now) (g.I.Inputs.ends c.answer_to-answer.new.inputs) (g.O.Sink.faults c.args.out.now) (g.O.Sink.faults c.answer_to-answer.new.out) × (g.D.Disk.faults c.answer_to-answer.new.disk ≡ g.D.Disk.faults c.args.disk.now))
+    (Rose (g.I.Inputs.faults c.args.inputs.now) (g.I.Inputs.faults c.answer_to-answer.new.inputs)) (Rose (g.I.Inputs.ends c.args.inputs.now) (g.I.Inputs.ends c.answer_to-answer.new.inputs))
+    (Rose (g.O.Sink.faults c.args.out.now) (g.O.Sink.faults c.answer_to-answer.new.out)) (Rose (g.D.Disk.faults c.args.disk.now) (g.D.Disk.faults c.answer_to-answer.new.disk))
+    (answer_of c.answer_to-answer.result) (sym c.status.ensures ∙ status) c.answer_to-answer.ensures.caused
 
 pub returns-clause-output_fault : goal.returns-clause-output_fault
-returns-clause-output_fault g c four = c.answer_to-answer.ensures.output_fault (output_fault-of_four (answer_of c.answer_to-answer.result) (sym c.status.ensures ∙ four))
+returns-clause-output_fault g c status = output_fault-of_four (AreSteady (g.I.Inputs.faults c.args.inputs.now) (g.I.Inputs.faults c.answer_to-answer.new.inputs) (g.I.Inputs.ends c.args.inputs.now) (g.I.Inputs.ends c.answer_to-answer.new.inputs) (g.O.Sink.faults c.args.out.now) (g.O.Sink.faults c.answer_to-answer.new.out) × (g.D.Disk.faults c.answer_to-answer.new.disk ≡ g.D.Disk.faults c.args.disk.now))
+    (Rose (g.I.Inputs.faults c.args.inputs.now) (g.I.Inputs.faults c.answer_to-answer.new.inputs)) (Rose (g.I.Inputs.ends c.args.inputs.now) (g.I.Inputs.ends c.answer_to-answer.new.inputs))
+    (Rose (g.O.Sink.faults c.args.out.now) (g.O.Sink.faults c.answer_to-answer.new.out)) (Rose (g.D.Disk.faults c.args.disk.now) (g.D.Disk.faults c.answer_to-answer.new.disk))
+    (answer_of c.answer_to-answer.result) (sym c.status.ensures ∙ status) c.answer_to-answer.ensures.caused
 
-pub returns-clause-composed : goal.returns-clause-composed
-returns-clause-composed g c none =
-    subst (λ gs. OfRequest (g.I.Inputs.told c.args.inputs.now) (map string_bytes c.args.words.now) (map (λ b. (goal.Guard-dyn g (b.vtable, b.value)).kept b.value) gs) (λ request files. Wrote (g.O.Sink.taken c.args.out.now) (g.O.Sink.taken c.answer_to-answer.new.out) (IfComposes request files)))
-    c.deref_mut.ensures.value (c.answer_to-answer.ensures.composed (done-of_zero (answer_of c.answer_to-answer.result) (sym c.status.ensures ∙ none)))
-
-pub returns-clause-exported : goal.returns-clause-exported
-returns-clause-exported g c none =
-    subst (λ gs. OfRequest (g.I.Inputs.told c.args.inputs.now) (map string_bytes c.args.words.now) (map (λ b. (goal.Guard-dyn g (b.vtable, b.value)).kept b.value) gs) (λ request files. Wrote (g.O.Sink.taken c.args.out.now) (g.O.Sink.taken c.answer_to-answer.new.out) (IfExports request files)))
-    c.deref_mut.ensures.value (c.answer_to-answer.ensures.exported (done-of_zero (answer_of c.answer_to-answer.result) (sym c.status.ensures ∙ none)))
-
-pub returns-clause-quiet : goal.returns-clause-quiet
-returns-clause-quiet g c none = c.write_note.ensures.quiet (done-of_zero (answer_of c.answer_to-answer.result) (sym c.status.ensures ∙ none))
+pub returns-clause-store_fault : goal.returns-clause-store_fault
+returns-clause-store_fault g c status = store_fault-of_five (AreSteady (g.I.Inputs.faults c.args.inputs.now) (g.I.Inputs.faults c.answer_to-answer.new.inputs) (g.I.Inputs.ends c.args.inputs.now) (g.I.Inputs.ends c.answer_to-answer.new.inputs) (g.O.Sink.faults c.args.out.now) (g.O.Sink.faults c.answer_to-answer.new.out) × (g.D.Disk.faults c.answer_to-answer.new.disk ≡ g.D.Disk.faults c.args.disk.now))
+    (Rose (g.I.Inputs.faults c.args.inputs.now) (g.I.Inputs.faults c.answer_to-answer.new.inputs)) (Rose (g.I.Inputs.ends c.args.inputs.now) (g.I.Inputs.ends c.answer_to-answer.new.inputs))
+    (Rose (g.O.Sink.faults c.args.out.now) (g.O.Sink.faults c.answer_to-answer.new.out)) (Rose (g.D.Disk.faults c.args.disk.now) (g.D.Disk.faults c.answer_to-answer.new.disk))
+    (answer_of c.answer_to-answer.result) (sym c.status.ensures ∙ status) c.answer_to-answer.ensures.caused
 
 pub returns-clause-changed : goal.returns-clause-changed
-returns-clause-changed g c thirteen =
-    let is = changed-of_thirteen (answer_of c.answer_to-answer.result) (sym c.status.ensures ∙ thirteen) in
-    c.answer_to-answer.ensures.changed is.0 is.1 is.2
+returns-clause-changed g c status = changed-of_thirteen (AreSteady (g.I.Inputs.faults c.args.inputs.now) (g.I.Inputs.faults c.answer_to-answer.new.inputs) (g.I.Inputs.ends c.args.inputs.now) (g.I.Inputs.ends c.answer_to-answer.new.inputs) (g.O.Sink.faults c.args.out.now) (g.O.Sink.faults c.answer_to-answer.new.out) × (g.D.Disk.faults c.answer_to-answer.new.disk ≡ g.D.Disk.faults c.args.disk.now))
+    (Rose (g.I.Inputs.faults c.args.inputs.now) (g.I.Inputs.faults c.answer_to-answer.new.inputs)) (Rose (g.I.Inputs.ends c.args.inputs.now) (g.I.Inputs.ends c.answer_to-answer.new.inputs))
+    (Rose (g.O.Sink.faults c.args.out.now) (g.O.Sink.faults c.answer_to-answer.new.out)) (Rose (g.D.Disk.faults c.args.disk.now) (g.D.Disk.faults c.answer_to-answer.new.disk))
+    (answer_of c.answer_to-answer.result) (sym c.status.ensures ∙ status) c.answer_to-answer.ensures.caused
 
 pub returns-clause-of_compose : goal.returns-clause-of_compose
 returns-clause-of_compose g c nine = subst (λ gs. AskToCompose (map string_bytes c.args.words.now) (map (λ b. (goal.Guard-dyn g (b.vtable, b.value)).kept b.value) gs)) c.deref_mut.ensures.value
     (of_compose (answer_of c.answer_to-answer.result) (AskToCompose (map string_bytes c.args.words.now) (map (λ b. (goal.Guard-dyn g (b.vtable, b.value)).kept b.value) c.deref_mut.result.now))
     (subst (λ (n : ℕ). (n ≡ 9) ⊎ (n ≡ 13)) c.status.ensures nine) c.answer_to-answer.ensures.of_compose)
+
+pub returns-clause-of_store : goal.returns-clause-of_store
+returns-clause-of_store g c is = subst (λ gs. AskForStore (map string_bytes c.args.words.now) (map (λ b. (goal.Guard-dyn g (b.vtable, b.value)).kept b.value) gs)) c.deref_mut.ensures.value
+    (of_store (answer_of c.answer_to-answer.result) (AskForStore (map string_bytes c.args.words.now) (map (λ b. (goal.Guard-dyn g (b.vtable, b.value)).kept b.value) c.deref_mut.result.now))
+    (subst IsStoreStatus c.status.ensures is) c.answer_to-answer.ensures.of_store)
+
+pub returns-clause-composed : goal.returns-clause-composed
+returns-clause-composed g c none =
+    subst (λ gs. Composes (g.I.Inputs.told c.args.inputs.now) (map string_bytes c.args.words.now) (map (λ b. (goal.Guard-dyn g (b.vtable, b.value)).kept b.value) gs) (g.O.Sink.taken c.args.out.now) (g.O.Sink.taken c.answer_to-answer.new.out))
+    c.deref_mut.ensures.value (c.answer_to-answer.ensures.composed (done-of_zero (answer_of c.answer_to-answer.result) (sym c.status.ensures ∙ none)))
+
+pub returns-clause-exported : goal.returns-clause-exported
+returns-clause-exported g c none =
+    subst (λ gs. Exports (g.I.Inputs.told c.args.inputs.now) (map string_bytes c.args.words.now) (map (λ b. (goal.Guard-dyn g (b.vtable, b.value)).kept b.value) gs) (g.O.Sink.taken c.args.out.now) (g.O.Sink.taken c.answer_to-answer.new.out))
+    c.deref_mut.ensures.value (c.answer_to-answer.ensures.exported (done-of_zero (answer_of c.answer_to-answer.result) (sym c.status.ensures ∙ none)))
+
+pub returns-clause-quiet : goal.returns-clause-quiet
+returns-clause-quiet g c none = c.write_note.ensures.quiet (done-of_zero (answer_of c.answer_to-answer.result) (sym c.status.ensures ∙ none))
 
 pub returns-clause-answered : goal.returns-clause-answered
 returns-clause-answered g c =
@@ -53,16 +95,24 @@ returns-clause-answered g c =
     let answer = answer_of c.answer_to-answer.result in
     let a = c.answer_to-answer.ensures in (
       answer,
-      subst (λ gs. IsAnswered (g.I.Inputs.told c.args.inputs.now) words (map (λ b. (goal.Guard-dyn g (b.vtable, b.value)).kept b.value) gs) (g.O.Sink.taken c.args.out.now) (g.O.Sink.taken c.answer_to-answer.new.out) answer) c.deref_mut.ensures.value a.answered,
+      subst (λ gs. IsAnswered (g.I.Inputs.told c.args.inputs.now) g.D.Disk.tells words (map (λ b. (goal.Guard-dyn g (b.vtable, b.value)).kept b.value) gs) (g.O.Sink.taken c.args.out.now) (g.O.Sink.taken c.answer_to-answer.new.out) (g.D.Disk.seen c.args.disk.now) (g.D.Disk.seen c.answer_to-answer.new.disk) answer) c.deref_mut.ensures.value a.answered,
       record { status_is = c.status.ensures; note = search rules },
       subst (λ gs. IsChangedAt words (map (λ b. (goal.Guard-dyn g (b.vtable, b.value)).kept b.value) gs) (g.I.Inputs.last_end c.answer_to-answer.new.inputs) answer) c.deref_mut.ensures.value a.changed_at,
     )
 
-pub returns-clause-read_whole : goal.returns-clause-read_whole
-returns-clause-read_whole g c none = c.answer_to-answer.ensures.read_whole (done-of_zero (answer_of c.answer_to-answer.result) (sym c.status.ensures ∙ none))
+pub returns-clause-off_disk : goal.returns-clause-off_disk
+returns-clause-off_disk g c none = c.answer_to-answer.ensures.off_disk
+    (subst (λ gs. (request : Request) → Asks (map string_bytes c.args.words.now) (map (λ b. (goal.Guard-dyn g (b.vtable, b.value)).kept b.value) gs) request → uses_store (map string_bytes c.args.words.now) request ≡ false) (sym c.deref_mut.ensures.value) none)
 
-pub returns-clause-ends_met : goal.returns-clause-ends_met
-returns-clause-ends_met g c none = c.answer_to-answer.ensures.ends_met (done-of_zero (answer_of c.answer_to-answer.result) (sym c.status.ensures ∙ none))
+pub returns-clause-unharmed : goal.returns-clause-unharmed
+returns-clause-unharmed g c tells only = c.answer_to-answer.ensures.unharmed tells
+    (subst (λ gs. (request : Request) → Asks (map string_bytes c.args.words.now) (map (λ b. (goal.Guard-dyn g (b.vtable, b.value)).kept b.value) gs) request → ReadsOnly request) (sym c.deref_mut.ensures.value) only)
 
-pub returns-clause-written : goal.returns-clause-written
-returns-clause-written g c none = c.answer_to-answer.ensures.written (done-of_zero (answer_of c.answer_to-answer.result) (sym c.status.ensures ∙ none))
+pub returns-clause-durable : goal.returns-clause-durable
+returns-clause-durable g c none tells request asks = c.answer_to-answer.ensures.durable (done-of_zero (answer_of c.answer_to-answer.result) (sym c.status.ensures ∙ none)) tells request
+    (subst (λ gs. Asks (map string_bytes c.args.words.now) (map (λ b. (goal.Guard-dyn g (b.vtable, b.value)).kept b.value) gs) request) (sym c.deref_mut.ensures.value) asks)
+
+pub returns-clause-acknowledged : goal.returns-clause-acknowledged
+returns-clause-acknowledged g c tells =
+    subst (λ gs. Acknowledges (g.I.Inputs.told c.args.inputs.now) (map string_bytes c.args.words.now) (map (λ b. (goal.Guard-dyn g (b.vtable, b.value)).kept b.value) gs) (g.O.Sink.taken c.args.out.now) (g.O.Sink.taken c.answer_to-answer.new.out)
+    (g.D.Disk.pending c.args.disk.now) (g.D.Disk.pending c.answer_to-answer.new.disk) (g.D.Disk.seen c.args.disk.now)) c.deref_mut.ensures.value (c.answer_to-answer.ensures.acknowledged tells)

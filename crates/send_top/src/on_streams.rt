@@ -1,0 +1,203 @@
+// What words on streams do.
+ghost use Rattle.std.specs.Prelude.{◌≡◌, ◌≢◌, ◌<◌, ℕ, [], map, length, drop, true, false, IfSome};
+ghost use Rattle.std.specs.List.{AllByRecursion};
+ghost use Rattle.std.specs.Option.{IfNone};
+ghost use Rattle.std.specs.String.{string_bytes};
+ghost use Rattle.send_model.specs.Answer.{Done, Usage};
+ghost use Rattle.send_model.specs.Attribute.{IsBytes};
+ghost use Rattle.send_model.specs.Exported.{IsExported};
+ghost use Rattle.send_model.specs.Headline.{IsComposed};
+ghost use Rattle.send_model.specs.Words.{Compose, Export, new_guards};
+ghost use Rattle.store_model.specs.Requests.{OfStreams, word_at, store_of, reads_store};
+ghost use Rattle.store_model.specs.Answers.{Answers, OfAnyWord};
+ghost use Rattle.sx_base.specs.Calls.{IfAllTold, FoundChanged, Wrote, Ends, SteadyIfDone};
+ghost use Rattle.sx_base.specs.Causes.{Rose};
+ghost use Rattle.sx_base.specs.Crash.{LeavesOnly};
+ghost use Rattle.sx_base.specs.Disk.{IsImage};
+ghost use Rattle.sx_base.specs.declared.outcome.Outcome.TheVariants as ended;
+ghost use Rattle.send_top.specs.Answered.{answer_of};
+ghost use Rattle.send_top.specs.Requests.{AreWithin, are_answered, streams_meant, streams_specs, streams_names};
+ghost use Rattle.send_top.specs.Run.{EndCaused, IfAllRead, IfOfCompose, IfOfStore, IsCaused, IsChangedIn, OfDisk, AreSteady, AuditsOver};
+
+use crate::noting::Answer;
+use crate::over_store::answer_by;
+use crate::words::{NO_STORE, StreamsRequest};
+use auditor::audit;
+use chain_trial::write_trial;
+use clone_resolve::EditCore;
+use composer::compose;
+use extent_map::Nowhere;
+use guard_rules::Guard;
+use std::alloc::Global;
+use stream_dump::dump;
+use stream_export::export;
+use stream_gen::write_chain;
+use store_words::audit_store;
+use sx_base::{Disk, Inputs, Outcome, Sink};
+
+/// What a request on streams answers: over the store of an audit that names one, and else over no store.
+pub(crate) fn streams_answer<'a, I: Inputs, O: Sink, D: Disk>(
+    alloc: Global,
+    words: &'a [String],
+    request: StreamsRequest,
+    guards: &mut [Box<dyn Guard>],
+    inputs: &mut I,
+    out: &mut O,
+    disk: &mut D,
+) -> Answer<'a>
+    requires within { AreWithin (length words.now) request }
+    requires answered { are_answered (map string_bytes words.now)
+        (streams_meant (map string_bytes words.now) request) ≡ true }
+    requires fits { map (λ g. kept g) guards.old ≡ new_guards
+        (streams_specs (streams_meant (map string_bytes words.now) request)) }
+    ensures same { I.told inputs.new ≡ I.told inputs.old }
+    ensures caused { IsCaused (AreSteady (I.faults inputs.old) (I.faults inputs.new)
+        (I.ends inputs.old) (I.ends inputs.new) (O.faults out.old) (O.faults out.new)
+        × (D.faults disk.new ≡ D.faults disk.old))
+        (Rose (I.faults inputs.old) (I.faults inputs.new))
+        (Rose (I.ends inputs.old) (I.ends inputs.new))
+        (Rose (O.faults out.old) (O.faults out.new))
+        (Rose (D.faults disk.old) (D.faults disk.new)) (answer_of result) }
+    ensures asked { answer_of result ≢ OfAnyWord Usage }
+    ensures of_compose { IfOfCompose (answer_of result) ((store : ℕ) × (files : ℕ)
+        × (streams_meant (map string_bytes words.now) request ≡ Compose store files)) }
+    ensures of_store { IfOfStore (answer_of result)
+        (reads_store (map string_bytes words.now)
+        (store_of (streams_meant (map string_bytes words.now) request)) ≡ true) }
+    ensures changed_at { IsChangedIn
+        (streams_names (streams_meant (map string_bytes words.now) request)
+        (map string_bytes words.now)) (I.last_end inputs.new) (answer_of result) }
+    ensures composed { answer_of result ≡ OfAnyWord Done → (store at : ℕ)
+        → streams_meant (map string_bytes words.now) request ≡ Compose store at
+        → IfAllTold (I.told inputs.old) (drop at (map string_bytes words.now))
+        (λ files. Wrote (O.taken out.old) (O.taken out.new)
+        (λ written. IsComposed [] files written)) }
+    ensures exported { answer_of result ≡ OfAnyWord Done → (store at : ℕ)
+        → streams_meant (map string_bytes words.now) request ≡ Export store at
+        → IfAllTold (I.told inputs.old) (drop at (map string_bytes words.now))
+        (λ files. Wrote (O.taken out.old) (O.taken out.new)
+        (λ written. AllByRecursion IsBytes files → IsExported [] files written)) }
+    ensures answered { OfDisk D.tells (reads_store (map string_bytes words.now)
+        (store_of (streams_meant (map string_bytes words.now) request)))
+        (IfAllRead (I.told inputs.old)
+        (streams_names (streams_meant (map string_bytes words.now) request)
+        (map string_bytes words.now))
+        (λ files. Wrote (O.taken out.old) (O.taken out.new)
+        (λ written. Answers (OfStreams (streams_meant (map string_bytes words.now) request))
+        (map string_bytes words.now) (D.seen disk.old) files (answer_of result) written
+        (D.seen disk.new)))) }
+    ensures off_disk { reads_store (map string_bytes words.now)
+        (store_of (streams_meant (map string_bytes words.now) request)) ≡ false
+        → disk.new ≡ disk.old }
+    ensures unharmed { D.tells → D.seen disk.new ≡ D.seen disk.old }
+    ensures any_moment { D.tells →
+        LeavesOnly D.moment D.left_since disk.old disk.new (IsImage (D.pending disk.old)) }
+{
+    match files_over_store(words, request) {
+        Some(files) => {
+            let names = names_from(words, files);
+            answer_by(audit_store(alloc, disk, inputs, names, guards, out), &[], &[])
+        }
+        None => Answer::Ended(streams_end(alloc, words, request, guards, inputs, out)),
+    }
+}
+
+// The place of the first file of an audit over a store.
+fn files_over_store(words: &[String], request: StreamsRequest) -> Option<usize>
+    requires within { AreWithin (length words.now) request }
+    ensures some { IfSome result (λ files.
+        AuditsOver (map string_bytes words.now)
+        (streams_meant (map string_bytes words.now) request) files) }
+    ensures none { IfNone result (are_answered (map string_bytes words.now)
+        (streams_meant (map string_bytes words.now) request) ≡ true
+        → reads_store (map string_bytes words.now)
+        (store_of (streams_meant (map string_bytes words.now) request)) ≡ false) }
+{
+    match request {
+        StreamsRequest::Audit { store, files } => {
+            if words[store].as_str() == NO_STORE {
+                return None;
+            }
+            Some(files)
+        }
+        StreamsRequest::Compose { .. } => None,
+        StreamsRequest::Dump { .. } => None,
+        StreamsRequest::Export { .. } => None,
+        StreamsRequest::Gen { .. } => None,
+        StreamsRequest::Trial { .. } => None,
+    }
+}
+
+/// How a request on streams ends that reads no store.
+pub(crate) fn streams_end<I: Inputs, O: Sink>(
+    alloc: Global,
+    words: &[String],
+    request: StreamsRequest,
+    guards: &mut [Box<dyn Guard>],
+    inputs: &mut I,
+    out: &mut O,
+) -> Outcome
+    requires within { AreWithin (length words.now) request }
+    requires fits { map (λ g. kept g) guards.old ≡ new_guards
+        (streams_specs (streams_meant (map string_bytes words.now) request)) }
+    ensures same { I.told inputs.new ≡ I.told inputs.old }
+    ensures steady { SteadyIfDone (I.faults inputs.old) (I.faults inputs.new) result }
+    ensures ends_steady { SteadyIfDone (I.ends inputs.old) (I.ends inputs.new) result }
+    ensures out_steady { SteadyIfDone (O.faults out.old) (O.faults out.new) result }
+    ensures cause { EndCaused (streams_meant (map string_bytes words.now) request)
+        (I.ends inputs.old) (I.ends inputs.new) (I.faults inputs.old) (I.faults inputs.new)
+        (O.faults out.old) (O.faults out.new) result }
+    ensures changed { FoundChanged
+        (streams_names (streams_meant (map string_bytes words.now) request)
+        (map string_bytes words.now)) (I.last_end inputs.new) result }
+    ensures composed { result ≡ ended.Done → (store at : ℕ)
+        → streams_meant (map string_bytes words.now) request ≡ Compose store at
+        → IfAllTold (I.told inputs.old) (drop at (map string_bytes words.now))
+        (λ files. Wrote (O.taken out.old) (O.taken out.new)
+        (λ written. IsComposed [] files written)) }
+    ensures exported { result ≡ ended.Done → (store at : ℕ)
+        → streams_meant (map string_bytes words.now) request ≡ Export store at
+        → IfAllTold (I.told inputs.old) (drop at (map string_bytes words.now))
+        (λ files. Wrote (O.taken out.old) (O.taken out.new)
+        (λ written. AllByRecursion IsBytes files → IsExported [] files written)) }
+    ensures ends { IfAllRead (I.told inputs.old)
+        (streams_names (streams_meant (map string_bytes words.now) request)
+        (map string_bytes words.now))
+        (λ files. Wrote (O.taken out.old) (O.taken out.new)
+        (Ends (streams_meant (map string_bytes words.now) request) [] files result)) }
+{
+    match request {
+        StreamsRequest::Compose { files, .. } => {
+            compose(alloc, inputs, names_from(words, files), out)
+        }
+        StreamsRequest::Audit { files, .. } => {
+            let core = EditCore::new(alloc);
+            let names = names_from(words, files);
+            audit(alloc, core, Nowhere, inputs, names, guards, out)
+        }
+        StreamsRequest::Dump { file } => dump(alloc, inputs, name_at(words, file), out),
+        StreamsRequest::Export { files, .. } => {
+            let core = EditCore::new(alloc);
+            export(alloc, core, Nowhere, inputs, names_from(words, files), out)
+        }
+        StreamsRequest::Gen { count, seed } => write_chain(alloc, count, seed, out),
+        StreamsRequest::Trial { count, seed } => write_trial(alloc, count, seed, out),
+    }
+}
+
+// The words from a place on.
+pub(crate) fn names_from(words: &[String], at: usize) -> &[String]
+    requires within { at < length words.now }
+    ensures names { result.now ≡ drop at words.now }
+    ensures some { result.now ≢ [] }
+{
+    &words[at..]
+}
+
+// The word at a place.
+fn name_at(words: &[String], at: usize) -> &str
+    requires within { at < length words.now }
+    ensures name { result.now ≡ word_at (map string_bytes words.now) at }
+{
+    words[at].as_str()
+}

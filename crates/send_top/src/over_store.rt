@@ -1,0 +1,131 @@
+// What words over a store do.
+ghost use Rattle.std.specs.Prelude.{◌≡◌, ◌≢◌, ◌<◌, ℕ, List, drop, map, length};
+ghost use Rattle.std.specs.List.{AllByRecursion};
+ghost use Rattle.std.specs.String.{string_bytes};
+ghost use Rattle.send_model.specs.Answer.{Done, Usage};
+ghost use Rattle.send_model.specs.Attribute.{IsBytes};
+ghost use Rattle.send_model.specs.Guards.{GuardSpec};
+ghost use Rattle.send_model.specs.Words.{new_guards};
+ghost use Rattle.store_model.specs.Requests.{ReceiveFiles, word_at};
+ghost use Rattle.store_model.specs.Answers.{Answers, OfAnyWord, ReadsOnly};
+ghost use Rattle.store_words.specs.Ending as ending;
+ghost use Rattle.store_words.specs.Receiving.{LeftByReceive};
+ghost use Rattle.sx_base.specs.Calls.{IfAllTold, Wrote};
+ghost use Rattle.sx_base.specs.Causes.{Rose};
+ghost use Rattle.sx_base.specs.Crash.{LeavesOnly};
+ghost use Rattle.sx_base.specs.Disk.{IsImage, settled};
+ghost use Rattle.send_top.specs.Answered.{answer_of};
+ghost use Rattle.send_top.specs.Requests.{AreGuardWords, IsOverWithin, names_asked, store_guard_words, store_meant};
+ghost use Rattle.send_top.specs.Run.{AreSteady, AtAnyMoment, IfAllRead, IfBytes, IfMadeOrDropped, IfOfCompose, IsCaused};
+
+use crate::noting::Answer;
+use crate::receiving::receive_answer;
+use crate::words::StoreRequest;
+use std::alloc::Global;
+use store_words::{StoreEnd, cat_file, drop_entry, init_store, list_store, scrub_store, show_entry};
+use sx_base::{Disk, Inputs, Sink};
+
+/// What a request over a store answers.
+pub(crate) fn store_answer<'a, I: Inputs, O: Sink, D: Disk>(
+    alloc: Global,
+    words: &'a [String],
+    request: StoreRequest,
+    inputs: &mut I,
+    out: &mut O,
+    disk: &mut D,
+) -> Answer<'a>
+    requires within { IsOverWithin (length words.now) request }
+    requires given { AreGuardWords (store_guard_words (map string_bytes words.now) request) }
+    ensures same { I.told inputs.new ≡ I.told inputs.old }
+    ensures caused { IsCaused (AreSteady (I.faults inputs.old) (I.faults inputs.new)
+        (I.ends inputs.old) (I.ends inputs.new) (O.faults out.old) (O.faults out.new)
+        × (D.faults disk.new ≡ D.faults disk.old))
+        (Rose (I.faults inputs.old) (I.faults inputs.new))
+        (Rose (I.ends inputs.old) (I.ends inputs.new))
+        (Rose (O.faults out.old) (O.faults out.new))
+        (Rose (D.faults disk.old) (D.faults disk.new)) (answer_of result) }
+    ensures asked { answer_of result ≢ OfAnyWord Usage }
+    ensures not_composed { IfOfCompose (answer_of result) ⊥ }
+    ensures answered { D.tells → IfAllRead (I.told inputs.old)
+        (names_asked (store_meant (map string_bytes words.now) request)
+        (map string_bytes words.now))
+        (λ files. Wrote (O.taken out.old) (O.taken out.new)
+        (λ written. IfBytes (store_meant (map string_bytes words.now) request) files
+        (Answers (store_meant (map string_bytes words.now) request)
+        (map string_bytes words.now) (D.seen disk.old) files (answer_of result) written
+        (D.seen disk.new)))) }
+    ensures unharmed { D.tells → ReadsOnly (store_meant (map string_bytes words.now) request)
+        → D.seen disk.new ≡ D.seen disk.old }
+    ensures any_moment { D.tells → IfAllRead (I.told inputs.old)
+        (names_asked (store_meant (map string_bytes words.now) request)
+        (map string_bytes words.now))
+        (λ files. AtAnyMoment (store_meant (map string_bytes words.now) request)
+        (map string_bytes words.now) (D.pending disk.old) (D.seen disk.old) files
+        (LeavesOnly D.moment D.left_since disk.old disk.new)) }
+    ensures durable { answer_of result ≡ OfAnyWord Done → D.tells
+        → IfMadeOrDropped (store_meant (map string_bytes words.now) request)
+        (D.pending disk.new ≡ settled (D.seen disk.new)) }
+    ensures acknowledged { D.tells → (specs : List GuardSpec) (store at : ℕ)
+        → store_meant (map string_bytes words.now) request ≡ ReceiveFiles specs store at
+        → IfAllTold (I.told inputs.old) (drop at (map string_bytes words.now))
+        (λ files. Wrote (O.taken out.old) (O.taken out.new)
+        (λ written. AllByRecursion IsBytes files → (image : List ℕ)
+        → IsImage (D.pending disk.new) image
+        → LeftByReceive (D.pending disk.old) (D.seen disk.old) (new_guards specs) files
+        written image)) }
+{
+    match request {
+        StoreRequest::Init { .. } => answer_by(init_store(disk), b"", b""),
+        StoreRequest::Drop { name, .. } => {
+            let name = word_bytes(words, name);
+            answer_by(drop_entry(alloc, disk, name), name, b"")
+        }
+        StoreRequest::Receive { store, files } => {
+            receive_answer(alloc, words, store, files, inputs, out, disk)
+        }
+        StoreRequest::List { .. } => answer_by(list_store(alloc, disk, out), b"", b""),
+        StoreRequest::Show { name, .. } => {
+            let name = word_bytes(words, name);
+            answer_by(show_entry(alloc, disk, name, out), name, b"")
+        }
+        StoreRequest::Cat { name, path, .. } => {
+            let name = word_bytes(words, name);
+            let path = word_bytes(words, path);
+            answer_by(cat_file(alloc, disk, name, path, out), name, path)
+        }
+        StoreRequest::Scrub { .. } => answer_by(scrub_store(alloc, disk, out), b"", b""),
+    }
+}
+
+/// The answer of an end, of a word that asks for this name and this path.
+pub(crate) fn answer_by<'a>(end: StoreEnd, name: &'a [u8], path: &'a [u8]) -> Answer<'a>
+    ensures answer { answer_of result ≡ ending.answer_of name.now path.now end }
+    ensures asked { answer_of result ≢ OfAnyWord Usage }
+{
+    match end {
+        StoreEnd::Ends(outcome) => Answer::Ended(outcome),
+        StoreEnd::StoreFault => Answer::StoreFault,
+        StoreEnd::NotStore { group } => Answer::NotStore { group },
+        StoreEnd::NoName => Answer::Missing { what: name },
+        StoreEnd::NoFile => Answer::Missing { what: path },
+        StoreEnd::LogFull { end, wanted, limit } => Answer::LogFull { end, wanted, limit },
+        StoreEnd::StoreThere { size } => Answer::StoreThere { size },
+        StoreEnd::Damaged {
+            group,
+            stored,
+            computed,
+        } => Answer::Damaged {
+            group,
+            stored,
+            computed,
+        },
+    }
+}
+
+// The bytes of the word at a place.
+fn word_bytes(words: &[String], at: usize) -> &[u8]
+    requires within { at < length words.now }
+    ensures bytes { word_at (map string_bytes words.now) at ≡ result.now }
+{
+    words[at].as_bytes()
+}

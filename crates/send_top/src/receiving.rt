@@ -1,0 +1,95 @@
+// Receiving files into a store.
+ghost use Rattle.std.specs.Prelude.{◌≡◌, ◌≢◌, ◌<◌, ◌≤◌, ◌+◌, ℕ, List, [], map, length, drop, IfOk};
+ghost use Rattle.std.specs.List.{AllByRecursion};
+ghost use Rattle.std.specs.String.{string_bytes};
+ghost use Rattle.send_model.specs.Answer.{Usage};
+ghost use Rattle.send_model.specs.Attribute.{IsBytes};
+ghost use Rattle.send_model.specs.Words.{new_guards};
+ghost use Rattle.store_model.specs.Requests.{ReceiveFiles};
+ghost use Rattle.store_model.specs.Answers.{Answers, OfAnyWord};
+ghost use Rattle.guard_rules.specs.AnyKind.{any_kept};
+ghost use Rattle.sx_base.specs.Calls.{IfAllTold, Wrote};
+ghost use Rattle.sx_base.specs.Causes.{Rose};
+ghost use Rattle.sx_base.specs.Crash.{LeavesOnly};
+ghost use Rattle.sx_base.specs.Disk.{IsImage};
+ghost use Rattle.store_words.specs.Receiving.{LeftByReceive};
+ghost use Rattle.send_top.specs.Answered.{answer_of};
+ghost use Rattle.send_top.specs.Requests.{AreGuardWords, before_store, guards_in};
+ghost use Rattle.send_top.specs.Run.{AreSteady, IfAllRead, IfOfCompose, IsCaused};
+
+use crate::fitting::words_before;
+use crate::noting::Answer;
+use crate::on_streams::names_from;
+use crate::over_store::answer_by;
+use guard_rules::{AnyGuard, parse_guard};
+use receiver::GuardList;
+use std::alloc::{AllocError, Global};
+use store_words::receive_store;
+use sx_base::{Disk, Inputs, Outcome, Sink};
+
+/// What receiving files into a store answers, under the guards of the words in front of the store.
+pub(crate) fn receive_answer<'a, I: Inputs, O: Sink, D: Disk>(
+    alloc: Global,
+    words: &'a [String],
+    store: usize,
+    files: usize,
+    inputs: &mut I,
+    out: &mut O,
+    disk: &mut D,
+) -> Answer<'a>
+    requires within { (1 ≤ store) × (store + 1 ≡ files) × (files < length words.now) }
+    requires given { AreGuardWords (before_store (map string_bytes words.now) store) }
+    ensures same { I.told inputs.new ≡ I.told inputs.old }
+    ensures caused { IsCaused (AreSteady (I.faults inputs.old) (I.faults inputs.new)
+        (I.ends inputs.old) (I.ends inputs.new) (O.faults out.old) (O.faults out.new)
+        × (D.faults disk.new ≡ D.faults disk.old))
+        (Rose (I.faults inputs.old) (I.faults inputs.new))
+        (Rose (I.ends inputs.old) (I.ends inputs.new))
+        (Rose (O.faults out.old) (O.faults out.new))
+        (Rose (D.faults disk.old) (D.faults disk.new)) (answer_of result) }
+    ensures asked { answer_of result ≢ OfAnyWord Usage }
+    ensures not_composed { IfOfCompose (answer_of result) ⊥ }
+    ensures answered { D.tells → IfAllRead (I.told inputs.old)
+        (drop files (map string_bytes words.now))
+        (λ bytes. Wrote (O.taken out.old) (O.taken out.new)
+        (λ written. AllByRecursion IsBytes bytes → Answers (ReceiveFiles (guards_in (before_store
+        (map string_bytes words.now) store)) store files) (map string_bytes words.now)
+        (D.seen disk.old) bytes (answer_of result) written (D.seen disk.new))) }
+    ensures any_moment { D.tells → IfAllRead (I.told inputs.old)
+        (drop files (map string_bytes words.now))
+        (λ bytes. AllByRecursion IsBytes bytes
+        → LeavesOnly D.moment D.left_since disk.old disk.new
+        (LeftByReceive (D.pending disk.old) (D.seen disk.old)
+        (new_guards (guards_in (before_store (map string_bytes words.now) store))) bytes [])) }
+    ensures acknowledged { D.tells → IfAllTold (I.told inputs.old)
+        (drop files (map string_bytes words.now))
+        (λ bytes. Wrote (O.taken out.old) (O.taken out.new)
+        (λ written. AllByRecursion IsBytes bytes → (image : List ℕ)
+        → IsImage (D.pending disk.new) image
+        → LeftByReceive (D.pending disk.old) (D.seen disk.old)
+        (new_guards (guards_in (before_store (map string_bytes words.now) store))) bytes
+        written image)) }
+{
+    let Ok(guards) = guards_of(alloc, words_before(words, store)) else {
+        return Answer::Ended(Outcome::NoMemory);
+    };
+    let mut guards = GuardList::new(guards);
+    let names = names_from(words, files);
+    answer_by(receive_store(alloc, disk, inputs, names, &mut guards, out), b"", b"")
+}
+
+// One guard for each guard word, in order, with nothing counted.
+fn guards_of(alloc: Global, words: &[String]) -> Result<Vec<AnyGuard>, AllocError>
+    requires given { AreGuardWords (map string_bytes words.now) }
+    ensures kept { IfOk result (λ guards. map any_kept guards.items
+        ≡ new_guards (guards_in (map string_bytes words.now))) }
+{
+    let mut guards = Vec::new(alloc);
+    for place in 0..words.len() {
+        let Some(spec) = parse_guard(words[place].as_str()) else {
+            unreachable!()
+        };
+        guards.push(AnyGuard::new(spec))?;
+    }
+    Ok(guards)
+}
