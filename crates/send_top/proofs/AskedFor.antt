@@ -1,19 +1,13 @@
 -- What holds of the request that was read holds of each that words and guards ask for.
-use Rattle.std.specs.Prelude.{◌≡◌, ◌≢◌, ⊤, ℕ, Bool, true, false, List, Option, None, Some, if◌then◌else◌}
+use Rattle.std.specs.Prelude.{◌≡◌, ℕ, Bool, true, false, List, Option, None, Some, if◌then◌else◌}
 use Rattle.std.proofs.Common.{refl, sym, ap, subst, ◌∙◌}
-use Rattle.send_model.specs.Answer.{Done, Refused, Usage, InputFault, OutputFault, NoMemory, InputTooLong, TooMuch, InputChanged}
 use Rattle.send_model.specs.Guards.{Guard}
 use Rattle.send_model.specs.Words as streams
 use Rattle.send_model.specs.Words.{new_guards}
-use Rattle.store_model.specs.Requests.{Request, OfStreams, InitStore, DropEntry, ReceiveFiles, ListStore, ShowEntry, CatFile, ScrubStore, request_of}
-use Rattle.store_model.specs.Answers.{Answer, OfAnyWord, StoreFault, NotStore, Missing, LogFull, StoreThere, Damaged}
-use Rattle.sx_base.specs.declared.outcome.Outcome.{Outcome}
-use Rattle.sx_base.specs.declared.outcome.Outcome.TheVariants as ended
-use Rattle.store_words.specs.Ending.{outcome_meant}
+use Rattle.store_model.specs.Requests.{Request, OfStreams, request_of}
 use Rattle.send_top.specs.Requests.{Asks, are_answered, is_answered, if_answered, answered_request, specs_of, store_meant, uses_store}
 use Rattle.send_top.specs.declared.words.StoreRequest.{StoreRequest}
 use Rattle.send_top.specs.declared.words.StoreRequest.TheVariants as of_store
-use Rattle.send_top.specs.Run.{IfOfCompose, IfOfStore}
 
 same_request : {R : Type 0} (asked : Option R) (mine other : R) → Some mine ≡ asked → asked ≡ Some other → mine ≡ other
 same_request asked mine other e f = ap (λ (o : Option _). elim o [ None ↦ mine | Some request ↦ request ]) (e ∙ f)
@@ -32,6 +26,7 @@ answered_of words request meaning = of_read (request_of words) meaning
     by_answer : (read : Request) (answered : Bool) → is_answered words read ≡ answered → Some (OfStreams request) ≡ (if answered then Some read else None) → are_answered words request ≡ true
     by_answer read true is e = ap (is_answered words) (ap (λ (o : Option Request). elim o [ None ↦ read | Some r ↦ r ]) e) ∙ is
     by_answer read false is e = cc
+
     of_read : (read : Option Request) → Some (OfStreams request) ≡ if_answered words read → are_answered words request ≡ true
     of_read None e = cc
     of_read (Some read) e = by_answer read (is_answered words read) refl e
@@ -46,53 +41,3 @@ uses_over words (of_store.List store) = refl
 uses_over words (of_store.Show store name) = refl
 uses_over words (of_store.Cat store name path) = refl
 uses_over words (of_store.Scrub store) = refl
-
-pub not_streams : (words : List (List ℕ)) (request : StoreRequest) (other : streams.Request) → store_meant words request ≡ OfStreams other → ⊥
-not_streams words (of_store.Init store) other e = cc
-not_streams words (of_store.Drop store name) other e = cc
-not_streams words (of_store.Receive store files) other e = cc
-not_streams words (of_store.List store) other e = cc
-not_streams words (of_store.Show store name) other e = cc
-not_streams words (of_store.Cat store name path) other e = cc
-not_streams words (of_store.Scrub store) other e = cc
-
-pub streams_of : (one other : streams.Request) → OfStreams one ≡ OfStreams other → one ≡ other
-streams_of one other e = cc
-
--- ---- answers that some requests alone get
-
-pub then_of_compose : (answer : Answer) (P Q : Type 0) → (P → Q) → IfOfCompose answer P → IfOfCompose answer Q
-then_of_compose (OfAnyWord (TooMuch sum)) P Q follows p = follows p
-then_of_compose (OfAnyWord (InputChanged file place)) P Q follows p = follows p
-then_of_compose (OfAnyWord Done) P Q follows p = tt
-then_of_compose (OfAnyWord (Refused verdict)) P Q follows p = tt
-then_of_compose (OfAnyWord Usage) P Q follows p = tt
-then_of_compose (OfAnyWord InputFault) P Q follows p = tt
-then_of_compose (OfAnyWord OutputFault) P Q follows p = tt
-then_of_compose (OfAnyWord NoMemory) P Q follows p = tt
-then_of_compose (OfAnyWord (InputTooLong file)) P Q follows p = tt
-then_of_compose StoreFault P Q follows p = tt
-then_of_compose (NotStore group) P Q follows p = tt
-then_of_compose (Missing what) P Q follows p = tt
-then_of_compose (LogFull end wanted limit) P Q follows p = tt
-then_of_compose (StoreThere size) P Q follows p = tt
-then_of_compose (Damaged group stored computed) P Q follows p = tt
-
-pub then_of_store : (answer : Answer) (P Q : Type 0) → (P → Q) → IfOfStore answer P → IfOfStore answer Q
-then_of_store (OfAnyWord answer) P Q follows p = tt
-then_of_store StoreFault P Q follows p = follows p
-then_of_store (NotStore group) P Q follows p = follows p
-then_of_store (Missing what) P Q follows p = follows p
-then_of_store (LogFull end wanted limit) P Q follows p = follows p
-then_of_store (StoreThere size) P Q follows p = follows p
-then_of_store (Damaged group stored computed) P Q follows p = follows p
-
-pub no_usage : (outcome : Outcome) → OfAnyWord (outcome_meant outcome) ≢ OfAnyWord Usage
-no_usage ended.Done e = cc
-no_usage (ended.Refused verdict) e = cc
-no_usage (ended.InputTooLong file) e = cc
-no_usage (ended.TooMuch sum) e = cc
-no_usage (ended.InputChanged file place) e = cc
-no_usage ended.InputFault e = cc
-no_usage ended.OutputFault e = cc
-no_usage ended.NoMemory e = cc

@@ -8,5 +8,4 @@ pub mod StreamsEnds
 pub mod AskedFor
 pub mod StreamsAnswers
 pub mod MissingNote
-pub mod StoreEnds
 pub mod ReceiveAnswers

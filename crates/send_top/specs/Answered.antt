@@ -1,5 +1,5 @@
 -- The code's answers as those of the definitions, and what is written of them.
-use Rattle.std.specs.Prelude.{◌≡◌, ◌⊎◌, ⊤, ℕ, List, [], ◌++◌, Option}
+use Rattle.std.specs.Prelude.{◌≡◌, ◌⊎◌, ⊤, ℕ, List, ◌++◌, Option}
 use Rattle.std.specs.Io.KnownBytes.{Appends}
 use Rattle.send_model.specs.Answer.{Usage}
 use Rattle.store_model.specs.Answers as meant

@@ -1,5 +1,5 @@
 -- What a run does: its words and guards, its answer, and the headline. This program's own.
-use Rattle.std.specs.Prelude.{◌≡◌, ◌⊎◌, ℕ, ◌<◌, Bool, true, false, List, [], ◌∷◌, drop, length, Option, Some, ⊤}
+use Rattle.std.specs.Prelude.{◌≡◌, ◌≢◌, ◌⊎◌, ℕ, ◌<◌, Bool, true, false, List, [], ◌∷◌, drop, length, Option, Some, ⊤}
 use Rattle.std.specs.List.{AllByRecursion}
 use Rattle.send_model.specs.Guards.{Guard, GuardSpec}
 use Rattle.send_model.specs.Attribute.{IsBytes}
@@ -9,12 +9,13 @@ use Rattle.send_model.specs.Answer.{Done, Refused, Usage, InputFault, OutputFaul
 use Rattle.send_model.specs.Words as streams
 use Rattle.send_model.specs.Words.{Compose, Audit, Dump, Export, Gen, Trial, new_guards}
 use Rattle.store_model.specs.Requests.{Request, OfStreams, InitStore, DropEntry, ReceiveFiles, ListStore, ShowEntry, CatFile, ScrubStore, reads_store, word_at}
-use Rattle.store_model.specs.Answers.{Answer, OfAnyWord, StoreFault, NotStore, Missing, LogFull, StoreThere, Damaged, Answers}
+use Rattle.store_model.specs.Answers.{Answer, OfAnyWord, StoreFault, NotStore, Missing, LogFull, StoreThere, Damaged, Answers, ReadsFiles}
 use Rattle.sx_base.specs.Again.{EarlyEnd}
 use Rattle.sx_base.specs.Calls.{IfAllTold, Wrote, Caused, CausedAgain, IsEndOf}
 use Rattle.sx_base.specs.Disk.{Pending, IsImage}
 use Rattle.sx_base.specs.declared.outcome.Outcome.{Outcome}
 use Rattle.store_words.specs.Dropping.{LeftByDrop}
+use Rattle.store_words.specs.Ending.{Ways, init_ways, list_ways, show_ways, cat_ways, drop_ways, audit_ways, receive_ways, scrub_ways}
 use Rattle.store_words.specs.Receiving.{LeftByReceive}
 use Rattle.send_top.specs.Requests.{Asks, names_asked, uses_store}
 
@@ -128,6 +129,56 @@ IfOfStore (LogFull end wanted limit) P = P
 IfOfStore (StoreThere size) P = P
 IfOfStore (Damaged group stored computed) P = P
 
+-- ---- which words get which answers, whether or not the outside tells its bytes
+
+-- All requests but those that print nothing.
+abbrev pub Prints : Request → Type 0
+Prints (OfStreams request) = ⊤
+Prints (InitStore store) = ⊥
+Prints (DropEntry store name) = ⊥
+Prints (ReceiveFiles guards store at) = ⊤
+Prints (ListStore store) = ⊤
+Prints (ShowEntry store name) = ⊤
+Prints (CatFile store name path) = ⊤
+Prints (ScrubStore store) = ⊤
+
+-- For which reasons a request that is answered by the disk may end; of those on streams, an audit.
+abbrev pub ways_of : Request → Ways
+ways_of (OfStreams request) = audit_ways
+ways_of (InitStore store) = init_ways
+ways_of (DropEntry store name) = drop_ways
+ways_of (ReceiveFiles guards store at) = receive_ways
+ways_of (ListStore store) = list_ways
+ways_of (ShowEntry store name) = show_ways
+ways_of (CatFile store name path) = cat_ways
+ways_of (ScrubStore store) = scrub_ways
+
+-- An answer that is given for one of these reasons, or of a request that reads files, or prints, where the inputs or the output failed.
+abbrev pub IsGivenFor : Ways → (reads prints : Type 0) → Answer → Type 0
+IsGivenFor ways reads prints (OfAnyWord Done) = ⊤
+IsGivenFor ways reads prints (OfAnyWord (Refused verdict)) = ways.refused
+IsGivenFor ways reads prints (OfAnyWord Usage) = ⊥
+IsGivenFor ways reads prints (OfAnyWord InputFault) = reads
+IsGivenFor ways reads prints (OfAnyWord OutputFault) = prints
+IsGivenFor ways reads prints (OfAnyWord NoMemory) = ways.memory
+IsGivenFor ways reads prints (OfAnyWord (InputTooLong file)) = ways.too_long
+IsGivenFor ways reads prints (OfAnyWord (TooMuch sum)) = ⊥
+IsGivenFor ways reads prints (OfAnyWord (InputChanged file place)) = ⊥
+IsGivenFor ways reads prints StoreFault = ⊤
+IsGivenFor ways reads prints (NotStore group) = ways.not_store
+IsGivenFor ways reads prints (Missing what) = ways.no_name ⊎ ways.no_file
+IsGivenFor ways reads prints (LogFull end wanted limit) = ways.log_full
+IsGivenFor ways reads prints (StoreThere size) = ways.store_there
+IsGivenFor ways reads prints (Damaged group stored computed) = ways.damaged × (stored ≢ computed)
+
+-- An answer that a request may get which is answered by the disk. Making a store never lacks memory, and finds no store at fault.
+abbrev pub MayGet : Request → Answer → Type 0
+MayGet request answer = IsGivenFor (ways_of request) (ReadsFiles request) (Prints request) answer
+
+-- And so of each that words and guards ask for.
+abbrev pub IsAllowed : List (List ℕ) → List Guard → Answer → Type 0
+IsAllowed words guards answer = (request : Request) → Asks words guards request → uses_store words request ≡ true → MayGet request answer
+
 -- Where a file was found changed, it is the one among some names which the inputs answered last to have ended too early, and the place is
 -- that of this end.
 abbrev pub IsChangedIn : List (List ℕ) → EarlyEnd → Answer → Type 0
@@ -169,15 +220,16 @@ pub record AuditsOver (words : List (List ℕ)) (request : streams.Request) (fil
 
 -- What a crash at any moment of a run may leave, by what is asked for; L says of some images that it leaves no others. A request that
 -- only reads leaves what a crash could leave before, and so does one that makes a store where there is something.
-abbrev pub AtAnyMoment : Request → List (List ℕ) → Pending → (seen : List ℕ) → List (List ℕ) → (L : (List ℕ → Type 0) → Type 0) → Type 0
-AtAnyMoment (OfStreams request) words pending seen files L = L (IsImage pending)
-AtAnyMoment (InitStore store) words pending seen files L = 0 < length seen → L (IsImage pending)
-AtAnyMoment (DropEntry store name) words pending seen files L = L (LeftByDrop pending seen (word_at words name))
-AtAnyMoment (ReceiveFiles guards store at) words pending seen files L = AllByRecursion IsBytes files → L (LeftByReceive pending seen (new_guards guards) files [])
-AtAnyMoment (ListStore store) words pending seen files L = L (IsImage pending)
-AtAnyMoment (ShowEntry store name) words pending seen files L = L (IsImage pending)
-AtAnyMoment (CatFile store name path) words pending seen files L = L (IsImage pending)
-AtAnyMoment (ScrubStore store) words pending seen files L = L (IsImage pending)
+abbrev pub AtAnyMoment : (told : Option (List (List ℕ × List ℕ))) → Request → List (List ℕ) → Pending → (seen : List ℕ) → (L : (List ℕ → Type 0) → Type 0) → Type 0
+AtAnyMoment told (OfStreams request) words pending seen L = L (IsImage pending)
+AtAnyMoment told (InitStore store) words pending seen L = 0 < length seen → L (IsImage pending)
+AtAnyMoment told (DropEntry store name) words pending seen L = L (LeftByDrop pending seen (word_at words name))
+AtAnyMoment told (ReceiveFiles guards store at) words pending seen L =
+    IfAllTold told (drop at words) (λ files. AllByRecursion IsBytes files → L (LeftByReceive pending seen (new_guards guards) files []))
+AtAnyMoment told (ListStore store) words pending seen L = L (IsImage pending)
+AtAnyMoment told (ShowEntry store name) words pending seen L = L (IsImage pending)
+AtAnyMoment told (CatFile store name path) words pending seen L = L (IsImage pending)
+AtAnyMoment told (ScrubStore store) words pending seen L = L (IsImage pending)
 
 -- What holds where a store was made, or an entry dropped.
 abbrev pub IfMadeOrDropped : Request → Type 0 → Type 0

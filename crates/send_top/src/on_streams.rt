@@ -1,5 +1,5 @@
 // What words on streams do.
-ghost use Rattle.std.specs.Prelude.{◌≡◌, ◌≢◌, ◌<◌, ℕ, [], map, length, drop, true, false, IfSome};
+ghost use Rattle.std.specs.Prelude.{◌≡◌, ◌≢◌, ◌<◌, ℕ, [], map, length, drop, true, false, IfSome, ⊤};
 ghost use Rattle.std.specs.List.{AllByRecursion};
 ghost use Rattle.std.specs.Option.{IfNone};
 ghost use Rattle.std.specs.String.{string_bytes};
@@ -10,6 +10,7 @@ ghost use Rattle.send_model.specs.Headline.{IsComposed};
 ghost use Rattle.send_model.specs.Words.{Compose, Export, new_guards};
 ghost use Rattle.store_model.specs.Requests.{OfStreams, word_at, store_of, reads_store};
 ghost use Rattle.store_model.specs.Answers.{Answers, OfAnyWord};
+ghost use Rattle.store_words.specs.Ending.{audit_ways};
 ghost use Rattle.sx_base.specs.Calls.{IfAllTold, FoundChanged, Wrote, Ends, SteadyIfDone};
 ghost use Rattle.sx_base.specs.Causes.{Rose};
 ghost use Rattle.sx_base.specs.Crash.{LeavesOnly};
@@ -17,7 +18,7 @@ ghost use Rattle.sx_base.specs.Disk.{IsImage};
 ghost use Rattle.sx_base.specs.declared.outcome.Outcome.TheVariants as ended;
 ghost use Rattle.send_top.specs.Answered.{answer_of};
 ghost use Rattle.send_top.specs.Requests.{AreWithin, are_answered, streams_meant, streams_specs, streams_names};
-ghost use Rattle.send_top.specs.Run.{EndCaused, IfAllRead, IfOfCompose, IfOfStore, IsCaused, IsChangedIn, OfDisk, AreSteady, AuditsOver};
+ghost use Rattle.send_top.specs.Run.{EndCaused, IfAllRead, IfOfCompose, IfOfStore, IsCaused, IsChangedIn, IsGivenFor, OfDisk, AreSteady, AuditsOver};
 
 use crate::noting::Answer;
 use crate::over_store::answer_by;
@@ -29,10 +30,10 @@ use composer::compose;
 use extent_map::Nowhere;
 use guard_rules::Guard;
 use std::alloc::Global;
+use store_words::audit_store;
 use stream_dump::dump;
 use stream_export::export;
 use stream_gen::write_chain;
-use store_words::audit_store;
 use sx_base::{Disk, Inputs, Outcome, Sink};
 
 /// What a request on streams answers: over the store of an audit that names one, and else over no store.
@@ -64,6 +65,9 @@ pub(crate) fn streams_answer<'a, I: Inputs, O: Sink, D: Disk>(
     ensures of_store { IfOfStore (answer_of result)
         (reads_store (map string_bytes words.now)
         (store_of (streams_meant (map string_bytes words.now) request)) ≡ true) }
+    ensures allowed { reads_store (map string_bytes words.now)
+        (store_of (streams_meant (map string_bytes words.now) request)) ≡ true
+        → IsGivenFor audit_ways ⊤ ⊤ (answer_of result) }
     ensures changed_at { IsChangedIn
         (streams_names (streams_meant (map string_bytes words.now) request)
         (map string_bytes words.now)) (I.last_end inputs.new) (answer_of result) }
@@ -96,7 +100,11 @@ pub(crate) fn streams_answer<'a, I: Inputs, O: Sink, D: Disk>(
     match files_over_store(words, request) {
         Some(files) => {
             let names = names_from(words, files);
-            answer_by(audit_store(alloc, disk, inputs, names, guards, out), &[], &[])
+            answer_by(
+                audit_store(alloc, disk, inputs, names, guards, out),
+                &[],
+                &[],
+            )
         }
         None => Answer::Ended(streams_end(alloc, words, request, guards, inputs, out)),
     }

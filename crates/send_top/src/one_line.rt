@@ -99,7 +99,12 @@ impl Line {
         if stands_for_itself(byte) {
             return self.push(&[byte]);
         }
-        self.push(&[b'\\', b'x', hexadecimal_digit(byte / 16), hexadecimal_digit(byte % 16)]);
+        self.push(&[
+            b'\\',
+            b'x',
+            hexadecimal_digit(byte / 16),
+            hexadecimal_digit(byte % 16),
+        ]);
     }
 }
 

@@ -7,7 +7,7 @@ ghost use Rattle.send_model.specs.Attribute.{IsBytes};
 ghost use Rattle.send_model.specs.Guards.{GuardSpec};
 ghost use Rattle.send_model.specs.Words.{new_guards};
 ghost use Rattle.store_model.specs.Requests.{ReceiveFiles, word_at};
-ghost use Rattle.store_model.specs.Answers.{Answers, OfAnyWord, ReadsOnly};
+ghost use Rattle.store_model.specs.Answers.{Answers, OfAnyWord, ReadsFiles, ReadsOnly};
 ghost use Rattle.store_words.specs.Ending as ending;
 ghost use Rattle.store_words.specs.Receiving.{LeftByReceive};
 ghost use Rattle.sx_base.specs.Calls.{IfAllTold, Wrote};
@@ -16,13 +16,15 @@ ghost use Rattle.sx_base.specs.Crash.{LeavesOnly};
 ghost use Rattle.sx_base.specs.Disk.{IsImage, settled};
 ghost use Rattle.send_top.specs.Answered.{answer_of};
 ghost use Rattle.send_top.specs.Requests.{AreGuardWords, IsOverWithin, names_asked, store_guard_words, store_meant};
-ghost use Rattle.send_top.specs.Run.{AreSteady, AtAnyMoment, IfAllRead, IfBytes, IfMadeOrDropped, IfOfCompose, IsCaused};
+ghost use Rattle.send_top.specs.Run.{AreSteady, AtAnyMoment, IfAllRead, IfBytes, IfMadeOrDropped, IfOfCompose, IsCaused, MayGet, Prints};
 
 use crate::noting::Answer;
 use crate::receiving::receive_answer;
 use crate::words::StoreRequest;
 use std::alloc::Global;
-use store_words::{StoreEnd, cat_file, drop_entry, init_store, list_store, scrub_store, show_entry};
+use store_words::{
+    StoreEnd, cat_file, drop_entry, init_store, list_store, scrub_store, show_entry,
+};
 use sx_base::{Disk, Inputs, Sink};
 
 /// What a request over a store answers.
@@ -46,6 +48,8 @@ pub(crate) fn store_answer<'a, I: Inputs, O: Sink, D: Disk>(
         (Rose (D.faults disk.old) (D.faults disk.new)) (answer_of result) }
     ensures asked { answer_of result ≢ OfAnyWord Usage }
     ensures not_composed { IfOfCompose (answer_of result) ⊥ }
+    ensures allowed { MayGet (store_meant (map string_bytes words.now) request)
+        (answer_of result) }
     ensures answered { D.tells → IfAllRead (I.told inputs.old)
         (names_asked (store_meant (map string_bytes words.now) request)
         (map string_bytes words.now))
@@ -54,14 +58,16 @@ pub(crate) fn store_answer<'a, I: Inputs, O: Sink, D: Disk>(
         (Answers (store_meant (map string_bytes words.now) request)
         (map string_bytes words.now) (D.seen disk.old) files (answer_of result) written
         (D.seen disk.new)))) }
+    ensures unread { (ReadsFiles (store_meant (map string_bytes words.now) request) → ⊥)
+        → inputs.new ≡ inputs.old }
+    ensures silent { (Prints (store_meant (map string_bytes words.now) request) → ⊥)
+        → out.new ≡ out.old }
     ensures unharmed { D.tells → ReadsOnly (store_meant (map string_bytes words.now) request)
         → D.seen disk.new ≡ D.seen disk.old }
-    ensures any_moment { D.tells → IfAllRead (I.told inputs.old)
-        (names_asked (store_meant (map string_bytes words.now) request)
-        (map string_bytes words.now))
-        (λ files. AtAnyMoment (store_meant (map string_bytes words.now) request)
-        (map string_bytes words.now) (D.pending disk.old) (D.seen disk.old) files
-        (LeavesOnly D.moment D.left_since disk.old disk.new)) }
+    ensures any_moment { D.tells → AtAnyMoment (I.told inputs.old)
+        (store_meant (map string_bytes words.now) request)
+        (map string_bytes words.now) (D.pending disk.old) (D.seen disk.old)
+        (LeavesOnly D.moment D.left_since disk.old disk.new) }
     ensures durable { answer_of result ≡ OfAnyWord Done → D.tells
         → IfMadeOrDropped (store_meant (map string_bytes words.now) request)
         (D.pending disk.new ≡ settled (D.seen disk.new)) }

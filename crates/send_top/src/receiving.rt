@@ -1,5 +1,5 @@
 // Receiving files into a store.
-ghost use Rattle.std.specs.Prelude.{◌≡◌, ◌≢◌, ◌<◌, ◌≤◌, ◌+◌, ℕ, List, [], map, length, drop, IfOk};
+ghost use Rattle.std.specs.Prelude.{◌≡◌, ◌≢◌, ◌<◌, ◌≤◌, ◌+◌, ℕ, List, [], map, length, drop, IfOk, ⊤};
 ghost use Rattle.std.specs.List.{AllByRecursion};
 ghost use Rattle.std.specs.String.{string_bytes};
 ghost use Rattle.send_model.specs.Answer.{Usage};
@@ -12,10 +12,11 @@ ghost use Rattle.sx_base.specs.Calls.{IfAllTold, Wrote};
 ghost use Rattle.sx_base.specs.Causes.{Rose};
 ghost use Rattle.sx_base.specs.Crash.{LeavesOnly};
 ghost use Rattle.sx_base.specs.Disk.{IsImage};
+ghost use Rattle.store_words.specs.Ending.{receive_ways};
 ghost use Rattle.store_words.specs.Receiving.{LeftByReceive};
 ghost use Rattle.send_top.specs.Answered.{answer_of};
 ghost use Rattle.send_top.specs.Requests.{AreGuardWords, before_store, guards_in};
-ghost use Rattle.send_top.specs.Run.{AreSteady, IfAllRead, IfOfCompose, IsCaused};
+ghost use Rattle.send_top.specs.Run.{AreSteady, IfAllRead, IfOfCompose, IsCaused, IsGivenFor};
 
 use crate::fitting::words_before;
 use crate::noting::Answer;
@@ -49,13 +50,14 @@ pub(crate) fn receive_answer<'a, I: Inputs, O: Sink, D: Disk>(
         (Rose (D.faults disk.old) (D.faults disk.new)) (answer_of result) }
     ensures asked { answer_of result ≢ OfAnyWord Usage }
     ensures not_composed { IfOfCompose (answer_of result) ⊥ }
+    ensures allowed { IsGivenFor receive_ways ⊤ ⊤ (answer_of result) }
     ensures answered { D.tells → IfAllRead (I.told inputs.old)
         (drop files (map string_bytes words.now))
         (λ bytes. Wrote (O.taken out.old) (O.taken out.new)
         (λ written. AllByRecursion IsBytes bytes → Answers (ReceiveFiles (guards_in (before_store
         (map string_bytes words.now) store)) store files) (map string_bytes words.now)
         (D.seen disk.old) bytes (answer_of result) written (D.seen disk.new))) }
-    ensures any_moment { D.tells → IfAllRead (I.told inputs.old)
+    ensures any_moment { D.tells → IfAllTold (I.told inputs.old)
         (drop files (map string_bytes words.now))
         (λ bytes. AllByRecursion IsBytes bytes
         → LeavesOnly D.moment D.left_since disk.old disk.new
@@ -75,7 +77,11 @@ pub(crate) fn receive_answer<'a, I: Inputs, O: Sink, D: Disk>(
     };
     let mut guards = GuardList::new(guards);
     let names = names_from(words, files);
-    answer_by(receive_store(alloc, disk, inputs, names, &mut guards, out), b"", b"")
+    answer_by(
+        receive_store(alloc, disk, inputs, names, &mut guards, out),
+        b"",
+        b"",
+    )
 }
 
 // One guard for each guard word, in order, with nothing counted.

@@ -1,16 +1,16 @@
 // What a run does with its words.
-ghost use Rattle.std.specs.Prelude.{◌≡◌, ◌↔◌, ◌⊎◌, ℕ, false, map};
+ghost use Rattle.std.specs.Prelude.{◌≡◌, ◌↔◌, ◌⊎◌, false, map};
 ghost use Rattle.std.specs.String.{string_bytes};
 ghost use Rattle.send_model.specs.Answer.{Done, Usage};
 ghost use Rattle.store_model.specs.Requests as requests;
 ghost use Rattle.store_model.specs.Answers as meant;
-ghost use Rattle.store_model.specs.Answers.{OfAnyWord, ReadsOnly};
+ghost use Rattle.store_model.specs.Answers.{OfAnyWord, ReadsFiles, ReadsOnly};
 ghost use Rattle.sx_base.specs.Causes.{Rose};
 ghost use Rattle.sx_base.specs.Crash.{LeavesOnly};
 ghost use Rattle.sx_base.specs.Disk.{settled};
 ghost use Rattle.send_top.specs.Answered.{IsGiven, answer_of};
-ghost use Rattle.send_top.specs.Requests.{AskNothing, Asks, names_asked, uses_store};
-ghost use Rattle.send_top.specs.Run.{Acknowledges, AreSteady, AtAnyMoment, IfAllRead, IfMadeOrDropped, AskForStore, AskToCompose, Composes, Exports, IfOfCompose, IfOfStore, IsAnswered, IsCaused, IsChangedAt, IsStoreStatus};
+ghost use Rattle.send_top.specs.Requests.{AskNothing, Asks, uses_store};
+ghost use Rattle.send_top.specs.Run.{Acknowledges, AreSteady, AtAnyMoment, IfMadeOrDropped, AskForStore, AskToCompose, Composes, Exports, IfOfCompose, IfOfStore, IsAllowed, IsAnswered, IsCaused, IsChangedAt, IsStoreStatus, Prints};
 
 use crate::fitting::guards_fit;
 use crate::noting::{Answer, status, write_note};
@@ -34,7 +34,9 @@ use sx_base::{Disk, Inputs, Sink};
 /// commands of the files are lawful, and 1 if not; then the note names the first that is unlawful. Status 13, of a file that was
 /// changed, comes only where the count of ends rose, and its note names the file and the place of the end that the inputs
 /// answered last. It and 9, of too much to write anew, come of `compose` alone. Statuses 5, 6, 8, 10, 12 and 14 come only of words that
-/// are answered by the store.
+/// are answered by the store, whether or not anything tells its bytes: 6 of all but `init`, 8 of `show`, `cat` and `drop`, 10 of `receive`
+/// and `drop`, 12 of `init`, 14 of `scrub`. 7, of too little memory, never comes of `init`, which asks nothing of `inputs` and `out`. The
+/// other words over a store that name no file ask nothing of `inputs`, and `drop` asks nothing of `out`.
 pub fn run<I: Inputs, O: Sink, N: Sink, D: Disk>(
     alloc: Global,
     words: &[String],
@@ -74,19 +76,26 @@ pub fn run<I: Inputs, O: Sink, N: Sink, D: Disk>(
         × IsGiven answer (N.taken notes.old) (N.taken notes.new)
         (N.faults notes.old) (N.faults notes.new) result
         × IsChangedAt (map string_bytes words.now) (map (λ g. kept g) guards.items)
-        (I.last_end inputs.new) answer }
+        (I.last_end inputs.new) answer
+        × IsAllowed (map string_bytes words.now) (map (λ g. kept g) guards.items) answer }
     ensures quiet { result ≡ 0 → notes.new ≡ notes.old }
     ensures off_disk { ((request : requests.Request)
         → Asks (map string_bytes words.now) (map (λ g. kept g) guards.items) request
         → uses_store (map string_bytes words.now) request ≡ false) → disk.new ≡ disk.old }
+    ensures unread { ((request : requests.Request)
+        → Asks (map string_bytes words.now) (map (λ g. kept g) guards.items) request
+        → ReadsFiles request → ⊥) → inputs.new ≡ inputs.old }
+    ensures silent { ((request : requests.Request)
+        → Asks (map string_bytes words.now) (map (λ g. kept g) guards.items) request
+        → Prints request → ⊥) → out.new ≡ out.old }
     ensures unharmed { D.tells → ((request : requests.Request)
         → Asks (map string_bytes words.now) (map (λ g. kept g) guards.items) request
         → ReadsOnly request) → D.seen disk.new ≡ D.seen disk.old }
     ensures any_moment { D.tells → (request : requests.Request)
         → Asks (map string_bytes words.now) (map (λ g. kept g) guards.items) request
-        → IfAllRead (I.told inputs.old) (names_asked request (map string_bytes words.now))
-        (λ files. AtAnyMoment request (map string_bytes words.now) (D.pending disk.old)
-        (D.seen disk.old) files (LeavesOnly D.moment D.left_since disk.old disk.new)) }
+        → AtAnyMoment (I.told inputs.old) request (map string_bytes words.now)
+        (D.pending disk.old) (D.seen disk.old)
+        (LeavesOnly D.moment D.left_since disk.old disk.new) }
     ensures durable { result ≡ 0 → D.tells → (request : requests.Request)
         → Asks (map string_bytes words.now) (map (λ g. kept g) guards.items) request
         → IfMadeOrDropped request (D.pending disk.new ≡ settled (D.seen disk.new)) }
@@ -135,17 +144,25 @@ fn answer_to<'a, I: Inputs, O: Sink, D: Disk>(
         (D.seen disk.old) (D.seen disk.new) (answer_of result) }
     ensures changed_at { IsChangedAt (map string_bytes words.now) (map (λ g. kept g) guards.old)
         (I.last_end inputs.new) (answer_of result) }
+    ensures allowed { IsAllowed (map string_bytes words.now) (map (λ g. kept g) guards.old)
+        (answer_of result) }
     ensures off_disk { ((request : requests.Request)
         → Asks (map string_bytes words.now) (map (λ g. kept g) guards.old) request
         → uses_store (map string_bytes words.now) request ≡ false) → disk.new ≡ disk.old }
+    ensures unread { ((request : requests.Request)
+        → Asks (map string_bytes words.now) (map (λ g. kept g) guards.old) request
+        → ReadsFiles request → ⊥) → inputs.new ≡ inputs.old }
+    ensures silent { ((request : requests.Request)
+        → Asks (map string_bytes words.now) (map (λ g. kept g) guards.old) request
+        → Prints request → ⊥) → out.new ≡ out.old }
     ensures unharmed { D.tells → ((request : requests.Request)
         → Asks (map string_bytes words.now) (map (λ g. kept g) guards.old) request
         → ReadsOnly request) → D.seen disk.new ≡ D.seen disk.old }
     ensures any_moment { D.tells → (request : requests.Request)
         → Asks (map string_bytes words.now) (map (λ g. kept g) guards.old) request
-        → IfAllRead (I.told inputs.old) (names_asked request (map string_bytes words.now))
-        (λ files. AtAnyMoment request (map string_bytes words.now) (D.pending disk.old)
-        (D.seen disk.old) files (LeavesOnly D.moment D.left_since disk.old disk.new)) }
+        → AtAnyMoment (I.told inputs.old) request (map string_bytes words.now)
+        (D.pending disk.old) (D.seen disk.old)
+        (LeavesOnly D.moment D.left_since disk.old disk.new) }
     ensures durable { answer_of result ≡ OfAnyWord Done → D.tells → (request : requests.Request)
         → Asks (map string_bytes words.now) (map (λ g. kept g) guards.old) request
         → IfMadeOrDropped request (D.pending disk.new ≡ settled (D.seen disk.new)) }

@@ -1,9 +1,9 @@
-use Rattle.std.specs.Prelude.{◌+◌, slice_index_or}
+use Rattle.std.specs.Prelude.{slice_index_or}
 use Rattle.std.specs.Io.KnownBytes.{Appends}
 use Rattle.std.proofs.Common.{refl, ◌∙◌, arith}
 use Rattle.store_model.specs.Answers.{Missing, note_of}
 use Rattle.sx_base.specs.Outside.{AppendsPart}
-use Rattle.send_top.proofs.MissingNote.{begins, handed, pushed, ended, stopped, cut, on_err, then_ok, then_err}
+use Rattle.send_top.proofs.MissingNote.{handed, pushed, ended, stopped, cut, on_err, then_ok, then_err}
 use Rattle.send_top.proofs.noting.write_missing.Goals as goal
 
 pub returns-in_err-make_room-clause-part : goal.returns-in_err-make_room-clause-part

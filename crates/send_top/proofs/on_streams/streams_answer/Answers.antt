@@ -1,9 +1,9 @@
-use Rattle.std.specs.Prelude.{◌≡◌, ℕ, [], List, Some, map, true}
+use Rattle.std.specs.Prelude.{◌≡◌, ℕ, List, Some, map, true, false}
 use Rattle.std.specs.String.{string_bytes}
 use Rattle.std.proofs.Common.{sym, ap, subst, ◌∙◌}
 use Rattle.std.proofs.lemmas.List.{drop-map}
 use Rattle.send_model.specs.Guards.{Guard, GuardSpec}
-use Rattle.send_model.specs.Words.{Request, Audit, new_guards}
+use Rattle.send_model.specs.Words.{Audit, new_guards}
 use Rattle.store_model.specs.Requests.{OfStreams, reads_store}
 use Rattle.store_model.specs.Answers.{Answer, Answers}
 use Rattle.sx_base.specs.Calls.{IfAllTold, Wrote}
@@ -34,3 +34,10 @@ returns-in-None-clause-answered g c =
     let words : List (List ℕ) = map string_bytes c.args.words.now in
     unread_store g.D.Disk.tells (g.I.Inputs.told c.args.inputs.now) words (streams_meant words c.args.request) (g.O.Sink.taken c.args.out.now) (g.O.Sink.taken c.streams_end.new.out)
     (g.D.Disk.seen c.args.disk.now) c.streams_end.result (c.in-None.ensures.none c.requires.answered) c.streams_end.ensures.ends
+
+-- No store is read.
+apart : true ≡ false → ⊥
+apart e = cc
+
+pub returns-in-None-clause-allowed : goal.returns-in-None-clause-allowed
+returns-in-None-clause-allowed g c reads = absurd (apart (sym reads ∙ c.in-None.ensures.none c.requires.answered))

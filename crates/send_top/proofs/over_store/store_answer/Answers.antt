@@ -21,7 +21,7 @@ returns-in-Drop-clause-answered g c =
       [],
       Appends-nil (g.O.Sink.taken c.args.out.now),
       subst (λ (a : Answer). Answers (DropEntry c.in-Drop.store c.in-Drop.name) words (g.D.Disk.seen c.args.disk.now) [] a [] (g.D.Disk.seen c.drop_entry.new.disk))
-      (sym c.answer_by-in-Drop.ensures.answer) (c.drop_entry.ensures.answered tells words c.in-Drop.store c.in-Drop.name c.word_bytes-name.ensures.bytes),
+          (sym c.answer_by-in-Drop.ensures.answer) (c.drop_entry.ensures.answered tells words c.in-Drop.store c.in-Drop.name c.word_bytes-name.ensures.bytes),
     ))
 
 pub returns-in-Receive-clause-answered : goal.returns-in-Receive-clause-answered
@@ -40,3 +40,22 @@ returns-in-Receive-clause-acknowledged g c =
     of_same words (λ gs names. IfAllTold told names (λ files. Wrote old new (λ written. AllByRecursion IsBytes files
     → (image : List ℕ) → IsImage late image → LeftByReceive early seen (new_guards gs) files written image)))
     (guards_in (before_store words c.in-Receive.store)) specs c.in-Receive.store c.in-Receive.files store at same (c.receive_answer.ensures.acknowledged tells))
+
+-- Words that read files, and words that print.
+pub returns-in-Receive-clause-unread : goal.returns-in-Receive-clause-unread
+returns-in-Receive-clause-unread g c = rw c.in-Receive.is (λ none. absurd (none tt))
+
+pub returns-in-Receive-clause-silent : goal.returns-in-Receive-clause-silent
+returns-in-Receive-clause-silent g c = rw c.in-Receive.is (λ none. absurd (none tt))
+
+pub returns-in-List-clause-silent : goal.returns-in-List-clause-silent
+returns-in-List-clause-silent g c = rw c.in-List.is (λ none. absurd (none tt))
+
+pub returns-in-Show-clause-silent : goal.returns-in-Show-clause-silent
+returns-in-Show-clause-silent g c = rw c.in-Show.is (λ none. absurd (none tt))
+
+pub returns-in-Cat-clause-silent : goal.returns-in-Cat-clause-silent
+returns-in-Cat-clause-silent g c = rw c.in-Cat.is (λ none. absurd (none tt))
+
+pub returns-in-Scrub-clause-silent : goal.returns-in-Scrub-clause-silent
+returns-in-Scrub-clause-silent g c = rw c.in-Scrub.is (λ none. absurd (none tt))

@@ -69,12 +69,11 @@ returns-clause-any_moment g c tells =
     let early = g.D.Disk.pending c.args.disk.now in
     let image : List ℕ = g.D.Disk.seen c.args.disk.now in
     let new_ones = are_new g (goal.at.returns-clause-any_moment g c).After-receive_store in
-    read_of (g.I.Inputs.told c.args.inputs.now) names (drop c.args.files words)
+    following (g.I.Inputs.told c.args.inputs.now) names (drop c.args.files words)
     (λ bytes. (specs : List GuardSpec) → AllByRecursion IsBytes bytes → guards ≡ new_guards specs
     → LeavesOnly g.D.Disk.moment g.D.Disk.left_since c.args.disk.now c.receive_store.new.disk (LeftByReceive early image (new_guards specs) bytes []))
     (λ bytes. AllByRecursion IsBytes bytes → LeavesOnly g.D.Disk.moment g.D.Disk.left_since c.args.disk.now c.receive_store.new.disk (LeftByReceive early image (new_guards specs) bytes []))
     (ap (map string_bytes) c.names_from-names.ensures.names ∙ sym (drop-map string_bytes c.args.files c.args.words.now))
-    (map_some string_bytes c.names_from-names.result.now c.names_from-names.ensures.some)
     (λ bytes leaves are. leaves specs are new_ones)
     (c.receive_store.ensures.any_moment tells)
 

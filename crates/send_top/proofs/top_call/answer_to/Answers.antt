@@ -1,14 +1,15 @@
-use Rattle.std.specs.Prelude.{◌≡◌, ℕ, Bool, List, Some, map}
+use Rattle.std.specs.Prelude.{◌≡◌, ℕ, Bool, true, List, Some, map}
 use Rattle.std.specs.String.{string_bytes}
 use Rattle.std.proofs.Common.{refl, sym, ap, subst, ◌∙◌}
 use Rattle.send_model.specs.Guards.{Guard}
-use Rattle.store_model.specs.Requests.{Request, ReceiveFiles}
+use Rattle.send_model.specs.Words.{new_guards}
+use Rattle.store_model.specs.Requests.{Request, OfStreams, ReceiveFiles}
 use Rattle.store_model.specs.Answers.{Answers}
 use Rattle.sx_base.specs.Calls.{Wrote}
 use Rattle.send_top.specs.Answered.{answer_of}
-use Rattle.send_top.specs.Requests.{request_meant, streams_meant, store_meant, names_asked, uses_store}
-use Rattle.send_top.specs.Run.{IfAllRead, IfBytes, OfDisk}
-use Rattle.send_top.proofs.AskedFor.{of_asked, answered_of, uses_over}
+use Rattle.send_top.specs.Requests.{request_meant, specs_of, streams_meant, store_meant, names_asked, uses_store}
+use Rattle.send_top.specs.Run.{IfAllRead, IfBytes, MayGet, OfDisk}
+use Rattle.send_top.proofs.AskedFor.{of_asked, is_asked, answered_of, uses_over}
 use Rattle.send_top.proofs.top_call.answer_to.Goals as goal
 
 pub streams_answer-requires-clause-answered : goal.streams_answer-requires-clause-answered
@@ -38,3 +39,55 @@ returns-in-Store-clause-acknowledged g c tells specs store at asks =
     let mine : Request = store_meant words c.in-Store.request in
     c.store_answer.ensures.acknowledged tells specs store at
     (of_asked (λ r. mine ≡ r) words guards mine (ReceiveFiles specs store at) (ap (λ r. Some (request_meant words r)) (sym c.in-Store.is) ∙ c.in-Some.ensures.meaning) refl asks)
+
+pub returns-in-Streams-clause-allowed : goal.returns-in-Streams-clause-allowed
+returns-in-Streams-clause-allowed g c request asks =
+    let words : List (List ℕ) = map string_bytes c.args.words.now in
+    let guards : List Guard = map (λ b. (goal.Guard-dyn g (b.vtable, b.value)).kept b.value) c.args.guards.now in
+    let mine : Request = OfStreams (streams_meant words c.in-Streams.request) in
+    of_asked (λ r. uses_store words r ≡ true → MayGet r (answer_of c.streams_answer.result)) words guards mine request (ap (λ r. Some (request_meant words r)) (sym c.in-Streams.is) ∙ c.in-Some.ensures.meaning)
+    c.streams_answer.ensures.allowed asks
+
+pub returns-in-Streams-clause-unread : goal.returns-in-Streams-clause-unread
+returns-in-Streams-clause-unread g c none =
+    let words : List (List ℕ) = map string_bytes c.args.words.now in
+    let guards : List Guard = map (λ b. (goal.Guard-dyn g (b.vtable, b.value)).kept b.value) c.args.guards.now in
+    let mine : Request = OfStreams (streams_meant words c.in-Streams.request) in
+    let fits : guards ≡ new_guards (specs_of mine) = subst (λ r. guards ≡ new_guards (specs_of (request_meant words r))) c.in-Streams.is (c.guards_fit.ensures.0 c.if-not-guards_fit.false) in
+    let asked = is_asked words guards mine (ap (λ r. Some (request_meant words r)) (sym c.in-Streams.is) ∙ c.in-Some.ensures.meaning) fits in
+    absurd (none mine asked tt)
+
+pub returns-in-Streams-clause-silent : goal.returns-in-Streams-clause-silent
+returns-in-Streams-clause-silent g c none =
+    let words : List (List ℕ) = map string_bytes c.args.words.now in
+    let guards : List Guard = map (λ b. (goal.Guard-dyn g (b.vtable, b.value)).kept b.value) c.args.guards.now in
+    let mine : Request = OfStreams (streams_meant words c.in-Streams.request) in
+    let fits : guards ≡ new_guards (specs_of mine) = subst (λ r. guards ≡ new_guards (specs_of (request_meant words r))) c.in-Streams.is (c.guards_fit.ensures.0 c.if-not-guards_fit.false) in
+    let asked = is_asked words guards mine (ap (λ r. Some (request_meant words r)) (sym c.in-Streams.is) ∙ c.in-Some.ensures.meaning) fits in
+    absurd (none mine asked tt)
+
+pub returns-in-Store-clause-allowed : goal.returns-in-Store-clause-allowed
+returns-in-Store-clause-allowed g c request asks =
+    let words : List (List ℕ) = map string_bytes c.args.words.now in
+    let guards : List Guard = map (λ b. (goal.Guard-dyn g (b.vtable, b.value)).kept b.value) c.args.guards.now in
+    let mine : Request = store_meant words c.in-Store.request in
+    of_asked (λ r. uses_store words r ≡ true → MayGet r (answer_of c.store_answer.result)) words guards mine request (ap (λ r. Some (request_meant words r)) (sym c.in-Store.is) ∙ c.in-Some.ensures.meaning)
+    (λ uses. c.store_answer.ensures.allowed) asks
+
+pub returns-in-Store-clause-unread : goal.returns-in-Store-clause-unread
+returns-in-Store-clause-unread g c none =
+    let words : List (List ℕ) = map string_bytes c.args.words.now in
+    let guards : List Guard = map (λ b. (goal.Guard-dyn g (b.vtable, b.value)).kept b.value) c.args.guards.now in
+    let mine : Request = store_meant words c.in-Store.request in
+    let fits : guards ≡ new_guards (specs_of mine) = subst (λ r. guards ≡ new_guards (specs_of (request_meant words r))) c.in-Store.is (c.guards_fit.ensures.0 c.if-not-guards_fit.false) in
+    let asked = is_asked words guards mine (ap (λ r. Some (request_meant words r)) (sym c.in-Store.is) ∙ c.in-Some.ensures.meaning) fits in
+    c.store_answer.ensures.unread (λ does. none mine asked does)
+
+pub returns-in-Store-clause-silent : goal.returns-in-Store-clause-silent
+returns-in-Store-clause-silent g c none =
+    let words : List (List ℕ) = map string_bytes c.args.words.now in
+    let guards : List Guard = map (λ b. (goal.Guard-dyn g (b.vtable, b.value)).kept b.value) c.args.guards.now in
+    let mine : Request = store_meant words c.in-Store.request in
+    let fits : guards ≡ new_guards (specs_of mine) = subst (λ r. guards ≡ new_guards (specs_of (request_meant words r))) c.in-Store.is (c.guards_fit.ensures.0 c.if-not-guards_fit.false) in
+    let asked = is_asked words guards mine (ap (λ r. Some (request_meant words r)) (sym c.in-Store.is) ∙ c.in-Some.ensures.meaning) fits in
+    c.store_answer.ensures.silent (λ does. none mine asked does)

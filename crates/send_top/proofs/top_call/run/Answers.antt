@@ -2,11 +2,11 @@ use Rattle.std.specs.Prelude.{◌≡◌, ◌↔◌, ◌⊎◌, ℕ, false, map}
 use Rattle.std.specs.String.{string_bytes}
 use Rattle.std.proofs.Common.{sym, ◌∙◌, ap, subst, rules}
 use Rattle.store_model.specs.Requests.{Request}
-use Rattle.store_model.specs.Answers.{ReadsOnly, status_of}
+use Rattle.store_model.specs.Answers.{ReadsFiles, ReadsOnly, status_of}
 use Rattle.sx_base.specs.Causes.{Rose}
 use Rattle.send_top.specs.Answered.{answer_of}
 use Rattle.send_top.specs.Requests.{AskNothing, Asks, uses_store}
-use Rattle.send_top.specs.Run.{Acknowledges, AreSteady, AskForStore, AskToCompose, Composes, Exports, IsAnswered, IsChangedAt, IsStoreStatus}
+use Rattle.send_top.specs.Run.{Acknowledges, AreSteady, AskForStore, AskToCompose, Composes, Exports, IsAllowed, IsAnswered, IsChangedAt, IsStoreStatus, Prints}
 use Rattle.send_top.proofs.Statuses.{usage-of_two, two-of_usage, done-of_zero, steady-of_zero, input_fault-of_three, output_fault-of_four, store_fault-of_five, changed-of_thirteen, of_compose, of_store}
 use Rattle.send_top.proofs.top_call.run.Given.{Over}
 use Rattle.send_top.proofs.top_call.run.Goals.{After-status}
@@ -98,11 +98,20 @@ returns-clause-answered g c =
       subst (λ gs. IsAnswered (g.I.Inputs.told c.args.inputs.now) g.D.Disk.tells words (map (λ b. (goal.Guard-dyn g (b.vtable, b.value)).kept b.value) gs) (g.O.Sink.taken c.args.out.now) (g.O.Sink.taken c.answer_to-answer.new.out) (g.D.Disk.seen c.args.disk.now) (g.D.Disk.seen c.answer_to-answer.new.disk) answer) c.deref_mut.ensures.value a.answered,
       record { status_is = c.status.ensures; note = search rules },
       subst (λ gs. IsChangedAt words (map (λ b. (goal.Guard-dyn g (b.vtable, b.value)).kept b.value) gs) (g.I.Inputs.last_end c.answer_to-answer.new.inputs) answer) c.deref_mut.ensures.value a.changed_at,
+      subst (λ gs. IsAllowed words (map (λ b. (goal.Guard-dyn g (b.vtable, b.value)).kept b.value) gs) answer) c.deref_mut.ensures.value a.allowed,
     )
 
 pub returns-clause-off_disk : goal.returns-clause-off_disk
 returns-clause-off_disk g c none = c.answer_to-answer.ensures.off_disk
     (subst (λ gs. (request : Request) → Asks (map string_bytes c.args.words.now) (map (λ b. (goal.Guard-dyn g (b.vtable, b.value)).kept b.value) gs) request → uses_store (map string_bytes c.args.words.now) request ≡ false) (sym c.deref_mut.ensures.value) none)
+
+pub returns-clause-unread : goal.returns-clause-unread
+returns-clause-unread g c none = c.answer_to-answer.ensures.unread
+    (subst (λ gs. (request : Request) → Asks (map string_bytes c.args.words.now) (map (λ b. (goal.Guard-dyn g (b.vtable, b.value)).kept b.value) gs) request → ReadsFiles request → ⊥) (sym c.deref_mut.ensures.value) none)
+
+pub returns-clause-silent : goal.returns-clause-silent
+returns-clause-silent g c none = c.answer_to-answer.ensures.silent
+    (subst (λ gs. (request : Request) → Asks (map string_bytes c.args.words.now) (map (λ b. (goal.Guard-dyn g (b.vtable, b.value)).kept b.value) gs) request → Prints request → ⊥) (sym c.deref_mut.ensures.value) none)
 
 pub returns-clause-unharmed : goal.returns-clause-unharmed
 returns-clause-unharmed g c tells only = c.answer_to-answer.ensures.unharmed tells
