@@ -1,6 +1,7 @@
 //! The edge of btrsend: files and streams of the system as inputs and sinks, and the program's start.
 #![tactic(auto)]
 
+mod disk_progress;
 mod help;
 mod line;
 mod no_disk;
@@ -10,6 +11,7 @@ mod program;
 mod progress;
 mod screen;
 
+pub use disk_progress::DiskProgress;
 pub use line::line_of;
 pub use no_disk::NoDisk;
 pub use out_sink::OutSink;

@@ -7,7 +7,7 @@ use sx_base::{Disk, Failed};
 
 /// A disk behind which there is no file, for words that name none and where the file could not be opened. Its size is 0, and each
 /// call answers `Failed` and raises the count of faults, which ends at the greatest u64.
-#[derive(Debug)]
+#[derive(Debug, Drop)]
 pub struct NoDisk {
     faults: u64,
 }
@@ -62,7 +62,7 @@ impl Disk for NoDisk {
     }
 
     fn write_at(&mut self, at: u64, piece: &[u8]) -> Result<(), Failed> {
-        let _ = (at, piece);
+        let _ = (at, piece.len());
         Err(self.fail())
     }
 

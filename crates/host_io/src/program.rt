@@ -1,4 +1,5 @@
 // From the system's arguments, files and streams to the call that does the work.
+use crate::disk_progress::DiskProgress;
 use crate::help::{HELP, VERSION};
 use crate::no_disk::NoDisk;
 use crate::out_sink::OutSink;
@@ -50,8 +51,8 @@ fn run_over<O: Sink, N: Sink>(
     notes: &mut N,
 ) -> Result<u8, AllocError> {
     match open_store(rt, words)? {
-        Some(mut disk) => run_words(rt, words, out, notes, &mut disk),
-        None => run_words(rt, words, out, notes, &mut NoDisk::new()),
+        Some(disk) => run_words(rt, words, out, notes, disk),
+        None => run_words(rt, words, out, notes, NoDisk::new()),
     }
 }
 
@@ -73,12 +74,12 @@ fn open_store(rt: &HostRuntime, words: &[String]) -> Result<Option<FileDisk<File
 }
 
 // Runs the words, with one guard for each guard word of `audit` and `receive`.
-fn run_words<O: Sink, N: Sink, D: Disk>(
+fn run_words<O: Sink, N: Sink, D: Disk + Drop>(
     rt: &HostRuntime,
     words: &[String],
     out: &mut O,
     notes: &mut N,
-    disk: &mut D,
+    disk: D,
 ) -> Result<u8, AllocError> {
     let mut guards: Vec<Box<dyn Guard>> = Vec::new(rt.alloc());
     for word in guard_words(words) {
@@ -87,49 +88,101 @@ fn run_words<O: Sink, N: Sink, D: Disk>(
         };
         guards.push(Box::new(rt.alloc(), AnyGuard::new(spec))?)?;
     }
-    if let Some((began, first)) = what_to_show(rt, words) {
-        return Ok(run_shown(rt, words, guards, began, first, disk));
+    if let Some(shown) = what_to_show(rt, words) {
+        return Ok(run_shown(rt, words, guards, shown, disk));
     }
     let mut inputs = PathInputs::new(rt, rt.alloc());
-    Ok(run(rt.alloc(), words, guards, &mut inputs, out, notes, disk))
+    let mut disk = disk;
+    Ok(run(
+        rt.alloc(),
+        words,
+        guards,
+        &mut inputs,
+        out,
+        notes,
+        &mut disk,
+    ))
+}
+
+// What a run that says how far it is begins with.
+#[derive(Drop)]
+struct Shown {
+    // The time at its start.
+    began: u64,
+    // The name of the file that each pass reads first, empty where none is read.
+    first: String,
+    // The name of the store, empty where none is opened.
+    store: String,
 }
 
 // Runs the words, and shows meanwhile on standard error, a terminal, how far the run is.
-fn run_shown<D: Disk>(
+fn run_shown<D: Disk + Drop>(
     rt: &HostRuntime,
     words: &[String],
     guards: Vec<Box<dyn Guard>>,
-    began: u64,
-    first: String,
-    disk: &mut D,
+    shown: Shown,
+    disk: D,
 ) -> u8 {
+    let Shown {
+        began,
+        first,
+        store,
+    } = shown;
     let alloc = rt.alloc();
     let screen = RefCell::new(Screen::new(OutSink::new(rt.stderr()), began));
     let all = all_bytes(rt, files_of(words));
     let files = PathInputs::new(rt, alloc);
     let mut inputs = Progress::new(files, rt, &screen, alloc, first, all);
+    let size = bytes_of(rt, store.as_str());
+    let mut disk = DiskProgress::new(disk, rt, &screen, alloc, store, size);
     let mut notes = AfterLine::new(OutSink::new(rt.stderr()), &screen);
     let status = if rt.stdout().is_terminal() {
         let mut out = AfterLine::new(OutSink::new(rt.stdout()), &screen);
-        run(alloc, words, guards, &mut inputs, &mut out, &mut notes, disk)
+        run(
+            alloc,
+            words,
+            guards,
+            &mut inputs,
+            &mut out,
+            &mut notes,
+            &mut disk,
+        )
     } else {
         let mut out = OutSink::new(rt.stdout());
-        run(alloc, words, guards, &mut inputs, &mut out, &mut notes, disk)
+        run(
+            alloc,
+            words,
+            guards,
+            &mut inputs,
+            &mut out,
+            &mut notes,
+            &mut disk,
+        )
     };
     end_line(&screen);
     status
 }
 
-// The time now and the name of the file that each pass reads first, where standard error is a terminal; nothing, too, where there
-// is no clock or no memory.
-fn what_to_show(rt: &HostRuntime, words: &[String]) -> Option<(u64, String)> {
+// What to begin with, where standard error is a terminal; nothing, too, where there is no clock or no memory, and for words that name
+// neither a file nor a store.
+fn what_to_show(rt: &HostRuntime, words: &[String]) -> Option<Shown> {
     if !rt.stderr().is_terminal() {
         return None;
     }
     let began = millis_of(rt)?;
-    let first = files_of(words).first()?;
-    let first = String::from_str(rt.alloc(), first.as_str()).ok()?;
-    Some((began, first))
+    let first = match files_of(words).first() {
+        Some(name) => name.as_str(),
+        None => "",
+    };
+    let store = store_word(words).unwrap_or("");
+    if first.is_empty() && store.is_empty() {
+        return None;
+    }
+    Some(Shown {
+        began,
+        first: String::from_str(rt.alloc(), first).ok()?,
+        store: String::from_str(rt.alloc(), store).ok()?,
+    })
 }
 
 // The words that name files.
@@ -168,13 +221,18 @@ fn behind_guards(words: &[String]) -> &[String] {
 fn all_bytes<R: Files>(files: &R, names: &[String]) -> Option<u64> {
     let mut sum: u64 = 0;
     for name in names {
-        let about = fs::metadata(files, name.as_str()).ok()?;
-        if !about.is_file() {
-            return None;
-        }
-        sum = sum.checked_add(about.len())?;
+        sum = sum.checked_add(bytes_of(files, name.as_str())?)?;
     }
     Some(sum)
+}
+
+// The bytes of a file, where it is a regular one.
+fn bytes_of<R: Files>(files: &R, name: &str) -> Option<u64> {
+    let about = fs::metadata(files, name).ok()?;
+    if !about.is_file() {
+        return None;
+    }
+    Some(about.len())
 }
 
 // The words behind `audit` and `receive`, of which the first are guard words; none of any other request.
