@@ -25,6 +25,8 @@ mod separator_tests;
 #[cfg(test)]
 mod showing_tests;
 #[cfg(test)]
+mod store_run_tests;
+#[cfg(test)]
 mod streams;
 #[cfg(test)]
 mod trial_tests;

@@ -2,13 +2,14 @@
 ghost use Rattle.std.specs.Prelude.{None};
 ghost use Rattle.sx_base.specs.Again.{no_end};
 
-use host_io::{AfterLine, Progress, Screen, end_line, line_of};
+use disk_model::MemDisk;
+use host_io::{AfterLine, DiskProgress, Progress, Screen, end_line, line_of};
 use std::cell::{Cell, RefCell};
 use std::io;
 use std::rt::Clock;
 use std::test::Fail;
 use std::time::Duration;
-use sx_base::{Failed, Inputs, Lost, MemSink, Sink};
+use sx_base::{Disk, Failed, Inputs, Lost, MemSink, Sink};
 
 // The length of each file.
 const FILE: u64 = 2048;
@@ -175,4 +176,39 @@ fn has_taken<R: std::process::Abort>(
     let bytes = screen.sink().bytes();
     assert_eq!(rt; bytes.get(seen..), Some(want));
     Ok(bytes.len())
+}
+
+#[test]
+fn a_long_opening_shows_how_far_it_is(rt: HostRuntime) -> Result<(), Fail> {
+    let clock = HandClock {
+        millis: Cell::new(100),
+    };
+    let screen = RefCell::new(Screen::new(MemSink::new(rt.alloc()), 100));
+    let name = String::from_str(rt.alloc(), "st")?;
+    let bytes = [7; 2048];
+    let disk = MemDisk::new(rt.alloc(), &bytes)?;
+    let mut disk = DiskProgress::new(disk, &clock, &screen, rt.alloc(), name, Some(2048));
+    let mut buf = [0; 1024];
+    let mut seen = 0;
+    // When and from where on is read, and what the terminal then takes.
+    let table: [(u64, u64, &[u8]); 4] = [
+        (2099, 0, b""),
+        (
+            2100,
+            512,
+            b"\rbtrsend: reading st, pass 1, 1.5 of 2.0 KiB\x1b[K",
+        ),
+        (2299, 1024, b""),
+        (
+            2300,
+            2048,
+            b"\rbtrsend: reading st, pass 1, 2.0 of 2.0 KiB\x1b[K",
+        ),
+    ];
+    for (time, at, want) in table {
+        clock.millis.set(time);
+        disk.read(at, &mut buf)?;
+        seen = has_taken(&rt, &screen, seen, want)?;
+    }
+    Ok(())
 }
