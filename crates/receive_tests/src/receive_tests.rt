@@ -9,11 +9,11 @@ use store_words::{StoreEnd, receive_store};
 use sx_base::{Disk, MemInputs, MemSink, Outcome, Refusal, Verdict};
 
 // SUBVOL a; MKFILE x; WRITE x 3 "hi"; TRUNCATE x 6; END
-const A: &[u8] =
+pub(crate) const A: &[u8] =
     b"btrfs-stream\0\x01\0\0\0%\0\0\0\x01\0\x85\x0fH{\x01\0\x10\0AAAAAAAAAAAAAAAA\x02\0\x08\0\x01\0\0\0\0\0\0\0\x0f\0\x01\0a\x05\0\0\0\x03\0/\x8a6s\x0f\0\x01\0x\x17\0\0\0\x0f\0\x89\x81\xe7\xa3\x0f\0\x01\0x\x12\0\x08\0\x03\0\0\0\0\0\0\0\x13\0\x02\0hi\x11\0\0\0\x11\0[\xd8\"G\x04\0\x08\0\x06\0\0\0\0\0\0\0\x0f\0\x01\0x\0\0\0\0\x15\0Pl\xc9\x9d";
 
 // SNAPSHOT b of a; UNLINK x; END
-const B: &[u8] =
+pub(crate) const B: &[u8] =
     b"btrfs-stream\0\x01\0\0\0E\0\0\0\x02\0\xa1\xed\xd8\xb7\x01\0\x10\0BBBBBBBBBBBBBBBB\x02\0\x08\0\x02\0\0\0\0\0\0\0\x0f\0\x01\0b\x14\0\x10\0AAAAAAAAAAAAAAAA\x15\0\x08\0\x01\0\0\0\0\0\0\0\x05\0\0\0\x0b\0\xe3\xef\x08\xdf\x0f\0\x01\0x\0\0\0\0\x15\0Pl\xc9\x9d";
 
 // SNAPSHOT b of a; UNLINK y; END
@@ -28,11 +28,11 @@ const STORE: &[u8] =
 const MARK_B: &[u8] =
     b"\x01T\0\0\0\0\0\0\0\x04E\0\0\0\x02\0\xa1\xed\xd8\xb7\x01\0\x10\0BBBBBBBBBBBBBBBB\x02\0\x08\0\x02\0\0\0\0\0\0\0\x0f\0\x01\0b\x14\0\x10\0AAAAAAAAAAAAAAAA\x15\0\x08\0\x01\0\0\0\0\0\0\0\xb9\x7f\x0a\xb0";
 
-const LINE_A: &[u8] = b"complete a 41414141-4141-4141-4141-414141414141 1\n";
+pub(crate) const LINE_A: &[u8] = b"complete a 41414141-4141-4141-4141-414141414141 1\n";
 
 const LINE_B: &[u8] = b"complete b 42424242-4242-4242-4242-424242424242 2\n";
 
-const DONE: Received = Received::Files(Outcome::Done);
+pub(crate) const DONE: Received = Received::Files(Outcome::Done);
 
 // Two files, of which as many are received as there are names.
 struct Files {
@@ -60,7 +60,7 @@ fn guards_of(alloc: Global, most: u64) -> Result<GuardList<AnyGuard>, AllocError
 }
 
 // How receiving files into the store of a disk ends, under guards of so many commands and against devices.
-fn received<D: Disk>(
+pub(crate) fn received<D: Disk>(
     alloc: Global,
     disk: &mut D,
     all: &[&[u8]],
@@ -83,7 +83,7 @@ fn received<D: Disk>(
 }
 
 // A new store that is empty.
-fn new_store(alloc: Global) -> Result<MemDisk, Fail> {
+pub(crate) fn new_store(alloc: Global) -> Result<MemDisk, Fail> {
     let mut disk = MemDisk::new(alloc, b"")?;
     Store::create(&mut disk)?;
     Ok(disk)
