@@ -1,7 +1,7 @@
 #!/bin/sh
 # Tries the whole program against real faults: outputs that are full, closed or cut off, files that can not be read, that are
-# pipes, or that change between two readings, short reads and short writes, many words and strange ones. Most cases are of
-# `compose`, and some of each other word. The program is the first word, or else the one that this repository has built;
+# pipes, or that change between two readings, short reads and short writes, many words and strange ones; and against stores that
+# are missing, in use, damaged, or whose file fails. Most cases are of `compose`, and some of each other word. The program is the first word, or else the one that this repository has built;
 # nothing is proved or built here. It prints a line for each case, and ends with status 0 only where all are right. Needs
 # python3, which makes the streams, and gcc.
 here=$(CDPATH='' cd -- "$(dirname -- "$0")" && pwd) || exit 2
@@ -137,6 +137,33 @@ ssize_t write(int file, const void *bytes, size_t len) {
 }
 
 ssize_t __write(int file, const void *bytes, size_t len) { return write(file, bytes, len); }
+
+ssize_t pread(int file, void *bytes, size_t len, off_t at) {
+    static long calls;
+    if (++calls == word("FAIL_PREAD")) {
+        errno = EIO;
+        return -1;
+    }
+    return syscall(SYS_pread64, file, bytes, at_most(len), at);
+}
+
+ssize_t pwrite(int file, const void *bytes, size_t len, off_t at) {
+    static long calls;
+    if (++calls == word("FAIL_PWRITE")) {
+        errno = ENOSPC;
+        return -1;
+    }
+    return syscall(SYS_pwrite64, file, bytes, at_most(len), at);
+}
+
+int fdatasync(int file) {
+    static long calls;
+    if (++calls == word("FAIL_SYNC")) {
+        errno = EIO;
+        return -1;
+    }
+    return syscall(SYS_fdatasync, file);
+}
 C
 mkdir kept && cp small first second third damaged donor taker kept || exit 2
 
@@ -200,9 +227,11 @@ run compose; refused 'no store' 2 usage
 run compose none; refused 'no files' 2 usage
 run compose some small; refused 'another store' 2 usage
 run --help --version; refused 'two words' 2 usage
-for words in 'audit none' 'audit some small' 'audit guard:bytes none small' 'audit guard:nodev' 'dump' 'dump small second' \
+for words in 'audit none' 'audit guard:bytes none small' 'audit guard:nodev' 'dump' 'dump small second' \
     'export' 'export small' 'export none' 'export some small' 'gen 1' 'gen 0 1' 'gen 4097 1' 'gen 1 18446744073709551616' 'gen 1 x' \
     'trial 1' 'trial 0 1' 'trial 4097 1' \
+    'init' 'init one two' 'receive' 'receive some' 'receive guard:bytes some small' 'list' \
+    'list some small' 'show some' 'cat some a' 'drop some' 'scrub' 'scrub guard:nodev some' \
     'compose guard:nodev none small'; do
     run $words; refused "the words $words" 2 usage
 done
@@ -403,6 +432,89 @@ each_fails() {
 }
 each_fails FAIL_READ 3 'input fault'
 each_fails FAIL_WRITE 4 'output fault'
+
+# ---- stores
+
+# CASE FILE: the last run ended with status 0, wrote what the file has, and nothing on standard error.
+wrote() {
+    if [ "$status" != 0 ]; then case_is "$1" "status $status: $(cat note)"
+    elif [ -s note ]; then case_is "$1" "there is a note: $(cat note)"
+    elif ! cmp -s out "$2"; then case_is "$1" "it wrote '$(cat out)'"
+    else case_is "$1" ''; fi
+}
+
+: >empty
+a='a 00000000-0000-0001-0000-000000000001 1'
+b='b 00000000-0000-0001-0000-000000000002 2'
+printf 'complete %s\n' "$a" >line-a
+printf 'complete %s\ncomplete %s\n' "$a" "$b" >lines
+printf '%s complete -\n%s complete %s:1\n' "$a" "$b" 00000000-0000-0001-0000-000000000001 >list-both
+printf '%s unfinished -\n' "$a" >list-begun
+printf 'accepted 1 4\n' >accepted
+printf 'one' >bytes
+mkdir store-folder && mkfifo store-pipe && printf 'x' >store-other || exit 2
+for words in 'list missing' 'receive missing small' 'audit missing small' 'list store-folder' 'init store-folder' 'list store-pipe' \
+    'receive store-pipe small' 'init no-folder/store'; do
+    run $words; refused "a store that can not be opened: $words" 5 'store fault'
+done
+run list store-other; refused 'a file that is no store' 6 'not a store 0'
+run init store-other; refused 'init over a file' 12 'store there 1'
+run init store; wrote 'a store is made' empty
+run init store; refused 'a store is there' 12 'store there 21'
+run receive store small second; wrote 'a chain is received' lines
+run list store; wrote 'it is listed' list-both
+run cat store b 1; wrote 'a file of it' bytes
+run show store c; refused 'a name that is not there' 8 'missing c'
+run cat store a 2; refused 'a path that is not there' 8 'missing 2'
+run receive store small; refused 'a stream is received twice' 1 'refused 1 1 17 11 NameThere'
+cp store store-before
+run audit store m2; refused 'a chain with a stream left out' 1 'refused 1 1 17 13 NoParent'
+(flock -x 9; run list store; refused 'a store that is written to' 5 'store fault'; exit "$wrong") 9<store; wrong=$?
+(flock -s 9; run receive store third; refused 'a store that is read' 5 'store fault'; run list store; wrote 'two that read' list-both; exit "$wrong") 9<store
+wrong=$?
+run receive store kept; refused 'an input that fails' 3 'input fault'
+cmp -s store store-before && case_is 'the store is as it was' '' || case_is 'the store is as it was' 'it was changed'
+size=$(wc -c <store)
+truncate -s $((size - 1)) store
+run list store; refused 'a store that was cut' 6 'not a store 5'
+cp store-before store
+printf 'z' | dd of=store bs=1 seek=$((size - 20)) conv=notrunc status=none
+run list store; refused 'a store with a changed byte' 6 'not a store 4'
+run scrub store; [ "$status" = 14 ] && case_is 'scrub finds it' '' || case_is 'scrub finds it' "status $status"
+rm store; run init store
+(trap '' XFSZ; ulimit -f 1; timeout 20 "$program" receive store first >out 2>note); status=$?
+refused 'the file of a store may not grow' 5 'store fault'
+run list store; wrote 'and the store can be opened' list-begun
+rm store; run init store
+run receive store small </dev/null; (timeout 20 "$program" receive store second >/dev/full 2>note); status=$?; : >out
+refused 'the output is full, and the store goes on' 4 'output fault'
+run list store; wrote 'what it received' list-both
+
+# VARIABLE: each call fails once. A receive that does not end with 0 leaves a store that can be opened, with each part that was
+# acknowledged, and goes on where that one stopped.
+each_store_fails() {
+    call=1
+    while :; do
+        rm -f store; "$program" init store
+        short "$1=$call" "$program" receive store small second
+        [ "$status" = 0 ] && break
+        if [ "$status" != 5 ] || [ "$(cat note)" != 'store fault' ]; then break; fi
+        lines=$(wc -l <out)
+        run list store
+        if [ "$status" != 0 ] || [ "$(grep -c ' complete ' out)" -lt "$lines" ]; then status=9; break; fi
+        grep ' unfinished ' out | while read -r name rest; do "$program" drop store "$name"; done
+        grep -q '^a .* complete' out || "$program" receive store small >/dev/null
+        grep -q '^b .* complete' out || "$program" receive store second >/dev/null
+        run list store
+        cmp -s out list-both || { status=9; break; }
+        call=$((call + 1))
+    done
+    if [ "$call" = 1 ]; then case_is "$1" "the first call that fails gives status $status"; return; fi
+    wrote "each of $((call - 1)) calls to the store's file fails once, $1" lines
+}
+each_store_fails FAIL_PWRITE
+each_store_fails FAIL_SYNC
+each_store_fails FAIL_PREAD
 
 # ---- the files are as they were
 
