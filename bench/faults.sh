@@ -468,7 +468,7 @@ run show store c; refused 'a name that is not there' 8 'missing c'
 run cat store a 2; refused 'a path that is not there' 8 'missing 2'
 run receive store small; refused 'a stream is received twice' 1 'refused 1 1 17 11 NameThere'
 cp store store-before
-run audit store m2; refused 'a chain with a stream left out' 1 'refused 1 1 17 13 NoParent'
+run audit store m5; refused 'a chain with a stream left out' 1 'refused 1 1 17 13 NoParent'
 (flock -x 9; run list store; refused 'a store that is written to' 5 'store fault'; exit "$wrong") 9<store; wrong=$?
 (flock -s 9; run receive store third; refused 'a store that is read' 5 'store fault'; run list store; wrote 'two that read' list-both; exit "$wrong") 9<store
 wrong=$?
