@@ -512,6 +512,9 @@ each_store_fails() {
     if [ "$call" = 1 ]; then case_is "$1" "the first call that fails gives status $status"; return; fi
     wrote "each of $((call - 1)) calls to the store's file fails once, $1" lines
 }
+rm -f store; "$program" init store
+short SHORT=5 "$program" receive store small second; wrote 'five bytes for each read and write of a store' lines
+cmp -s store store-before && case_is 'which is the same then' '' || case_is 'which is the same then' 'it is another'
 each_store_fails FAIL_PWRITE
 each_store_fails FAIL_SYNC
 each_store_fails FAIL_PREAD
