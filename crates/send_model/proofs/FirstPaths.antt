@@ -33,7 +33,7 @@ some_piece (b ∷ bytes) = one (b == slash) (some_piece bytes)
     one true m = ([], between_slashes bytes, refl)
     one false m = onto (between_slashes bytes)
 
-slashes_append : (path name : List ℕ) → between_slashes (path ++ slash ∷ name) ≡ between_slashes path ++ between_slashes name
+pub slashes_append : (path name : List ℕ) → between_slashes (path ++ slash ∷ name) ≡ between_slashes path ++ between_slashes name
 unfolding between_slashes
 slashes_append [] name = refl
 slashes_append (b ∷ path) name = one (b == slash) (slashes_append path name)
@@ -74,10 +74,10 @@ names_append name (n ∷ ns) is g = one (is_name n) g (names_append name ns is)
 -- ---- all paths lead where they say
 
 module _ {C : Type 0} (s : Subvolume C) where
-  record Leading (path : List ℕ) (ino : ℕ) : Type 0 where
-    steps : List (List ℕ)
-    names_are : path_names path ≡ Some steps
-    leads : Leads (Step s) steps root ino
+  pub record Leading (path : List ℕ) (ino : ℕ) : Type 0 where
+    pub steps : List (List ℕ)
+    pub names_are : path_names path ≡ Some steps
+    pub leads : Leads (Step s) steps root ino
 
   abbrev pub IsStep : (ℕ × List ℕ) × ℕ → Type 0
   IsStep e = Step s e.0.0 e.0.1 e.1 × (is_name e.0.1 ≡ true) × (between_slashes e.0.1 ≡ e.0.1 ∷ [])
@@ -116,7 +116,7 @@ module _ {C : Type 0} (s : Subvolume C) where
   all_further_leads steps [] all = tt
   all_further_leads steps (from ∷ froms) all = all_both (λ r. Leading r.path r.ino) (one_further s.names from) (all_further s.names froms) (one_further_leads s.names steps from all.0) (all_further_leads steps froms all.1)
 
-  paths_lead : AllByRecursion IsStep s.names → (depth : ℕ) (froms : List Reached) → AllByRecursion (λ r. Leading r.path r.ino) froms → AllByRecursion (λ r. Leading r.path r.ino) (paths_from depth s.names froms)
+  pub paths_lead : AllByRecursion IsStep s.names → (depth : ℕ) (froms : List Reached) → AllByRecursion (λ r. Leading r.path r.ino) froms → AllByRecursion (λ r. Leading r.path r.ino) (paths_from depth s.names froms)
   unfolding paths_from
   paths_lead steps depth [] all = tt
   paths_lead steps zero (from ∷ froms) all = all

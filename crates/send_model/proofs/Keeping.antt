@@ -95,7 +95,7 @@ module _ {C : Type 0} (N : List ℕ → Type 0) (X : Inode C → Type 0) where
 
   -- ---- changes
 
-  changed : (ino : ℕ) (change : Inode C → Inode C) (s : Subvolume C) → ((inode : Inode C) → X inode → X (change inode)) → Has s → Has (change_inode ino change s)
+  pub changed : (ino : ℕ) (change : Inode C → Inode C) (s : Subvolume C) → ((inode : Inode C) → X inode → X (change inode)) → Has s → Has (change_inode ino change s)
   unfolding change_inode
   changed ino change s keeps h = one (inode_at s ino) refl
     where
@@ -139,7 +139,7 @@ module _ {C : Type 0} (N : List ℕ → Type 0) (X : Inode C → Type 0) where
 
   -- ---- edits
 
-  made_keeps : (inode : Inode C) (path : List ℕ) (s t : Subvolume C) → NamesAre N path → X inode → Has s → make inode path s ≡ Ok t → Has t
+  pub made_keeps : (inode : Inode C) (path : List ℕ) (s t : Subvolume C) → NamesAre N path → X inode → Has s → make inode path s ≡ Ok t → Has t
   unfolding make add_inode
   made_keeps inode path s t are new h e =
       let a = bound (spot s path) _ t e in
@@ -150,13 +150,13 @@ module _ {C : Type 0} (N : List ℕ → Type 0) (X : Inode C → Type 0) where
         inodes = all_values_with nat_cmp X s.next inode s.inodes new h.inodes;
       })
 
-  device_keeps : (mode rdev : ℕ) (path : List ℕ) (s t : Subvolume C) → NamesAre N path → ((kind : NodeKind) → X (new_inode kind 0o600 rdev [])) → Has s → make_device mode rdev path s ≡ Ok t → Has t
+  pub device_keeps : (mode rdev : ℕ) (path : List ℕ) (s t : Subvolume C) → NamesAre N path → ((kind : NodeKind) → X (new_inode kind 0o600 rdev [])) → Has s → make_device mode rdev path s ≡ Ok t → Has t
   unfolding make_device
   device_keeps mode rdev path s t are new h e =
       let a = bound (found (device_kind mode) BadDevice) _ t e in
       made_keeps (new_inode a.0 0o600 rdev []) path s t are (new a.0) h a.2
 
-  link_keeps : (path existing : List ℕ) (s t : Subvolume C) → NamesAre N path → Has s → link path existing s ≡ Ok t → Has t
+  pub link_keeps : (path existing : List ℕ) (s t : Subvolume C) → NamesAre N path → Has s → link path existing s ≡ Ok t → Has t
   unfolding link
   link_keeps path existing s t are h e =
       let a = required (is_some (path_names path)) BadPath _ t e in
@@ -166,7 +166,7 @@ module _ {C : Type 0} (N : List ℕ → Type 0) (X : Inode C → Type 0) where
       let f = required (is_none (at_spot s d.0)) EntryThere _ t d.2 in
       subst (λ (u : Subvolume C). Has u) (ok_same f.1) (named d.0 b.0 s (spot_name s path d.0 are d.1) h)
 
-  unlink_keeps : (path : List ℕ) (s t : Subvolume C) → Has s → unlink path s ≡ Ok t → Has t
+  pub unlink_keeps : (path : List ℕ) (s t : Subvolume C) → Has s → unlink path s ≡ Ok t → Has t
   unfolding unlink
   unlink_keeps path s t h e =
       let a = bound (spot s path) _ t e in
@@ -174,7 +174,7 @@ module _ {C : Type 0} (N : List ℕ → Type 0) (X : Inode C → Type 0) where
       let c = not_refused (is_directory s b.0) IsDirectory _ t b.2 in
       subst (λ (u : Subvolume C). Has u) (ok_same c.1) (taken a.0 b.0 s h)
 
-  rmdir_keeps : (path : List ℕ) (s t : Subvolume C) → Has s → rmdir path s ≡ Ok t → Has t
+  pub rmdir_keeps : (path : List ℕ) (s t : Subvolume C) → Has s → rmdir path s ≡ Ok t → Has t
   unfolding rmdir
   rmdir_keeps path s t h e =
       let a = bound (spot s path) _ t e in
@@ -197,7 +197,7 @@ module _ {C : Type 0} (N : List ℕ → Type 0) (X : Inode C → Type 0) where
           let b = tested (can_replace s ino there) _ t a.1 in
           subst (λ (u : Subvolume C). Has u) (ok_same b.1) (moved from to ino (take_name to there s) own (taken to there s h))
 
-  rename_keeps : (path path_to : List ℕ) (s t : Subvolume C) → NamesAre N path_to → Has s → rename path path_to s ≡ Ok t → Has t
+  pub rename_keeps : (path path_to : List ℕ) (s t : Subvolume C) → NamesAre N path_to → Has s → rename path path_to s ≡ Ok t → Has t
   unfolding rename
   rename_keeps path path_to s t are h e =
       let a = bound (spot s path) _ t e in
@@ -205,20 +205,20 @@ module _ {C : Type 0} (N : List ℕ → Type 0) (X : Inode C → Type 0) where
       let c = bound (spot s path_to) _ t b.2 in
       renamed_onto a.0 c.0 path_to b.0 (at_spot s c.0) s t (spot_name s path_to c.0 are c.1) h c.2
 
-  changed_at : (path : List ℕ) (change : Inode C → Inode C) (s t : Subvolume C) → ((inode : Inode C) → X inode → X (change inode)) → Has s → change_at path change s ≡ Ok t → Has t
+  pub changed_at : (path : List ℕ) (change : Inode C → Inode C) (s t : Subvolume C) → ((inode : Inode C) → X inode → X (change inode)) → Has s → change_at path change s ≡ Ok t → Has t
   unfolding change_at
   changed_at path change s t keeps h e =
       let a = bound (walk s path) _ t e in
       subst (λ (u : Subvolume C). Has u) (ok_same a.2) (changed a.0 change s keeps h)
 
-  xattr_set_keeps : (path name value : List ℕ) (s t : Subvolume C) → ((inode : Inode C) → X inode → X (record inode { xattrs = with_value bytes_cmp name value inode.xattrs })) → Has s → set_xattr path name value s ≡ Ok t → Has t
+  pub xattr_set_keeps : (path name value : List ℕ) (s t : Subvolume C) → ((inode : Inode C) → X inode → X (record inode { xattrs = with_value bytes_cmp name value inode.xattrs })) → Has s → set_xattr path name value s ≡ Ok t → Has t
   unfolding set_xattr
   xattr_set_keeps path name value s t keeps h e =
       let a = bound (walk s path) _ t e in
       let b = required (is_xattr_name name) BadXattr _ t a.2 in
       subst (λ (u : Subvolume C). Has u) (ok_same b.1) (changed a.0 _ s keeps h)
 
-  xattr_removed_keeps : (path name : List ℕ) (s t : Subvolume C) → ((inode : Inode C) → X inode → X (record inode { xattrs = without bytes_cmp name inode.xattrs })) → Has s → remove_xattr path name s ≡ Ok t → Has t
+  pub xattr_removed_keeps : (path name : List ℕ) (s t : Subvolume C) → ((inode : Inode C) → X inode → X (record inode { xattrs = without bytes_cmp name inode.xattrs })) → Has s → remove_xattr path name s ≡ Ok t → Has t
   unfolding remove_xattr
   xattr_removed_keeps path name s t keeps h e =
       let a = bound (walk s path) _ t e in
@@ -226,7 +226,7 @@ module _ {C : Type 0} (N : List ℕ → Type 0) (X : Inode C → Type 0) where
       let c = required (has_xattr s a.0 name) NoXattr _ t b.1 in
       subst (λ (u : Subvolume C). Has u) (ok_same c.1) (changed a.0 _ s keeps h)
 
-  contents_keep : (path : List ℕ) (end : ℕ) (change : List C → List C) (s t : Subvolume C) → (nat_le end greatest_end ≡ true → (inode : Inode C) → X inode → X (set_cells change inode)) → Has s → change_contents path end change s ≡ Ok t → Has t
+  pub contents_keep : (path : List ℕ) (end : ℕ) (change : List C → List C) (s t : Subvolume C) → (nat_le end greatest_end ≡ true → (inode : Inode C) → X inode → X (set_cells change inode)) → Has s → change_contents path end change s ≡ Ok t → Has t
   unfolding change_contents
   contents_keep path end change s t keeps h e =
       let a = bound (walk s path) _ t e in
@@ -234,7 +234,7 @@ module _ {C : Type 0} (N : List ℕ → Type 0) (X : Inode C → Type 0) where
       let c = required (nat_le end greatest_end) FileTooBig _ t b.1 in
       subst (λ (u : Subvolume C). Has u) (ok_same c.1) (changed a.0 (set_cells change) s (keeps c.0) h)
 
-  fallocate_keeps : (zero_cell : C) (path : List ℕ) (offset size mode : ℕ) (s t : Subvolume C)
+  pub fallocate_keeps : (zero_cell : C) (path : List ℕ) (offset size mode : ℕ) (s t : Subvolume C)
       → ((allocation : Allocation) → nat_le (offset + size) greatest_end ≡ true → (inode : Inode C) → X inode → X (set_cells (fallocated zero_cell allocation offset size) inode)) → Has s → fallocate zero_cell path offset size mode s ≡ Ok t → Has t
   unfolding fallocate
   fallocate_keeps zero_cell path offset size mode s t keeps h e =

@@ -88,16 +88,16 @@ module _ {C : Type 0} (P : C → Type 0) (x : C) (own : P x) where
   all_filled : (size : ℕ) (cells : List C) → AllByRecursion P cells → AllByRecursion P (filled x size cells)
   all_filled size cells all = all_both P cells (replicate (size - length cells) x) all (all_replicated (size - length cells))
 
-  all_resized : (size : ℕ) (cells : List C) → AllByRecursion P cells → AllByRecursion P (resized x size cells)
+  pub all_resized : (size : ℕ) (cells : List C) → AllByRecursion P cells → AllByRecursion P (resized x size cells)
   unfolding resized
   all_resized size cells all = all_take P size (filled x size cells) (all_filled size cells all)
 
-  all_overwritten : (offset : ℕ) (new cells : List C) → AllByRecursion P new → AllByRecursion P cells → AllByRecursion P (overwritten x offset new cells)
+  pub all_overwritten : (offset : ℕ) (new cells : List C) → AllByRecursion P new → AllByRecursion P cells → AllByRecursion P (overwritten x offset new cells)
   unfolding overwritten
   all_overwritten offset new cells put all =
       all_both P (take offset (filled x offset cells) ++ new) (drop (offset + length new) cells) (all_both P (take offset (filled x offset cells)) new (all_take P offset (filled x offset cells) (all_filled offset cells all)) put) (all_drop P (offset + length new) cells all)
 
-  all_written : (offset : ℕ) (new cells : List C) → AllByRecursion P new → AllByRecursion P cells → AllByRecursion P (written_at x offset new cells)
+  pub all_written : (offset : ℕ) (new cells : List C) → AllByRecursion P new → AllByRecursion P cells → AllByRecursion P (written_at x offset new cells)
   unfolding written_at
   all_written offset [] cells put all = all
   all_written offset (c ∷ new) cells put all = all_overwritten offset (c ∷ new) cells put all
@@ -113,7 +113,7 @@ module _ {C : Type 0} (P : C → Type 0) (x : C) (own : P x) where
   all_allocated ZeroRange offset size cells all = all_written offset (replicate size x) cells (all_replicated size) all
   all_allocated ZeroWithin offset size cells all = all_zeroed offset size cells all
 
-  all_fallocated : (allocation : Allocation) (offset size : ℕ) (cells : List C) → AllByRecursion P cells → AllByRecursion P (fallocated x allocation offset size cells)
+  pub all_fallocated : (allocation : Allocation) (offset size : ℕ) (cells : List C) → AllByRecursion P cells → AllByRecursion P (fallocated x allocation offset size cells)
   unfolding fallocated
   all_fallocated allocation offset zero cells all = all
   all_fallocated allocation offset (suc size) cells all = all_allocated allocation offset (suc size) cells all
@@ -123,11 +123,11 @@ module _ {C : Type 0} (x : C) (top : ℕ) where
   filled_len : (size : ℕ) (cells : List C) → size ≤ top → length cells ≤ top → length (filled x size cells) ≤ top
   filled_len size cells a b = omega (arith, a, b, length-append cells (replicate (size - length cells) x), length-replicate (size - length cells) x)
 
-  resized_len : (size : ℕ) (cells : List C) → size ≤ top → length (resized x size cells) ≤ top
+  pub resized_len : (size : ℕ) (cells : List C) → size ≤ top → length (resized x size cells) ≤ top
   unfolding resized
   resized_len size cells a = omega (arith, a, length-take size (filled x size cells))
 
-  overwritten_len : (offset : ℕ) (new cells : List C) → offset + length new ≤ top → length cells ≤ top → length (overwritten x offset new cells) ≤ top
+  pub overwritten_len : (offset : ℕ) (new cells : List C) → offset + length new ≤ top → length cells ≤ top → length (overwritten x offset new cells) ≤ top
   unfolding overwritten
   overwritten_len offset new cells a b =
       omega (
@@ -142,7 +142,7 @@ module _ {C : Type 0} (x : C) (top : ℕ) where
         length-replicate (offset - length cells) x,
       )
 
-  written_len : (offset : ℕ) (new cells : List C) → offset + length new ≤ top → length cells ≤ top → length (written_at x offset new cells) ≤ top
+  pub written_len : (offset : ℕ) (new cells : List C) → offset + length new ≤ top → length cells ≤ top → length (written_at x offset new cells) ≤ top
   unfolding written_at
   written_len offset [] cells a b = b
   written_len offset (c ∷ new) cells a b = overwritten_len offset (c ∷ new) cells a b
@@ -159,14 +159,14 @@ module _ {C : Type 0} (x : C) (top : ℕ) where
   allocated_len ZeroRange offset size cells a b = written_len offset (replicate size x) cells (let l = length-replicate size x in omega (arith, l, a)) b
   allocated_len ZeroWithin offset size cells a b = zeroed_len offset size cells b
 
-  fallocated_len : (allocation : Allocation) (offset size : ℕ) (cells : List C) → offset + size ≤ top → length cells ≤ top → length (fallocated x allocation offset size cells) ≤ top
+  pub fallocated_len : (allocation : Allocation) (offset size : ℕ) (cells : List C) → offset + size ≤ top → length cells ≤ top → length (fallocated x allocation offset size cells) ≤ top
   unfolding fallocated
   fallocated_len allocation offset zero cells a b = b
   fallocated_len allocation offset (suc size) cells a b = allocated_len allocation offset (suc size) cells a b
 
 -- ---- what the format can say
 
-abbrev IsByteName : List ℕ → Type 0
+abbrev pub IsByteName : List ℕ → Type 0
 IsByteName n = IsBytes n
 
 abbrev IsByte : ℕ → Type 0
@@ -203,12 +203,12 @@ pieces_bytes (b ∷ bytes) are = one (b == slash) (pieces_bytes bytes are.1)
     one true more = (tt, more)
     one false more = onto_bytes b (between_slashes bytes) are.0 more
 
-byte_names : (path : List ℕ) → IsBytes path → NamesAre IsByteName path
+pub byte_names : (path : List ℕ) → IsBytes path → NamesAre IsByteName path
 byte_names [] are names e = subst (λ (ns : List (List ℕ)). AllByRecursion IsByteName ns) (sym (none_left names e)) tt
 byte_names (b ∷ path) are names e = subst (λ (ns : List (List ℕ)). AllByRecursion IsByteName ns) (sym (path_names_pieces (b ∷ path) names (omega arith) e).0) (pieces_bytes (b ∷ path) are)
 
 -- The path under which a command that can be said makes a name.
-new_bytes : (version : ℕ) (c : Command) → IsSpellable version c → IsBytes (new_path c)
+pub new_bytes : (version : ℕ) (c : Command) → IsSpellable version c → IsBytes (new_path c)
 unfolding row
 new_bytes version (MkFile path) s = let v = s.values in v.0.1
 new_bytes version (MkDir path) s = let v = s.values in v.0.1

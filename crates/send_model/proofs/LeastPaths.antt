@@ -30,20 +30,20 @@ abbrev pub Among : {A : Type 0} → A → List A → Type 0
 Among x [] = ⊥
 Among x (y ∷ ys) = (y ≡ x) ⊎ Among x ys
 
-among_left : {A : Type 0} (x : A) (xs ys : List A) → Among x xs → Among x (xs ++ ys)
+pub among_left : {A : Type 0} (x : A) (xs ys : List A) → Among x xs → Among x (xs ++ ys)
 among_left x [] ys a = absurd a
 among_left x (y ∷ xs) ys (inl e) = inl e
 among_left x (y ∷ xs) ys (inr more) = inr (among_left x xs ys more)
 
-among_right : {A : Type 0} (x : A) (xs ys : List A) → Among x ys → Among x (xs ++ ys)
+pub among_right : {A : Type 0} (x : A) (xs ys : List A) → Among x ys → Among x (xs ++ ys)
 among_right x [] ys a = a
 among_right x (y ∷ xs) ys a = inr (among_right x xs ys a)
 
-all_from_among : {A : Type 0} (P : A → Type 0) (xs : List A) → ((x : A) → Among x xs → P x) → AllByRecursion P xs
+pub all_from_among : {A : Type 0} (P : A → Type 0) (xs : List A) → ((x : A) → Among x xs → P x) → AllByRecursion P xs
 all_from_among P [] f = tt
 all_from_among P (x ∷ xs) f = (f x (inl refl), all_from_among P xs (λ y a. f y (inr a)))
 
-all_at : {A : Type 0} (P : A → Type 0) (x : A) (xs : List A) → AllByRecursion P xs → Among x xs → P x
+pub all_at : {A : Type 0} (P : A → Type 0) (x : A) (xs : List A) → AllByRecursion P xs → Among x xs → P x
 all_at P x [] all a = absurd a
 all_at P x (y ∷ xs) all (inl e) = subst P e all.0
 all_at P x (y ∷ xs) all (inr more) = all_at P x xs all.1 more
@@ -98,7 +98,7 @@ no_slash_alone (b ∷ name) h = let p = or_parts (b == slash) (list_any (λ c. c
 
 -- ---- a path as its names, one below the other
 
-abbrev join_names : List ℕ → List (List ℕ) → List ℕ
+abbrev pub join_names : List ℕ → List (List ℕ) → List ℕ
 join_names path [] = path
 join_names path (name ∷ names) = join_names (path_below path name) names
 
@@ -116,7 +116,7 @@ join_after b path name (more ∷ names) =
     join_after b (path ++ slash ∷ name) more names
     ∙ append_assoc (b ∷ path) (slash ∷ name) (slash ∷ join_with_byte slash (more ∷ names))
 
-join_all : (names : List (List ℕ)) → list_all is_name names ≡ true → join_names [] names ≡ join_with_byte slash names
+pub join_all : (names : List (List ℕ)) → list_all is_name names ≡ true → join_names [] names ≡ join_with_byte slash names
 join_all [] good = refl
 join_all (name ∷ []) good = refl
 join_all (name ∷ more ∷ names) good = one name (is_name_length name (and_parts (is_name name) (list_all is_name (more ∷ names)) good).0).0
@@ -191,11 +191,11 @@ module _ {C : Type 0} (s : Subvolume C) where
 
   -- ---- what walks is among all paths
 
-  found_some : {A : Type 0} (o : Option A) (refusal : Refusal) (x : A) → found o refusal ≡ Ok x → o ≡ Some x
+  pub found_some : {A : Type 0} (o : Option A) (refusal : Refusal) (x : A) → found o refusal ≡ Ok x → o ≡ Some x
   found_some None refusal x e = cc
   found_some (Some y) refusal x e = cc
 
-  joined : (path : List ℕ) (names : List (List ℕ)) → path_names path ≡ Some names → (join_names [] names ≡ path) × (length names ≤ 2048)
+  pub joined : (path : List ℕ) (names : List (List ℕ)) → path_names path ≡ Some names → (join_names [] names ≡ path) × (length names ≤ 2048)
   joined [] names e = let none = none_left names e in (ap (λ (ns : List (List ℕ)). join_names [] ns) none, omega (arith, ap length none))
   joined (b ∷ path) names e =
       let p = path_names_pieces (b ∷ path) names (omega arith) e in
@@ -240,7 +240,7 @@ not_after_trans p q r a b e = elim (not_after_one (bytes_cmp p q) a) [
   ]
 ]
 
-not_after_both : (p q : List ℕ) → NotAfter p q → NotAfter q p → p ≡ q
+pub not_after_both : (p q : List ℕ) → NotAfter p q → NotAfter q p → p ≡ q
 not_after_both p q a b = elim (not_after_one (bytes_cmp p q) a) [
   | inr same ↦ exact_bytes p q same
   | inl less ↦ absurd (b (flipped p q Less less))

@@ -43,7 +43,7 @@ pub mod Redirected
 pub mod SpelledPieces
 pub mod Rewriting
 mod Carrying
-mod FirstPaths
+pub mod FirstPaths
 pub mod LeastPaths
 pub mod LawfulPaths
 pub mod Overwriting

@@ -15,7 +15,7 @@ use Rattle.send_model.proofs.MapLaws.{with_value-here, with_value-other}
 use Rattle.send_model.proofs.Overwriting.{with_value-twice}
 
 module _ {C : Type 0} where
-  names_walk : (s t : Subvolume C) → t.names ≡ s.names → ((i : ℕ) → is_directory t i ≡ is_directory s i) → (ino : ℕ) (names : List (List ℕ)) → walk_names t ino names ≡ walk_names s ino names
+  pub names_walk : (s t : Subvolume C) → t.names ≡ s.names → ((i : ℕ) → is_directory t i ≡ is_directory s i) → (ino : ℕ) (names : List (List ℕ)) → walk_names t ino names ≡ walk_names s ino names
   unfolding walk_names
   names_walk s t e d ino [] = refl
   names_walk s t e d ino (name ∷ rest) =
@@ -23,12 +23,12 @@ module _ {C : Type 0} where
       ap₂ (λ (b : Bool) (o : Option ℕ). require b NotDirectory >> (found o NoEntry >>= below)) (d ino) (ap (λ (m : Map (ℕ × List ℕ) ℕ). named (record { inodes = s.inodes; names = m; next = s.next }) ino name) e)
       ∙ ap (λ (k : ℕ → Result ℕ Refusal). require (is_directory s ino) NotDirectory >> (found (named s ino name) NoEntry >>= k)) (λ i b. names_walk s t e d b rest i)
 
-  same_walk : (s t : Subvolume C) → t.names ≡ s.names → ((i : ℕ) → is_directory t i ≡ is_directory s i) → (path : List ℕ) → walk t path ≡ walk s path
+  pub same_walk : (s t : Subvolume C) → t.names ≡ s.names → ((i : ℕ) → is_directory t i ≡ is_directory s i) → (path : List ℕ) → walk t path ≡ walk s path
   unfolding walk
   same_walk s t e d path = ap (λ (k : List (List ℕ) → Result ℕ Refusal). found (path_names path) BadPath >>= k) (λ i names. names_walk s t e d root names i)
 
   module _ (x : ℕ) (old new : Inode C) (s : Subvolume C) (at : inode_at s x ≡ Some old) (kind : new.kind ≡ old.kind) where
-    same_kinds : (test : NodeKind → Bool) (i : ℕ) → passes_inode (λ inode. test inode.kind) (inode_at (set_inode x new s) i) ≡ passes_inode (λ inode. test inode.kind) (inode_at s i)
+    pub same_kinds : (test : NodeKind → Bool) (i : ℕ) → passes_inode (λ inode. test inode.kind) (inode_at (set_inode x new s) i) ≡ passes_inode (λ inode. test inode.kind) (inode_at s i)
     same_kinds test i = elim (cases_eq i x) [
       | inl e ↦ subst (λ (j : ℕ). passes_inode (λ (inode : Inode C). test inode.kind) (inode_at (set_inode x new s) j) ≡ passes_inode (λ (inode : Inode C). test inode.kind) (inode_at s j)) (sym e)
           (ap (passes_inode (λ (inode : Inode C). test inode.kind)) (with_value-here nat_cmp nat_cmp_total exact_unsigned x new s.inodes) ∙ ap test kind ∙ sym (ap (passes_inode (λ (inode : Inode C). test inode.kind)) at))
@@ -37,7 +37,7 @@ module _ {C : Type 0} where
 
   -- ---- the cells of one inode
 
-  changed : (x : ℕ) (change : Inode C → Inode C) (s : Subvolume C) (old : Inode C) → inode_at s x ≡ Some old → change_inode x change s ≡ set_inode x (change old) s
+  pub changed : (x : ℕ) (change : Inode C → Inode C) (s : Subvolume C) (old : Inode C) → inode_at s x ≡ Some old → change_inode x change s ≡ set_inode x (change old) s
   unfolding change_inode
   changed x change s old at = ap (λ (o : Option (Inode C)). elim o as (λ i. Subvolume C) [ None ↦ s | Some inode ↦ set_inode x (change inode) s ]) at
 
