@@ -40,7 +40,7 @@ use Rattle.cmd_reader.specs.Next.{item_of, is_last, HasBegun, BeginsAt, HasEnded
 use Rattle.cmd_reader.specs.Stands.{HasPassedFrame}
 use Rattle.cmd_reader.specs.Frames.{frame_here, HasGonePast, HasReached, FrameFits, StepSays, FrameSays}
 use Rattle.cmd_reader.specs.Glances.{IsGlance, GlanceSays, GlanceFits}
-use Rattle.cmd_reader.specs.Items.{StopAt, ItemIs, GlanceIs, IsRefusedAt, BodySays, ItemSays, HeadSays}
+use Rattle.cmd_reader.specs.Items.{StopAt, ItemIs, GlanceIs, IsRefusedAt, BodySays, ItemSays, GlanceSaid}
 use Rattle.cmd_reader.proofs.Told.{Here, told_map, told_both, told_here, told_moved}
 use Rattle.cmd_reader.proofs.Sourcing.{rises}
 use Rattle.cmd_reader.proofs.Lefts.{EndsAtOnce, left_ended, left_header, left_no_header, left_short, left_command, left_no_command, due_same}
@@ -529,10 +529,10 @@ item_given told old new frame r item bytes_are is = (
 glance_given : (told : Option (List (List ℕ × List ℕ))) (old new : Reader) (frame : FrameAt) (r : HasReached told old new frame) (glance : Glance) → GlanceIs (frame_of_reached told old new frame r) (own_body new) glance
     → GlanceFits old new glance × IsGlance told old new glance
 glance_given told old new frame r glance is =
-    let h = is.head_is in
+    let h = is.mention_is in
     let read = reached_read told old new frame r h.attributes h.command h.read h.command_is h.can_write in (
       record { further = read.further; within = read.within; version = subst (λ (v : ℕ). is_version v ≡ true) (sym is.version_is) read.version; writable = is.writable },
-      record { item = item_here r.mid r.past.version h.attributes h.command; version = sym is.version_is; head = h.head_is; read = read },
+      record { item = item_here r.mid r.past.version h.attributes h.command; version = sym is.version_is; mention = h.mention_is; read = read },
     )
 
 -- The frame is refused for what its body says.
@@ -580,7 +580,7 @@ pub item_said : (told : Option (List (List ℕ × List ℕ))) (old new : Reader)
 item_said told old new before now o frame body result is says body_is bytes_are m =
     body_said ItemIs (ItemFits old new) (λ item. IfTold told old.name (IsNext old new item)) told old new before now o frame body result is says body_is (λ r item i. item_given told old new frame r item bytes_are i) m
 
-pub glance_said : (told : Option (List (List ℕ × List ℕ))) (old new : Reader) (before now : ℕ) (o : Option FrameAt) (frame : FrameAt) (body : List ℕ) (result : Result (Option Glance) ReadStop) → o ≡ Some frame → FrameSays told old new before now (Ok o) → body ≡ drop 10 new.fed.last → HeadSays frame body result
+pub glance_said : (told : Option (List (List ℕ × List ℕ))) (old new : Reader) (before now : ℕ) (o : Option FrameAt) (frame : FrameAt) (body : List ℕ) (result : Result (Option Glance) ReadStop) → o ≡ Some frame → FrameSays told old new before now (Ok o) → body ≡ drop 10 new.fed.last → GlanceSaid frame body result
     → (IfItem result (GlanceFits old new) × EndsAfterEnd old result) × GlanceSays told old new before now result
 glance_said told old new before now o frame body result is says body_is m =
     body_said GlanceIs (GlanceFits old new) (IsGlance told old new) told old new before now o frame body result is says body_is (λ r glance i. glance_given told old new frame r glance i) m

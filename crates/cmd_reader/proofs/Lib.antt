@@ -4,7 +4,7 @@ mod Lefts
 mod Alone
 pub mod LastFrames
 pub mod CommandFacts
-mod HeadFacts
+mod MentionFacts
 mod Sourcing
 mod Goings
 mod Steps

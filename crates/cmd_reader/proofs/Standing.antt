@@ -16,7 +16,7 @@ use Rattle.cmd_reader.specs.Left.{Reader}
 use Rattle.cmd_reader.specs.Next.{HasBegun}
 use Rattle.cmd_reader.specs.Stands.{HasPassedFrame, Stands, NextStands, GlanceStands}
 use Rattle.cmd_reader.specs.Frames.{HasReached, FrameSays, Halts, StepHalts}
-use Rattle.cmd_reader.specs.Items.{StopAt, ItemIs, GlanceIs, BodySays, ItemSays, HeadSays}
+use Rattle.cmd_reader.specs.Items.{StopAt, ItemIs, GlanceIs, BodySays, ItemSays, GlanceSaid}
 use Rattle.cmd_reader.proofs.Goings.{frame_passed}
 
 -- ---- one step
@@ -109,6 +109,6 @@ pub item_stands : (told : Option (List (List ℕ × List ℕ))) (old new : Reade
 item_stands told old new before now o frame body result is says m =
     body_stands (ItemIs frame body) (λ (item : Item). HasPassedFrame told old new item.offset) told old new before now o frame body result is says (λ past item i. subst (λ (at : ℕ). HasPassedFrame told old new at) (sym i.offset_is) past) m
 
-pub glance_stands : (told : Option (List (List ℕ × List ℕ))) (old new : Reader) (before now : ℕ) (o : Option FrameAt) (frame : FrameAt) (body : List ℕ) (result : Result (Option Glance) ReadStop) → o ≡ Some frame → FrameSays told old new before now (Ok o) → HeadSays frame body result → GlanceStands told old new result
+pub glance_stands : (told : Option (List (List ℕ × List ℕ))) (old new : Reader) (before now : ℕ) (o : Option FrameAt) (frame : FrameAt) (body : List ℕ) (result : Result (Option Glance) ReadStop) → o ≡ Some frame → FrameSays told old new before now (Ok o) → GlanceSaid frame body result → GlanceStands told old new result
 glance_stands told old new before now o frame body result is says m =
     body_stands (GlanceIs frame body) (λ (glance : Glance). (at : ℕ) × HasPassedFrame told old new at) told old new before now o frame body result is says (λ past glance i. (frame.offset, past)) m

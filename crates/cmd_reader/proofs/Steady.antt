@@ -1,5 +1,5 @@
 -- Which answers say that the inputs failed.
-use Rattle.std.specs.Prelude.{ℕ, Option, None, Some, Result, Ok, Err}
+use Rattle.std.specs.Prelude.{ℕ, Result, Ok, Err}
 use Rattle.std.proofs.Common.{sym, subst}
 use Rattle.cmd_reader.specs.declared.fault.Fault.{Fault}
 use Rattle.cmd_reader.specs.declared.fault.Fault.TheVariants as fault

@@ -9,13 +9,14 @@ use Rattle.cmd_reader.specs.declared.item.Glance.{Glance}
 use Rattle.cmd_reader.specs.declared.item.ReadStop.{ReadStop}
 use Rattle.cmd_reader.specs.Left.{Reader}
 use Rattle.cmd_reader.specs.Next.{HasRead, Says}
-use Rattle.cmd_reader.specs.Heads.{as_head}
+use Rattle.cmd_reader.specs.Mentions.{as_mention}
 
--- There is an item that was gone past, of this version. The head is its command where that begins a part, and else none.
+-- There is an item that was gone past, of this version. What it mentions is its command where that begins a part or names a key, and
+-- else none.
 pub record IsGlance (told : Option (List (List ℕ × List ℕ))) (old new : Reader) (glance : Glance) : Type 0 where
   pub item : reading.Item
   pub version : item.version ≡ glance.version
-  pub head : option_map meaning_of glance.head ≡ as_head item.command
+  pub mention : option_map meaning_of glance.mention ≡ as_mention item.command
   pub read : HasRead told old new item
 
 -- What is seen of the next command, or why there is none.
@@ -27,4 +28,4 @@ pub record GlanceFits (old new : Reader) (glance : Glance) : Type 0 where
   pub further : old.offset < new.offset
   pub within : new.offset ≤ limit
   pub version : is_version glance.version ≡ true
-  pub writable : IfSome glance.head (λ head. IsWritable glance.version (meaning_of head))
+  pub writable : IfSome glance.mention (λ command. IsWritable glance.version (meaning_of command))

@@ -14,7 +14,7 @@ use Rattle.cmd_reader.specs.declared.item.Glance.{Glance}
 use Rattle.cmd_reader.specs.declared.item.ReadStop.{ReadStop}
 use Rattle.cmd_reader.specs.declared.item.ReadStop.TheVariants as stop
 use Rattle.cmd_reader.specs.Commands.{body_read, CommandIs, CommandFits}
-use Rattle.cmd_reader.specs.Heads.{HeadIs}
+use Rattle.cmd_reader.specs.Mentions.{MentionIs}
 
 -- A refusal at a place.
 abbrev pub verdict_at : ℕ → ℕ → ℕ → Refusal → reading.Verdict
@@ -41,8 +41,8 @@ pub record ItemIs (frame : FrameAt) (body : List ℕ) (item : Item) : Type 0 whe
 -- What is seen of the command of a frame, by its body.
 pub record GlanceIs (frame : FrameAt) (body : List ℕ) (glance : Glance) : Type 0 where
   pub version_is : glance.version ≡ frame.version
-  pub head_is : HeadIs frame.version frame.cmd body glance.head
-  pub writable : IfSome glance.head (λ head. IsWritable glance.version (meaning_of head))
+  pub mention_is : MentionIs frame.version frame.cmd body glance.mention
+  pub writable : IfSome glance.mention (λ command. IsWritable glance.version (meaning_of command))
 
 -- What a body says is refused, at the frame's place.
 abbrev pub IsRefusedAt : FrameAt → List ℕ → Verdict → Type 0
@@ -61,5 +61,5 @@ BodySays made frame body (Err stop.InputTooLong) = ⊥
 abbrev pub ItemSays : FrameAt → List ℕ → Result (Option Item) ReadStop → Type 0
 ItemSays frame body result = BodySays (ItemIs frame body) frame body result
 
-abbrev pub HeadSays : FrameAt → List ℕ → Result (Option Glance) ReadStop → Type 0
-HeadSays frame body result = BodySays (GlanceIs frame body) frame body result
+abbrev pub GlanceSaid : FrameAt → List ℕ → Result (Option Glance) ReadStop → Type 0
+GlanceSaid frame body result = BodySays (GlanceIs frame body) frame body result

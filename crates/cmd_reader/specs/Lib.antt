@@ -4,7 +4,7 @@ pub mod Sources
 pub mod Left
 pub mod Alone
 pub mod Commands
-pub mod Heads
+pub mod Mentions
 pub mod Next
 pub mod Stands
 pub mod Frames

@@ -7,8 +7,8 @@ ghost use Rattle.send_model.specs.Lengths.{limit};
 ghost use Rattle.send_commands.specs.Meaning.{meaning_of, kind_meant};
 ghost use Rattle.send_commands.specs.Writing.{IsWritable};
 ghost use Rattle.cmd_reader.specs.Commands.{ReadsCommand, CommandFits, FindsCanonical};
-ghost use Rattle.cmd_reader.specs.Heads.{ReadsHead, is_head};
-ghost use Rattle.cmd_reader.specs.Items.{ItemSays, HeadSays, StopAt};
+ghost use Rattle.cmd_reader.specs.Mentions.{ReadsMention, is_mention};
+ghost use Rattle.cmd_reader.specs.Items.{ItemSays, GlanceSaid, StopAt};
 
 use crate::fault::Fault;
 use crate::item::{Glance, Item, ReadStop};
@@ -79,11 +79,11 @@ pub(crate) fn glance_in(
     body: &[u8],
 ) -> Result<Option<Glance>, ReadStop>
     requires short { length body.now ≤ greatest_body }
-    ensures says { HeadSays frame body.now result }
+    ensures says { GlanceSaid frame body.now result }
 {
-    match head_in(alloc, frame.version, frame.cmd, body) {
-        Ok(head) => Ok(Some(Glance {
-            head,
+    match mention_in(alloc, frame.version, frame.cmd, body) {
+        Ok(mention) => Ok(Some(Glance {
+            mention,
             version: frame.version,
         })),
         Err(fault) => Err(stop_at(frame.file, frame.number, frame.offset, fault)),
@@ -163,12 +163,12 @@ pub fn canonical_command(
     }
 }
 
-// The command of a number whose attributes are these, where it begins a part.
-fn head_in(alloc: Global, version: u32, cmd: u16, body: &[u8]) -> Result<Option<Command>, Fault>
+// The command of a number whose attributes are these, where it begins a part or names a key.
+fn mention_in(alloc: Global, version: u32, cmd: u16, body: &[u8]) -> Result<Option<Command>, Fault>
     requires short { length body.now ≤ greatest_body }
     ensures writable { IfOk result
-        (λ head. IfSome head (λ command. IsWritable version (meaning_of command))) }
-    ensures read { ReadsHead version cmd body.now result }
+        (λ mention. IfSome mention (λ command. IsWritable version (meaning_of command))) }
+    ensures read { ReadsMention version cmd body.now result }
 {
     let table = match attrs(body, version) {
         Ok(table) => table,
@@ -178,7 +178,7 @@ fn head_in(alloc: Global, version: u32, cmd: u16, body: &[u8]) -> Result<Option<
         Ok(kind) => kind,
         Err(why) => return Err(Fault::Refused(why)),
     };
-    if !begins_part(kind) {
+    if !is_mention(kind) {
         return Ok(None);
     }
     match decode(alloc, cmd, &table) {
@@ -188,13 +188,14 @@ fn head_in(alloc: Global, version: u32, cmd: u16, body: &[u8]) -> Result<Option<
     }
 }
 
-// Whether a command of this kind begins a part.
-fn begins_part(kind: Kind) -> bool
-    ensures { result ≡ is_head (kind_meant kind) }
+// Whether a command of this kind begins a part or names a key.
+fn is_mention(kind: Kind) -> bool
+    ensures { result ≡ is_mention (kind_meant kind) }
 {
     match kind {
         Kind::Subvol => true,
         Kind::Snapshot => true,
+        Kind::Clone => true,
         _ => false,
     }
 }

@@ -20,11 +20,11 @@ pub struct Item {
     pub canonical: bool,
 }
 
-/// What is seen of a command that is not made, unless it begins a part.
+/// What is seen of a command that is not made, unless it begins a part or names another subvolume.
 #[derive(Debug, Drop)]
 pub struct Glance {
-    /// The command itself where it begins a part, None where it does not.
-    pub head: Option<Command>,
+    /// The command itself where it begins a part or names a key beside its own, None where it does neither.
+    pub mention: Option<Command>,
     /// The version of its stream.
     pub version: u32,
 }

@@ -198,8 +198,8 @@ fn given(
 }
 
 fn seen_begun(glance: &Glance) -> Option<u64> {
-    match &glance.head {
-        Some(head) => begun(head),
+    match &glance.mention {
+        Some(mention) => begun(mention),
         None => None,
     }
 }

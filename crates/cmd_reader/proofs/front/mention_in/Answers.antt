@@ -5,12 +5,12 @@ use Rattle.send_model.proofs.Fuel.{ok_same}
 use Rattle.send_commands.specs.Meaning.{meaning_of, kind_meant}
 use Rattle.send_commands.specs.Values.{bytes_in}
 use Rattle.cmd_reader.proofs.CommandFacts.{slice_bytes, read_can_write}
-use Rattle.cmd_reader.proofs.HeadFacts.{no_head, head_made}
-use Rattle.cmd_reader.proofs.front.head_in.Goals as goal
+use Rattle.cmd_reader.proofs.MentionFacts.{no_mention, mention_made}
+use Rattle.cmd_reader.proofs.front.mention_in.Goals as goal
 
--- A kind that begins no part.
-pub returns-then-not-begins_part-clause-read : goal.returns-then-not-begins_part-clause-read
-returns-then-not-begins_part-clause-read c =
+-- A kind that neither begins a part nor names a key.
+pub returns-then-not-is_mention-clause-read : goal.returns-then-not-is_mention-clause-read
+returns-then-not-is_mention-clause-read c =
     let there = c.in-Ok.ensures.exact in
     let attributes = there.0 in
     let kind = kind_meant c.in-Ok-lawful_kind.kind in
@@ -21,10 +21,10 @@ returns-then-not-begins_part-clause-read c =
       read = there.1;
       command_is = command;
       can_write = read_can_write c.args.version c.args.cmd c.args.body.now attributes (meant.command_with kind (bytes_in c.in-Ok.table)) c.ranges.cmd.fits c.requires.short (slice_bytes c.args.body.now c.type_inv.body) there.1 command;
-      head_is = sym (no_head kind (bytes_in c.in-Ok.table) (sym c.begins_part.ensures ∙ c.if-not-begins_part.true));
+      mention_is = sym (no_mention kind (bytes_in c.in-Ok.table) (sym c.is_mention.ensures ∙ c.if-not-is_mention.true));
     }
 
--- One that begins a part.
+-- One that does.
 pub returns-in-Ok-decode-clause-read : goal.returns-in-Ok-decode-clause-read
 returns-in-Ok-decode-clause-read c =
     let there = c.in-Ok.ensures.exact in
@@ -38,5 +38,5 @@ returns-in-Ok-decode-clause-read c =
       read = there.1;
       command_is = command;
       can_write = read_can_write c.args.version c.args.cmd c.args.body.now attributes made c.ranges.cmd.fits c.requires.short (slice_bytes c.args.body.now c.type_inv.body) there.1 command;
-      head_is = sym (head_made kind (bytes_in c.in-Ok.table) made (ok_same (sym (c.in-Ok-lawful_kind.ensures.exact attributes there.2) ∙ c.in-Ok-decode.ensures.exact attributes there.2)) (sym c.begins_part.ensures ∙ c.if-not-begins_part.false));
+      mention_is = sym (mention_made kind (bytes_in c.in-Ok.table) made (ok_same (sym (c.in-Ok-lawful_kind.ensures.exact attributes there.2) ∙ c.in-Ok-decode.ensures.exact attributes there.2)) (sym c.is_mention.ensures ∙ c.if-not-is_mention.false));
     }
