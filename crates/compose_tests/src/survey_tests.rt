@@ -1,5 +1,7 @@
 // Two files that are surveyed, a fault between heads, and the front of a stream. The bytes here are from another program too.
-use crate::streams::{END, HEADER, HEADER_V2, MKFILE, SNAPSHOT_B, SUBVOL_A, WRITE_HI, joined};
+use crate::streams::{
+    CLONE_FROM_B, END, HEADER, HEADER_V2, MKFILE, MKFILE_Y, SNAPSHOT_B, SUBVOL_A, WRITE_HI, joined,
+};
 use crate::values::{key, two_names, uuid};
 use file_survey::{Survey, survey};
 use std::alloc::{AllocError, Global};
@@ -50,8 +52,37 @@ fn heads_are_found_in_order(rt: HostRuntime) -> Result<(), Fail> {
     assert_eq!(rt; seen.last().map(|last| last.has_name(b"b")), Some(true));
     assert_eq!(rt; seen.version(), 1);
     assert_eq!(rt; seen.parts(), [uuid(0x11), uuid(0x22)].as_slice());
-    for (byte, want) in [(0x11, true), (0x22, true), (0x33, false)] {
-        assert_eq!(rt; seen.has_part(uuid(byte)), want);
+    for (byte, is_part, is_named) in [
+        (0x11, true, true),
+        (0x22, true, false),
+        (0x33, false, false),
+    ] {
+        assert_eq!(rt; seen.has_part(uuid(byte)), is_part);
+        assert_eq!(rt; seen.names(uuid(byte)), is_named);
+    }
+    Ok(())
+}
+
+// A clone names its source, and so does the head of a part its parent.
+#[test]
+fn parents_and_sources_of_clones_are_named(rt: HostRuntime) -> Result<(), Fail> {
+    let answer = surveyed(
+        rt.alloc(),
+        &[HEADER, SUBVOL_A, MKFILE_Y, CLONE_FROM_B, END],
+        &[HEADER, SNAPSHOT_C, END],
+    )?;
+    assert!(rt; answer.is_ok());
+    let Ok(seen) = answer else {
+        return Ok(());
+    };
+    for (byte, is_part, is_named) in [
+        (0x11, true, false),
+        (0x22, false, true),
+        (0x33, true, false),
+        (0x44, false, false),
+    ] {
+        assert_eq!(rt; seen.has_part(uuid(byte)), is_part);
+        assert_eq!(rt; seen.names(uuid(byte)), is_named);
     }
     Ok(())
 }

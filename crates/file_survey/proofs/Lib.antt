@@ -4,3 +4,4 @@ pub mod TooLong
 pub mod HeadSpelling
 pub mod Versions
 pub mod Surveys
+pub mod Named

@@ -1,5 +1,5 @@
 -- What is known of the commands of a file and of files: what the loops over them keep, and what holds at each of their ends.
-use Rattle.std.specs.Prelude.{◌≡◌, ℕ, ◌+◌, ◌<◌, ◌≤◌, ◌==◌, ◌||◌, Bool, true, false, List, [], ◌∷◌, ◌++◌, map, length, take, drop, Option, None, Some, Result, Ok, Err, slice_index_or, String, IfSome, option_map, if◌then◌else◌}
+use Rattle.std.specs.Prelude.{◌≡◌, ℕ, ◌+◌, ◌<◌, ◌≤◌, ◌==◌, ◌||◌, Bool, true, false, List, [], ◌∷◌, ◌++◌, map, length, take, drop, Option, None, Some, Result, Ok, Err, slice_index_or, String, IfSome, option_map, is_some, if◌then◌else◌}
 use Rattle.std.specs.List.{list_any}
 use Rattle.std.specs.String.{string_bytes}
 use Rattle.std.proofs.Common.{refl, sym, ap, subst, ◌∙◌, append-nil, append_assoc, arith}
@@ -7,10 +7,10 @@ use Rattle.std.proofs.lemmas.List.{drop_all}
 use Rattle.send_model.specs.Command.{Command}
 use Rattle.send_model.specs.Reading as reading
 use Rattle.send_model.specs.Reading.{Item, Reading, Whole, Faulty, is_version, ended, reads, input}
-use Rattle.send_model.specs.Store.{Head, head_of}
+use Rattle.send_model.specs.Store.{Key, Head, head_of}
 use Rattle.send_model.specs.Receive.{first_of}
-use Rattle.send_model.specs.Order.{heads, heads_of, onto_heads}
-use Rattle.send_model.specs.Outside.{part_uuids}
+use Rattle.send_model.specs.Order.{heads, heads_of, onto_heads, commands_of}
+use Rattle.send_model.specs.Outside.{part_uuids, is_among, keys_named}
 use Rattle.send_model.specs.Composed.{last_head, version_of}
 use Rattle.send_model.specs.Laws.{CanWrite}
 use Rattle.send_model.specs.Lengths.{limit, only_ends, too_long}
@@ -32,13 +32,13 @@ use Rattle.cmd_reader.specs.Places.{IfTold}
 use Rattle.cmd_reader.specs.Fronts.{IsRefused, IsLongAt}
 use Rattle.cmd_reader.specs.Left.{Reader, at_start, left}
 use Rattle.cmd_reader.specs.Next.{HasEnded, IsFaulty, OnlyEnds, GoesOn, IfItem}
-use Rattle.cmd_reader.specs.Heads.{as_head}
+use Rattle.cmd_reader.specs.Mentions.{as_mention, tells_of_parts, is_any}
 use Rattle.cmd_reader.specs.Glances.{IsGlance, GlanceSays, GlanceFits}
 use Rattle.cmd_reader.proofs.Aheads.{says_end, glance_is}
 use Rattle.cmd_reader.proofs.Told.{Here, told_both, told_always, told_here, told_moved, told_next}
 use Rattle.file_survey.specs.Ahead.{IsAhead, then_reading}
 use Rattle.cmd_reader.specs.Stopping.{outcome_at}
-use Rattle.file_survey.specs.Findings.{Surveyed, nothing_seen, uuid_in, with_head, with_version, after_command, seen_head, after_glance, after_items, AreReadable, FileRead, FileStop, FileEnd, AllRead, SurveyStop, SurveyEnd}
+use Rattle.file_survey.specs.Findings.{Surveyed, nothing_seen, uuid_in, joined_by, uuids_named, all_uuids_named, with_head, with_named, with_version, after_command, seen_head, seen_named, after_glance, after_items, AreReadable, FileRead, FileStop, FileEnd, AllRead, SurveyStop, SurveyEnd}
 use Rattle.file_survey.proofs.AheadSteps.{ahead_start, ahead_whole, ahead_fault}
 use Rattle.send_model.proofs.TooLong.{short_fits, fault_fits, long_is}
 use Rattle.file_survey.proofs.TooLong.{LongAhead, long_start, long_end, long_next, long_fault, long_here}
@@ -73,21 +73,31 @@ any_or true true before = refl
 any_or true false before = refl
 any_or false b before = refl
 
+-- Uuids, and then more of them.
+joined_both : (known uuids more : List (List ℕ)) → joined_by known (uuids ++ more) ≡ joined_by (joined_by known uuids) more
+joined_both known [] more = refl
+joined_both known (uuid ∷ uuids) more = joined_both (if is_among known uuid then known else (known ++ uuid ∷ [])) uuids more
+
 -- No items change nothing.
 pub after_none : (now : Surveyed) → after_items now [] ≡ now
 unfolding heads_of
-after_none now = ap (λ (parts : List (List ℕ)). record { parts = parts; version = now.version; last = now.last }) (append-nil now.parts)
+after_none now = ap (λ (parts : List (List ℕ)). record { parts = parts; named = now.named; version = now.version; last = now.last }) (append-nil now.parts)
 
 -- An item, and then others.
 after_front : (now : Surveyed) (item : Item) (items : List Item) → after_items now (item ∷ items) ≡ after_items (after_command now item.version item.command) items
 unfolding heads_of
 after_front now item items =
-    ap (λ (parts : List (List ℕ)). record { parts = parts; version = if (item.version == 2) || any then 2 else now.version; last = first_of (last_head (onto_heads head hs)) now.last })
+    ap (λ (parts : List (List ℕ)). record { parts = parts; named = named; version = if (item.version == 2) || any then 2 else now.version; last = first_of (last_head (onto_heads head hs)) now.last })
     (ap (λ (uuids : List (List ℕ)). now.parts ++ uuids) (uuids_onto head hs) ∙ sym (append_assoc now.parts (uuid_in head) (part_uuids items)))
-    ∙ ap (λ (version : ℕ). record { parts = (now.parts ++ uuid_in head) ++ part_uuids items; version = version; last = first_of (last_head (onto_heads head hs)) now.last }) (any_or (item.version == 2) any now.version)
-    ∙ ap (λ (last : Option Head). record { parts = (now.parts ++ uuid_in head) ++ part_uuids items; version = if any then 2 else (if item.version == 2 then 2 else now.version); last = last })
+    ∙ ap (λ (version : ℕ). record { parts = (now.parts ++ uuid_in head) ++ part_uuids items; named = named; version = version; last = first_of (last_head (onto_heads head hs)) now.last }) (any_or (item.version == 2) any now.version)
+    ∙ ap (λ (last : Option Head). record { parts = (now.parts ++ uuid_in head) ++ part_uuids items; named = named; version = if any then 2 else (if item.version == 2 then 2 else now.version); last = last })
     (ap (λ (o : Option Head). first_of o now.last) (last_onto head hs) ∙ first_then (last_head hs) head now.last)
+    ∙ ap (λ (uuids : List (List ℕ)). record { parts = (now.parts ++ uuid_in head) ++ part_uuids items; named = uuids; version = if any then 2 else (if item.version == 2 then 2 else now.version); last = first_of (last_head hs) (first_of head now.last) })
+    (joined_both now.named (uuids_named item.command) (all_uuids_named (commands_of items)))
   where
+    named : List (List ℕ)
+    named = joined_by now.named (all_uuids_named (commands_of (item ∷ items)))
+
     head : Option Head
     head = head_of item.command
 
@@ -110,21 +120,40 @@ after_one now item = after_front now item [] ∙ after_none (after_command now i
 
 -- ---- what a reader sees
 
--- The head of a command of which nothing else was made.
-seen_is : (o : Option made.Command) (command : Command) → option_map meaning_of o ≡ as_head command → seen_head o ≡ head_of command
-seen_is o command e = by_head o (head_of command) refl e
+-- What tells of no part is no head and names nothing.
+no_head : (command : Command) → tells_of_parts command ≡ false → head_of command ≡ None
+no_head command e = by_head (head_of command) e
   where
-    by_head : (x : Option made.Command) (head : Option Head) → head_of command ≡ head → option_map meaning_of x ≡ (elim head as (λ h. Option Command) [ None ↦ None | Some h ↦ Some command ]) → seen_head x ≡ head
-    by_head None None is q = refl
-    by_head None (Some head) is q = cc
-    by_head (Some c) None is q = cc
-    by_head (Some c) (Some head) is q = ap head_of (same_inside q) ∙ is
+    by_head : (o : Option Head) → is_some o || is_any (keys_named command) ≡ false → o ≡ None
+    by_head None e = refl
+    by_head (Some head) e = cc
+
+none_named : (command : Command) → tells_of_parts command ≡ false → uuids_named command ≡ []
+none_named command e = by_keys (is_some (head_of command)) (keys_named command) e
+  where
+    by_keys : (b : Bool) (keys : List Key) → b || is_any keys ≡ false → map (λ key. key.uuid) keys ≡ []
+    by_keys b [] e = refl
+    by_keys true (key ∷ keys) e = cc
+    by_keys false (key ∷ keys) e = cc
+
+-- The head of a command of which nothing else was made, and what it names.
+seen_is : (o : Option made.Command) (command : Command) → option_map meaning_of o ≡ as_mention command → (seen_head o ≡ head_of command) × (seen_named o ≡ uuids_named command)
+seen_is o command e = by_mention o (tells_of_parts command) refl e
+  where
+    by_mention : (x : Option made.Command) (tells : Bool) → tells_of_parts command ≡ tells → option_map meaning_of x ≡ (if tells then Some command else None) → (seen_head x ≡ head_of command) × (seen_named x ≡ uuids_named command)
+    by_mention None false is q = (sym (no_head command is), sym (none_named command is))
+    by_mention None true is q = cc
+    by_mention (Some c) false is q = cc
+    by_mention (Some c) true is q = (ap head_of (same_inside q), ap uuids_named (same_inside q))
 
 -- What is known after a glance is what is known after the command.
-after_seen : (now : Surveyed) (version : ℕ) (o : Option made.Command) (command : Command) → option_map meaning_of o ≡ as_head command → after_glance now version o ≡ after_command now version command
-after_seen now version o command e = ap (λ (head : Option Head). with_version (with_head now head) version) (seen_is o command e)
+after_seen : (now : Surveyed) (version : ℕ) (o : Option made.Command) (command : Command) → option_map meaning_of o ≡ as_mention command → after_glance now version o ≡ after_command now version command
+after_seen now version o command e =
+    let seen = seen_is o command e in
+    ap (λ (head : Option Head). with_version (with_named (with_head now head) (seen_named o)) version) seen.0
+    ∙ ap (λ (uuids : List (List ℕ)). with_version (with_named (with_head now (head_of command)) uuids) version) seen.1
 
-pub glance_writable : (o : Option Glance) (glance : Glance) (old new : Reader) → o ≡ Some glance → IfItem (Ok o) (GlanceFits old new) → IfSome glance.head (λ head. IsWritable glance.version (meaning_of head))
+pub glance_writable : (o : Option Glance) (glance : Glance) (old new : Reader) → o ≡ Some glance → IfItem (Ok o) (GlanceFits old new) → IfSome glance.mention (λ command. IsWritable glance.version (meaning_of command))
 glance_writable o glance old new e fits = let f = subst (λ (x : Option Glance). IfItem (Ok x) (GlanceFits old new)) e fits in f.writable
 
 -- ---- the commands of a file
@@ -160,7 +189,7 @@ next_of_file file old new item before last now bytes can head h n = record {
 
 -- A command was gone past.
 pub file_next : (told told_now : Option (List (List ℕ × List ℕ))) (file : ℕ) (name : List ℕ) (old new : Reader) (o : Option Glance) (glance : Glance) (before last now : Surveyed) (early late : ℕ) → told_now ≡ told → old.name ≡ name → o ≡ Some glance
-    → now ≡ after_glance last glance.version glance.head → IfTold told name (FileSoFar file old before last) → GlanceSays told_now old new early late (Ok o) → IfTold told name (FileSoFar file new before now)
+    → now ≡ after_glance last glance.version glance.mention → IfTold told name (FileSoFar file old before last) → GlanceSays told_now old new early late (Ok o) → IfTold told name (FileSoFar file new before now)
 file_next told told_now file name old new o glance before last now early late t n is kept h says =
     told_both told name (FileSoFar file old before last) (GoesOn old new g.item) (FileSoFar file new before now) (λ bytes so_far goes. next_of_file file old new g.item before last now bytes (g.read.can_write, g.read.version) known so_far goes) h
     (told_moved told told_now name old.name (GoesOn old new g.item) t n g.read.next)
@@ -169,7 +198,7 @@ file_next told told_now file name old new o glance before last now early late t 
     g = glance_is told_now old new early late o glance is says
 
     known : now ≡ after_command last g.item.version g.item.command
-    known = kept ∙ after_seen last glance.version glance.head g.item.command g.head ∙ ap (λ (v : ℕ). after_command last v g.item.command) (sym g.version)
+    known = kept ∙ after_seen last glance.version glance.mention g.item.command g.mention ∙ ap (λ (v : ℕ). after_command last v g.item.command) (sym g.version)
 
 read_to : (file : ℕ) (reader : Reader) (before last : Surveyed) (bytes : List ℕ) (ending : reading.Ending) (h : FileSoFar file reader before last bytes) → left reader bytes ≡ record { items = []; end = ending } → reads file bytes ≡ record { items = h.items; end = ending }
 read_to file reader before last bytes ending h is = h.read ∙ ap (then_reading h.items) is ∙ ap (λ (is : List Item). record { items = is; end = ending }) (append-nil h.items)
@@ -262,6 +291,7 @@ all_read files items ending last is writable seen fits =
     record {
       last = ap (λ (s : Surveyed). s.last) seen ∙ sym (first_alone (last_head (heads items))) ∙ ap (λ (is : List Item). last_head (heads is)) all;
       parts = ap (λ (s : Surveyed). s.parts) seen ∙ ap part_uuids all;
+      named = ap (λ (s : Surveyed). s.named) seen ∙ ap (λ (is : List Item). joined_by [] (all_uuids_named (commands_of is))) all;
       version = ap (λ (s : Surveyed). s.version) seen ∙ version_after items ∙ ap version_of all;
       writable = subst AreReadable all writable;
       fits = fits;

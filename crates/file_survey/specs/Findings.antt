@@ -1,13 +1,13 @@
 -- What is found out of files that are read for their heads and versions, and why they can not be read on.
-use Rattle.std.specs.Prelude.{◌≡◌, ◌⊎◌, ⊤, ℕ, ◌==◌, Bool, true, false, List, [], ◌∷◌, ◌++◌, Option, None, Some, Result, Ok, Err, if◌then◌else◌}
-use Rattle.std.specs.List.{AllByRecursion, list_any}
+use Rattle.std.specs.Prelude.{◌≡◌, ◌⊎◌, ⊤, ℕ, ◌==◌, Bool, true, false, List, [], ◌∷◌, ◌++◌, map, Option, None, Some, Result, Ok, Err, if◌then◌else◌}
+use Rattle.std.specs.List.{AllByRecursion, list_any, flat_map}
 use Rattle.send_model.specs.Command.{Command}
 use Rattle.send_model.specs.Reading as reading
 use Rattle.send_model.specs.Reading.{Item, Whole, Faulty, is_version, reads, input}
 use Rattle.send_model.specs.Store.{Head, head_of}
 use Rattle.send_model.specs.Receive.{first_of}
-use Rattle.send_model.specs.Order.{heads}
-use Rattle.send_model.specs.Outside.{part_uuids}
+use Rattle.send_model.specs.Order.{heads, commands_of}
+use Rattle.send_model.specs.Outside.{part_uuids, is_among, keys_named}
 use Rattle.send_model.specs.Composed.{last_head, version_of}
 use Rattle.send_model.specs.Laws.{CanWrite}
 use Rattle.send_model.specs.Lengths.{is_too_long, too_long}
@@ -18,16 +18,18 @@ use Rattle.sx_base.specs.declared.outcome.Outcome.TheVariants as ended
 
 -- ---- what is known
 
--- The uuids of the parts, in the order of their heads; the version of the stream that stands for the parts; and the head of the last
+-- The uuids of the parts, in the order of their heads; the uuids that the commands name as those of parents and of sources of clones,
+-- each once, in the order in which each is first named; the version of the stream that stands for the parts; and the head of the last
 -- part, where there is one.
 pub record Surveyed : Type 0 where
   pub parts : List (List ℕ)
+  pub named : List (List ℕ)
   pub version : ℕ
   pub last : Option Head
 
 -- Before the first command.
 abbrev pub nothing_seen : Surveyed
-nothing_seen = record { parts = []; version = 1; last = None }
+nothing_seen = record { parts = []; named = []; version = 1; last = None }
 
 -- The versions that are written.
 abbrev pub IsOutput : ℕ → Type 0
@@ -43,29 +45,54 @@ abbrev pub uuid_in : Option Head → List (List ℕ)
 uuid_in None = []
 uuid_in (Some head) = head.key.uuid ∷ []
 
--- With a head, if there is one, and with a version.
+-- Uuids, and then those of others that are not among them yet.
+abbrev pub joined_by : List (List ℕ) → List (List ℕ) → List (List ℕ)
+joined_by known [] = known
+joined_by known (uuid ∷ uuids) = joined_by (if is_among known uuid then known else (known ++ uuid ∷ [])) uuids
+
+-- The uuids of the keys that a command names, and that commands name.
+abbrev pub uuids_named : Command → List (List ℕ)
+uuids_named command = map (λ key. key.uuid) (keys_named command)
+
+abbrev pub all_uuids_named : List Command → List (List ℕ)
+all_uuids_named commands = flat_map uuids_named commands
+
+-- What there is of an option, as a list.
+abbrev pub in_list : {A : Type 0} → Option A → List A
+in_list None = []
+in_list (Some x) = x ∷ []
+
+-- With a head, if there is one, with uuids that are named, and with a version.
 abbrev pub with_head : Surveyed → Option Head → Surveyed
 with_head now head = record now { parts = now.parts ++ uuid_in head; last = first_of head now.last }
+
+abbrev pub with_named : Surveyed → List (List ℕ) → Surveyed
+with_named now uuids = record now { named = joined_by now.named uuids }
 
 abbrev pub with_version : Surveyed → ℕ → Surveyed
 with_version now version = record now { version = if version == 2 then 2 else now.version }
 
 -- After a command of a stream of this version.
 abbrev pub after_command : Surveyed → ℕ → Command → Surveyed
-after_command now version command = with_version (with_head now (head_of command)) version
+after_command now version command = with_version (with_named (with_head now (head_of command)) (uuids_named command)) version
 
--- The same where the command was made only if it is a head.
+-- The same where the command was made only if it is a head or names a key.
 abbrev pub seen_head : Option made.Command → Option Head
 seen_head None = None
 seen_head (Some command) = head_of (meaning_of command)
 
+abbrev pub seen_named : Option made.Command → List (List ℕ)
+seen_named None = []
+seen_named (Some command) = uuids_named (meaning_of command)
+
 abbrev pub after_glance : Surveyed → ℕ → Option made.Command → Surveyed
-after_glance now version head = with_version (with_head now (seen_head head)) version
+after_glance now version mention = with_version (with_named (with_head now (seen_head mention)) (seen_named mention)) version
 
 -- After items.
 abbrev pub after_items : Surveyed → List Item → Surveyed
 after_items now items = record {
   parts = now.parts ++ part_uuids items;
+  named = joined_by now.named (all_uuids_named (commands_of items));
   version = if list_any (λ item. item.version == 2) items then 2 else now.version;
   last = first_of (last_head (heads items)) now.last;
 }
@@ -112,6 +139,7 @@ FileEnd file old new (Err outcome) bytes = FileStop file outcome bytes
 pub record AllRead (seen : Surveyed) (files : List (List ℕ)) : Type 0 where
   pub last : seen.last ≡ last_head (heads (input files).items)
   pub parts : seen.parts ≡ part_uuids (input files).items
+  pub named : seen.named ≡ joined_by [] (all_uuids_named (commands_of (input files).items))
   pub version : seen.version ≡ version_of (input files).items
   pub writable : AreReadable (input files).items
   pub fits : too_long files ≡ None

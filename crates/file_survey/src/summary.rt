@@ -4,21 +4,24 @@ ghost use Rattle.std.specs.Option.{option_copied};
 ghost use Rattle.send_model.specs.Outside.{is_among};
 ghost use Rattle.send_commands.specs.Meaning.{meaning_of};
 ghost use Rattle.send_commands.specs.Writing.{IsWritable};
-ghost use Rattle.file_survey.specs.Findings.{KnowsParts, nothing_seen, with_head, with_version, after_glance};
+ghost use Rattle.file_survey.specs.Findings.{KnowsParts, nothing_seen, with_head, with_named, with_version, uuids_named, in_list, after_glance};
 
 use crate::part_head::PartHead;
-use crate::part_uuids::PartUuids;
+use crate::uuid_list::UuidList;
 use cmd_reader::Glance;
+use send_commands::Command;
 use std::alloc::{AllocError, Global};
 use std::marker::Model;
 use uuid::Uuid;
 
-/// What is known of files once they were read for their heads: the head of the last part, the UUIDs of all parts, and the version
-/// of the stream that stands for them, which is 2 where a command of the files has it, and else 1.
+/// What is known of files once they were read for their heads: the head of the last part, the UUIDs of all parts, the UUIDs that are
+/// named as those of parents and of sources of clones, and the version of the stream that stands for them, which is 2 where a command
+/// of the files has it, and else 1.
 #[derive(Debug, Drop)]
 pub struct Survey {
     last: Option<PartHead>,
-    parts: PartUuids,
+    parts: UuidList,
+    named: UuidList,
     version: u32,
 }
 
@@ -27,7 +30,7 @@ impl Model for Survey {
 
     ghost Value = { Surveyed };
 
-    ghost view = { λ s. record { parts = s.parts; version = s.version; last = s.last } };
+    ghost view = { λ s. record { parts = s.parts; named = s.named; version = s.version; last = s.last } };
 
     ghost invariant = { λ s. IsOutput s.version × KnowsParts s.last s.parts };
 }
@@ -39,7 +42,8 @@ impl Survey {
     {
         Survey {
             last: None,
-            parts: PartUuids::new(alloc),
+            parts: UuidList::new(alloc),
+            named: UuidList::new(alloc),
             version: 1,
         }
     }
@@ -74,18 +78,27 @@ impl Survey {
         self.parts.has(uuid)
     }
 
-    // Keeps what was seen of a command: the head that it is, if it is one, and its version.
+    /// Whether a command names the UUID as that of a parent or of a source of a clone. Takes no memory.
+    pub fn names(&self, uuid: Uuid) -> bool
+        ensures { result ≡ is_among self.now.named uuid }
+    {
+        self.named.has(uuid)
+    }
+
+    // Keeps what was seen of a command: the head that it is, if it is one, what it names, and its version.
     pub(crate) fn keep(&mut self, alloc: Global, glance: Glance) -> Result<(), AllocError>
-        requires writable { IfSome glance.head
-            (λ head. IsWritable glance.version (meaning_of head)) }
-        ensures kept { OnOk result (self.new ≡ after_glance self.old glance.version glance.head) }
+        requires writable { IfSome glance.mention
+            (λ command. IsWritable glance.version (meaning_of command)) }
+        ensures kept { OnOk result
+            (self.new ≡ after_glance self.old glance.version glance.mention) }
     {
         self.keep_version(glance.version);
-        let Some(head) = &glance.head else {
+        let Some(mention) = &glance.mention else {
             return Ok(());
         };
-        let head = PartHead::of(alloc, head, glance.version)?;
-        self.keep_head(head)
+        let head = PartHead::of(alloc, mention, glance.version)?;
+        self.keep_head(head)?;
+        self.keep_named(mention)
     }
 
     // Keeps a head, if it is given.
@@ -100,6 +113,17 @@ impl Survey {
         self.parts.push(uuid)
     }
 
+    // Keeps the UUID that a command names, if it names one.
+    fn keep_named(&mut self, command: &Command) -> Result<(), AllocError>
+        ensures kept { OnOk result
+            (self.new ≡ with_named self.old (uuids_named (meaning_of command.now))) }
+    {
+        match uuid_named(command) {
+            Some(uuid) => self.named.add(uuid),
+            None => Ok(()),
+        }
+    }
+
     // Keeps a version, if it is the later one.
     fn keep_version(&mut self, version: u32)
         ensures { self.new ≡ with_version self.old version }
@@ -107,5 +131,17 @@ impl Survey {
         if version == 2 {
             self.version = 2;
         }
+    }
+}
+
+// The UUID that a command names as that of a parent or of the source of a clone.
+fn uuid_named(command: &Command) -> Option<Uuid>
+    ensures { in_list result ≡ uuids_named (meaning_of command.now) }
+{
+    match command {
+        Command::Snapshot { clone_uuid, .. } | Command::Clone { clone_uuid, .. } => {
+            Some(*clone_uuid)
+        }
+        _ => None,
     }
 }

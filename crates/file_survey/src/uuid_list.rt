@@ -1,6 +1,7 @@
-// The UUIDs of parts.
+// Lists of UUIDs.
 ghost use Rattle.std.specs.Prelude.{◌≡◌, [], ◌∷◌, ◌++◌, OnOk};
 ghost use Rattle.send_model.specs.Outside.{is_among};
+ghost use Rattle.file_survey.specs.Findings.{joined_by};
 
 use indexmap::IndexSet;
 use std::alloc::{AllocError, Global};
@@ -9,12 +10,12 @@ use uuid::Uuid;
 
 // UUIDs in their order, some of them maybe more than once, with an index by which each is found.
 #[derive(Debug, Drop)]
-pub(crate) struct PartUuids {
+pub(crate) struct UuidList {
     list: Vec<Uuid>,
     index: IndexSet<Uuid>,
 }
 
-impl Model for PartUuids {
+impl Model for UuidList {
     ghost use Rattle.std.specs.Prelude.{ℕ, List};
     ghost use Rattle.file_survey.specs.Indexed.{AreIndexed};
 
@@ -25,12 +26,12 @@ impl Model for PartUuids {
     ghost invariant = { λ p. AreIndexed p.index.keys p.list.items };
 }
 
-impl PartUuids {
+impl UuidList {
     // No UUIDs. Takes no memory.
-    pub(crate) fn new(alloc: Global) -> PartUuids
+    pub(crate) fn new(alloc: Global) -> UuidList
         ensures empty { result ≡ [] }
     {
-        PartUuids {
+        UuidList {
             list: Vec::new(alloc),
             index: IndexSet::new(alloc),
         }
@@ -61,5 +62,14 @@ impl PartUuids {
                 Err(AllocError)
             }
         }
+    }
+    // Puts one behind the others unless it is among them.
+    pub(crate) fn add(&mut self, uuid: Uuid) -> Result<(), AllocError>
+        ensures added { OnOk result (self.new ≡ joined_by self.old (uuid ∷ [])) }
+    {
+        if self.has(uuid) {
+            return Ok(());
+        }
+        self.push(uuid)
     }
 }
