@@ -16,6 +16,7 @@ use Rattle.send_model.proofs.Merging.{begun_begins}
 use Rattle.send_model.proofs.Held.{edit_holds}
 use Rattle.send_model.proofs.Redirected.{clone_command_holds}
 use Rattle.send_model.proofs.Keeping.{all_filtered}
+use Rattle.send_model.proofs.LawfulEdits.{edit_keeps_lawful, clone_keeps_lawful, root_alone_is_lawful}
 use Rattle.send_model.proofs.ElementLaws.{all_both}
 use Rattle.clone_resolve.proofs.TakenStates.{cells_weaker}
 use Rattle.store_groups.specs.declared.place.Place.{Place}
@@ -49,7 +50,7 @@ alone s = record { store = []; part = Some (record { key = record { uuid = []; c
 
 module _ (end far : ℕ) (h : end ≤ far) where
   pub kept_further : (s : Subvolume Cell) → IsKept end s → IsKept far s
-  kept_further s k = record { places = (cells_weaker (StandsBefore end) (StandsBefore far) (alone s) (before_further end far h) (record { complete = tt; part = k.places })).part; said = k.said }
+  kept_further s k = record { places = (cells_weaker (StandsBefore end) (StandsBefore far) (alone s) (before_further end far h) (record { complete = tt; part = k.places })).part; said = k.said; lawful = k.lawful }
 
   some_further : (o : Option (Subvolume Cell)) → IfSome o (IsKept end) → IfSome o (IsKept far)
   some_further None k = tt
@@ -75,7 +76,7 @@ module _ (end : ℕ) where
 
   root_kept : IsKept end root_alone
   unfolding root_alone
-  root_kept = record { places = (root_alone, refl); said = alone_said Cell }
+  root_kept = record { places = (root_alone, refl); said = alone_said Cell; lawful = root_alone_is_lawful }
 
   pub start_kept : (core : Store Cell) (parent : Option Key) (s : Subvolume Cell) → AreKept end core → start_from core parent ≡ Ok s → IsKept end s
   start_kept core None s all e = subst (λ (u : Subvolume Cell). IsKept end u) (ok_same e) root_kept
@@ -114,8 +115,10 @@ module _ (end : ℕ) where
     places = clone_command_holds (StandsBefore end) None tt put core part path offset uuid ctransid clone_path from len s own.places
         (λ other t f. (found_kept core (record { uuid = uuid; ctransid = ctransid }) t all f).places) e;
     said = clone_said None part.subvolume (clone_source core part (record { uuid = uuid; ctransid = ctransid })) (bytes_eq uuid part.key.uuid) path offset clone_path from len s own.said e;
+    lawful = clone_keeps_lawful None (clone_source core part (record { uuid = uuid; ctransid = ctransid })) (bytes_eq uuid part.key.uuid) path offset clone_path from len part.subvolume s own.lawful e;
   }
   edit_kept version put core part c s spells puts all own e = record {
     places = edit_holds (StandsBefore end) None put c part.subvolume s tt puts own.places e;
     said = edit_said version None put c part.subvolume s spells own.said e;
+    lawful = edit_keeps_lawful None put c part.subvolume s own.lawful e;
   }
