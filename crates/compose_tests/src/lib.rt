@@ -1,9 +1,7 @@
-//! Tests of the calls of `clone_resolve`, `guard_rules`, `provenance`, `clone_pieces`, `file_survey`, `composer` and `memory_base`.
+//! Tests of the calls of `clone_resolve`, `guard_rules`, `provenance`, `clone_pieces`, `file_survey` and `composer`.
 //! Nothing stands here but tests.
 #![tactic(auto)]
 
-#[cfg(test)]
-mod base_tests;
 #[cfg(test)]
 mod call_tests;
 #[cfg(test)]

@@ -1,26 +1,20 @@
 -- What auditing over a store answers, from what an audit over its subvolumes says.
-use Rattle.std.specs.Prelude.{◌≡◌, ℕ, Bool, true, List, [], ◌∷◌, map, Option, None, Some, Err}
+use Rattle.std.specs.Prelude.{◌≡◌, ℕ, true, List, [], ◌∷◌, map, Option, None, Some, Err}
 use Rattle.std.specs.Option.{option_map}
 use Rattle.std.proofs.Common.{refl, sym, ap, subst, ◌∙◌}
+use Rattle.std.proofs.KnownBytes.{Appends-nil}
 use Rattle.send_model.specs.Map.{Map}
 use Rattle.send_model.specs.Guards.{Guard, GuardSpec}
 use Rattle.send_model.specs.Subvolume.{Inode, Subvolume}
 use Rattle.send_model.specs.Store.{Store}
 use Rattle.send_model.specs.Provenance.{inode_with}
 use Rattle.send_model.specs.Cells.{recelled, recelled_entry, recelled_store}
-use Rattle.send_model.specs.Due.{Due, DoneWhole, TooLong}
-use Rattle.send_model.specs.Words as streams
-use Rattle.send_model.specs.Words.{Audit, new_guards, due, whole_of}
-use Rattle.sx_base.specs.Outside.{file_at}
+use Rattle.send_model.specs.Words.{Audit, new_guards}
 use Rattle.sx_base.specs.Calls.{IfAllTold, Wrote}
-use Rattle.std.proofs.KnownBytes.{Appends-nil}
 use Rattle.sx_base.specs.declared.outcome.Outcome.{Outcome}
-use Rattle.sx_base.specs.declared.outcome.Outcome.TheVariants as ended
-use Rattle.store_model.specs.Stored.{byte_of, StandsFor, StandsForNone}
-use Rattle.store_model.specs.Dues as dues
-use Rattle.store_model.specs.Dues.{Ends}
-use Rattle.store_model.specs.Requests.{OfStreams, reads_store, base_over, StreamsWrite, IsStreamsDue, StreamsSay}
-use Rattle.store_model.specs.Answers.{Answers, OfAnyWord, DueSays, StandsBefore, StandsFault, StreamsBefore, StreamsCut, StreamsFault}
+use Rattle.store_model.specs.Stored.{byte_of, StandsFor}
+use Rattle.store_model.specs.Requests.{OfStreams, reads_store}
+use Rattle.store_model.specs.Answers.{Answers}
 use Rattle.auditor.specs.Answers.{AuditEnds}
 use Rattle.auditor.specs.Following.{blank, HaveSameShape}
 use Rattle.store_groups.specs.declared.place.Place.{Place}
@@ -31,8 +25,8 @@ use Rattle.store_journal.specs.Opening.{OpenSays, IsOpenStop}
 use Rattle.store_journal.specs.Standing.{with_bytes}
 use Rattle.store_words.specs.declared.ends.StoreEnd.{StoreEnd}
 use Rattle.store_words.specs.declared.ends.StoreEnd.TheVariants as made
-use Rattle.store_words.specs.Ending.{outcome_meant, answer_of, end_by}
-use Rattle.store_words.proofs.Opened.{by_store, by_none, not_opened}
+use Rattle.store_words.specs.Ending.{answer_of, end_by}
+use Rattle.store_words.proofs.StreamAnswers.{audit_ends, stopped_answers, ends_answer, always_told, then_told}
 
 -- ---- the shape of a store
 
@@ -68,58 +62,6 @@ same_shape image core = sym (blank_twice (byte_of image) (recelled_store (option
 
 -- ---- the answers
 
-module _ (words : List (List ℕ)) (specs : List GuardSpec) (store at : ℕ) (image : List ℕ) (files : List (List ℕ)) (reads : reads_store words (Some store) ≡ true) where
-  abbrev request : streams.Request
-  request = Audit specs store at
-
-  says : (the_due : dues.Due) (written : List ℕ) → IsStreamsDue true request image files the_due → StreamsSay true request image files the_due written → DueSays (OfStreams request) words image files the_due written image
-  says the_due written is_due say =
-      (subst (λ (b : Bool). IsStreamsDue b request image files the_due) (sym reads) is_due, (refl, subst (λ (b : Bool). StreamsSay b request image files the_due written) (sym reads) say))
-
-  before : (written : List ℕ) → StreamsBefore true request image files written → StandsBefore (OfStreams request) words image files written image
-  before written stands = (refl, subst (λ (b : Bool). StreamsBefore b request image files written) (sym reads) stands)
-
-  pub audit_of_none : (group : ℕ) → StandsForNone image group → DueSays (OfStreams request) words image files (dues.NotStore group) [] image
-  audit_of_none group fails = says (dues.NotStore group) [] fails (by_none image group (λ s. StreamsWrite request (base_over request files s) files (dues.NotStore group) []) ([] ≡ []) fails refl)
-
-  pub audit_nothing : StandsBefore (OfStreams request) words image files [] image
-  audit_nothing = before [] ((λ s stands. refl), (λ group fails. refl))
-
-  pub audit_at_fault : StandsFault (OfStreams request) words image files [] image
-  audit_at_fault = (refl, subst (λ (b : Bool). StreamsFault b request image files []) (sym reads) ((λ s stands. refl), (λ group fails. refl)))
-
-  module _ (s : Store ℕ) (stands : StandsFor image s) (written : List ℕ) where
-    due_is : (the_due : Due) → due request s files ≡ the_due → streams.EndSays request s files the_due written → DueSays (OfStreams request) words image files (Ends the_due) written image
-    due_is the_due is say =
-        says (Ends the_due) written (s, stands, ap (λ (d : Due). Ends d) (sym is)) (by_store image s (λ t. StreamsWrite request (base_over request files t) files (Ends the_due) written) (written ≡ []) stands say)
-
-    stood : streams.StandsBefore request s files written → StandsBefore (OfStreams request) words image files written image
-    stood p = before written (by_store image s (λ t. streams.StandsBefore request (base_over request files t) files written) (written ≡ []) stands p)
-
-    by_outcome : (outcome : Outcome) → AuditEnds s (new_guards specs) files outcome written → Answers (OfStreams request) words image files (OfAnyWord (outcome_meant outcome)) written image
-    unfolding due whole_of
-    by_outcome ended.Done p = due_is DoneWhole p.0 p.1
-    by_outcome (ended.Refused verdict) p = due_is _ p.0 p.1
-    by_outcome (ended.InputTooLong file) p = due_is (TooLong file) p.0 p.1
-    by_outcome (ended.TooMuch sum) p = due_is _ p.0 p.1
-    by_outcome ended.InputFault p = (tt, stood p)
-    by_outcome (ended.InputChanged file place) p = (tt, stood p)
-    by_outcome ended.OutputFault p = (refl, subst (λ (b : Bool). StreamsCut b request image files written) (sym reads) (by_store image s (λ t. streams.StandsCut request (base_over request files t) files written) ⊥ stands p))
-    by_outcome ended.NoMemory p = stood p
-
-    pub audit_answers : (guards : List Guard) (outcome : Outcome) → guards ≡ new_guards specs → AuditEnds s guards files outcome written → Answers (OfStreams request) words image files (OfAnyWord (outcome_meant outcome)) written image
-    audit_answers guards outcome same p = by_outcome outcome (subst (λ (gs : List Guard). AuditEnds s gs files outcome written) same p)
-
--- ---- files that are told
-
-pub always_told : (told : Option (List (List ℕ × List ℕ))) (names : List (List ℕ)) (P : List (List ℕ) → Type 0) → ((files : List (List ℕ)) → P files) → IfAllTold told names P
-always_told None names P holds = tt
-always_told (Some table) names P holds = holds (map (file_at table) names)
-
-pub then_told : (told : Option (List (List ℕ × List ℕ))) (names : List (List ℕ)) (P Q : List (List ℕ) → Type 0) → ((files : List (List ℕ)) → P files → Q files) → IfAllTold told names P → IfAllTold told names Q
-then_told None names P Q follows holds = tt
-then_told (Some table) names P Q follows holds = follows (map (file_at table) names) holds
-
 -- What was written is what an answer says, of all words that ask for it under these guards.
 abbrev AuditSays : (seen left : List ℕ) → List Guard → StoreEnd → List (List ℕ) → List ℕ → Type 0
 AuditSays seen left guards end files written = (words : List (List ℕ)) (specs : List GuardSpec) (store at : ℕ) → reads_store words (Some store) ≡ true → guards ≡ new_guards specs
@@ -129,18 +71,14 @@ module _ (told : Option (List (List ℕ × List ℕ))) (names : List (List ℕ))
   -- The store does not open.
   pub not_audited : (taken : Option (List ℕ)) (cause : Type 0) (why : StoreStop) (end : StoreEnd) → end ≡ end_by why → IsNoRefusal why → IfLog {T = StoreState} (Err why) (IsOpenStop cause) → OpenSays seen (Err why)
       → IfAllTold told names (λ files. Wrote taken taken (AuditSays seen left guards end files))
-  not_audited taken cause why end is kind stops opened = always_told told names (λ files. Wrote taken taken (AuditSays seen left guards end files)) (λ files. by_files files)
-    where
-      by_files : (files : List (List ℕ)) → Wrote taken taken (AuditSays seen left guards end files)
-      by_files files = (
+  not_audited taken cause why end is kind stops opened =
+      always_told told names (λ files. Wrote taken taken (AuditSays seen left guards end files)) (λ files. (
         [],
         Appends-nil taken,
         (λ words specs store at reads fits.
             subst (λ (l : List ℕ). Answers (OfStreams (Audit specs store at)) words seen files (answer_of [] [] end) [] l) (sym same)
-            (subst (λ (e : StoreEnd). Answers (OfStreams (Audit specs store at)) words seen files (answer_of [] [] e) [] seen) (sym is)
-            (not_opened (OfStreams (Audit specs store at)) words seen files [] [] cause why (audit_nothing words specs store at seen files reads) (audit_at_fault words specs store at seen files reads)
-            (audit_of_none words specs store at seen files reads) kind stops opened))),
-      )
+            (stopped_answers (Audit specs store at) words seen files reads (λ s. refl) cause why end is kind stops opened)),
+      ))
 
   -- It opens, and its subvolumes are audited over.
   pub is_audited : (old new : Option (List ℕ)) (s : Store ℕ) (outcome : Outcome) → StandsFor seen s → IfAllTold told names (λ files. Wrote old new (AuditEnds s guards files outcome))
@@ -153,5 +91,6 @@ module _ (told : Option (List (List ℕ × List ℕ))) (names : List (List ℕ))
         wrote.1,
         (λ words specs store at reads fits.
             subst (λ (l : List ℕ). Answers (OfStreams (Audit specs store at)) words seen files (answer_of [] [] (made.Ends outcome)) wrote.0 l) (sym same)
-            (audit_answers words specs store at seen files reads s stands wrote.0 guards outcome fits wrote.2)),
+            (ends_answer (Audit specs store at) words seen files reads s stands wrote.0 outcome
+            (audit_ends s files wrote.0 store at specs outcome (subst (λ (gs : List Guard). AuditEnds s gs files outcome wrote.0) fits wrote.2)))),
       )

@@ -2,6 +2,7 @@ pub mod AuditAnswers
 pub mod CatAnswers
 pub mod CatBytes
 pub mod Dropped
+pub mod ExportAnswers
 pub mod FoundFiles
 pub mod Named
 pub mod NamedBytes
@@ -12,3 +13,4 @@ pub mod ReceiveAnswers
 pub mod ReceivedWays
 pub mod SameLines
 pub mod Scrubbed
+pub mod StreamAnswers

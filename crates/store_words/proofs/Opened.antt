@@ -1,5 +1,5 @@
 -- The store that an image stands for is one, so what is said of it is said of each; and what stands where a store does not open.
-use Rattle.std.specs.Prelude.{ℕ, List, [], Err}
+use Rattle.std.specs.Prelude.{◌≡◌, ℕ, List, [], Err}
 use Rattle.std.proofs.Common.{refl, subst}
 use Rattle.send_model.specs.Store.{Store}
 use Rattle.send_model.specs.Headline.{IsFrontOf}
@@ -15,6 +15,8 @@ use Rattle.store_groups.specs.declared.stops.StoreStop.TheVariants as stop
 use Rattle.store_groups.specs.Stopping.{IfLog, IsNoRefusal}
 use Rattle.store_journal.specs.Shown.{StoreState}
 use Rattle.store_journal.specs.Opening.{OpenSays, IsOpenStop}
+use Rattle.sx_base.specs.declared.outcome.Outcome.TheVariants as ended
+use Rattle.store_words.specs.declared.ends.StoreEnd.TheVariants as made
 use Rattle.store_words.specs.Ending.{answer_of, end_by, Ways, EndCaused}
 
 pub by_store : (image : List ℕ) (s : Store ℕ) (P : Store ℕ → Type 0) (none : Type 0) → StandsFor image s → P s → ByImage image P none
@@ -50,3 +52,12 @@ opening_stops ways done store_rose inputs_rose out_rose (stop.Log log.DiskFault)
 opening_stops ways done store_rose inputs_rose out_rose (stop.Log (log.NotStore group)) memory none kind stops = none
 opening_stops ways done store_rose inputs_rose out_rose (stop.Log (log.LogFull end wanted limit)) memory none kind stops = absurd stops
 opening_stops ways done store_rose inputs_rose out_rose (stop.Log (log.StoreThere size)) memory none kind stops = absurd stops
+
+-- A store that does not open is no word that is done.
+pub no_end : (why : StoreStop) → IsNoRefusal why → end_by why ≡ made.Ends ended.Done → ⊥
+no_end (stop.Refused refusal) kind e = kind
+no_end stop.NoMemory kind e = cc
+no_end (stop.Log log.DiskFault) kind e = cc
+no_end (stop.Log (log.NotStore group)) kind e = cc
+no_end (stop.Log (log.LogFull wanted size limit)) kind e = cc
+no_end (stop.Log (log.StoreThere size)) kind e = cc

@@ -48,7 +48,7 @@ use Rattle.receiver.specs.ReceiveEnds.{SteadyIfReceived}
 use Rattle.store_words.specs.Ending.{answer_of, end_by, end_received, receive_ways, EndCaused}
 use Rattle.store_words.specs.Receiving.{LeftByReceive}
 use Rattle.store_words.specs.declared.ends.StoreEnd.{StoreEnd}
-use Rattle.store_words.proofs.AuditAnswers.{always_told, then_told}
+use Rattle.store_words.proofs.StreamAnswers.{always_told, then_told}
 use Rattle.store_words.proofs.Opened.{by_store, by_none, not_opened}
 use Rattle.store_words.proofs.Dropped.{has_seen}
 use Rattle.store_words.proofs.ReceivedWays.{limited_lines, stands_made, on_the_way, on_the_way_at_all}

@@ -1,11 +1,12 @@
 //! The words over a store that a disk holds: making one, listing it, showing one of its subvolumes and one of
-//! their files, dropping an entry, receiving streams into it, checking them over it, scrubbing it.
+//! their files, dropping an entry, receiving streams into it, checking or exporting them over it, scrubbing it.
 #![tactic(auto)]
 
 mod auditing;
 mod cat;
 mod dropping;
 mod ends;
+mod exporting;
 mod listing;
 mod making;
 mod naming;
@@ -17,6 +18,7 @@ pub use auditing::audit_store;
 pub use cat::cat_file;
 pub use dropping::drop_entry;
 pub use ends::StoreEnd;
+pub use exporting::export_store;
 pub use listing::list_store;
 pub use making::init_store;
 pub use receiving::receive_store;

@@ -1,0 +1,5 @@
+pub mod StandingEntries
+pub mod TracedEntries
+pub mod FileAnswers
+pub mod OverStanding
+pub mod StoreAnswers

@@ -1,0 +1,4 @@
+pub mod Standing
+pub mod Reading
+pub mod ReadRuns
+pub mod Ending

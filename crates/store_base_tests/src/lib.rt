@@ -1,0 +1,7 @@
+//! Tests of `store_base`. Nothing stands here but tests.
+#![tactic(auto)]
+
+#[cfg(test)]
+mod base_tests;
+#[cfg(test)]
+mod pieces;
