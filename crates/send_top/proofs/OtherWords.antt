@@ -7,7 +7,6 @@ use Rattle.send_model.specs.Words as streams
 use Rattle.send_model.specs.Words.{Compose, Dump, Export, Gen, Trial, is_word, store_and_files, guards_and_files, one_file, count_and_seed}
 use Rattle.send_model.proofs.Stores.{bytes_eq_true}
 use Rattle.store_model.specs.Requests.{Request, InitStore, DropEntry, ListStore, ShowEntry, CatFile, ScrubStore, of_one, of_two, of_three, as_receive, over_store, or_over_store, request_of}
-use Rattle.send_top.specs.Requests.{if_answered, answered_request}
 
 differ : (xs ys : List ℕ) → (xs ≡ ys → ⊥) → bytes_eq xs ys ≡ false
 differ xs ys other = one (bytes_eq xs ys) refl
@@ -70,14 +69,14 @@ pub record IsUnknown (name : List ℕ) : Type 0 where
   pub not_cat : name ≡ codes "cat" → ⊥
   pub not_scrub : name ≡ codes "scrub" → ⊥
 
-none_asked : (word : List ℕ) (words : List (List ℕ)) → IsUnknown word → answered_request (word ∷ words) ≡ None
-unfolding answered_request request_of
+none_asked : (word : List ℕ) (words : List (List ℕ)) → IsUnknown word → request_of (word ∷ words) ≡ None
+unfolding request_of
 none_asked word words u =
-    ap (λ (asked : Option streams.Request). if_answered (word ∷ words) (or_over_store asked (over_store (word ∷ words)))) (none_of_streams word words u.not_compose u.not_audit u.not_dump u.not_export u.not_gen u.not_trial)
-    ∙ ap (if_answered (word ∷ words)) (none_over_store word words u.not_init u.not_drop u.not_receive u.not_list u.not_show u.not_cat u.not_scrub)
+    ap (λ (asked : Option streams.Request). or_over_store asked (over_store (word ∷ words))) (none_of_streams word words u.not_compose u.not_audit u.not_dump u.not_export u.not_gen u.not_trial)
+    ∙ none_over_store word words u.not_init u.not_drop u.not_receive u.not_list u.not_show u.not_cat u.not_scrub
 
 pub nothing_asked : {S : Type 0} (text : S → List ℕ) (words : List S) (word : S) (name : List ℕ) → Some word ≡ slice_get words 0 → name ≡ text word
-    → IsUnknown name → None ≡ answered_request (map text words)
+    → IsUnknown name → None ≡ request_of (map text words)
 nothing_asked text [] word name first is unknown = cc
 nothing_asked text (w ∷ words) word name first is unknown =
     let same : word ≡ w = ap (λ (o : Option _). elim o [ None ↦ word | Some x ↦ x ]) first in

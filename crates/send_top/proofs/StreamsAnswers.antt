@@ -1,21 +1,33 @@
--- What words on streams answer, over the store of an audit and over none.
-use Rattle.std.specs.Prelude.{◌≡◌, ◌≢◌, ℕ, Bool, true, false, List, [], ◌∷◌, drop, Option, None, Some}
-use Rattle.std.proofs.Common.{refl, sym, ap, subst, ◌∙◌}
+-- What words on streams answer, over a store and over none.
+use Rattle.std.specs.Prelude.{◌≡◌, ℕ, Bool, true, false, List, [], ◌∷◌, drop, Option, None, Some}
+use Rattle.std.specs.List.{AllByRecursion}
+use Rattle.std.proofs.Common.{refl, sym, ap, subst}
+use Rattle.send_model.specs.Answer.{Done}
+use Rattle.send_model.specs.Attribute.{IsBytes}
 use Rattle.send_model.specs.Due.{DoneWhole, RefusedAt, TooLong}
 use Rattle.send_model.specs.Due as dues
-use Rattle.send_model.specs.Guards.{GuardSpec, Guard}
-use Rattle.send_model.specs.Words.{Request, Audit, new_guards, due, EndSays}
+use Rattle.send_model.specs.Exported.{IsExported}
+use Rattle.send_model.specs.Headline.{IsComposed}
+use Rattle.send_model.specs.Outside.{base}
+use Rattle.send_model.specs.Store.{Store}
+use Rattle.send_model.specs.Words.{Request, due, EndSays}
+use Rattle.sx_base.specs.Again.{EarlyEnd}
 use Rattle.sx_base.specs.Calls.{IfAllTold, Wrote, Ends}
 use Rattle.sx_base.specs.Refusals.{verdict_meant}
 use Rattle.sx_base.specs.declared.outcome.Outcome.{Outcome}
 use Rattle.sx_base.specs.declared.outcome.Outcome.TheVariants as ended
 use Rattle.store_model.specs.Dues as store_dues
+use Rattle.store_model.specs.Stored.{StandsFor}
 use Rattle.store_model.specs.Requests.{OfStreams, store_of, reads_store, IsStreamsDue, StreamsSay}
 use Rattle.store_model.specs.Answers.{Answer, OfAnyWord, Answers, StreamsBefore, StreamsCut}
+use Rattle.store_words.specs.declared.ends.StoreEnd.{StoreEnd}
+use Rattle.store_words.specs.declared.ends.StoreEnd.TheVariants as made
+use Rattle.store_words.specs.Ending as ending
 use Rattle.store_words.specs.Ending.{outcome_meant}
-use Rattle.send_top.specs.Requests.{streams_names, streams_specs}
-use Rattle.send_top.specs.Run.{IfAllRead, OfDisk, AuditsOver}
-use Rattle.send_top.proofs.StreamsEnds.{read_of}
+use Rattle.store_words.proofs.StreamAnswers.{then_told}
+use Rattle.send_top.specs.Requests.{streams_names}
+use Rattle.store_base.specs.Ending.{ChangeFound}
+use Rattle.send_top.specs.Run.{IfAllRead, OfDisk, IsChangedIn, IsOver, IsComposedOver, IsExportedOver}
 
 -- ---- over no store
 
@@ -61,30 +73,83 @@ unread_store tells told words request old new image outcome none ends =
     (λ files. Wrote old new (λ written. Answers (OfStreams request) words image files (OfAnyWord (outcome_meant outcome)) written image))
     (λ files w. (w.0, w.1, over_none request words image files w.0 none outcome w.2)) ends)
 
--- ---- over the store of an audit
+-- ---- over a store
 
-of_audit : (tells : Type 0) (told : Option (List (List ℕ × List ℕ))) (words names : List (List ℕ)) (guards : List Guard) (specs : List GuardSpec) (store files : ℕ) (old new : Option (List ℕ)) (image left : List ℕ) (answer : Answer)
-    → reads_store words (Some store) ≡ true → names ≡ drop files words → names ≢ [] → guards ≡ new_guards specs
-    → (tells → IfAllTold told names (λ contents. Wrote old new (λ written. (words : List (List ℕ)) (specs : List GuardSpec) (store at : ℕ) → reads_store words (Some store) ≡ true → guards ≡ new_guards specs
-    → Answers (OfStreams (Audit specs store at)) words image contents answer written left)))
-    → OfDisk tells (reads_store words (Some store)) (IfAllRead told (drop files words)
-    (λ contents. Wrote old new (λ written. Answers (OfStreams (Audit specs store files)) words image contents answer written left)))
-of_audit tells told words names guards specs store files old new image left answer reads same some fits holds =
-    subst (λ (b : Bool). OfDisk tells b (IfAllRead told (drop files words) (λ contents. Wrote old new (λ written. Answers (OfStreams (Audit specs store files)) words image contents answer written left)))) (sym reads)
-    (λ t. read_of told names (drop files words)
-    (λ contents. Wrote old new (λ written. (words : List (List ℕ)) (specs : List GuardSpec) (store at : ℕ) → reads_store words (Some store) ≡ true → guards ≡ new_guards specs
-    → Answers (OfStreams (Audit specs store at)) words image contents answer written left))
-    (λ contents. Wrote old new (λ written. Answers (OfStreams (Audit specs store files)) words image contents answer written left))
-    same some (λ contents w. (w.0, w.1, w.2 words specs store files reads fits)) (holds t))
+-- An answer that all was done is that of one end.
+pub end_done : (end : StoreEnd) (answer : Answer) → answer ≡ ending.answer_of [] [] end → answer ≡ OfAnyWord Done → end ≡ made.Ends ended.Done
+end_done (made.Ends ended.Done) answer is done = refl
+end_done (made.Ends (ended.Refused verdict)) answer is done = cc
+end_done (made.Ends (ended.InputTooLong file)) answer is done = cc
+end_done (made.Ends (ended.TooMuch sum)) answer is done = cc
+end_done (made.Ends (ended.InputChanged file place)) answer is done = cc
+end_done (made.Ends ended.InputFault) answer is done = cc
+end_done (made.Ends ended.OutputFault) answer is done = cc
+end_done (made.Ends ended.NoMemory) answer is done = cc
+end_done made.StoreFault answer is done = cc
+end_done (made.NotStore group) answer is done = cc
+end_done made.NoName answer is done = cc
+end_done made.NoFile answer is done = cc
+end_done (made.LogFull end wanted limit) answer is done = cc
+end_done (made.StoreThere size) answer is done = cc
+end_done (made.Damaged group stored computed) answer is done = cc
 
-pub audited : (tells : Type 0) (told : Option (List (List ℕ × List ℕ))) (words names : List (List ℕ)) (guards : List Guard) (request : Request) (files : ℕ) (old new : Option (List ℕ)) (image left : List ℕ) (answer : Answer)
-    → AuditsOver words request files → names ≡ drop files words → names ≢ [] → guards ≡ new_guards (streams_specs request)
-    → (tells → IfAllTold told names (λ contents. Wrote old new (λ written. (words : List (List ℕ)) (specs : List GuardSpec) (store at : ℕ) → reads_store words (Some store) ≡ true → guards ≡ new_guards specs
-    → Answers (OfStreams (Audit specs store at)) words image contents answer written left)))
-    → OfDisk tells (reads_store words (store_of request)) (IfAllRead told (streams_names request words)
-    (λ contents. Wrote old new (λ written. Answers (OfStreams request) words image contents answer written left)))
-audited tells told words names guards request files old new image left answer over same some fits holds =
-    subst (λ (r : Request). OfDisk tells (reads_store words (store_of r)) (IfAllRead told (streams_names r words)
-    (λ contents. Wrote old new (λ written. Answers (OfStreams r) words image contents answer written left)))) (sym over.is)
-    (of_audit tells told words names guards over.guards over.store files old new image left answer over.reads same some
-    (fits ∙ ap (λ (r : Request). new_guards (streams_specs r)) over.is) holds)
+-- A file that was found changed is the one that the answer names.
+pub change_found : (names : List (List ℕ)) (last : EarlyEnd) (end : StoreEnd) (answer : Answer) → answer ≡ ending.answer_of [] [] end → ChangeFound names last end → IsChangedIn names last answer
+change_found names last end answer is found = subst (λ (a : Answer). IsChangedIn names last a) (sym is) (by_end end found)
+  where
+    by_end : (e : StoreEnd) → ChangeFound names last e → IsChangedIn names last (ending.answer_of [] [] e)
+    by_end (made.Ends (ended.InputChanged file place)) h = h
+    by_end (made.Ends ended.Done) h = tt
+    by_end (made.Ends (ended.Refused verdict)) h = tt
+    by_end (made.Ends (ended.InputTooLong file)) h = tt
+    by_end (made.Ends (ended.TooMuch sum)) h = tt
+    by_end (made.Ends ended.InputFault) h = tt
+    by_end (made.Ends ended.OutputFault) h = tt
+    by_end (made.Ends ended.NoMemory) h = tt
+    by_end made.StoreFault h = tt
+    by_end (made.NotStore group) h = tt
+    by_end made.NoName h = tt
+    by_end made.NoFile h = tt
+    by_end (made.LogFull end wanted limit) h = tt
+    by_end (made.StoreThere size) h = tt
+    by_end (made.Damaged group stored computed) h = tt
+
+pub outcome_done : (outcome : Outcome) → OfAnyWord (outcome_meant outcome) ≡ OfAnyWord Done → outcome ≡ ended.Done
+outcome_done ended.Done e = refl
+outcome_done (ended.Refused verdict) e = cc
+outcome_done (ended.InputTooLong file) e = cc
+outcome_done (ended.TooMuch sum) e = cc
+outcome_done (ended.InputChanged file place) e = cc
+outcome_done ended.InputFault e = cc
+outcome_done ended.OutputFault e = cc
+outcome_done ended.NoMemory e = cc
+
+-- The headline and what is promised, over the store that is read and over none.
+module _ (told : Option (List (List ℕ × List ℕ))) (tells : Type 0) (words : List (List ℕ)) (image : List ℕ) (old new : Option (List ℕ)) (store at : ℕ) where
+  abbrev IsComposedBy : Bool → Type 0
+  IsComposedBy reads = OfDisk tells reads (IfAllTold told (drop at words) (λ files. Wrote old new (λ written. (s : Store ℕ) → IsOver reads image s → IsComposed (base s files) files written)))
+
+  pub composed_over : reads_store words (Some store) ≡ true
+      → (tells → IfAllTold told (drop at words) (λ files. Wrote old new (λ written. (s : Store ℕ) → StandsFor image s → IsComposed (base s files) files written)))
+      → IsComposedOver told tells words image old new store at
+  composed_over reads holds = subst IsComposedBy (sym reads) holds
+
+  pub composed_alone : reads_store words (Some store) ≡ false → IfAllTold told (drop at words) (λ files. Wrote old new (λ written. IsComposed [] files written)) → IsComposedOver told tells words image old new store at
+  composed_alone none holds =
+      subst IsComposedBy (sym none)
+      (then_told told (drop at words) (λ files. Wrote old new (λ written. IsComposed [] files written)) (λ files. Wrote old new (λ written. (s : Store ℕ) → s ≡ [] → IsComposed (base s files) files written))
+      (λ files w. (w.0, w.1, λ s is. subst (λ (t : Store ℕ). IsComposed (base t files) files w.0) (sym is) w.2)) holds)
+
+  abbrev IsExportedBy : Bool → Type 0
+  IsExportedBy reads = OfDisk tells reads (IfAllTold told (drop at words) (λ files. Wrote old new (λ written. (s : Store ℕ) → IsOver reads image s → AllByRecursion IsBytes files → IsExported s files written)))
+
+  pub exported_over : reads_store words (Some store) ≡ true
+      → (tells → IfAllTold told (drop at words) (λ files. Wrote old new (λ written. (s : Store ℕ) → StandsFor image s → AllByRecursion IsBytes files → IsExported s files written)))
+      → IsExportedOver told tells words image old new store at
+  exported_over reads holds = subst IsExportedBy (sym reads) holds
+
+  pub exported_alone : reads_store words (Some store) ≡ false → IfAllTold told (drop at words) (λ files. Wrote old new (λ written. AllByRecursion IsBytes files → IsExported [] files written)) → IsExportedOver told tells words image old new store at
+  exported_alone none holds =
+      subst IsExportedBy (sym none)
+      (then_told told (drop at words) (λ files. Wrote old new (λ written. AllByRecursion IsBytes files → IsExported [] files written)) (λ files. Wrote old new (λ written. (s : Store ℕ) → s ≡ [] → AllByRecursion IsBytes files → IsExported s files written))
+      (λ files w. (w.0, w.1, λ s is. subst (λ (t : Store ℕ). AllByRecursion IsBytes files → IsExported t files w.0) (sym is) w.2)) holds)

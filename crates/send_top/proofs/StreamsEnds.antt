@@ -1,69 +1,33 @@
 -- What the call of each word on streams answers, as how the request over no store ends.
-use Rattle.std.specs.Prelude.{◌≡◌, ◌≢◌, ℕ, List, [], ◌∷◌, map, slice_index_or, Option, None, Some}
-use Rattle.std.specs.List.{AllByRecursion}
-use Rattle.std.proofs.Common.{refl, sym, ap, subst, ◌∙◌, arith}
-use Rattle.send_model.specs.Attribute.{IsBytes}
-use Rattle.send_model.specs.Exported.{AreSmallBy, byte_step, IsExported}
+use Rattle.std.specs.Prelude.{◌≡◌, ◌≢◌, ℕ, List, [], ◌∷◌, slice_index_or, Option}
+use Rattle.std.proofs.Common.{refl, ap, subst, ◌∙◌, arith}
 use Rattle.send_model.specs.Guards.{GuardSpec, Guard}
 use Rattle.send_model.specs.Headline.{IsComposed}
-use Rattle.send_model.specs.Reading.{input}
-use Rattle.send_model.specs.Receive.{start_of}
 use Rattle.send_model.specs.Words.{Request, Compose, Audit, Dump, Export, new_guards, due, whole_of}
-use Rattle.send_model.proofs.ExportedStreams.{exported_is_same, none_can}
-use Rattle.sx_base.specs.Outside.{file_at}
 use Rattle.sx_base.specs.Calls.{IfAllTold, Wrote, Ends, Caused}
 use Rattle.sx_base.specs.declared.outcome.Outcome.{Outcome}
 use Rattle.sx_base.specs.declared.outcome.Outcome.TheVariants as ended
 use Rattle.auditor.specs.Answers.{AuditEnds}
 use Rattle.composer.specs.Files as composing
+use Rattle.store_words.proofs.StreamAnswers.{compose_ends, audit_ends, export_ends, then_told}
 use Rattle.send_top.specs.Run.{IfAllRead}
-
--- What follows of files follows wherever the files are told.
-pub then_told : (told : Option (List (List ℕ × List ℕ))) (names : List (List ℕ)) (P Q : List (List ℕ) → Type 0)
-    → ((files : List (List ℕ)) → P files → Q files) → IfAllTold told names P → IfAllTold told names Q
-then_told None names P Q follows holds = tt
-then_told (Some table) names P Q follows holds = follows (map (file_at table) names) holds
 
 -- A fact of told files whose names are given in another way.
 pub of_names : (told : Option (List (List ℕ × List ℕ))) (names others : List (List ℕ)) (P : List (List ℕ) → Type 0) → names ≡ others → IfAllTold told names P → IfAllTold told others P
 of_names told names others P same holds = subst (λ (ns : List (List ℕ)). IfAllTold told ns P) same holds
 
 module _ (old new : Option (List ℕ)) (files : List (List ℕ)) where
-  -- The places of the store and the files play no part in an answer.
-  composes : (store at : ℕ) (outcome : Outcome) → Wrote old new (λ written. Ends (Compose 1 2) [] files outcome written) → Wrote old new (λ written. Ends (Compose store at) [] files outcome written)
-  unfolding due whole_of
-  composes store at ended.Done w = w
-  composes store at (ended.Refused verdict) w = w
-  composes store at (ended.InputTooLong file) w = w
-  composes store at (ended.TooMuch sum) w = w
-  composes store at (ended.InputChanged file place) w = w
-  composes store at ended.InputFault w = w
-  composes store at ended.OutputFault w = w
-  composes store at ended.NoMemory w = w
-
   -- The headline holds where all was done.
   pub headline : (outcome : Outcome) → outcome ≡ ended.Done → Wrote old new (composing.ComposeEnds [] files outcome) → Wrote old new (λ written. IsComposed [] files written)
   headline outcome e w = (w.0, w.1, w.2.composed e)
 
-  -- The answer is the one that is due.
+  -- The answer is the one that is due. The places of the store and the files play no part in it.
   pub composed_ends : (store at : ℕ) (outcome : Outcome) → Wrote old new (composing.ComposeEnds [] files outcome) → Wrote old new (λ written. Ends (Compose store at) [] files outcome written)
-  composed_ends store at outcome w = composes store at outcome (w.0, w.1, w.2.ends)
-
-  -- Auditing under guards that are new ones of their kinds.
-  audits_new : (specs : List GuardSpec) (store at : ℕ) (outcome : Outcome) → Wrote old new (AuditEnds [] (new_guards specs) files outcome) → Wrote old new (λ written. Ends (Audit specs store at) [] files outcome written)
-  unfolding due whole_of
-  audits_new specs store at ended.Done w = w
-  audits_new specs store at (ended.Refused verdict) w = w
-  audits_new specs store at (ended.InputTooLong file) w = w
-  audits_new specs store at (ended.TooMuch sum) w = w
-  audits_new specs store at (ended.InputChanged file place) w = w
-  audits_new specs store at ended.InputFault w = w
-  audits_new specs store at ended.OutputFault w = w
-  audits_new specs store at ended.NoMemory w = w
+  composed_ends store at outcome w = (w.0, w.1, compose_ends [] files w.0 store at outcome w.2.ends)
 
   pub audits : (guards : List Guard) (specs : List GuardSpec) (store at : ℕ) (outcome : Outcome) → guards ≡ new_guards specs
       → Wrote old new (AuditEnds [] guards files outcome) → Wrote old new (λ written. Ends (Audit specs store at) [] files outcome written)
-  audits guards specs store at outcome fits w = audits_new specs store at outcome (subst (λ (gs : List Guard). Wrote old new (AuditEnds [] gs files outcome)) fits w)
+  audits guards specs store at outcome fits w = (w.0, w.1, audit_ends [] files w.0 store at specs outcome (subst (λ (gs : List Guard). AuditEnds [] gs files outcome w.0) fits w.2))
 
   pub dumps : (at : ℕ) (outcome : Outcome) → Wrote old new (λ written. Ends (Dump 1) [] files outcome written) → Wrote old new (λ written. Ends (Dump at) [] files outcome written)
   unfolding due whole_of
@@ -77,48 +41,7 @@ module _ (old new : Option (List ℕ)) (files : List (List ℕ)) where
   dumps at ended.NoMemory w = w
 
   pub exports : (store at : ℕ) (outcome : Outcome) → Wrote old new (λ written. Ends (Export 0 0) [] files outcome written) → Wrote old new (λ written. Ends (Export store at) [] files outcome written)
-  unfolding due whole_of
-  exports store at ended.Done w = w
-  exports store at (ended.Refused verdict) w = w
-  exports store at (ended.InputTooLong file) w = w
-  exports store at (ended.TooMuch sum) w = w
-  exports store at (ended.InputChanged file place) w = w
-  exports store at ended.InputFault w = w
-  exports store at ended.OutputFault w = w
-  exports store at ended.NoMemory w = w
-
--- ---- what is exported
-
--- Files that have names are there.
-some_files : (table : List (List ℕ × List ℕ)) (names : List (List ℕ)) → names ≢ [] → map (file_at table) names ≢ []
-some_files table [] some = λ e. some refl
-some_files table (name ∷ names) some = λ e. cc
-
-pub map_some : {S : Type 0} (text : S → List ℕ) (words : List S) → words ≢ [] → map text words ≢ []
-map_some text [] some = λ e. some refl
-map_some text (word ∷ words) some = λ e. cc
-
--- What was exported keeps what is promised of it.
-exported_of : (files : List (List ℕ)) (written : List ℕ) (outcome : Outcome) → files ≢ [] → outcome ≡ ended.Done → Ends (Export 0 0) [] files outcome written
-    → (outcome ≡ ended.Done → AreSmallBy byte_step (start_of []) (input files).items) → AllByRecursion IsBytes files → IsExported [] files written
-unfolding due whole_of
-exported_of files written ended.Done some e (is, all) small bytes =
-    subst (λ (w : List ℕ). IsExported [] files w) (sym all) (exported_is_same [] files some none_can bytes is (small refl))
-exported_of files written (ended.Refused verdict) some e ends small bytes = cc
-exported_of files written (ended.InputTooLong file) some e ends small bytes = cc
-exported_of files written (ended.TooMuch sum) some e ends small bytes = cc
-exported_of files written (ended.InputChanged file place) some e ends small bytes = cc
-exported_of files written ended.InputFault some e ends small bytes = cc
-exported_of files written ended.OutputFault some e ends small bytes = cc
-exported_of files written ended.NoMemory some e ends small bytes = cc
-
-pub promised : (told : Option (List (List ℕ × List ℕ))) (names : List (List ℕ)) (old new : Option (List ℕ)) (outcome : Outcome) → names ≢ [] → outcome ≡ ended.Done
-    → IfAllTold told names (λ files. Wrote old new (λ written. Ends (Export 0 0) [] files outcome written))
-    → IfAllTold told names (λ files. outcome ≡ ended.Done → AreSmallBy byte_step (start_of []) (input files).items)
-    → IfAllTold told names (λ files. Wrote old new (λ written. AllByRecursion IsBytes files → IsExported [] files written))
-promised None names old new outcome some done ends small = tt
-promised (Some table) names old new outcome some done ends small =
-    (ends.0, ends.1, λ bytes. exported_of (map (file_at table) names) ends.0 outcome (some_files table names some) done ends.2 small bytes)
+  exports store at outcome w = (w.0, w.1, export_ends [] files w.0 store at outcome w.2)
 
 -- What follows of files whose names are given in another way.
 pub following : (told : Option (List (List ℕ × List ℕ))) (names others : List (List ℕ)) (P Q : List (List ℕ) → Type 0) → names ≡ others

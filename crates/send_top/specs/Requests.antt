@@ -1,7 +1,6 @@
 -- What the words ask for, with the guards that were handed in. The words are this program's own.
-use Rattle.std.specs.Prelude.{◌≡◌, ℕ, ◌+◌, ◌-◌, ◌<◌, ◌≤◌, Bool, true, List, [], ◌∷◌, take, drop, Option, None, Some, codes, is_some, IsTrue, if◌then◌else◌}
+use Rattle.std.specs.Prelude.{◌≡◌, ℕ, ◌+◌, ◌-◌, ◌<◌, ◌≤◌, Bool, true, List, [], ◌∷◌, take, drop, Option, None, Some, is_some, IsTrue, if◌then◌else◌}
 use Rattle.std.specs.Option.{option_map}
-use Rattle.std.specs.Str.{bytes_eq}
 use Rattle.send_model.specs.Guards.{GuardSpec, Guard, guard_of}
 use Rattle.send_model.specs.Words as streams
 use Rattle.send_model.specs.Words.{Compose, Audit, Dump, Export, Gen, Trial, new_guards}
@@ -15,37 +14,6 @@ use Rattle.send_top.specs.declared.words.StreamsRequest.{StreamsRequest}
 use Rattle.send_top.specs.declared.words.StreamsRequest.TheVariants as of_files
 use Rattle.send_top.specs.declared.words.StoreRequest.{StoreRequest}
 use Rattle.send_top.specs.declared.words.StoreRequest.TheVariants as of_store
-
--- The word at a place is `none`.
-abbrev pub is_none_at : List (List ℕ) → ℕ → Bool
-is_none_at words at = bytes_eq (word_at words at) (codes "none")
-
--- The requests that are answered today: all but composing and exporting over a store.
-abbrev pub are_answered : List (List ℕ) → streams.Request → Bool
-are_answered words (Compose store files) = is_none_at words store
-are_answered words (Audit guards store files) = true
-are_answered words (Dump file) = true
-are_answered words (Export store files) = is_none_at words store
-are_answered words (Gen count seed) = true
-are_answered words (Trial count seed) = true
-
-abbrev pub is_answered : List (List ℕ) → meant.Request → Bool
-is_answered words (OfStreams request) = are_answered words request
-is_answered words (InitStore store) = true
-is_answered words (DropEntry store name) = true
-is_answered words (ReceiveFiles guards store files) = true
-is_answered words (ListStore store) = true
-is_answered words (ShowEntry store name) = true
-is_answered words (CatFile store name path) = true
-is_answered words (ScrubStore store) = true
-
-abbrev pub if_answered : List (List ℕ) → Option meant.Request → Option meant.Request
-if_answered words None = None
-if_answered words (Some request) = if is_answered words request then Some request else None
-
--- What words ask for today; none where they mean nothing.
-unfoldable pub answered_request : List (List ℕ) → Option meant.Request
-answered_request words = if_answered words (request_of words)
 
 -- A request on streams as one of all requests.
 abbrev pub of_streams : Option streams.Request → Option meant.Request
@@ -113,7 +81,7 @@ store_place words (ScrubStore store) = Some store
 
 -- That word, where words ask for such a request.
 unfoldable pub store_named : List (List ℕ) → Option (List ℕ)
-store_named words = elim (answered_request words) [ None ↦ None | Some request ↦ option_map (word_at words) (store_place words request) ]
+store_named words = elim (request_of words) [ None ↦ None | Some request ↦ option_map (word_at words) (store_place words request) ]
 
 -- What such a request does with the disk: it makes a store there, writes to the one that is there, or only reads it.
 abbrev pub use_of : meant.Request → StoreUse
@@ -127,12 +95,12 @@ use_of (CatFile store name path) = used.Read
 use_of (ScrubStore store) = used.Read
 
 unfoldable pub use_asked : List (List ℕ) → Option StoreUse
-use_asked words = elim (answered_request words) [ None ↦ None | Some request ↦ if uses_store words request then Some (use_of request) else None ]
+use_asked words = elim (request_of words) [ None ↦ None | Some request ↦ if uses_store words request then Some (use_of request) else None ]
 
 -- Words and guards ask for a request: the words mean it, and the guards are those that it gives, in order, of which none has
 -- counted anything yet.
 pub record Asks (words : List (List ℕ)) (guards : List Guard) (request : meant.Request) : Type 0 where
-  pub meant : answered_request words ≡ Some request
+  pub meant : request_of words ≡ Some request
   pub fits : guards ≡ new_guards (specs_of request)
 
 abbrev pub AskNothing : List (List ℕ) → List Guard → Type 0

@@ -2,6 +2,8 @@
 use Rattle.std.specs.Prelude.{◌≡◌, ◌≢◌, ◌⊎◌, ℕ, ◌<◌, Bool, true, false, List, [], ◌∷◌, drop, length, Option, Some, ⊤}
 use Rattle.std.specs.List.{AllByRecursion}
 use Rattle.send_model.specs.Guards.{Guard, GuardSpec}
+use Rattle.send_model.specs.Outside.{base}
+use Rattle.send_model.specs.Store.{Store}
 use Rattle.send_model.specs.Attribute.{IsBytes}
 use Rattle.send_model.specs.Headline.{IsComposed}
 use Rattle.send_model.specs.Exported.{IsExported}
@@ -9,6 +11,7 @@ use Rattle.send_model.specs.Answer.{Done, Refused, Usage, InputFault, OutputFaul
 use Rattle.send_model.specs.Words as streams
 use Rattle.send_model.specs.Words.{Compose, Audit, Dump, Export, Gen, Trial, new_guards}
 use Rattle.store_model.specs.Requests.{Request, OfStreams, InitStore, DropEntry, ReceiveFiles, ListStore, ShowEntry, CatFile, ScrubStore, reads_store, word_at}
+use Rattle.store_model.specs.Stored.{StandsFor}
 use Rattle.store_model.specs.Answers.{Answer, OfAnyWord, StoreFault, NotStore, Missing, LogFull, StoreThere, Damaged, Answers, ReadsFiles}
 use Rattle.sx_base.specs.Again.{EarlyEnd}
 use Rattle.sx_base.specs.Calls.{IfAllTold, Wrote, Caused, CausedAgain, IsEndOf}
@@ -49,15 +52,27 @@ IsAnswered told tells words guards old new image left answer = (request : Reques
     → OfDisk tells (uses_store words request) (IfAllRead told (names_asked request words)
     (λ files. Wrote old new (λ written. IfBytes request files (Answers request words image files answer written left))))
 
--- The headline, of what was written where files are composed over no store.
-abbrev pub Composes : Option (List (List ℕ × List ℕ)) → List (List ℕ) → List Guard → (old new : Option (List ℕ)) → Type 0
-Composes told words guards old new = (store at : ℕ) → Asks words guards (OfStreams (Compose store at))
-    → IfAllTold told (drop at words) (λ files. Wrote old new (λ written. IsComposed [] files written))
+-- A store is the one that words are over: where a store is read, one that the image stands for, and else the one without subvolumes.
+abbrev pub IsOver : (reads : Bool) → (image : List ℕ) → Store ℕ → Type 0
+IsOver true image s = StandsFor image s
+IsOver false image s = s ≡ []
 
--- What is promised of an exported stream, of what was written where files of bytes are exported over no store.
-abbrev pub Exports : Option (List (List ℕ × List ℕ)) → List (List ℕ) → List Guard → (old new : Option (List ℕ)) → Type 0
-Exports told words guards old new = (store at : ℕ) → Asks words guards (OfStreams (Export store at))
-    → IfAllTold told (drop at words) (λ files. Wrote old new (λ written. AllByRecursion IsBytes files → IsExported [] files written))
+-- The headline, of what was written where the files from a place on are composed, over the store that the word at a place names.
+abbrev pub IsComposedOver : (told : Option (List (List ℕ × List ℕ))) → (tells : Type 0) → List (List ℕ) → (image : List ℕ) → (old new : Option (List ℕ)) → (store at : ℕ) → Type 0
+IsComposedOver told tells words image old new store at = OfDisk tells (reads_store words (Some store)) (IfAllTold told (drop at words)
+    (λ files. Wrote old new (λ written. (s : Store ℕ) → IsOver (reads_store words (Some store)) image s → IsComposed (base s files) files written)))
+
+abbrev pub Composes : (told : Option (List (List ℕ × List ℕ))) → (tells : Type 0) → List (List ℕ) → List Guard → (image : List ℕ) → (old new : Option (List ℕ)) → Type 0
+Composes told tells words guards image old new = (store at : ℕ) → Asks words guards (OfStreams (Compose store at)) → IsComposedOver told tells words image old new store at
+
+-- What is promised of an exported stream, of what was written where the files of bytes from a place on are exported, over the store that
+-- the word at a place names.
+abbrev pub IsExportedOver : (told : Option (List (List ℕ × List ℕ))) → (tells : Type 0) → List (List ℕ) → (image : List ℕ) → (old new : Option (List ℕ)) → (store at : ℕ) → Type 0
+IsExportedOver told tells words image old new store at = OfDisk tells (reads_store words (Some store)) (IfAllTold told (drop at words)
+    (λ files. Wrote old new (λ written. (s : Store ℕ) → IsOver (reads_store words (Some store)) image s → AllByRecursion IsBytes files → IsExported s files written)))
+
+abbrev pub Exports : (told : Option (List (List ℕ × List ℕ))) → (tells : Type 0) → List (List ℕ) → List Guard → (image : List ℕ) → (old new : Option (List ℕ)) → Type 0
+Exports told tells words guards image old new = (store at : ℕ) → Asks words guards (OfStreams (Export store at)) → IsExportedOver told tells words image old new store at
 
 -- ---- causes
 
@@ -142,7 +157,26 @@ Prints (ShowEntry store name) = ⊤
 Prints (CatFile store name path) = ⊤
 Prints (ScrubStore store) = ⊤
 
--- For which reasons a request that is answered by the disk may end; of those on streams, an audit.
+-- The request to compose, which alone may find too much to write, or a file changed.
+abbrev pub streams_compose : streams.Request → Type 0
+streams_compose (Compose store files) = ⊤
+streams_compose (Audit guards store files) = ⊥
+streams_compose (Dump file) = ⊥
+streams_compose (Export store files) = ⊥
+streams_compose (Gen count seed) = ⊥
+streams_compose (Trial count seed) = ⊥
+
+abbrev pub IsComposing : Request → Type 0
+IsComposing (OfStreams request) = streams_compose request
+IsComposing (InitStore store) = ⊥
+IsComposing (DropEntry store name) = ⊥
+IsComposing (ReceiveFiles guards store at) = ⊥
+IsComposing (ListStore store) = ⊥
+IsComposing (ShowEntry store name) = ⊥
+IsComposing (CatFile store name path) = ⊥
+IsComposing (ScrubStore store) = ⊥
+
+-- For which other reasons a request that is answered by the disk may end; those on streams end as an audit does.
 abbrev pub ways_of : Request → Ways
 ways_of (OfStreams request) = audit_ways
 ways_of (InitStore store) = init_ways
@@ -153,27 +187,28 @@ ways_of (ShowEntry store name) = show_ways
 ways_of (CatFile store name path) = cat_ways
 ways_of (ScrubStore store) = scrub_ways
 
--- An answer that is given for one of these reasons, or of a request that reads files, or prints, where the inputs or the output failed.
-abbrev pub IsGivenFor : Ways → (reads prints : Type 0) → Answer → Type 0
-IsGivenFor ways reads prints (OfAnyWord Done) = ⊤
-IsGivenFor ways reads prints (OfAnyWord (Refused verdict)) = ways.refused
-IsGivenFor ways reads prints (OfAnyWord Usage) = ⊥
-IsGivenFor ways reads prints (OfAnyWord InputFault) = reads
-IsGivenFor ways reads prints (OfAnyWord OutputFault) = prints
-IsGivenFor ways reads prints (OfAnyWord NoMemory) = ways.memory
-IsGivenFor ways reads prints (OfAnyWord (InputTooLong file)) = ways.too_long
-IsGivenFor ways reads prints (OfAnyWord (TooMuch sum)) = ⊥
-IsGivenFor ways reads prints (OfAnyWord (InputChanged file place)) = ⊥
-IsGivenFor ways reads prints StoreFault = ⊤
-IsGivenFor ways reads prints (NotStore group) = ways.not_store
-IsGivenFor ways reads prints (Missing what) = ways.no_name ⊎ ways.no_file
-IsGivenFor ways reads prints (LogFull end wanted limit) = ways.log_full
-IsGivenFor ways reads prints (StoreThere size) = ways.store_there
-IsGivenFor ways reads prints (Damaged group stored computed) = ways.damaged × (stored ≢ computed)
+-- An answer that is given for one of these reasons, or of a request that reads files, reads them again, or prints, where the inputs or the
+-- output failed.
+abbrev pub IsGivenFor : Ways → (reads again prints : Type 0) → Answer → Type 0
+IsGivenFor ways reads again prints (OfAnyWord Done) = ⊤
+IsGivenFor ways reads again prints (OfAnyWord (Refused verdict)) = ways.refused
+IsGivenFor ways reads again prints (OfAnyWord Usage) = ⊥
+IsGivenFor ways reads again prints (OfAnyWord InputFault) = reads
+IsGivenFor ways reads again prints (OfAnyWord OutputFault) = prints
+IsGivenFor ways reads again prints (OfAnyWord NoMemory) = ways.memory
+IsGivenFor ways reads again prints (OfAnyWord (InputTooLong file)) = ways.too_long
+IsGivenFor ways reads again prints (OfAnyWord (TooMuch sum)) = again
+IsGivenFor ways reads again prints (OfAnyWord (InputChanged file place)) = again
+IsGivenFor ways reads again prints StoreFault = ⊤
+IsGivenFor ways reads again prints (NotStore group) = ways.not_store
+IsGivenFor ways reads again prints (Missing what) = ways.no_name ⊎ ways.no_file
+IsGivenFor ways reads again prints (LogFull end wanted limit) = ways.log_full
+IsGivenFor ways reads again prints (StoreThere size) = ways.store_there
+IsGivenFor ways reads again prints (Damaged group stored computed) = ways.damaged × (stored ≢ computed)
 
 -- An answer that a request may get which is answered by the disk. Making a store never lacks memory, and finds no store at fault.
 abbrev pub MayGet : Request → Answer → Type 0
-MayGet request answer = IsGivenFor (ways_of request) (ReadsFiles request) (Prints request) answer
+MayGet request answer = IsGivenFor (ways_of request) (ReadsFiles request) (IsComposing request) (Prints request) answer
 
 -- And so of each that words and guards ask for.
 abbrev pub IsAllowed : List (List ℕ) → List Guard → Answer → Type 0
@@ -205,16 +240,6 @@ IsChangedAt words guards last answer = (request : Request) → Asks words guards
 -- No count of the inputs and the output rose.
 abbrev pub AreSteady : (inputs_before inputs_now ends_before ends_now out_before out_now : ℕ) → Type 0
 AreSteady inputs_before inputs_now ends_before ends_now out_before out_now = (inputs_now ≡ inputs_before) × (ends_now ≡ ends_before) × (out_now ≡ out_before)
-
--- ---- audits over a store
-
--- A request is an audit over a store, of the files from this place on.
-pub record AuditsOver (words : List (List ℕ)) (request : streams.Request) (files : ℕ) : Type 0 where
-  pub store : ℕ
-  pub guards : List GuardSpec
-  pub is : request ≡ Audit guards store files
-  pub reads : reads_store words (Some store) ≡ true
-  pub within : files < length words
 
 -- ---- crashes
 

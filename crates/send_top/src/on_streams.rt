@@ -1,28 +1,30 @@
 // What words on streams do.
-ghost use Rattle.std.specs.Prelude.{◌≡◌, ◌≢◌, ◌<◌, ℕ, [], map, length, drop, true, false, IfSome, ⊤};
+ghost use Rattle.std.specs.Prelude.{◌≡◌, ◌≢◌, ◌<◌, ℕ, [], map, length, drop, true, false};
 ghost use Rattle.std.specs.List.{AllByRecursion};
-ghost use Rattle.std.specs.Option.{IfNone};
 ghost use Rattle.std.specs.String.{string_bytes};
 ghost use Rattle.send_model.specs.Answer.{Done, Usage};
 ghost use Rattle.send_model.specs.Attribute.{IsBytes};
 ghost use Rattle.send_model.specs.Exported.{IsExported};
 ghost use Rattle.send_model.specs.Headline.{IsComposed};
+ghost use Rattle.send_model.specs.Outside.{base};
+ghost use Rattle.send_model.specs.Store.{Store};
 ghost use Rattle.send_model.specs.Words.{Compose, Export, new_guards};
 ghost use Rattle.store_model.specs.Requests.{OfStreams, word_at, store_of, reads_store};
 ghost use Rattle.store_model.specs.Answers.{Answers, OfAnyWord};
-ghost use Rattle.store_words.specs.Ending.{audit_ways};
+ghost use Rattle.store_model.specs.Stored.{StandsFor};
 ghost use Rattle.sx_base.specs.Calls.{IfAllTold, FoundChanged, Wrote, Ends, SteadyIfDone};
 ghost use Rattle.sx_base.specs.Causes.{Rose};
 ghost use Rattle.sx_base.specs.Crash.{LeavesOnly};
 ghost use Rattle.sx_base.specs.Disk.{IsImage};
 ghost use Rattle.sx_base.specs.declared.outcome.Outcome.TheVariants as ended;
 ghost use Rattle.send_top.specs.Answered.{answer_of};
-ghost use Rattle.send_top.specs.Requests.{AreWithin, are_answered, streams_meant, streams_specs, streams_names};
-ghost use Rattle.send_top.specs.Run.{EndCaused, IfAllRead, IfOfCompose, IfOfStore, IsCaused, IsChangedIn, IsGivenFor, OfDisk, AreSteady, AuditsOver};
+ghost use Rattle.send_top.specs.Requests.{AreWithin, streams_meant, streams_specs, streams_names};
+ghost use Rattle.send_top.specs.Run.{AreSteady, EndCaused, IfAllRead, IfOfCompose, IfOfStore, IsCaused, IsChangedIn, IsComposedOver, IsExportedOver, MayGet, OfDisk};
 
 use crate::noting::Answer;
 use crate::over_store::answer_by;
-use crate::words::{NO_STORE, StreamsRequest};
+use crate::store_named::reads_store;
+use crate::words::StreamsRequest;
 use auditor::audit;
 use chain_trial::write_trial;
 use clone_resolve::EditCore;
@@ -30,13 +32,14 @@ use composer::compose;
 use extent_map::Nowhere;
 use guard_rules::Guard;
 use std::alloc::Global;
-use store_words::audit_store;
+use store_base::compose_store;
+use store_words::{audit_store, export_store};
 use stream_dump::dump;
 use stream_export::export;
 use stream_gen::write_chain;
 use sx_base::{Disk, Inputs, Outcome, Sink};
 
-/// What a request on streams answers: over the store of an audit that names one, and else over no store.
+/// What a request on streams answers: over the store that it names, or over none.
 pub(crate) fn streams_answer<'a, I: Inputs, O: Sink, D: Disk>(
     alloc: Global,
     words: &'a [String],
@@ -47,8 +50,6 @@ pub(crate) fn streams_answer<'a, I: Inputs, O: Sink, D: Disk>(
     disk: &mut D,
 ) -> Answer<'a>
     requires within { AreWithin (length words.now) request }
-    requires answered { are_answered (map string_bytes words.now)
-        (streams_meant (map string_bytes words.now) request) ≡ true }
     requires fits { map (λ g. kept g) guards.old ≡ new_guards
         (streams_specs (streams_meant (map string_bytes words.now) request)) }
     ensures same { I.told inputs.new ≡ I.told inputs.old }
@@ -67,20 +68,19 @@ pub(crate) fn streams_answer<'a, I: Inputs, O: Sink, D: Disk>(
         (store_of (streams_meant (map string_bytes words.now) request)) ≡ true) }
     ensures allowed { reads_store (map string_bytes words.now)
         (store_of (streams_meant (map string_bytes words.now) request)) ≡ true
-        → IsGivenFor audit_ways ⊤ ⊤ (answer_of result) }
+        → MayGet (OfStreams (streams_meant (map string_bytes words.now) request))
+        (answer_of result) }
     ensures changed_at { IsChangedIn
         (streams_names (streams_meant (map string_bytes words.now) request)
         (map string_bytes words.now)) (I.last_end inputs.new) (answer_of result) }
     ensures composed { answer_of result ≡ OfAnyWord Done → (store at : ℕ)
         → streams_meant (map string_bytes words.now) request ≡ Compose store at
-        → IfAllTold (I.told inputs.old) (drop at (map string_bytes words.now))
-        (λ files. Wrote (O.taken out.old) (O.taken out.new)
-        (λ written. IsComposed [] files written)) }
+        → IsComposedOver (I.told inputs.old) D.tells (map string_bytes words.now)
+        (D.seen disk.old) (O.taken out.old) (O.taken out.new) store at }
     ensures exported { answer_of result ≡ OfAnyWord Done → (store at : ℕ)
         → streams_meant (map string_bytes words.now) request ≡ Export store at
-        → IfAllTold (I.told inputs.old) (drop at (map string_bytes words.now))
-        (λ files. Wrote (O.taken out.old) (O.taken out.new)
-        (λ written. AllByRecursion IsBytes files → IsExported [] files written)) }
+        → IsExportedOver (I.told inputs.old) D.tells (map string_bytes words.now)
+        (D.seen disk.old) (O.taken out.old) (O.taken out.new) store at }
     ensures answered { OfDisk D.tells (reads_store (map string_bytes words.now)
         (store_of (streams_meant (map string_bytes words.now) request)))
         (IfAllRead (I.told inputs.old)
@@ -97,8 +97,72 @@ pub(crate) fn streams_answer<'a, I: Inputs, O: Sink, D: Disk>(
     ensures any_moment { D.tells →
         LeavesOnly D.moment D.left_since disk.old disk.new (IsImage (D.pending disk.old)) }
 {
-    match files_over_store(words, request) {
-        Some(files) => {
+    if reads_store(words, request) {
+        return streams_over_store(alloc, words, request, guards, inputs, out, disk);
+    }
+    Answer::Ended(streams_end(alloc, words, request, guards, inputs, out))
+}
+
+// What one answers that reads a store.
+fn streams_over_store<'a, I: Inputs, O: Sink, D: Disk>(
+    alloc: Global,
+    words: &'a [String],
+    request: StreamsRequest,
+    guards: &mut [Box<dyn Guard>],
+    inputs: &mut I,
+    out: &mut O,
+    disk: &mut D,
+) -> Answer<'a>
+    requires within { AreWithin (length words.now) request }
+    requires reads { reads_store (map string_bytes words.now)
+        (store_of (streams_meant (map string_bytes words.now) request)) ≡ true }
+    requires fits { map (λ g. kept g) guards.old ≡ new_guards
+        (streams_specs (streams_meant (map string_bytes words.now) request)) }
+    ensures same { I.told inputs.new ≡ I.told inputs.old }
+    ensures caused { IsCaused (AreSteady (I.faults inputs.old) (I.faults inputs.new)
+        (I.ends inputs.old) (I.ends inputs.new) (O.faults out.old) (O.faults out.new)
+        × (D.faults disk.new ≡ D.faults disk.old))
+        (Rose (I.faults inputs.old) (I.faults inputs.new))
+        (Rose (I.ends inputs.old) (I.ends inputs.new))
+        (Rose (O.faults out.old) (O.faults out.new))
+        (Rose (D.faults disk.old) (D.faults disk.new)) (answer_of result) }
+    ensures asked { answer_of result ≢ OfAnyWord Usage }
+    ensures of_compose { IfOfCompose (answer_of result) ((store : ℕ) × (files : ℕ)
+        × (streams_meant (map string_bytes words.now) request ≡ Compose store files)) }
+    ensures allowed { MayGet (OfStreams (streams_meant (map string_bytes words.now) request))
+        (answer_of result) }
+    ensures changed_at { IsChangedIn
+        (streams_names (streams_meant (map string_bytes words.now) request)
+        (map string_bytes words.now)) (I.last_end inputs.new) (answer_of result) }
+    ensures composed { D.tells → answer_of result ≡ OfAnyWord Done → (store at : ℕ)
+        → streams_meant (map string_bytes words.now) request ≡ Compose store at
+        → IfAllTold (I.told inputs.old) (drop at (map string_bytes words.now))
+        (λ files. Wrote (O.taken out.old) (O.taken out.new)
+        (λ written. (s : Store ℕ) → StandsFor (D.seen disk.old) s
+        → IsComposed (base s files) files written)) }
+    ensures exported { D.tells → answer_of result ≡ OfAnyWord Done → (store at : ℕ)
+        → streams_meant (map string_bytes words.now) request ≡ Export store at
+        → IfAllTold (I.told inputs.old) (drop at (map string_bytes words.now))
+        (λ files. Wrote (O.taken out.old) (O.taken out.new)
+        (λ written. (s : Store ℕ) → StandsFor (D.seen disk.old) s → AllByRecursion IsBytes files
+        → IsExported s files written)) }
+    ensures answered { D.tells → IfAllRead (I.told inputs.old)
+        (streams_names (streams_meant (map string_bytes words.now) request)
+        (map string_bytes words.now))
+        (λ files. Wrote (O.taken out.old) (O.taken out.new)
+        (λ written. Answers (OfStreams (streams_meant (map string_bytes words.now) request))
+        (map string_bytes words.now) (D.seen disk.old) files (answer_of result) written
+        (D.seen disk.new))) }
+    ensures unharmed { D.tells → D.seen disk.new ≡ D.seen disk.old }
+    ensures any_moment { D.tells →
+        LeavesOnly D.moment D.left_since disk.old disk.new (IsImage (D.pending disk.old)) }
+{
+    match request {
+        StreamsRequest::Compose { files, .. } => {
+            let names = names_from(words, files);
+            answer_by(compose_store(alloc, disk, inputs, names, out), &[], &[])
+        }
+        StreamsRequest::Audit { files, .. } => {
             let names = names_from(words, files);
             answer_by(
                 audit_store(alloc, disk, inputs, names, guards, out),
@@ -106,33 +170,13 @@ pub(crate) fn streams_answer<'a, I: Inputs, O: Sink, D: Disk>(
                 &[],
             )
         }
-        None => Answer::Ended(streams_end(alloc, words, request, guards, inputs, out)),
-    }
-}
-
-// The place of the first file of an audit over a store.
-fn files_over_store(words: &[String], request: StreamsRequest) -> Option<usize>
-    requires within { AreWithin (length words.now) request }
-    ensures some { IfSome result (λ files.
-        AuditsOver (map string_bytes words.now)
-        (streams_meant (map string_bytes words.now) request) files) }
-    ensures none { IfNone result (are_answered (map string_bytes words.now)
-        (streams_meant (map string_bytes words.now) request) ≡ true
-        → reads_store (map string_bytes words.now)
-        (store_of (streams_meant (map string_bytes words.now) request)) ≡ false) }
-{
-    match request {
-        StreamsRequest::Audit { store, files } => {
-            if words[store].as_str() == NO_STORE {
-                return None;
-            }
-            Some(files)
+        StreamsRequest::Export { files, .. } => {
+            let names = names_from(words, files);
+            answer_by(export_store(alloc, disk, inputs, names, out), &[], &[])
         }
-        StreamsRequest::Compose { .. } => None,
-        StreamsRequest::Dump { .. } => None,
-        StreamsRequest::Export { .. } => None,
-        StreamsRequest::Gen { .. } => None,
-        StreamsRequest::Trial { .. } => None,
+        StreamsRequest::Dump { .. } => unreachable!(),
+        StreamsRequest::Gen { .. } => unreachable!(),
+        StreamsRequest::Trial { .. } => unreachable!(),
     }
 }
 

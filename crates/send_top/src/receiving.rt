@@ -50,7 +50,7 @@ pub(crate) fn receive_answer<'a, I: Inputs, O: Sink, D: Disk>(
         (Rose (D.faults disk.old) (D.faults disk.new)) (answer_of result) }
     ensures asked { answer_of result ≢ OfAnyWord Usage }
     ensures not_composed { IfOfCompose (answer_of result) ⊥ }
-    ensures allowed { IsGivenFor receive_ways ⊤ ⊤ (answer_of result) }
+    ensures allowed { IsGivenFor receive_ways ⊤ ⊥ ⊤ (answer_of result) }
     ensures answered { D.tells → IfAllRead (I.told inputs.old)
         (drop files (map string_bytes words.now))
         (λ bytes. Wrote (O.taken out.old) (O.taken out.new)

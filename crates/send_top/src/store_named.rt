@@ -2,7 +2,7 @@
 ghost use Rattle.std.specs.Prelude.{◌≡◌, ◌<◌, ℕ, List, map, length, IfSome, Some, None, if◌then◌else◌};
 ghost use Rattle.std.specs.Option.{option_map};
 ghost use Rattle.std.specs.String.{string_bytes};
-ghost use Rattle.store_model.specs.Requests.{OfStreams, reads_store};
+ghost use Rattle.store_model.specs.Requests.{OfStreams, reads_store, store_of};
 ghost use Rattle.send_top.specs.Requests.{AreWithin, IsOverWithin, IsWithin, request_meant, streams_meant, store_meant, store_named, store_place, use_asked, use_of};
 
 use crate::words::{NO_STORE, Request, StoreRequest, StreamsRequest, read_words};
@@ -74,10 +74,34 @@ fn unless_none(words: &[String], store: usize) -> Option<usize>
         then Some store else None) }
     ensures within { IfSome result (λ place. place < length words.now) }
 {
-    if words[store].as_str() == NO_STORE {
+    if !is_store_at(words, store) {
         return None;
     }
     Some(store)
+}
+
+// Whether the word at a place is not `none`.
+fn is_store_at(words: &[String], store: usize) -> bool
+    requires within { store < length words.now }
+    ensures { result ≡ reads_store (map string_bytes words.now) (Some store) }
+{
+    words[store].as_str() != NO_STORE
+}
+
+/// Whether a request on streams reads a store. Takes no memory.
+pub(crate) fn reads_store(words: &[String], request: StreamsRequest) -> bool
+    requires within { AreWithin (length words.now) request }
+    ensures { result ≡ reads_store (map string_bytes words.now)
+        (store_of (streams_meant (map string_bytes words.now) request)) }
+{
+    match request {
+        StreamsRequest::Compose { store, .. } => is_store_at(words, store),
+        StreamsRequest::Audit { store, .. } => is_store_at(words, store),
+        StreamsRequest::Dump { .. } => false,
+        StreamsRequest::Export { store, .. } => is_store_at(words, store),
+        StreamsRequest::Gen { .. } => false,
+        StreamsRequest::Trial { .. } => false,
+    }
 }
 
 fn place_over_store(request: StoreRequest) -> usize

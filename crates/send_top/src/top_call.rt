@@ -64,11 +64,11 @@ pub fn run<I: Inputs, O: Sink, N: Sink, D: Disk>(
     ensures of_store { IsStoreStatus result
         → AskForStore (map string_bytes words.now) (map (λ g. kept g) guards.items) }
     ensures composed { result ≡ 0
-        → Composes (I.told inputs.old) (map string_bytes words.now)
-        (map (λ g. kept g) guards.items) (O.taken out.old) (O.taken out.new) }
+        → Composes (I.told inputs.old) D.tells (map string_bytes words.now)
+        (map (λ g. kept g) guards.items) (D.seen disk.old) (O.taken out.old) (O.taken out.new) }
     ensures exported { result ≡ 0
-        → Exports (I.told inputs.old) (map string_bytes words.now)
-        (map (λ g. kept g) guards.items) (O.taken out.old) (O.taken out.new) }
+        → Exports (I.told inputs.old) D.tells (map string_bytes words.now)
+        (map (λ g. kept g) guards.items) (D.seen disk.old) (O.taken out.old) (O.taken out.new) }
     ensures answered { (answer : meant.Answer)
         × IsAnswered (I.told inputs.old) D.tells (map string_bytes words.now)
         (map (λ g. kept g) guards.items) (O.taken out.old) (O.taken out.new)
@@ -134,11 +134,11 @@ fn answer_to<'a, I: Inputs, O: Sink, D: Disk>(
     ensures of_store { IfOfStore (answer_of result)
         (AskForStore (map string_bytes words.now) (map (λ g. kept g) guards.old)) }
     ensures composed { answer_of result ≡ OfAnyWord Done
-        → Composes (I.told inputs.old) (map string_bytes words.now)
-        (map (λ g. kept g) guards.old) (O.taken out.old) (O.taken out.new) }
+        → Composes (I.told inputs.old) D.tells (map string_bytes words.now)
+        (map (λ g. kept g) guards.old) (D.seen disk.old) (O.taken out.old) (O.taken out.new) }
     ensures exported { answer_of result ≡ OfAnyWord Done
-        → Exports (I.told inputs.old) (map string_bytes words.now)
-        (map (λ g. kept g) guards.old) (O.taken out.old) (O.taken out.new) }
+        → Exports (I.told inputs.old) D.tells (map string_bytes words.now)
+        (map (λ g. kept g) guards.old) (D.seen disk.old) (O.taken out.old) (O.taken out.new) }
     ensures answered { IsAnswered (I.told inputs.old) D.tells (map string_bytes words.now)
         (map (λ g. kept g) guards.old) (O.taken out.old) (O.taken out.new)
         (D.seen disk.old) (D.seen disk.new) (answer_of result) }

@@ -4,8 +4,8 @@ ghost use Rattle.std.specs.Option.{IfNone};
 ghost use Rattle.std.specs.String.{string_bytes};
 ghost use Rattle.send_model.specs.Guards.{is_guard_word};
 ghost use Rattle.send_model.specs.Words.{Compose, Dump, Export, Gen, Trial, store_and_files, one_file, guards_and_files, count_and_seed};
-ghost use Rattle.store_model.specs.Requests.{InitStore, DropEntry, ListStore, ShowEntry, CatFile, ScrubStore, of_one, of_two, of_three, as_receive};
-ghost use Rattle.send_top.specs.Requests.{request_meant, answered_request, if_answered, of_streams, guard_words, AreGuardWords, IsWithin};
+ghost use Rattle.store_model.specs.Requests.{request_of, InitStore, DropEntry, ListStore, ShowEntry, CatFile, ScrubStore, of_one, of_two, of_three, as_receive};
+ghost use Rattle.send_top.specs.Requests.{request_meant, of_streams, guard_words, AreGuardWords, IsWithin};
 ghost use Rattle.send_top.specs.AuditWords.{HasStore};
 
 use guard_rules::{number_of, parse_guard};
@@ -121,10 +121,10 @@ pub(crate) const NO_STORE: &str = "none";
 const MOST_PARTS: u64 = 4_096;
 
 /// What the words after the program's name ask for; `None` exactly where they mean nothing. Takes no memory.
-#[tactic(auto, unfolding(send_model::specs::Words::request_of, store_model::specs::Requests::request_of, store_model::specs::Requests::over_store, crate::specs::Requests::answered_request))]
+#[tactic(auto, unfolding(send_model::specs::Words::request_of, store_model::specs::Requests::request_of, store_model::specs::Requests::over_store))]
 pub fn read_words(words: &[String]) -> Option<Request>
     ensures meaning { option_map (request_meant (map string_bytes words.now)) result
-        ≡ answered_request (map string_bytes words.now) }
+        ≡ request_of (map string_bytes words.now) }
     ensures within { IfSome result (IsWithin (length words.now)) }
     ensures guards { IfSome result
         (λ request. AreGuardWords (guard_words (map string_bytes words.now) request)) }
@@ -151,27 +151,22 @@ pub fn read_words(words: &[String]) -> Option<Request>
 // `compose STORE FILE..`
 fn read_compose(words: &[String]) -> Option<Request>
     ensures meaning { option_map (request_meant (map string_bytes words.now)) result
-        ≡ if_answered (map string_bytes words.now)
-        (of_streams (store_and_files Compose 1 (drop 1 (map string_bytes words.now)))) }
+        ≡ of_streams (store_and_files Compose 1 (drop 1 (map string_bytes words.now))) }
     ensures within { IfSome result (IsWithin (length words.now)) }
     ensures guards { IfSome result
         (λ request. AreGuardWords (guard_words (map string_bytes words.now) request)) }
 {
-    let [_, store, _, ..] = words else {
+    let [_, _, _, ..] = words else {
         return None;
     };
-    if store.as_str() == NO_STORE {
-        return Some(Request::Streams(StreamsRequest::Compose { store: 1, files: 2 }));
-    }
-    None
+    Some(Request::Streams(StreamsRequest::Compose { store: 1, files: 2 }))
 }
 
 // `audit [GUARD..] STORE FILE..`
 fn read_audit(words: &[String]) -> Option<Request>
     requires some { 1 ≤ length words.now }
     ensures meaning { option_map (request_meant (map string_bytes words.now)) result
-        ≡ if_answered (map string_bytes words.now)
-        (of_streams (guards_and_files 1 (drop 1 (map string_bytes words.now)))) }
+        ≡ of_streams (guards_and_files 1 (drop 1 (map string_bytes words.now))) }
     ensures within { IfSome result (IsWithin (length words.now)) }
     ensures guards { IfSome result
         (λ request. AreGuardWords (guard_words (map string_bytes words.now) request)) }
@@ -212,8 +207,7 @@ fn is_guard_word(word: &str) -> bool
 // `dump FILE`
 fn read_dump(words: &[String]) -> Option<Request>
     ensures meaning { option_map (request_meant (map string_bytes words.now)) result
-        ≡ if_answered (map string_bytes words.now)
-        (of_streams (one_file Dump (drop 1 (map string_bytes words.now)))) }
+        ≡ of_streams (one_file Dump (drop 1 (map string_bytes words.now))) }
     ensures within { IfSome result (IsWithin (length words.now)) }
     ensures guards { IfSome result
         (λ request. AreGuardWords (guard_words (map string_bytes words.now) request)) }
@@ -227,26 +221,21 @@ fn read_dump(words: &[String]) -> Option<Request>
 // `export STORE FILE..`
 fn read_export(words: &[String]) -> Option<Request>
     ensures meaning { option_map (request_meant (map string_bytes words.now)) result
-        ≡ if_answered (map string_bytes words.now)
-        (of_streams (store_and_files Export 1 (drop 1 (map string_bytes words.now)))) }
+        ≡ of_streams (store_and_files Export 1 (drop 1 (map string_bytes words.now))) }
     ensures within { IfSome result (IsWithin (length words.now)) }
     ensures guards { IfSome result
         (λ request. AreGuardWords (guard_words (map string_bytes words.now) request)) }
 {
-    let [_, store, _, ..] = words else {
+    let [_, _, _, ..] = words else {
         return None;
     };
-    if store.as_str() == NO_STORE {
-        return Some(Request::Streams(StreamsRequest::Export { store: 1, files: 2 }));
-    }
-    None
+    Some(Request::Streams(StreamsRequest::Export { store: 1, files: 2 }))
 }
 
 // `gen COUNT SEED`
 fn read_gen(words: &[String]) -> Option<Request>
     ensures meaning { option_map (request_meant (map string_bytes words.now)) result
-        ≡ if_answered (map string_bytes words.now)
-        (of_streams (count_and_seed Gen (drop 1 (map string_bytes words.now)))) }
+        ≡ of_streams (count_and_seed Gen (drop 1 (map string_bytes words.now))) }
     ensures within { IfSome result (IsWithin (length words.now)) }
     ensures guards { IfSome result
         (λ request. AreGuardWords (guard_words (map string_bytes words.now) request)) }
@@ -265,8 +254,7 @@ fn read_gen(words: &[String]) -> Option<Request>
 // `trial COUNT SEED`
 fn read_trial(words: &[String]) -> Option<Request>
     ensures meaning { option_map (request_meant (map string_bytes words.now)) result
-        ≡ if_answered (map string_bytes words.now)
-        (of_streams (count_and_seed Trial (drop 1 (map string_bytes words.now)))) }
+        ≡ of_streams (count_and_seed Trial (drop 1 (map string_bytes words.now))) }
     ensures within { IfSome result (IsWithin (length words.now)) }
     ensures guards { IfSome result
         (λ request. AreGuardWords (guard_words (map string_bytes words.now) request)) }
@@ -285,8 +273,7 @@ fn read_trial(words: &[String]) -> Option<Request>
 // `init STORE`
 fn read_init(words: &[String]) -> Option<Request>
     ensures meaning { option_map (request_meant (map string_bytes words.now)) result
-        ≡ if_answered (map string_bytes words.now)
-        (of_one (InitStore 1) (drop 1 (map string_bytes words.now))) }
+        ≡ of_one (InitStore 1) (drop 1 (map string_bytes words.now)) }
     ensures within { IfSome result (IsWithin (length words.now)) }
     ensures guards { IfSome result
         (λ request. AreGuardWords (guard_words (map string_bytes words.now) request)) }
@@ -300,8 +287,7 @@ fn read_init(words: &[String]) -> Option<Request>
 // `drop STORE NAME`
 fn read_drop(words: &[String]) -> Option<Request>
     ensures meaning { option_map (request_meant (map string_bytes words.now)) result
-        ≡ if_answered (map string_bytes words.now)
-        (of_two (DropEntry 1 2) (drop 1 (map string_bytes words.now))) }
+        ≡ of_two (DropEntry 1 2) (drop 1 (map string_bytes words.now)) }
     ensures within { IfSome result (IsWithin (length words.now)) }
     ensures guards { IfSome result
         (λ request. AreGuardWords (guard_words (map string_bytes words.now) request)) }
@@ -316,8 +302,7 @@ fn read_drop(words: &[String]) -> Option<Request>
 fn read_receive(words: &[String]) -> Option<Request>
     requires some { 1 ≤ length words.now }
     ensures meaning { option_map (request_meant (map string_bytes words.now)) result
-        ≡ if_answered (map string_bytes words.now)
-        (as_receive (guards_and_files 1 (drop 1 (map string_bytes words.now)))) }
+        ≡ as_receive (guards_and_files 1 (drop 1 (map string_bytes words.now))) }
     ensures within { IfSome result (IsWithin (length words.now)) }
     ensures guards { IfSome result
         (λ request. AreGuardWords (guard_words (map string_bytes words.now) request)) }
@@ -333,8 +318,7 @@ fn read_receive(words: &[String]) -> Option<Request>
 // `list STORE`
 fn read_list(words: &[String]) -> Option<Request>
     ensures meaning { option_map (request_meant (map string_bytes words.now)) result
-        ≡ if_answered (map string_bytes words.now)
-        (of_one (ListStore 1) (drop 1 (map string_bytes words.now))) }
+        ≡ of_one (ListStore 1) (drop 1 (map string_bytes words.now)) }
     ensures within { IfSome result (IsWithin (length words.now)) }
     ensures guards { IfSome result
         (λ request. AreGuardWords (guard_words (map string_bytes words.now) request)) }
@@ -348,8 +332,7 @@ fn read_list(words: &[String]) -> Option<Request>
 // `show STORE NAME`
 fn read_show(words: &[String]) -> Option<Request>
     ensures meaning { option_map (request_meant (map string_bytes words.now)) result
-        ≡ if_answered (map string_bytes words.now)
-        (of_two (ShowEntry 1 2) (drop 1 (map string_bytes words.now))) }
+        ≡ of_two (ShowEntry 1 2) (drop 1 (map string_bytes words.now)) }
     ensures within { IfSome result (IsWithin (length words.now)) }
     ensures guards { IfSome result
         (λ request. AreGuardWords (guard_words (map string_bytes words.now) request)) }
@@ -363,8 +346,7 @@ fn read_show(words: &[String]) -> Option<Request>
 // `cat STORE NAME PATH`
 fn read_cat(words: &[String]) -> Option<Request>
     ensures meaning { option_map (request_meant (map string_bytes words.now)) result
-        ≡ if_answered (map string_bytes words.now)
-        (of_three (CatFile 1 2 3) (drop 1 (map string_bytes words.now))) }
+        ≡ of_three (CatFile 1 2 3) (drop 1 (map string_bytes words.now)) }
     ensures within { IfSome result (IsWithin (length words.now)) }
     ensures guards { IfSome result
         (λ request. AreGuardWords (guard_words (map string_bytes words.now) request)) }
@@ -382,8 +364,7 @@ fn read_cat(words: &[String]) -> Option<Request>
 // `scrub STORE`
 fn read_scrub(words: &[String]) -> Option<Request>
     ensures meaning { option_map (request_meant (map string_bytes words.now)) result
-        ≡ if_answered (map string_bytes words.now)
-        (of_one (ScrubStore 1) (drop 1 (map string_bytes words.now))) }
+        ≡ of_one (ScrubStore 1) (drop 1 (map string_bytes words.now)) }
     ensures within { IfSome result (IsWithin (length words.now)) }
     ensures guards { IfSome result
         (λ request. AreGuardWords (guard_words (map string_bytes words.now) request)) }

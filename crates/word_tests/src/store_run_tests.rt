@@ -43,6 +43,13 @@ const SMALL: &[u8] = b"sndstore\x02\x00\x00\x00\xa0\x00\x00\x00\x00\x00\x00\x00\
 // A new store without room for anything.
 const FULL: &[u8] = b"sndstore\x02\x00\x00\x00\x00\x00\x00\x00\x00\x00\x00\x00\x00";
 
+// The second file, and the third, whose parent is the part of the first. Over a store that has the parent, each stands for itself.
+const ONLY_B: &[u8] =
+    b"btrfs-stream\x00\x01\x00\x00\x00E\x00\x00\x00\x02\x00\xca\x93\xbf\xed\x01\x00\x10\x00\"\"\"\"\"\"\"\"\"\"\"\"\"\"\"\"\x02\x00\x08\x00\x02\x00\x00\x00\x00\x00\x00\x00\x0f\x00\x01\x00b\x14\x00\x10\x00\x11\x11\x11\x11\x11\x11\x11\x11\x11\x11\x11\x11\x11\x11\x11\x11\x15\x00\x08\x00\x01\x00\x00\x00\x00\x00\x00\x00\x16\x00\x00\x00\x0f\x00\x95\xb7Kw\x0f\x00\x01\x00x\x12\x00\x08\x00\x02\x00\x00\x00\x00\x00\x00\x00\x13\x00\x01\x00!\x00\x00\x00\x00\x15\x00Pl\xc9\x9d";
+
+const ONLY_C: &[u8] =
+    b"btrfs-stream\x00\x01\x00\x00\x00E\x00\x00\x00\x02\x00\xc5)\xd3b\x01\x00\x10\x003333333333333333\x02\x00\x08\x00\x03\x00\x00\x00\x00\x00\x00\x00\x0f\x00\x01\x00c\x14\x00\x10\x00\x11\x11\x11\x11\x11\x11\x11\x11\x11\x11\x11\x11\x11\x11\x11\x11\x15\x00\x08\x00\x01\x00\x00\x00\x00\x00\x00\x00\x00\x00\x00\x00\x15\x00Pl\xc9\x9d";
+
 const LINE_A: &[u8] = b"complete a 11111111-1111-1111-1111-111111111111 1\n";
 
 const LINE_B: &[u8] = b"complete b 22222222-2222-2222-2222-222222222222 2\n";
@@ -130,7 +137,7 @@ fn has_image(disk: &mut MemDisk, image: &[u8]) -> Result<bool, Fail> {
 
 #[test]
 fn a_store_is_made_filled_and_read(rt: HostRuntime) -> Result<(), Fail> {
-    let table: [Row; 22] = [
+    let table: [Row; 27] = [
         (&["init", "st"], 0, b"", b""),
         (&["init", "st"], 12, b"", b"store there 21\n"),
         (&["list", "st"], 0, b"", b""),
@@ -145,6 +152,15 @@ fn a_store_is_made_filled_and_read(rt: HostRuntime) -> Result<(), Fail> {
         (&["cat", "st", "z z", "x"], 8, b"", b"missing z\\x20z\n"),
         (&["scrub", "st"], 0, b"scrub 4 0\n", b""),
         (&["audit", "st", "third"], 0, b"accepted 1 2\n", b""),
+        (&["compose", "st", "second"], 0, ONLY_B, b""),
+        (&["compose", "st", "third"], 0, ONLY_C, b""),
+        (&["export", "st", "third"], 0, ONLY_C, b""),
+        (
+            &["export", "st", "second"],
+            1,
+            b"",
+            b"refused 1 1 17 11 NameThere\n",
+        ),
         (
             &["audit", "st", "first"],
             1,
@@ -160,6 +176,12 @@ fn a_store_is_made_filled_and_read(rt: HostRuntime) -> Result<(), Fail> {
         (&["drop", "st", "zz"], 8, b"", b"missing zz\n"),
         (&["drop", "st", "a"], 0, b"", b""),
         (&["list", "st"], 0, LIST_B, b""),
+        (
+            &["compose", "st", "third"],
+            1,
+            b"",
+            b"refused 1 1 17 13 NoParent\n",
+        ),
         (
             &["receive", "st", "third"],
             1,
@@ -265,7 +287,7 @@ fn a_store_of_the_first_format_goes_on(rt: HostRuntime) -> Result<(), Fail> {
 }
 
 // Images, and what a word answers over each.
-const IMAGES: [(&[u8], Row); 18] = [
+const IMAGES: [(&[u8], Row); 26] = [
     (b"", (&["list", "st"], 6, b"", b"not a store 0\n")),
     (b"", (&["show", "st", "a"], 6, b"", b"not a store 0\n")),
     (b"", (&["cat", "st", "a", "x"], 6, b"", b"not a store 0\n")),
@@ -275,11 +297,27 @@ const IMAGES: [(&[u8], Row); 18] = [
         (&["receive", "st", "first"], 6, b"", b"not a store 0\n"),
     ),
     (b"", (&["audit", "st", "first"], 6, b"", b"not a store 0\n")),
+    (
+        b"",
+        (&["compose", "st", "first"], 6, b"", b"not a store 0\n"),
+    ),
+    (
+        b"",
+        (&["export", "st", "first"], 6, b"", b"not a store 0\n"),
+    ),
     (b"", (&["scrub", "st"], 6, b"", b"not a store 0\n")),
     (DAMAGED, (&["list", "st"], 6, b"", b"not a store 1\n")),
     (
         DAMAGED,
         (&["receive", "st", "second"], 6, b"", b"not a store 1\n"),
+    ),
+    (
+        DAMAGED,
+        (&["compose", "st", "second"], 6, b"", b"not a store 1\n"),
+    ),
+    (
+        DAMAGED,
+        (&["export", "st", "second"], 6, b"", b"not a store 1\n"),
     ),
     (
         DAMAGED,
@@ -301,7 +339,11 @@ const IMAGES: [(&[u8], Row); 18] = [
         STORE,
         (&["audit", "st", "second"], 0, b"accepted 1 3\n", b""),
     ),
+    (STORE, (&["compose", "st", "second"], 0, ONLY_B, b"")),
+    (STORE, (&["export", "st", "second"], 0, ONLY_B, b"")),
+    (STORE, (&["compose", "st", "no_part"], 0, b"", b"")),
     (OF_FORMAT_1, (&["list", "st"], 0, LIST_A, b"")),
+    (OF_FORMAT_1, (&["compose", "st", "second"], 0, ONLY_B, b"")),
 ];
 
 #[test]
@@ -432,7 +474,7 @@ fn an_output_that_fails_is_told(rt: HostRuntime) -> Result<(), Fail> {
 
 #[test]
 fn the_store_is_named_by_its_word(rt: HostRuntime) -> Result<(), Fail> {
-    let table: [(&[&str], Option<&str>, Option<StoreUse>); 13] = [
+    let table: [(&[&str], Option<&str>, Option<StoreUse>); 15] = [
         (&["init", "st"], Some("st"), Some(StoreUse::Make)),
         (&["drop", "st", "a"], Some("st"), Some(StoreUse::Write)),
         (
@@ -445,6 +487,12 @@ fn the_store_is_named_by_its_word(rt: HostRuntime) -> Result<(), Fail> {
         (&["cat", "st", "a", "x"], Some("st"), Some(StoreUse::Read)),
         (&["scrub", "st"], Some("st"), Some(StoreUse::Read)),
         (&["audit", "st", "first"], Some("st"), Some(StoreUse::Read)),
+        (
+            &["compose", "st", "first"],
+            Some("st"),
+            Some(StoreUse::Read),
+        ),
+        (&["export", "st", "first"], Some("st"), Some(StoreUse::Read)),
         (&["audit", "none", "first"], None, None),
         (&["compose", "none", "first"], None, None),
         (&["dump", "st"], None, None),

@@ -16,7 +16,9 @@ use Rattle.composer.specs.Files as composing
 use Rattle.auditor.specs.Following.{blank}
 use Rattle.auditor.specs.Answers.{AuditEnds}
 use Rattle.send_top.specs.Requests.{guards_in, before_store, streams_specs, streams_meant}
-use Rattle.send_top.proofs.StreamsEnds.{following, read_of, of_one_file, composed_ends, headline, audits, dumps, exports, promised, caused_unread, of_names, map_some, files_of_compose, files_of_export}
+use Rattle.send_top.proofs.StreamsEnds.{following, read_of, of_one_file, composed_ends, headline, audits, dumps, exports, caused_unread, of_names, files_of_compose, files_of_export}
+use Rattle.send_model.proofs.ExportedStreams.{none_can}
+use Rattle.store_words.proofs.ExportAnswers.{map_some, promised}
 use Rattle.send_top.proofs.on_streams.streams_end.Goals as goal
 
 pub returns-in-Compose-clause-composed : goal.returns-in-Compose-clause-composed
@@ -75,7 +77,7 @@ returns-in-Export-clause-exported g c done =
     (of_names told names (drop c.in-Export.files words)
     (λ files. Wrote old new (λ written. AllByRecursion IsBytes files → IsExported [] files written))
     (ap (map string_bytes) c.names_from-in-Export.ensures.names ∙ sym (drop-map string_bytes c.in-Export.files c.args.words.now))
-    (promised told names old new c.export.result (map_some string_bytes c.names_from-in-Export.result.now c.names_from-in-Export.ensures.some) done
+    (promised [] none_can told names old new c.export.result (map_some string_bytes c.names_from-in-Export.result.now c.names_from-in-Export.ensures.some) done
     (c.export.ensures.exported [] same) (c.export.ensures.small [] same))))
 
 pub returns-in-Export-clause-ends : goal.returns-in-Export-clause-ends

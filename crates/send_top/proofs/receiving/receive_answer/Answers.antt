@@ -17,7 +17,8 @@ use Rattle.sx_base.specs.Disk.{IsImage}
 use Rattle.store_words.specs.Receiving.{LeftByReceive}
 use Rattle.send_top.specs.Answered.{answer_of}
 use Rattle.send_top.specs.Requests.{before_store, guards_in}
-use Rattle.send_top.proofs.StreamsEnds.{map_some, following, read_of}
+use Rattle.store_words.proofs.ExportAnswers.{map_some}
+use Rattle.send_top.proofs.StreamsEnds.{following, read_of}
 use Rattle.send_top.proofs.ReceiveAnswers.{all_read, all_told, nothing_received}
 use Rattle.send_top.proofs.receiving.receive_answer.Given.{Over}
 use Rattle.send_top.proofs.receiving.receive_answer.Goals.{After-receive_store}

@@ -9,13 +9,8 @@ use Rattle.sx_base.specs.Calls.{Wrote}
 use Rattle.send_top.specs.Answered.{answer_of}
 use Rattle.send_top.specs.Requests.{request_meant, specs_of, streams_meant, store_meant, names_asked, uses_store}
 use Rattle.send_top.specs.Run.{IfAllRead, IfBytes, MayGet, OfDisk}
-use Rattle.send_top.proofs.AskedFor.{of_asked, is_asked, answered_of, uses_over}
+use Rattle.send_top.proofs.AskedFor.{of_asked, is_asked, uses_over}
 use Rattle.send_top.proofs.top_call.answer_to.Goals as goal
-
-pub streams_answer-requires-clause-answered : goal.streams_answer-requires-clause-answered
-streams_answer-requires-clause-answered g c =
-    let words : List (List ℕ) = map string_bytes c.args.words.now in
-    answered_of words (streams_meant words c.in-Streams.request) (ap (λ r. Some (request_meant words r)) (sym c.in-Streams.is) ∙ c.in-Some.ensures.meaning)
 
 pub returns-in-Store-clause-answered : goal.returns-in-Store-clause-answered
 returns-in-Store-clause-answered g c =

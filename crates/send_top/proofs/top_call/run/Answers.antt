@@ -78,12 +78,12 @@ returns-clause-of_store g c is = subst (λ gs. AskForStore (map string_bytes c.a
 
 pub returns-clause-composed : goal.returns-clause-composed
 returns-clause-composed g c none =
-    subst (λ gs. Composes (g.I.Inputs.told c.args.inputs.now) (map string_bytes c.args.words.now) (map (λ b. (goal.Guard-dyn g (b.vtable, b.value)).kept b.value) gs) (g.O.Sink.taken c.args.out.now) (g.O.Sink.taken c.answer_to-answer.new.out))
+    subst (λ gs. Composes (g.I.Inputs.told c.args.inputs.now) g.D.Disk.tells (map string_bytes c.args.words.now) (map (λ b. (goal.Guard-dyn g (b.vtable, b.value)).kept b.value) gs) (g.D.Disk.seen c.args.disk.now) (g.O.Sink.taken c.args.out.now) (g.O.Sink.taken c.answer_to-answer.new.out))
     c.deref_mut.ensures.value (c.answer_to-answer.ensures.composed (done-of_zero (answer_of c.answer_to-answer.result) (sym c.status.ensures ∙ none)))
 
 pub returns-clause-exported : goal.returns-clause-exported
 returns-clause-exported g c none =
-    subst (λ gs. Exports (g.I.Inputs.told c.args.inputs.now) (map string_bytes c.args.words.now) (map (λ b. (goal.Guard-dyn g (b.vtable, b.value)).kept b.value) gs) (g.O.Sink.taken c.args.out.now) (g.O.Sink.taken c.answer_to-answer.new.out))
+    subst (λ gs. Exports (g.I.Inputs.told c.args.inputs.now) g.D.Disk.tells (map string_bytes c.args.words.now) (map (λ b. (goal.Guard-dyn g (b.vtable, b.value)).kept b.value) gs) (g.D.Disk.seen c.args.disk.now) (g.O.Sink.taken c.args.out.now) (g.O.Sink.taken c.answer_to-answer.new.out))
     c.deref_mut.ensures.value (c.answer_to-answer.ensures.exported (done-of_zero (answer_of c.answer_to-answer.result) (sym c.status.ensures ∙ none)))
 
 pub returns-clause-quiet : goal.returns-clause-quiet
