@@ -12,8 +12,8 @@ usage: btrsend init STORE
        btrsend drop STORE NAME
        btrsend scrub STORE
        btrsend audit [GUARD..] STORE|none FILE..
-       btrsend compose none FILE.. > MERGED
-       btrsend export none FILE.. > STREAM
+       btrsend compose STORE|none FILE.. > MERGED
+       btrsend export STORE|none FILE.. > STREAM
        btrsend dump FILE
        btrsend gen COUNT SEED > CHAIN
        btrsend trial COUNT SEED
@@ -31,9 +31,10 @@ usage: btrsend init STORE
   audit     checks each command of all FILEs in order, as a receiver would, and names the first that it would
             refuse; where there is none it writes `accepted PARTS COMMANDS`. Each FILE is read once: a pipe serves
   compose   writes one stream that makes the last subvolume of a chain in a single part. The first FILE is a full
-            stream, and each later part is an incremental one on the part before. A clone within a part stays one;
-            what a clone takes from an earlier part is written as bytes, which are read again. Each FILE is read
-            twice, so it can not be a pipe, and must not change meanwhile
+            stream, or one on a subvolume of STORE, and each later part is an incremental one on the part before.
+            Clones within a part, and from other subvolumes of STORE, stay clones; what a clone takes from an earlier
+            part, and no subvolume outside the chain carries, is written as bytes, which are read again. Each FILE is
+            read twice, so it can not be a pipe, and must not change meanwhile
   export    writes the streams of all FILEs for `btrfs receive`: in the spelling that it takes, and with commands in
             between that change nothing and make it open another file, where it would write to one that a path does
             not name any more. Refuses what `audit` refuses. Each FILE is read once: a pipe serves
@@ -43,7 +44,7 @@ usage: btrsend init STORE
             parts, commands and bytes; of the merged stream its bytes and clones, and the bytes written for a clone
 
   STORE     a file that `btrsend init` made. While a program writes to it no other may use it
-  none      no store: the streams stand on nothing else. `compose` and `export` take only this yet
+  none      no store: the streams stand on nothing else
   NAME      the name of a subvolume, PATH a path in it: `dir/file`
   FILE      a file that `btrfs send` wrote, with one stream or several
   GUARD     guard:bytes=N, guard:commands=N, guard:nodev or guard:end=N: refuses more bytes of data, more

@@ -1,7 +1,9 @@
 //! The edge of btrsend: files and streams of the system as inputs and sinks, and the program's start.
 #![tactic(auto)]
 
+mod advice;
 mod disk_progress;
+mod explaining;
 mod help;
 mod line;
 mod no_disk;

@@ -34,6 +34,14 @@ pub struct PathInputs<'a, R: Files> {
     // The name of the file that ended last, and where it did.
     last_name: String,
     last_place: u64,
+    // The name of the file that the system failed last at, and its reason.
+    failed: Option<FailedInput>,
+}
+
+#[derive(Debug, Drop)]
+struct FailedInput {
+    name: String,
+    reason: io::Error,
 }
 
 #[derive(Debug, Drop)]
@@ -61,6 +69,34 @@ impl<'a, R: Files> PathInputs<'a, R> {
             ends: 0,
             last_name: String::new(alloc),
             last_place: 0,
+            failed: None,
+        }
+    }
+
+    /// The name of the file that the system failed last at; none where it did not, or there was no memory for it.
+    pub fn failed_name(&self) -> Option<&str> {
+        match &self.failed {
+            Some(failed) => Some(failed.name.as_str()),
+            None => None,
+        }
+    }
+
+    /// The system's reason then.
+    pub fn failed_reason(&self) -> Option<&io::Error> {
+        match &self.failed {
+            Some(failed) => Some(&failed.reason),
+            None => None,
+        }
+    }
+
+    // Remembers at which file the system failed, and why.
+    fn keep_failure(&mut self, name: &str, reason: io::Error)
+        ensures faults { self.new.faults ≡ self.old.faults }
+        ensures ends { self.new.ends ≡ self.old.ends }
+        ensures open { self.new.open ≡ self.old.open }
+    {
+        if let Ok(name) = String::from_str(self.alloc, name) {
+            self.failed = Some(FailedInput { name, reason });
         }
     }
 
@@ -167,12 +203,14 @@ impl<'a, R: Files> Inputs for PathInputs<'a, R> {
         ensures counted { CountsFaults self.old.faults self.new.faults result }
         ensures few { length self.old.open.items ≤ 16 → length self.new.open.items ≤ 16 }
     {
-        let answer = self.read_file(name, at, buf);
-        if let Ok(count) = answer {
-            return Ok(count);
+        match self.read_file(name, at, buf) {
+            Ok(count) => Ok(count),
+            Err(reason) => {
+                self.keep_failure(name, reason);
+                self.count_fault();
+                Err(Failed)
+            }
         }
-        self.count_fault();
-        Err(Failed)
     }
 
     fn read_again(&mut self, name: &str, at: u64, buf: &mut [u8]) -> Result<(), Lost>
@@ -189,9 +227,13 @@ impl<'a, R: Files> Inputs for PathInputs<'a, R> {
             result }
         ensures few { length self.old.open.items ≤ 16 → length self.new.open.items ≤ 16 }
     {
-        let Ok(count) = self.fill(name, at, buf) else {
-            self.count_fault();
-            return Err(Lost::Failed);
+        let count = match self.fill(name, at, buf) {
+            Ok(count) => count,
+            Err(reason) => {
+                self.keep_failure(name, reason);
+                self.count_fault();
+                return Err(Lost::Failed);
+            }
         };
         if count == buf.len() {
             return Ok(());

@@ -1,5 +1,7 @@
 // From the system's arguments, files and streams to the call that does the work.
+use crate::advice::TO_A_TERMINAL;
 use crate::disk_progress::DiskProgress;
+use crate::explaining::{KeptNotes, explain, is_wanted};
 use crate::help::{HELP, VERSION};
 use crate::no_disk::NoDisk;
 use crate::out_sink::OutSink;
@@ -9,20 +11,20 @@ use crate::screen::{AfterLine, Screen, end_line};
 use file_disk::{FileDisk, OpenStop};
 use guard_rules::{AnyGuard, Guard, parse_guard};
 use send_top::{Answer, StoreUse, run, status, store_use, store_word, write_note};
-use std::alloc::AllocError;
+use std::alloc::{AllocError, Global};
 use std::cell::RefCell;
 use std::fs::File;
 use std::io::{ErrorKind, IsTerminal};
 use std::process::ExitCode;
 use std::rt::Files;
 use std::{env, fs, io};
-use sx_base::{Disk, Outcome, Sink, write_whole};
+use sx_base::{Blob, Disk, Outcome, Sink, escape_into, write_whole};
 
 /// Does what the words after the program's name ask for, over the files and standard streams of the system, and gives the
 /// status to end with. A lone `--help` or `--version` is answered here.
 pub fn start(rt: &HostRuntime) -> ExitCode {
     let mut out = OutSink::new(rt.stdout());
-    let mut notes = OutSink::new(rt.stderr());
+    let mut notes = KeptNotes::new(OutSink::new(rt.stderr()));
     let words = match words_of(rt) {
         Ok(words) => words,
         Err(error) if error.kind() == ErrorKind::OutOfMemory => {
@@ -37,9 +39,24 @@ pub fn start(rt: &HostRuntime) -> ExitCode {
             Err(_) => answered(&Answer::Ended(Outcome::OutputFault), &mut notes),
         };
     }
+    if writes_stream(&words) && rt.stdout().is_terminal() {
+        let status = answered(&Answer::Ended(Outcome::OutputFault), &mut notes);
+        let _ = write_whole(&mut notes, b"btrsend: ");
+        let _ = write_whole(&mut notes, TO_A_TERMINAL.as_bytes());
+        let _ = write_whole(&mut notes, b"\n");
+        return status;
+    }
     match run_over(rt, &words, &mut out, &mut notes) {
         Ok(status) => ExitCode::from(status),
         Err(AllocError) => answered(&Answer::Ended(Outcome::NoMemory), &mut notes),
+    }
+}
+
+// Whether words ask for a stream on standard output.
+fn writes_stream(words: &[String]) -> bool {
+    match words {
+        [word, _, _, ..] => matches!(word.as_str(), "compose" | "export"),
+        _ => false,
     }
 }
 
@@ -48,18 +65,30 @@ fn run_over<O: Sink, N: Sink>(
     rt: &HostRuntime,
     words: &[String],
     out: &mut O,
-    notes: &mut N,
+    notes: &mut KeptNotes<N>,
 ) -> Result<u8, AllocError> {
-    match open_store(rt, words)? {
-        Some(disk) => run_words(rt, words, out, notes, disk),
-        None => run_words(rt, words, out, notes, NoDisk::new()),
+    match open_store(rt, words) {
+        Opened::Disk(disk) => run_words(rt, words, out, notes, disk, None),
+        Opened::NoStore => run_words(rt, words, out, notes, NoDisk::new(), None),
+        Opened::Stopped(OpenStop::NoMemory) => Err(AllocError),
+        Opened::Stopped(why) => run_words(rt, words, out, notes, NoDisk::new(), Some(why)),
     }
 }
 
-// The store that the words name, open for what is done with it. None where they name none, or it can not be opened.
-fn open_store(rt: &HostRuntime, words: &[String]) -> Result<Option<FileDisk<File>>, AllocError> {
+// The store that words name.
+#[derive(Drop)]
+enum Opened {
+    // It is open for what is done with it.
+    Disk(FileDisk<File>),
+    // They name none.
+    NoStore,
+    // It can not be opened.
+    Stopped(OpenStop),
+}
+
+fn open_store(rt: &HostRuntime, words: &[String]) -> Opened {
     let (Some(path), Some(usage)) = (store_word(words), store_use(words)) else {
-        return Ok(None);
+        return Opened::NoStore;
     };
     let opened = match usage {
         StoreUse::Make => FileDisk::create(rt, rt.alloc(), path),
@@ -67,19 +96,19 @@ fn open_store(rt: &HostRuntime, words: &[String]) -> Result<Option<FileDisk<File
         StoreUse::Read => FileDisk::open_to_read(rt, rt.alloc(), path),
     };
     match opened {
-        Ok(disk) => Ok(Some(disk)),
-        Err(OpenStop::NoMemory) => Err(AllocError),
-        Err(_) => Ok(None),
+        Ok(disk) => Opened::Disk(disk),
+        Err(why) => Opened::Stopped(why),
     }
 }
 
-// Runs the words, with one guard for each guard word of `audit` and `receive`.
+// Runs the words, with one guard for each guard word of `audit` and `receive`. Where the store could not be opened, `why` says why.
 fn run_words<O: Sink, N: Sink, D: Disk + Drop>(
     rt: &HostRuntime,
     words: &[String],
     out: &mut O,
-    notes: &mut N,
+    notes: &mut KeptNotes<N>,
     disk: D,
+    why: Option<OpenStop>,
 ) -> Result<u8, AllocError> {
     let mut guards: Vec<Box<dyn Guard>> = Vec::new(rt.alloc());
     for word in guard_words(words) {
@@ -89,11 +118,11 @@ fn run_words<O: Sink, N: Sink, D: Disk + Drop>(
         guards.push(Box::new(rt.alloc(), AnyGuard::new(spec))?)?;
     }
     if let Some(shown) = what_to_show(rt, words) {
-        return Ok(run_shown(rt, words, guards, shown, disk));
+        return Ok(run_shown(rt, words, guards, shown, disk, why));
     }
     let mut inputs = PathInputs::new(rt, rt.alloc());
     let mut disk = disk;
-    Ok(run(
+    let status = run(
         rt.alloc(),
         words,
         guards,
@@ -101,7 +130,84 @@ fn run_words<O: Sink, N: Sink, D: Disk + Drop>(
         out,
         notes,
         &mut disk,
-    ))
+    );
+    if is_wanted(rt) {
+        explain_run(rt.alloc(), words, status, why, &inputs, notes);
+    }
+    Ok(status)
+}
+
+// Writes the second line of a run, for people, with what the system said.
+fn explain_run<R: Files, N: Sink>(
+    alloc: Global,
+    words: &[String],
+    status: u8,
+    why: Option<OpenStop>,
+    inputs: &PathInputs<'_, R>,
+    notes: &mut KeptNotes<N>,
+) {
+    let mut trouble = Blob::new(alloc);
+    if put_trouble(alloc, words, status, why, inputs, &mut trouble).is_ok() {
+        explain(alloc, words, files_of(words), trouble.as_slice(), notes);
+    }
+}
+
+// What the system said of the file or the store that failed.
+fn put_trouble<R: Files>(
+    alloc: Global,
+    words: &[String],
+    status: u8,
+    why: Option<OpenStop>,
+    inputs: &PathInputs<'_, R>,
+    to: &mut Blob,
+) -> Result<(), AllocError> {
+    match status {
+        INPUT_FAULT => put_input_trouble(alloc, inputs, to),
+        STORE_FAULT => {
+            escape_into(store_word(words).unwrap_or("").as_bytes(), to)?;
+            to.push_all(b": ")?;
+            put_store_trouble(alloc, why, to)?;
+            to.push_all(b"; ")
+        }
+        _ => Ok(()),
+    }
+}
+
+fn put_input_trouble<R: Files>(
+    alloc: Global,
+    inputs: &PathInputs<'_, R>,
+    to: &mut Blob,
+) -> Result<(), AllocError> {
+    let Some(reason) = inputs.failed_reason() else {
+        return Ok(());
+    };
+    let reason = format!(in alloc; "{reason}")?;
+    let name = inputs.failed_name().unwrap_or("");
+    escape_into(name.as_bytes(), to)?;
+    to.push_all(b": ")?;
+    to.push_all(reason.as_bytes())?;
+    if name.as_bytes().starts_with(b"guard:") {
+        to.push_all(b"; guards stand before the store")?;
+    }
+    to.push_all(b"; ")
+}
+
+fn put_store_trouble(
+    alloc: Global,
+    why: Option<OpenStop>,
+    to: &mut Blob,
+) -> Result<(), AllocError> {
+    match why {
+        Some(OpenStop::System(reason)) => {
+            let reason = format!(in alloc; "{reason}")?;
+            to.push_all(reason.as_bytes())
+        }
+        Some(why) => {
+            let why = format!(in alloc; "{why}")?;
+            to.push_all(why.as_bytes())
+        }
+        None => to.push_all(b"its device failed"),
+    }
 }
 
 // What a run that says how far it is begins with.
@@ -122,6 +228,7 @@ fn run_shown<D: Disk + Drop>(
     guards: Vec<Box<dyn Guard>>,
     shown: Shown,
     disk: D,
+    why: Option<OpenStop>,
 ) -> u8 {
     let Shown {
         began,
@@ -135,7 +242,7 @@ fn run_shown<D: Disk + Drop>(
     let mut inputs = Progress::new(files, rt, &screen, alloc, first, all);
     let size = bytes_of(rt, store.as_str());
     let mut disk = DiskProgress::new(disk, rt, &screen, alloc, store, size);
-    let mut notes = AfterLine::new(OutSink::new(rt.stderr()), &screen);
+    let mut notes = KeptNotes::new(AfterLine::new(OutSink::new(rt.stderr()), &screen));
     let status = if rt.stdout().is_terminal() {
         let mut out = AfterLine::new(OutSink::new(rt.stdout()), &screen);
         run(
@@ -160,6 +267,7 @@ fn run_shown<D: Disk + Drop>(
         )
     };
     end_line(&screen);
+    explain_run(alloc, words, status, why, inputs.inputs(), &mut notes);
     status
 }
 
@@ -264,3 +372,8 @@ fn answered<N: Sink>(answer: &Answer<'_>, notes: &mut N) -> ExitCode {
     let _ = write_note(answer, notes);
     ExitCode::from(status(answer))
 }
+
+// The statuses of which the system has something to say.
+const INPUT_FAULT: u8 = 3;
+
+const STORE_FAULT: u8 = 5;

@@ -68,6 +68,11 @@ pub struct Progress<'a, I, C, S> {
 }
 
 impl<'a, I: Inputs, C: Clock, S: Sink> Progress<'a, I, C, S> {
+    /// The inputs that are shown.
+    pub fn inputs(&self) -> &I {
+        &self.inputs
+    }
+
     /// Of the inputs nothing was read yet. `first` is the file that each pass reads first, and `all` the bytes of all files.
     pub fn new(
         inputs: I,
