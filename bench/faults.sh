@@ -225,14 +225,12 @@ composed '3000 files, of which 24 may be open' many
 run; refused 'no words' 2 usage
 run compose; refused 'no store' 2 usage
 run compose none; refused 'no files' 2 usage
-run compose some small; refused 'another store' 2 usage
 run --help --version; refused 'two words' 2 usage
 for words in 'audit none' 'audit guard:bytes none small' 'audit guard:nodev' 'dump' 'dump small second' \
-    'export' 'export small' 'export none' 'export some small' 'gen 1' 'gen 0 1' 'gen 4097 1' 'gen 1 18446744073709551616' 'gen 1 x' \
+    'export' 'export small' 'export none' 'gen 1' 'gen 0 1' 'gen 4097 1' 'gen 1 18446744073709551616' 'gen 1 x' \
     'trial 1' 'trial 0 1' 'trial 4097 1' \
     'init' 'init one two' 'receive' 'receive some' 'receive guard:bytes some small' 'list' \
-    'list some small' 'show some' 'cat some a' 'drop some' 'scrub' 'scrub guard:nodev some' \
-    'compose guard:nodev none small'; do
+    'list some small' 'show some' 'cat some a' 'drop some' 'scrub' 'scrub guard:nodev some'; do
     run $words; refused "the words $words" 2 usage
 done
 run ''; refused 'an empty word' 2 usage
@@ -454,11 +452,16 @@ printf 'accepted 1 4\n' >accepted
 printf 'one' >bytes
 mkdir store-folder && mkfifo store-pipe && printf 'x' >store-other || exit 2
 for words in 'list missing' 'receive missing small' 'audit missing small' 'list store-folder' 'init store-folder' 'list store-pipe' \
-    'receive store-pipe small' 'init no-folder/store'; do
+    'receive store-pipe small' 'init no-folder/store' 'compose missing small' 'export missing small' 'compose store-pipe small' \
+    'compose guard:nodev none small'; do
     run $words; refused "a store that can not be opened: $words" 5 'store fault'
 done
 run list store-other; refused 'a file that is no store' 6 'not a store 0'
 run init store-other; refused 'init over a file' 12 'store there 1'
+truncate -s 1100G store-zeros; run list store-zeros; refused 'a file of 2^40 zeros and more that is no store' 6 'not a store 0'; rm store-zeros
+run init store-long; truncate -s 1100G store-long; run list store-long; wrote 'a store with 2^40 zeros and more behind it' empty
+run receive store-long small second; wrote 'which receives' lines
+run list store-long; wrote 'and has what it received' list-both; rm store-long
 run init store; wrote 'a store is made' empty
 run init store; refused 'a store is there' 12 'store there 21'
 run receive store small second; wrote 'a chain is received' lines
@@ -468,6 +471,12 @@ run show store c; refused 'a name that is not there' 8 'missing c'
 run cat store a 2; refused 'a path that is not there' 8 'missing 2'
 run receive store small; refused 'a stream is received twice' 1 'refused 1 1 17 11 NameThere'
 cp store store-before
+run compose store second; composed 'a stream over a store that has its parent, and itself' second
+run compose store m5; refused 'composing with a stream left out' 1 'refused 1 1 17 13 NoParent'
+run export store m5; refused 'exporting with a stream left out' 1 'refused 1 1 17 13 NoParent'
+run compose store-other small; refused 'composing over a file that is no store' 6 'not a store 0'
+(flock -x 9; run compose store second; refused 'composing over a store that is written to' 5 'store fault'; exit "$wrong") 9<store; wrong=$?
+cmp -s store store-before && case_is 'and the store is as it was' '' || case_is 'and the store is as it was' 'it was changed'
 run audit store m5; refused 'a chain with a stream left out' 1 'refused 1 1 17 13 NoParent'
 (flock -x 9; run list store; refused 'a store that is written to' 5 'store fault'; exit "$wrong") 9<store; wrong=$?
 (flock -s 9; run receive store third; refused 'a store that is read' 5 'store fault'; run list store; wrote 'two that read' list-both; exit "$wrong") 9<store
@@ -518,6 +527,17 @@ cmp -s store store-before && case_is 'which is the same then' '' || case_is 'whi
 each_store_fails FAIL_PWRITE
 each_store_fails FAIL_SYNC
 each_store_fails FAIL_PREAD
+
+# Each read of a store fails once while a chain is composed over it.
+rm -f store; "$program" init store; "$program" receive store small >/dev/null
+call=1
+while [ $call -lt 100 ]; do
+    short "FAIL_PREAD=$call" "$program" compose store second
+    if [ "$status" != 5 ] || [ "$(cat note)" != 'store fault' ]; then break; fi
+    [ -z "$(cut)" ] || break
+    call=$((call + 1))
+done
+composed "each of $((call - 1)) reads of a store fails once while composing" second
 
 # ---- the files are as they were
 
