@@ -341,7 +341,15 @@ const IMAGES: [(&[u8], Row); 26] = [
     ),
     (STORE, (&["compose", "st", "second"], 0, ONLY_B, b"")),
     (STORE, (&["export", "st", "second"], 0, ONLY_B, b"")),
-    (STORE, (&["compose", "st", "no_part"], 0, b"", b"")),
+    (
+        STORE,
+        (
+            &["compose", "st", "no_part"],
+            1,
+            b"",
+            b"refused 1 1 17 35 NotConsecutive\n",
+        ),
+    ),
     (OF_FORMAT_1, (&["list", "st"], 0, LIST_A, b"")),
     (OF_FORMAT_1, (&["compose", "st", "second"], 0, ONLY_B, b"")),
 ];
