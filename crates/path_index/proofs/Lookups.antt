@@ -1,5 +1,5 @@
 -- The names that an index has of an inode, one by one: what a look-up answers at each of its ends.
-use Rattle.std.specs.Prelude.{◌≡◌, ℕ, ◌+◌, ◌<◌, ◌≤◌, true, false, List, [], ◌∷◌, ◌++◌, length, take, drop, get_or, Option, None, Some, IsTrue, IfSome, is_some}
+use Rattle.std.specs.Prelude.{◌≡◌, ℕ, ◌+◌, ◌<◌, ◌≤◌, Bool, true, false, List, [], ◌∷◌, ◌++◌, length, take, drop, get_or, Option, None, Some, IsTrue, IfSome, is_some}
 use Rattle.std.specs.Option.{unwrap_or}
 use Rattle.std.specs.Ordering.{nat_cmp}
 use Rattle.std.proofs.Common.{refl, sym, ap, subst, ◌∙◌, arith, inl, inr}
@@ -12,7 +12,7 @@ use Rattle.send_model.proofs.ElementLaws.{all_both}
 use Rattle.send_model.proofs.LawfulPaths.{walked_path}
 use Rattle.send_model.proofs.PathLaws.{path_names_short}
 use Rattle.path_index.specs.Places.{places_of, links_at, IsIndexed}
-use Rattle.path_index.specs.Ways.{EndsAt, WriteEnd, IsLesserBy}
+use Rattle.path_index.specs.Ways.{EndsAt, HasWay, IsLesserBy}
 use Rattle.path_index.proofs.Named.{Among, among_get, among_named}
 use Rattle.path_index.proofs.Leasts.{IsLeast, HasNone, least_some, least_none, least_is_first, root_first, nameable, not_nameable, end_walks}
 
@@ -49,13 +49,13 @@ module _ {C : Type 0} (s S : Subvolume C) (index : Map ℕ (List (ℕ × List �
       one_more : take (i + 1) (places_of S.names ino) ≡ take i (places_of S.names ino) ++ item ∷ []
       one_more = subst (λ (ps : List (ℕ × List ℕ)). take (i + 1) ps ≡ take i ps ++ item ∷ []) are (take_more items i item less ∙ ap (λ (x : ℕ × List ℕ). take i items ++ x ∷ []) (sym item_is))
 
-      pub none_more : (r : Option ℕ) (buffer : List ℕ) → is_some r ≡ false → WriteEnd S item r buffer → HasNone S (take i (places_of S.names ino)) → HasNone S (take (i + 1) (places_of S.names ino))
-      none_more None buffer e w h = subst (λ (ps : List (ℕ × List ℕ)). HasNone S ps) (sym one_more) (all_both (λ p. (other : List ℕ) → EndsAt S p other → ⊥) (take i (places_of S.names ino)) (item ∷ []) h (w, tt))
-      none_more (Some start) buffer e w h = cc
+      pub none_more : (b : Bool) → b ≡ false → HasWay S item b → HasNone S (take i (places_of S.names ino)) → HasNone S (take (i + 1) (places_of S.names ino))
+      none_more false e w h = subst (λ (ps : List (ℕ × List ℕ)). HasNone S ps) (sym one_more) (all_both (λ p. (other : List ℕ) → EndsAt S p other → ⊥) (take i (places_of S.names ino)) (item ∷ []) h (w, tt))
+      none_more true e w h = cc
 
-      pub some_nameable : FirstPathsAreLeast S → (r : Option ℕ) (buffer : List ℕ) → is_some r ≡ true → WriteEnd S item r buffer → true ≡ is_nameable S ino
-      some_nameable law None buffer e w = cc
-      some_nameable law (Some start) buffer e w = sym (nameable S law ino (drop start buffer) (end_walks S item ino (drop start buffer) w.ends directory leads))
+      pub some_nameable : FirstPathsAreLeast S → (b : Bool) → b ≡ true → HasWay S item b → true ≡ is_nameable S ino
+      some_nameable law false e w = cc
+      some_nameable law true e w = sym (nameable S law ino w.0 (end_walks S item ino w.0 w.1.ends directory leads))
 
       pub least_more : (least next : Option (List ℕ)) → IsLesserBy S item least next → IsLeast S ino (take i (places_of S.names ino)) least → IsLeast S ino (take (i + 1) (places_of S.names ino)) next
       least_more least next (inl p) h =

@@ -86,3 +86,31 @@ module _ {C : Type 0} (s S : Subvolume C) (index : Map ℕ (List (ℕ × List �
         let p = first_place directory up found in
         let l = left_long start buffer long within in
         too_long S lawful place directory (drop start buffer) h n up p.0 p.1 (omega (arith, low, l, ap length e))
+
+    -- ---- the same where nothing is written
+
+    pub way_begins : (name : List ℕ) (directory : ℕ) → name ≡ place.1 → directory ≡ place.0 → IsTrue (is_some (named S place.0 place.1)) → Up S place directory name
+    way_begins name directory e d there =
+        let t = there_is (named S place.0 place.1) there in
+        subst (λ (x : List ℕ). Up S place directory x) (sym e) (subst (λ (n : ℕ). Up S place n place.1) (sym d) (at_place S lawful place t.0 t.1))
+
+    pub way_goes_on : (directory : ℕ) (path : List ℕ) (up : ℕ × List ℕ) (name : List ℕ) (next : ℕ) → Up S place directory path → (directory ≡ root → ⊥) → Some up ≡ slice_get (links_at index directory) 0 → name ≡ up.1 → next ≡ up.0
+        → Up S place next (name ++ slash ∷ path)
+    way_goes_on directory path up name next h n found e d =
+        let p = first_place directory up found in
+        subst (λ (x : List ℕ). Up S place next (x ++ slash ∷ path)) (sym e) (subst (λ (m : ℕ). Up S place m (up.1 ++ slash ∷ path)) (sym d) (one_up S lawful place directory path h n up p.0 p.1))
+
+    pub way_longer : (room : ℕ) (path name : List ℕ) → room + length path ≡ 4095 → (left : ℕ) → left + (length name + 1) ≡ room → left + length (name ++ slash ∷ path) ≡ 4095
+    way_longer room path name e left f = let a = length-append name (slash ∷ path) in omega (arith, a, e, f)
+
+    pub way_ends : (directory : ℕ) (path : List ℕ) → Up S place directory path → directory ≡ root → (room : ℕ) → room + length path ≡ 4095 → IsOnlyPath S place path
+    way_ends directory path h e room long = at_root S lawful place directory path h e (omega (arith, long))
+
+    pub way_nowhere : (directory : ℕ) (path : List ℕ) → Up S place directory path → (directory ≡ root → ⊥) → None ≡ slice_get (links_at index directory) 0 → (other : List ℕ) → EndsAt S place other → ⊥
+    way_nowhere directory path h n none = no_way S lawful place directory path h n (no_place directory none)
+
+    pub way_too_long : (directory : ℕ) (path : List ℕ) (up : ℕ × List ℕ) (name : List ℕ) (room : ℕ) → Up S place directory path → (directory ≡ root → ⊥) → room + length path ≡ 4095 → Some up ≡ slice_get (links_at index directory) 0
+        → name ≡ up.1 → room ≤ length name → (other : List ℕ) → EndsAt S place other → ⊥
+    way_too_long directory path up name room h n long found e low =
+        let p = first_place directory up found in
+        too_long S lawful place directory path h n up p.0 p.1 (omega (arith, low, long, ap length e))

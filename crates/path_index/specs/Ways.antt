@@ -1,5 +1,5 @@
 -- The paths that end with one name. Source: this program's own; walks are those of the definitions.
-use Rattle.std.specs.Prelude.{◌≡◌, ◌⊎◌, ℕ, List, [], ◌∷◌, ◌++◌, drop, Option, None, Some, Ok}
+use Rattle.std.specs.Prelude.{◌≡◌, ◌⊎◌, ℕ, Bool, true, false, List, [], ◌∷◌, ◌++◌, drop, Option, None, Some, Ok}
 use Rattle.send_model.specs.Path.{path_names}
 use Rattle.send_model.specs.Subvolume.{Subvolume, root, walk_names, lesser}
 
@@ -13,6 +13,11 @@ pub record EndsAt {C : Type 0} (s : Subvolume C) (place : ℕ × List ℕ) (path
 pub record IsOnlyPath {C : Type 0} (s : Subvolume C) (place : ℕ × List ℕ) (path : List ℕ) : Type 0 where
   pub ends : EndsAt s place path
   pub only : (other : List ℕ) → EndsAt s place other → other ≡ path
+
+-- Whether there is such a path.
+abbrev pub HasWay : {C : Type 0} → Subvolume C → ℕ × List ℕ → Bool → Type 0
+HasWay s place true = (path : List ℕ) × IsOnlyPath s place path
+HasWay s place false = (other : List ℕ) → EndsAt s place other → ⊥
 
 -- The path that ends at a place stands from the given one on in a buffer, or there is none.
 abbrev pub WriteEnd : {C : Type 0} → Subvolume C → ℕ × List ℕ → Option ℕ → List ℕ → Type 0

@@ -3,7 +3,7 @@ ghost use Rattle.std.specs.Prelude.{◌≡◌, ◌≤◌, length, IfOk, IfSome, 
 ghost use Rattle.std.specs.Option.{option_copied};
 ghost use Rattle.send_model.specs.Subvolume.{IsLawful, named, first_path, is_nameable, lesser};
 ghost use Rattle.path_index.specs.Places.{links_at};
-ghost use Rattle.path_index.specs.Ways.{WriteEnd, IsLesserBy};
+ghost use Rattle.path_index.specs.Ways.{HasWay, WriteEnd, IsLesserBy};
 
 use crate::building::index_names;
 use crate::links::{Link, Links};
@@ -94,13 +94,33 @@ impl<O: Origin> PathIndex<O> {
         let Some(links) = names.get(&ino) else {
             return false;
         };
-        let mut buffer = [0; LONGEST_PATH];
         for link in links.as_slice() {
-            if self.write_path(link, &mut buffer).is_some() {
+            if self.has_path(link) {
                 return true;
             }
         }
         false
+    }
+
+    // Whether the path that ends with a name is no longer than a path may be. None of it is written.
+    fn has_path(&self, link: &Link) -> bool
+        requires there { IsTrue (is_some (named self.now link.now.0 link.now.1)) }
+        ensures { HasWay self.now link.now result }
+    {
+        let names = &self.names;
+        let mut room = LONGEST_PATH - link.name().len();
+        let mut directory = link.directory();
+        while directory != ROOT {
+            let Some(up) = first_link(names, directory) else {
+                return false;
+            };
+            if up.name().len() >= room {
+                return false;
+            }
+            room -= up.name().len() + 1;
+            directory = up.directory();
+        }
+        true
     }
 
     // The lesser of the path that ends with a name, if there is one, and another.
