@@ -62,12 +62,12 @@ fn carried_of<E: Ends>(first: &Option<Spot>, len: u64, left: u64, ends: &E) -> u
     let Some(spot) = first else {
         return 0;
     };
+    if spot.at % BLOCK != 0 || len < BLOCK && len < left {
+        return 0;
+    }
     let Some(end) = ends.end_of(spot.key, spot.ino) else {
         return 0;
     };
-    if spot.at % BLOCK != 0 {
-        return 0;
-    }
     if len == left && spot.at <= end && end - spot.at == len {
         return len;
     }
