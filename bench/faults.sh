@@ -539,6 +539,52 @@ while [ $call -lt 100 ]; do
 done
 composed "each of $((call - 1)) reads of a store fails once while composing" second
 
+# ---- the second line, which a terminal or the variable BTRSEND_EXPLAIN asks for
+
+# The words that follow, with a terminal for all three files; what it shows goes to standard output.
+cat >on_terminal.py <<'PYTHON'
+import os, pty, sys
+child, terminal = pty.fork()
+if child == 0:
+    os.execv(sys.argv[1], sys.argv[1:])
+shown = b''
+while True:
+    try:
+        more = os.read(terminal, 4096)
+    except OSError:
+        break
+    if not more:
+        break
+    shown += more
+sys.stdout.buffer.write(shown.replace(b'\r\n', b'\n'))
+sys.exit(os.waitstatus_to_exitcode(os.waitpid(child, 0)[1]))
+PYTHON
+
+# CASE STATUS FILE: the last run ended with this status, and FILE has the two lines that stand in `wanted`.
+explained() {
+    if [ "$status" != "$2" ]; then case_is "$1" "status $status and not $2"
+    elif ! cmp -s "$3" wanted; then case_is "$1" "it says '$(cat "$3")'"
+    else case_is "$1" ''; fi
+}
+explain() { BTRSEND_EXPLAIN=1 timeout 20 "$program" "$@" >out 2>note; status=$?; }
+on_terminal() { timeout 20 python3 on_terminal.py "$program" "$@" >shown; status=$?; }
+
+printf '%s\n' 'input fault' \
+    'btrsend: missing: No such file or directory (os error 2); give it again when it can be read' >wanted
+explain audit none missing; explained 'what to do about a missing file' 3 note
+on_terminal audit none missing; explained 'the same on a terminal' 3 shown
+printf '%s\n' 'store fault' \
+    'btrsend: nostore: No such file or directory (os error 2); see to the disk or to who uses the store, then look at `list`' \
+    >wanted
+explain list nostore; explained 'what to do about a missing store' 5 note
+printf '%s\n' 'refused 1 1 17 13 NoParent' \
+    'btrsend: second, command 1: it stands on a subvolume that is not there: give the streams in the order in which they were sent' \
+    >wanted
+explain compose none second; explained 'what to do about a missing parent' 1 note
+printf '%s\n' 'output fault' \
+    'btrsend: standard output is a terminal, and a stream is no text: write it to a file or into a pipe' >wanted
+on_terminal compose none small second; explained 'no stream goes to a terminal' 4 shown
+
 # ---- the files are as they were
 
 for name in small first second third damaged donor taker; do
