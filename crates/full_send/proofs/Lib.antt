@@ -1,0 +1,12 @@
+pub mod Added
+pub mod Along
+pub mod HeldInodes
+pub mod HeldStretches
+pub mod LastDirectories
+pub mod NamedSends
+pub mod Parts
+pub mod RestoredPaths
+pub mod SendEnds
+pub mod SentPaths
+pub mod Walking
+pub mod WholeStreams

@@ -1,0 +1,187 @@
+use Rattle.std.specs.Prelude.{◌≡◌, ℕ, List, [], Option, None, Some}
+use Rattle.std.proofs.Common.{sym, ap, subst, ◌∙◌}
+use Rattle.std.proofs.KnownBytes.{Appends-nil}
+use Rattle.send_model.specs.Headline.{IsProperFrontOf}
+use Rattle.send_model.specs.Subvolume.{Subvolume}
+use Rattle.send_model.specs.Store.{Key, Store, IsStore}
+use Rattle.sx_base.proofs.DiskMoments.{joins, weakens}
+use Rattle.sx_base.proofs.DiskImages.{only_settled}
+use Rattle.sx_base.specs.Disk.{Pending, IsImage}
+use Rattle.store_model.specs.Answers.{Missing}
+use Rattle.sent_model.specs.HeldStores.{StandsHeld, SendAnswers}
+use Rattle.subvol_catalog.specs.Entries.{entry_of, AreNamed}
+use Rattle.inode_commands.specs.Spelled.{HasLength}
+use Rattle.store_groups.specs.declared.place.Place.{Place}
+use Rattle.store_groups.specs.Kept.{AreKept}
+use Rattle.store_journal.specs.Shown.{StoreState}
+use Rattle.store_journal.specs.Opening.{HoldsSome}
+use Rattle.store_words.specs.declared.ends.StoreEnd.TheVariants as made
+use Rattle.sx_base.specs.declared.outcome.Outcome.TheVariants as ended
+use Rattle.store_words.specs.Ending.{answer_of}
+use Rattle.store_words.specs.Naming.{named}
+use Rattle.store_words.proofs.Opened.{no_end}
+use Rattle.full_send.specs.Adding.{IsCutBy}
+use Rattle.full_send.specs.Held.{with_holes, store_with_holes}
+use Rattle.full_send.specs.Orders.{form_of}
+use Rattle.full_send.specs.declared.entries.Order.{Order}
+use Rattle.full_send.proofs.NamedSends.{name_short, found_by, kept_by, is_received, is_unfinished, nothing_unfinished}
+use Rattle.full_send.proofs.SendEnds.{holds_held, not_opened, gone, unfinished, complete_one, send_missing, send_done, send_stops}
+use Rattle.full_send.proofs.entries.write_entry.Goals as goal
+
+-- What the disk holds, as what it held before opening.
+held_first : (seen now : List ℕ) (pending : Pending) (store : StoreState) → now ≡ seen → HoldsSome now pending store → StandsHeld seen (store_with_holes seen store.core)
+held_first seen now pending store is holds = subst (λ (l : List ℕ). StandsHeld l (store_with_holes l store.core)) is (holds_held now pending store holds)
+
+-- The stream that is written is that of the entry.
+same_text : (o : Order) (given name : List ℕ) (key : Key) (now seen : List ℕ) (sub : Subvolume (Option Place)) → given ≡ name → now ≡ seen → form_of o given key (with_holes now sub) ≡ form_of o name key (with_holes seen sub)
+same_text o given name key now seen sub own is = ap (λ (n : List ℕ). form_of o n key (with_holes now sub)) own ∙ ap (λ (l : List ℕ). form_of o name key (with_holes l sub)) is
+
+pub returns-in-Err-clause-answered : goal.returns-in-Err-clause-answered
+returns-in-Err-clause-answered g c tells =
+    let seen : List ℕ = g.D.Disk.seen c.args.disk.now in
+    let name : List ℕ = c.args.name.now in (
+      [],
+      Appends-nil (g.O.Sink.taken c.args.out.now),
+      subst (λ (l : List ℕ). SendAnswers (form_of c.args.order) seen name (answer_of name [] c.ended_by.result) [] l) (sym (c.open.ensures.seen tells))
+          (not_opened (form_of c.args.order) seen name _ c.in-Err.stop c.ended_by.result c.ended_by.ensures c.in-Err.ensures.not_refused c.in-Err.ensures.stops (c.in-Err.ensures.says tells)),
+    )
+
+pub returns-in-Err-clause-received : goal.returns-in-Err-clause-received
+returns-in-Err-clause-received g c tells =
+    ([], Appends-nil (g.O.Sink.taken c.args.out.now), (λ done. absurd (no_end c.in-Err.stop c.in-Err.ensures.not_refused (sym c.ended_by.ensures ∙ done))))
+
+pub returns-in-Err-clause-unfinished : goal.returns-in-Err-clause-unfinished
+returns-in-Err-clause-unfinished g c tells =
+    ([], Appends-nil (g.O.Sink.taken c.args.out.now), (λ stops. nothing_unfinished c.args.order (g.D.Disk.seen c.args.disk.now) c.args.name.now))
+
+pub returns-in_default-clause-answered : goal.returns-in_default-clause-answered
+returns-in_default-clause-answered g c tells =
+    let seen : List ℕ = g.D.Disk.seen c.args.disk.now in
+    let name : List ℕ = c.args.name.now in
+    let core = c.in-Ok.store.core in
+    let none : named name core ≡ None = ap (named name) (sym (c.catalog.ensures.core ∙ c.core.ensures.core)) ∙ sym c.in_default.ensures in (
+      [],
+      Appends-nil (g.O.Sink.taken c.args.out.now),
+      subst (λ (l : List ℕ). SendAnswers (form_of c.args.order) seen name (Missing name) [] l) (sym (c.open.ensures.seen tells))
+          (send_missing (form_of c.args.order) seen name (store_with_holes seen core) (held_first seen _ _ c.in-Ok.store (c.open.ensures.seen tells) (c.in-Ok.ensures.holds tells)) (gone seen core name none)),
+    )
+
+pub returns-in_default-clause-unfinished : goal.returns-in_default-clause-unfinished
+returns-in_default-clause-unfinished g c tells =
+    ([], Appends-nil (g.O.Sink.taken c.args.out.now), (λ stops. nothing_unfinished c.args.order (g.D.Disk.seen c.args.disk.now) c.args.name.now))
+
+pub returns-in_default-value-clause-answered : goal.returns-in_default-value-clause-answered
+returns-in_default-value-clause-answered g c tells =
+    let seen : List ℕ = g.D.Disk.seen c.args.disk.now in
+    let name : List ℕ = c.args.name.now in
+    let core = c.in-Ok.store.core in
+    let e = entry_of c.in-Some.entry.now in
+    let there : named name core ≡ Some e = ap (named name) (sym (c.catalog.ensures.core ∙ c.core.ensures.core)) ∙ sym c.in-Some.ensures in (
+      [],
+      Appends-nil (g.O.Sink.taken c.args.out.now),
+      subst (λ (l : List ℕ). SendAnswers (form_of c.args.order) seen name (Missing name) [] l) (sym (c.open.ensures.seen tells))
+          (send_missing (form_of c.args.order) seen name (store_with_holes seen core) (held_first seen _ _ c.in-Ok.store (c.open.ensures.seen tells) (c.in-Ok.ensures.holds tells)) (unfinished seen core name e there c.in_default-value.is)),
+    )
+
+pub returns-in_default-value-clause-unfinished : goal.returns-in_default-value-clause-unfinished
+returns-in_default-value-clause-unfinished g c tells =
+    ([], Appends-nil (g.O.Sink.taken c.args.out.now), (λ stops. nothing_unfinished c.args.order (g.D.Disk.seen c.args.disk.now) c.args.name.now))
+
+pub write_stream-requires-clause-there : goal.write_stream-requires-clause-there
+write_stream-requires-clause-there g c =
+    let core = c.in-Ok.store.core in
+    let there : named c.args.name.now core ≡ Some (entry_of c.in-Some.entry.now) = ap (named c.args.name.now) (sym (c.catalog.ensures.core ∙ c.core.ensures.core)) ∙ sym c.in-Some.ensures in
+    found_by core c.args.name.now (entry_of c.in-Some.entry.now) there c.in-Some-value.sub c.in-Some-value.is (subst (λ (k : Store (Option Place)). IsStore k) c.core.ensures.core c.catalog.ensures.apart)
+
+pub write_stream-requires-clause-kept : goal.write_stream-requires-clause-kept
+write_stream-requires-clause-kept g c =
+    let core = c.in-Ok.store.core in
+    let there : named c.args.name.now core ≡ Some (entry_of c.in-Some.entry.now) = ap (named c.args.name.now) (sym (c.catalog.ensures.core ∙ c.core.ensures.core)) ∙ sym c.in-Some.ensures in
+    kept_by core c.args.name.now (entry_of c.in-Some.entry.now) there c.in-Some-value.sub c.in-Some-value.is c.in-Ok.store.log.gate (subst (λ (k : Store (Option Place)). AreKept c.in-Ok.store.log.gate k) c.core.ensures.core c.core.ensures.kept)
+
+pub write_stream-requires-clause-short : goal.write_stream-requires-clause-short
+write_stream-requires-clause-short g c =
+    let core = c.in-Ok.store.core in
+    let there : named c.args.name.now core ≡ Some (entry_of c.in-Some.entry.now) = ap (named c.args.name.now) (sym (c.catalog.ensures.core ∙ c.core.ensures.core)) ∙ sym c.in-Some.ensures in
+    subst HasLength (sym c.as_slice.ensures.bytes) (name_short core c.args.name.now (entry_of c.in-Some.entry.now) there (subst (λ (k : Store (Option Place)). AreNamed k) c.core.ensures.core c.catalog.ensures.named))
+
+pub returns-in-Ok-write_stream-clause-answered : goal.returns-in-Ok-write_stream-clause-answered
+returns-in-Ok-write_stream-clause-answered g c tells =
+    let seen : List ℕ = g.D.Disk.seen c.args.disk.now in
+    let name : List ℕ = c.args.name.now in
+    let core = c.in-Ok.store.core in
+    let e = entry_of c.in-Some.entry.now in
+    let sub = c.in-Some-value.sub in
+    let there : named name core ≡ Some e = ap (named name) (sym (c.catalog.ensures.core ∙ c.core.ensures.core)) ∙ sym c.in-Some.ensures in
+    let stands = held_first seen _ _ c.in-Ok.store (c.open.ensures.seen tells) (c.in-Ok.ensures.holds tells) in
+    let here = complete_one seen core name e sub there c.in-Some-value.is in
+    let text = same_text c.args.order c.as_slice.result.now e.name e.key (g.D.Disk.seen c.open.new.disk) seen sub c.as_slice.ensures.bytes (c.open.ensures.seen tells) in
+    let wrote = c.in-Ok-write_stream.ensures.written tells in (
+      wrote.0,
+      wrote.1,
+      subst (λ (l : List ℕ). SendAnswers (form_of c.args.order) seen name (answer_of name [] (made.Ends ended.Done)) wrote.0 l) (sym ((c.write_stream.ensures.same tells).seen ∙ c.open.ensures.seen tells))
+          (send_done (form_of c.args.order) seen name (store_with_holes seen core) stands _ here tt wrote.0 (wrote.2 ∙ text)),
+    )
+
+pub returns-in-Ok-write_stream-clause-received : goal.returns-in-Ok-write_stream-clause-received
+returns-in-Ok-write_stream-clause-received g c tells =
+    let seen : List ℕ = g.D.Disk.seen c.args.disk.now in
+    let name : List ℕ = c.args.name.now in
+    let core = c.in-Ok.store.core in
+    let e = entry_of c.in-Some.entry.now in
+    let sub = c.in-Some-value.sub in
+    let there : named name core ≡ Some e = ap (named name) (sym (c.catalog.ensures.core ∙ c.core.ensures.core)) ∙ sym c.in-Some.ensures in
+    let stands = held_first seen _ _ c.in-Ok.store (c.open.ensures.seen tells) (c.in-Ok.ensures.holds tells) in
+    let here = complete_one seen core name e sub there c.in-Some-value.is in
+    let text = same_text c.args.order c.as_slice.result.now e.name e.key (g.D.Disk.seen c.open.new.disk) seen sub c.as_slice.ensures.bytes (c.open.ensures.seen tells) in
+    let wrote = c.in-Ok-write_stream.ensures.written tells in
+    (wrote.0, wrote.1, (λ done. is_received seen name (store_with_holes seen core) stands _ here c.args.order wrote.0 (wrote.2 ∙ text)))
+
+pub returns-in-Ok-write_stream-clause-any_moment : goal.returns-in-Ok-write_stream-clause-any_moment
+returns-in-Ok-write_stream-clause-any_moment g c tells =
+    let D = g.D.Disk in
+    joins (c.open.ensures.any_moment tells) (weakens (c.write_stream.ensures.any_moment tells) (λ image is.
+    let whole : image ≡ D.seen c.open.new.disk = only_settled (D.seen c.open.new.disk) image (subst (λ (p : Pending). IsImage p image) (c.in-Ok.ensures.durable tells) is) in
+    subst (λ (i : List ℕ). IsImage (D.pending c.args.disk.now) i) (sym (whole ∙ c.open.ensures.seen tells)) (g.met.D.Disk.seen_is_image c.args.disk.now tells)))
+
+pub returns-clause-answered : goal.returns-clause-answered
+returns-clause-answered g c tells =
+    let seen : List ℕ = g.D.Disk.seen c.args.disk.now in
+    let name : List ℕ = c.args.name.now in
+    let core = c.in-Ok.store.core in
+    let e = entry_of c.in-Some.entry.now in
+    let sub = c.in-Some-value.sub in
+    let there : named name core ≡ Some e = ap (named name) (sym (c.catalog.ensures.core ∙ c.core.ensures.core)) ∙ sym c.in-Some.ensures in
+    let stands = held_first seen _ _ c.in-Ok.store (c.open.ensures.seen tells) (c.in-Ok.ensures.holds tells) in
+    let here = complete_one seen core name e sub there c.in-Some-value.is in
+    let text = same_text c.args.order c.as_slice.result.now e.name e.key (g.D.Disk.seen c.open.new.disk) seen sub c.as_slice.ensures.bytes (c.open.ensures.seen tells) in
+    let wrote = c.in-Err-write_stream.ensures.written tells in (
+      wrote.0,
+      wrote.1,
+      subst (λ (l : List ℕ). SendAnswers (form_of c.args.order) seen name (answer_of name [] c.in-Err-write_stream.end) wrote.0 l) (sym ((c.write_stream.ensures.same tells).seen ∙ c.open.ensures.seen tells))
+          (send_stops (form_of c.args.order) seen name (store_with_holes seen core) stands _ here c.in-Err-write_stream.end wrote.0 (subst (λ (l : List ℕ). IsCutBy c.in-Err-write_stream.end l wrote.0) text wrote.2.0)),
+    )
+
+pub returns-clause-unfinished : goal.returns-clause-unfinished
+returns-clause-unfinished g c tells =
+    let seen : List ℕ = g.D.Disk.seen c.args.disk.now in
+    let name : List ℕ = c.args.name.now in
+    let core = c.in-Ok.store.core in
+    let e = entry_of c.in-Some.entry.now in
+    let sub = c.in-Some-value.sub in
+    let there : named name core ≡ Some e = ap (named name) (sym (c.catalog.ensures.core ∙ c.core.ensures.core)) ∙ sym c.in-Some.ensures in
+    let stands = held_first seen _ _ c.in-Ok.store (c.open.ensures.seen tells) (c.in-Ok.ensures.holds tells) in
+    let here = complete_one seen core name e sub there c.in-Some-value.is in
+    let text = same_text c.args.order c.as_slice.result.now e.name e.key (g.D.Disk.seen c.open.new.disk) seen sub c.as_slice.ensures.bytes (c.open.ensures.seen tells) in
+    let wrote = c.in-Err-write_stream.ensures.written tells in (
+      wrote.0,
+      wrote.1,
+      (λ stops. is_unfinished seen name (store_with_holes seen core) stands _ here (form_of c.args.order) wrote.0 (subst (λ (l : List ℕ). IsProperFrontOf l wrote.0) text wrote.2.1)),
+    )
+
+pub returns-clause-any_moment : goal.returns-clause-any_moment
+returns-clause-any_moment g c tells =
+    let D = g.D.Disk in
+    joins (c.open.ensures.any_moment tells) (weakens (c.write_stream.ensures.any_moment tells) (λ image is.
+    let whole : image ≡ D.seen c.open.new.disk = only_settled (D.seen c.open.new.disk) image (subst (λ (p : Pending). IsImage p image) (c.in-Ok.ensures.durable tells) is) in
+    subst (λ (i : List ℕ). IsImage (D.pending c.args.disk.now) i) (sym (whole ∙ c.open.ensures.seen tells)) (g.met.D.Disk.seen_is_image c.args.disk.now tells)))

@@ -1,0 +1,39 @@
+use Rattle.std.specs.Prelude.{ℕ, List, map, Option, Ok, Err}
+use Rattle.std.proofs.Common.{sym, subst}
+use Rattle.send_model.specs.Command.{Command}
+use Rattle.sent_model.specs.Sent.{contents_commands}
+use Rattle.sent_model.specs.Restored.{finishing}
+use Rattle.inode_commands.specs.Spelled.{spelled_all}
+use Rattle.inode_commands.proofs.Joined.{all_joined}
+use Rattle.store_groups.specs.declared.place.Place.{Place}
+use Rattle.full_send.specs.Adding.{Adds}
+use Rattle.full_send.specs.Held.{held_cell}
+use Rattle.full_send.proofs.Added.{handed_on, stops_early, then_adds}
+use Rattle.full_send.proofs.pending.Writer.filled.Goals as goal
+
+pub returns-in_err-contents-clause-adds : goal.returns-in_err-contents-clause-adds
+returns-in_err-contents-clause-adds g c tells =
+    let O = g.O.Sink in
+    let F = g.F.Form in
+    let v : ℕ = c.args.self.now.spelling.version in
+    let path : List ℕ = c.args.path.now in
+    let inode = c.args.inode.now in
+    let image : List ℕ = g.D.Disk.seen c.args.disk.now in
+    let cs : List Command = contents_commands path (map (held_cell image) inode.cells) in
+    let fs : List Command = finishing path inode in
+    handed_on _ _ c.contents-2.new.bytes _ _ c.from_residual.result _ c.from_residual.ensures.1
+    (subst (λ (l : List ℕ). Adds l c.args.bytes.now c.contents-2.new.bytes (O.taken c.args.out.now) (O.taken c.contents-2.new.out) (Err c.in_err-contents.field-0.0)) (sym (all_joined F.spelled v cs fs))
+    (stops_early (spelled_all F.spelled v cs) (spelled_all F.spelled v fs) c.args.bytes.now c.contents-2.new.bytes _ _ _ (subst (λ (cells : List (Option Place)). Adds (spelled_all F.spelled v (contents_commands path (map (held_cell image) cells))) c.args.bytes.now c.contents-2.new.bytes (O.taken c.args.out.now) (O.taken c.contents-2.new.out) (Err c.in_err-contents.field-0.0)) c.contents.ensures (c.in_err-contents.ensures.adds tells))))
+
+pub returns-clause-adds : goal.returns-clause-adds
+returns-clause-adds g c tells =
+    let O = g.O.Sink in
+    let F = g.F.Form in
+    let v : ℕ = c.args.self.now.spelling.version in
+    let path : List ℕ = c.args.path.now in
+    let inode = c.args.inode.now in
+    let image : List ℕ = g.D.Disk.seen c.args.disk.now in
+    let cs : List Command = contents_commands path (map (held_cell image) inode.cells) in
+    let fs : List Command = finishing path inode in
+    subst (λ (l : List ℕ). Adds l c.args.bytes.now c.finishing.new.bytes (O.taken c.args.out.now) (O.taken c.finishing.new.out) c.finishing.result) (sym (all_joined F.spelled v cs fs))
+    (then_adds _ _ _ _ c.finishing.new.bytes _ _ _ c.finishing.result (subst (λ (cells : List (Option Place)). Adds (spelled_all F.spelled v (contents_commands path (map (held_cell image) cells))) c.args.bytes.now c.contents-2.new.bytes (O.taken c.args.out.now) (O.taken c.contents-2.new.out) (Ok c.in_ok-contents.field-0)) c.contents.ensures (c.in_ok-contents.ensures.adds tells)) c.finishing.ensures.adds)

@@ -1,0 +1,13 @@
+//! A whole subvolume of a store as a stream: as it is sent, and as the real receiver restores it.
+#![tactic(auto)]
+
+mod contents;
+mod ends;
+mod entries;
+mod flags;
+mod naming;
+mod pending;
+mod restoring;
+mod sending;
+
+pub use entries::{restore_entry, send_entry};

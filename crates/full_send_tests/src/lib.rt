@@ -1,0 +1,7 @@
+//! Tests of `full_send`. Nothing stands here but tests.
+#![tactic(auto)]
+
+#[cfg(test)]
+mod images;
+#[cfg(test)]
+mod stream_tests;

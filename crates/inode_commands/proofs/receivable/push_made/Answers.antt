@@ -1,0 +1,38 @@
+use Rattle.std.proofs.Common.{◌≡◌, ◌++◌, ◌+◌, ℕ, List, length, take, drop, ap, ◌∙◌, arith}
+use Rattle.send_model.specs.Command.{row}
+use Rattle.send_model.specs.Attribute.{PATH}
+use Rattle.send_model.specs.Spelling.{attribute_bytes, body_of, frame_of}
+use Rattle.send_model.specs.Receivable.{number_zero}
+use Rattle.send_commands.specs.Meaning.{kind_meant}
+use Rattle.tlv_frame.specs.Frame.{Begun, head_room}
+use Rattle.inode_commands.proofs.Frames.{text_of, made_attributes, two_body, by_writer, can_finish, finished}
+use Rattle.inode_commands.proofs.receivable.push_made.Goals.{In_ok-attr_bytes}
+use Rattle.inode_commands.proofs.receivable.push_made.Goals as goal
+
+-- Where the frame begins, and what stands there before its header is put in.
+unfinished : (c : In_ok-attr_bytes) → (c.attr_bytes.new.self.start ≡ length c.args.to.now) × (c.attr_bytes.new.self.number ≡ (row (kind_meant c.args.kind)).number) × (c.attr_bytes.new.to ≡ (c.args.to.now ++ head_room) ++ body_of c.args.version (made_attributes c.args.path.now))
+unfinished c =
+    let begun = c.in_ok-writer.ensures.begun in
+    let v0 : c.in_ok-writer.writer.version ≡ c.args.version = ap (λ (w : Begun). w.version) begun in
+    let v1 : c.attr_u64.new.self.version ≡ c.args.version = ap (λ (w : Begun). w.version) c.attr_u64.ensures.writer ∙ v0 in (
+      ap (λ (w : Begun). w.start) (c.attr_bytes.ensures.writer ∙ c.attr_u64.ensures.writer ∙ begun),
+      ap (λ (w : Begun). w.number) (c.attr_bytes.ensures.writer ∙ c.attr_u64.ensures.writer ∙ begun) ∙ c.number.ensures.number,
+      two_body c.args.version c.args.to.now number_zero (text_of PATH c.args.path.now) c.attr_u64.new.to c.attr_bytes.new.to
+          (by_writer c.args.version c.in_ok-writer.writer.version c.begin.new.to c.attr_u64.new.to number_zero v0 c.in_ok-attr_u64.ensures.appended ∙ ap (λ (l : List ℕ). l ++ attribute_bytes c.args.version number_zero) c.in_ok-writer.ensures.room)
+          (by_writer c.args.version c.attr_u64.new.self.version c.attr_u64.new.to c.attr_bytes.new.to (text_of PATH c.args.path.now) v1 c.in_ok-attr_bytes.ensures.appended),
+    )
+
+pub finish-requires-clause-short : goal.finish-requires-clause-short
+finish-requires-clause-short c =
+    let (start, number, bytes) = unfinished (goal.at.finish-requires-clause-short c).In_ok-attr_bytes in
+    (can_finish c.args.version c.attr_bytes.new.self.start (made_attributes c.args.path.now) c.args.to.now c.attr_bytes.new.to start bytes (omega (arith, c.requires.short))).1
+
+-- The frame.
+framed : (c : goal.After-finish) → c.finish.new.to ≡ c.args.to.now ++ frame_of (row (kind_meant c.args.kind)).number (body_of c.args.version (made_attributes c.args.path.now))
+framed c =
+    let (start, number, bytes) = unfinished (goal.at.returns-clause-added c).In_ok-attr_bytes in
+    finished ((row (kind_meant c.args.kind)).number) c.attr_bytes.new.self.start c.args.to.now (body_of c.args.version (made_attributes c.args.path.now)) c.attr_bytes.new.to c.finish.new.to start bytes
+    (c.finish.ensures.framed ∙ ap (λ (n : ℕ). take c.attr_bytes.new.self.start c.attr_bytes.new.to ++ frame_of n (drop (c.attr_bytes.new.self.start + 10) c.attr_bytes.new.to)) number)
+
+pub returns-clause-added : goal.returns-clause-added
+returns-clause-added c = framed c

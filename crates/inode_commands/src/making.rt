@@ -1,0 +1,65 @@
+// The command that makes an inode.
+ghost use Rattle.std.specs.Prelude.{◌≡◌, ◌++◌, IfOk, OnOk};
+ghost use Rattle.send_commands.specs.Meaning.{meaning_of};
+ghost use Rattle.sent_model.specs.Sent.{making};
+ghost use Rattle.inode_commands.specs.Spelled.{IsShortPath, IsSaid};
+
+use crate::form::Form;
+use crate::plain::blob_of;
+use crate::spelling::Spelling;
+use extent_map::Origin;
+use inode_tree::{Inode, NodeKind};
+use send_commands::Command;
+use std::alloc::{AllocError, Global};
+use sx_base::Blob;
+
+// The type of MKNOD's mode: a character device, and a block device. Source: inode(7).
+const CHARACTER: u64 = 0o020_000;
+
+const BLOCK: u64 = 0o060_000;
+
+impl<F: Form> Spelling<F> {
+    /// Appends the command that makes an inode at a path.
+    pub fn making<R: Origin>(
+        &self,
+        path: &[u8],
+        inode: &Inode<R>,
+        to: &mut Blob,
+    ) -> Result<(), AllocError>
+        requires short { IsShortPath path.now }
+        requires said { IsSaid inode.now }
+        ensures added { OnOk result (to.new ≡ to.old
+            ++ F.spelled self.now.version (making path.now inode.now.kind inode.now)) }
+    {
+        let command = making(self.alloc, path, inode)?;
+        self.push(&command, to)
+    }
+}
+
+// The command that makes an inode at a path.
+fn making<R: Origin>(alloc: Global, path: &[u8], inode: &Inode<R>) -> Result<Command, AllocError>
+    ensures { IfOk result (λ command. meaning_of command
+        ≡ making path.now inode.now.kind inode.now) }
+{
+    let path = blob_of(alloc, path)?;
+    Ok(match inode.kind() {
+        NodeKind::File => Command::MkFile { path },
+        NodeKind::Directory => Command::MkDir { path },
+        NodeKind::SymbolicLink => Command::Symlink {
+            path,
+            path_link: blob_of(alloc, inode.target())?,
+        },
+        NodeKind::CharacterDevice => Command::MkNod {
+            mode: CHARACTER,
+            rdev: inode.rdev(),
+            path,
+        },
+        NodeKind::BlockDevice => Command::MkNod {
+            mode: BLOCK,
+            rdev: inode.rdev(),
+            path,
+        },
+        NodeKind::Fifo => Command::MkFifo { path },
+        NodeKind::Socket => Command::MkSock { path },
+    })
+}

@@ -1,0 +1,4 @@
+pub mod Least
+pub mod Below
+pub mod Adding
+pub mod Passes
