@@ -1,0 +1,4 @@
+pub mod TurnCells
+pub mod TurnDues
+pub mod TurnAnswers
+pub mod TurnDueLaws

@@ -1,0 +1,54 @@
+-- What is due to turns, against the turns themselves. This program's own.
+use Rattle.std.specs.Prelude.{◌≡◌, ◌⊎◌, ℕ, false, List, ◌++◌, map}
+use Rattle.std.specs.List.{AllByRecursion}
+use Rattle.send_model.specs.Attribute.{IsBytes}
+use Rattle.send_model.specs.Store.{Store}
+use Rattle.send_model.specs.Guards.{Guard}
+use Rattle.send_model.specs.Due as files_due
+use Rattle.send_model.specs.Due.{TooLong, refused_due}
+use Rattle.store_model.specs.Image.{HasGroups}
+use Rattle.store_model.specs.Stored.{body_bytes, StandsFor}
+use Rattle.store_model.specs.Dues.{Ends, LogFull}
+use Rattle.store_model.specs.Turns.{Event, lines_of, turn_groups}
+use Rattle.store_model.specs.TurnLaws.{AreInTurn}
+use Rattle.turn_model.specs.TurnDues.{files_read, which_long, sessions_of, interleave_end}
+use Rattle.turn_model.specs.TurnAnswers.{taken_turns, IsMadeBy, TurnsDue}
+
+-- The events until the end that is due are the first of all turns.
+abbrev pub EndIsFront : Type 0
+EndIsFront = (most gate : ℕ) (store : Store ℕ) (schedule : List ℕ) (files : List (List ℕ)) (guards : List Guard) (shares : List ℕ)
+    → (more : List Event) × ((taken_turns schedule files guards shares store).events ≡ (interleave_end most gate store schedule files guards shares).events ++ more)
+
+-- The answer is what the turns leave: the verdict on the session that was refused first, or that all was done; unless there is no room, or a
+-- file is too long.
+abbrev pub EndIsTaken : Type 0
+EndIsTaken = (most gate : ℕ) (store : Store ℕ) (schedule : List ℕ) (files : List (List ℕ)) (guards : List Guard) (shares : List ℕ)
+    → let end = interleave_end most gate store schedule files guards shares in let turns = taken_turns schedule files guards shares store in
+    ((end.due ≡ Ends (refused_due turns.refused)) × (end.events ≡ turns.events))
+    ⊎ (((file : ℕ) × (end.due ≡ Ends (TooLong file))) ⊎ ((place : ℕ) × (wanted : ℕ) × (end.due ≡ LogFull place wanted most)))
+
+-- Where no file is too long, all of them are read.
+abbrev pub ShortAreRead : Type 0
+ShortAreRead = (number : ℕ) (files : List (List ℕ)) → AllByRecursion (λ long. long ≡ false) (which_long number files) → files_read number files ≡ files
+
+-- An image that has the groups of some first events behind those of a store stands for what they make.
+abbrev pub FirstEventsStand : Type 0
+FirstEventsStand = (before image : List ℕ) (store : Store ℕ) (schedule : List ℕ) (files : List (List ℕ)) (guards : List Guard) (shares : List ℕ) (first more : List Event)
+    → AllByRecursion IsBytes files → (stands : StandsFor before store) → (taken_turns schedule files guards shares store).events ≡ first ++ more
+    → HasGroups stands.header (map body_bytes (stands.groups ++ turn_groups first)) image
+    → IsMadeBy schedule files guards shares before store first image
+
+-- After the answer that all was done, or that a session was refused, all turns were taken: all their lines were written, the image stands
+-- for the store that they leave, and the files were received in turn.
+pub record HasTaken (before : List ℕ) (schedule : List ℕ) (files : List (List ℕ)) (guards : List Guard) (shares : List ℕ) (due : files_due.Due) (written image : List ℕ) : Type 0 where
+  pub store : Store ℕ
+  pub stood : StandsFor before store
+  pub answer : due ≡ refused_due (taken_turns schedule files guards shares store).refused
+  pub lines : written ≡ lines_of (taken_turns schedule files guards shares store).events
+  pub stands : StandsFor image (taken_turns schedule files guards shares store).store
+  pub order : AreInTurn store (sessions_of files guards shares) (taken_turns schedule files guards shares store)
+
+abbrev pub EndsAreTaken : Type 0
+EndsAreTaken = (before written image : List ℕ) (schedule : List ℕ) (files : List (List ℕ)) (guards : List Guard) (shares : List ℕ) (due : files_due.Due)
+    → AllByRecursion IsBytes files → ((file : ℕ) → due ≡ TooLong file → ⊥) → TurnsDue schedule files guards shares before (Ends due) written image
+    → HasTaken before schedule files guards shares due written image

@@ -1,0 +1,119 @@
+-- What turns did, and where they stopped: by the events of the definitions. This program's own.
+use Rattle.std.specs.Prelude.{◌≡◌, ◌⊎◌, ⊤, ℕ, ◌<◌, false, List, [], ◌++◌, length, Option, None, Some, Result, Ok, Err}
+use Rattle.std.specs.Io.KnownBytes.{Appends}
+use Rattle.sx_base.specs.Crash.{LeavesOnly}
+use Rattle.sx_base.specs.Disk.{Pending, IsImage}
+use Rattle.sx_base.specs.declared.outcome.Outcome.{Outcome}
+use Rattle.sx_base.specs.declared.outcome.Outcome.TheVariants as ended
+use Rattle.store_model.specs.Image.{Header}
+use Rattle.store_model.specs.Stored.{Group}
+use Rattle.store_model.specs.Dues as dues
+use Rattle.store_model.specs.Turns.{Event, lines_of, turn_groups}
+use Rattle.turn_model.specs.TurnDues.{gate_after, fitting}
+use Rattle.store_journal.specs.Shown.{StoreState, IsIdle}
+use Rattle.store_journal.specs.Holding.{Holds}
+use Rattle.receiver.specs.declared.outcome.Received.{Received}
+use Rattle.receiver.specs.declared.outcome.Received.TheVariants as how
+use Rattle.receiver.specs.Answers as received
+use Rattle.receiver.specs.Answers.{ended_log}
+use Rattle.store_groups.specs.declared.stops.StoreStop.{StoreStop}
+use Rattle.store_groups.specs.declared.stops.StoreStop.TheVariants as stop
+use Rattle.receiver.specs.Disks.{HasFront, EndLeaves}
+
+-- An object of the outside failed only where its count of faults rose.
+abbrev pub ErrCaused : {T : Type 0} → (inputs_before inputs_now out_before out_now disk_before disk_now : ℕ) → Result T Received → Type 0
+ErrCaused inputs_before inputs_now out_before out_now disk_before disk_now (Ok x) = ⊤
+ErrCaused inputs_before inputs_now out_before out_now disk_before disk_now (Err why) = received.Caused inputs_before inputs_now out_before out_now disk_before disk_now why
+
+-- Why a call of the store stopped that refuses nothing, as the end of all turns.
+abbrev pub stopped_as : StoreStop → Received
+stopped_as (stop.Refused refusal) = how.Files ended.NoMemory
+stopped_as stop.NoMemory = how.Files ended.NoMemory
+stopped_as (stop.Log why) = ended_log why
+
+abbrev pub IsNoMemory : Received → Type 0
+IsNoMemory why = why ≡ how.Files ended.NoMemory
+
+-- What stops one command of a session: of the outside only the output, the store's disk or memory.
+abbrev pub IsOutcomeStop : Outcome → Type 0
+IsOutcomeStop ended.OutputFault = ⊤
+IsOutcomeStop ended.NoMemory = ⊤
+IsOutcomeStop ended.InputFault = ⊥
+IsOutcomeStop ended.Done = ⊥
+IsOutcomeStop (ended.Refused verdict) = ⊥
+IsOutcomeStop (ended.InputTooLong file) = ⊥
+IsOutcomeStop (ended.TooMuch sum) = ⊥
+IsOutcomeStop (ended.InputChanged file place) = ⊥
+
+abbrev pub IsItemStop : Received → Type 0
+IsItemStop (how.Files outcome) = IsOutcomeStop outcome
+IsItemStop how.StoreFault = ⊤
+IsItemStop (how.LogFull end wanted limit) = ⊤
+
+-- The store is idle, unless its journal stopped, so that it is not live, or there was no memory.
+abbrev pub IdleAt : Received → ℕ → StoreState → Type 0
+IdleAt (how.Files ended.NoMemory) len store = IsIdle len store ⊎ (store.is_live ≡ false)
+IdleAt (how.Files ended.InputFault) len store = IsIdle len store
+IdleAt (how.Files ended.OutputFault) len store = IsIdle len store
+IdleAt (how.Files ended.Done) len store = IsIdle len store
+IdleAt (how.Files (ended.Refused verdict)) len store = IsIdle len store
+IdleAt (how.Files (ended.InputTooLong file)) len store = IsIdle len store
+IdleAt (how.Files (ended.TooMuch sum)) len store = IsIdle len store
+IdleAt (how.Files (ended.InputChanged file place)) len store = IsIdle len store
+IdleAt how.StoreFault len store = store.is_live ≡ false
+IdleAt (how.LogFull end wanted limit) len store = store.is_live ≡ false
+
+abbrev pub IdleSays : {T : Type 0} → Result T Received → ℕ → StoreState → Type 0
+IdleSays (Ok x) len store = IsIdle len store
+IdleSays (Err why) len store = IdleAt why len store
+
+-- The groups of the other events may stand too, unless there was no room.
+abbrev pub reached : Received → List Event → List Event
+reached (how.Files outcome) more = more
+reached how.StoreFault more = more
+reached (how.LogFull end wanted limit) more = []
+
+-- Why turns stop: of an output that failed some bytes are missing, and where there is no room the first events that have it are done.
+abbrev pub OutcomeReason : Outcome → (unwritten : List ℕ) → Type 0
+OutcomeReason ended.OutputFault unwritten = 0 < length unwritten
+OutcomeReason ended.NoMemory unwritten = ⊤
+OutcomeReason ended.InputFault unwritten = ⊤
+OutcomeReason (ended.InputTooLong file) unwritten = ⊤
+OutcomeReason ended.Done unwritten = ⊥
+OutcomeReason (ended.Refused verdict) unwritten = ⊥
+OutcomeReason (ended.TooMuch sum) unwritten = ⊥
+OutcomeReason (ended.InputChanged file place) unwritten = ⊥
+
+abbrev pub StopReason : Received → (most gate : ℕ) (events done : List Event) (unwritten : List ℕ) → Type 0
+StopReason (how.Files outcome) most gate events done unwritten = OutcomeReason outcome unwritten
+StopReason how.StoreFault most gate events done unwritten = ⊤
+StopReason (how.LogFull end wanted limit) most gate events done unwritten = (unwritten ≡ []) × (fitting most gate events ≡ record { events = done; full = Some (dues.LogFull end wanted limit) })
+
+module _ {D : Type 0} (tells : Type 0) (moment : D → ℕ) (left_since : D → ℕ → List ℕ → Type 0) (seen : D → List ℕ) (pending : D → Pending)
+    (old new : D) (was now : StoreState) (old_out new_out : Option (List ℕ)) where
+  -- What holds of a disk that tells, which had these groups.
+  abbrev pub OfGroups : (Header → List Group → Type 0) → Type 0
+  OfGroups P = tells → (header : Header) (groups : List Group) → Holds header groups was (seen old) (pending old) → P header groups
+
+  -- The events were done: their lines stand behind what was written before, and their groups behind those that there were; at each moment a
+  -- crash left the first of these.
+  pub record HasDone (events : List Event) : Type 0 where
+    pub wrote : Appends old_out new_out (lines_of events)
+    pub room : (fitting was.log.limit was.log.gate events).full ≡ None
+    pub gate : now.log.gate ≡ gate_after was.log.gate events
+    pub limit : now.log.limit ≡ was.log.limit
+    pub disk : OfGroups (λ header groups. Holds header (groups ++ turn_groups events) now (seen new) (pending new) × LeavesOnly moment left_since old new (HasFront header groups (turn_groups events)))
+
+  -- They stopped in these events: the first ones are done, and their lines, or a front part of them, were written.
+  pub record HasStopped (why : Received) (events : List Event) : Type 0 where
+    pub done : List Event
+    pub more : List Event
+    pub all : events ≡ done ++ more
+    pub lines : List ℕ
+    pub unwritten : List ℕ
+    pub printed : lines_of done ≡ lines ++ unwritten
+    pub wrote : Appends old_out new_out lines
+    pub reason : StopReason why was.log.limit was.log.gate events done unwritten
+    pub disk : OfGroups (λ header groups. EndLeaves why (Holds header (groups ++ turn_groups done) now (seen new) (pending new))
+        ((image : List ℕ) → IsImage (pending new) image → HasFront header (groups ++ turn_groups done) (turn_groups (reached why more)) image)
+        × LeavesOnly moment left_since old new (HasFront header groups (turn_groups events)))

@@ -1,0 +1,94 @@
+-- What files that take turns into a store are answered. This program's own.
+use Rattle.std.specs.Prelude.{◌≡◌, ⊤, ℕ, ◌-◌, ◌<◌, ◌≤◌, List, [], ◌++◌, length, map, Option, None, Some}
+use Rattle.std.specs.List.{AllByRecursion}
+use Rattle.send_model.specs.Store.{Store}
+use Rattle.send_model.specs.Receive.{byte_cells}
+use Rattle.send_model.specs.Guards.{Guard}
+use Rattle.send_model.specs.Due.{DoneWhole, RefusedAt, TooLong}
+use Rattle.store_model.specs.Stored.{Group, as_bytes, made_all}
+use Rattle.store_model.specs.Dues as dues
+use Rattle.store_model.specs.Dues.{Due, Ends}
+use Rattle.store_model.specs.Turns.{Event, at_entry, lines_of, turn_groups, turns_of}
+use Rattle.store_model.specs.TurnLaws.{IsTurnState, AreOneByOne}
+use Rattle.turn_model.specs.TurnDues.{files_read, sessions_of, all_turns, interleave_end}
+use Rattle.auditor.specs.Following.{HaveSameShape}
+use Rattle.sx_base.specs.Refusals.{verdict_meant}
+use Rattle.sx_base.specs.declared.outcome.Outcome.{Outcome}
+use Rattle.sx_base.specs.declared.outcome.Verdict.{Verdict}
+use Rattle.sx_base.specs.declared.outcome.Outcome.TheVariants as ended
+use Rattle.store_groups.specs.declared.place.Place.{Place}
+use Rattle.receiver.specs.declared.outcome.Received.{Received}
+use Rattle.receiver.specs.declared.outcome.Received.TheVariants as how
+
+-- A schedule is written in digits, each of which is the place of a session, of which there are so many.
+abbrev pub ArePlaces : (count : ℕ) → List ℕ → Type 0
+ArePlaces count schedule = AllByRecursion (λ digit. (48 ≤ digit) × (digit - 48 < count)) schedule
+
+abbrev pub places_of : List ℕ → List ℕ
+places_of schedule = map (λ digit. digit - 48) schedule
+
+-- How all turns end, by the verdict on the session that was refused first.
+abbrev pub end_of : Option Verdict → Received
+end_of None = how.Files ended.Done
+end_of (Some verdict) = how.Files (ended.Refused verdict)
+
+-- Where the answer is one that files decide, the store has what is left, but for what its cells carry.
+abbrev pub OutcomeLeaves : Outcome → Type 0 → Type 0
+OutcomeLeaves ended.Done P = P
+OutcomeLeaves (ended.Refused verdict) P = P
+OutcomeLeaves (ended.InputTooLong file) P = P
+OutcomeLeaves ended.InputFault P = ⊤
+OutcomeLeaves ended.NoMemory P = ⊤
+OutcomeLeaves ended.OutputFault P = ⊤
+OutcomeLeaves (ended.TooMuch sum) P = ⊤
+OutcomeLeaves (ended.InputChanged file place) P = ⊤
+
+abbrev pub IfStands : Received → Type 0 → Type 0
+IfStands (how.Files outcome) P = OutcomeLeaves outcome P
+IfStands how.StoreFault P = ⊤
+IfStands (how.LogFull end wanted limit) P = ⊤
+
+module _ (most gate : ℕ) (base : Store ℕ) (schedule : List ℕ) (files : List (List ℕ)) (guards : List Guard) (shares : List ℕ) where
+  -- All that the turns do, and what they do until the answer that is due.
+  abbrev pub all_events : List Event
+  all_events = (turns_of base schedule (files_read 1 files) guards shares).events
+
+  abbrev pub due_events : List Event
+  due_events = (interleave_end most gate base schedule files guards shares).events
+
+  -- The answer is due.
+  abbrev pub IsDue : Due → List Event → Type 0
+  IsDue due first = ((interleave_end most gate base schedule files guards shares).due ≡ due) × (first ≡ due_events)
+
+  abbrev pub OutcomeIs : Outcome → List Event → (unwritten : List ℕ) → Type 0
+  OutcomeIs ended.Done first unwritten = IsDue (Ends DoneWhole) first × (unwritten ≡ [])
+  OutcomeIs (ended.Refused verdict) first unwritten = IsDue (Ends (RefusedAt (verdict_meant verdict))) first × (unwritten ≡ [])
+  OutcomeIs (ended.InputTooLong file) first unwritten = IsDue (Ends (TooLong file)) first × (unwritten ≡ [])
+  OutcomeIs ended.InputFault first unwritten = ⊤
+  OutcomeIs ended.NoMemory first unwritten = ⊤
+  OutcomeIs ended.OutputFault first unwritten = 0 < length unwritten
+  OutcomeIs (ended.TooMuch sum) first unwritten = ⊥
+  OutcomeIs (ended.InputChanged file place) first unwritten = ⊥
+
+  -- The answer is the one that is due, or an object of the outside failed, or there was no memory.
+  abbrev pub AnswerIs : Received → List Event → (unwritten : List ℕ) → Type 0
+  AnswerIs (how.Files outcome) first unwritten = OutcomeIs outcome first unwritten
+  AnswerIs how.StoreFault first unwritten = ⊤
+  AnswerIs (how.LogFull end wanted limit) first unwritten = IsDue (dues.LogFull end wanted limit) first × (unwritten ≡ [])
+
+  -- Some first events were done, and H holds of their groups: these make a store that is one after some first turns, or after these and the
+  -- completion of the next one, in which the parts are complete as if they had been received one after the other; and each part is of whose
+  -- line something was written.
+  pub record AreDone (why : Received) (core : Store (Option Place)) (written : List ℕ) (H : List Group → Type 0) : Type 0 where
+    pub first : List Event
+    pub more : List Event
+    pub all : all_events ≡ first ++ more
+    pub has : H (turn_groups first)
+    pub now : Store ℕ
+    pub made : (place : ℕ) → made_all 0 as_bytes place base (turn_groups first) ≡ Some now
+    pub state : IsTurnState 0 byte_cells (at_entry base (sessions_of files guards shares)) (all_turns schedule (sessions_of files guards shares)) now
+    pub order : AreOneByOne 0 byte_cells base first now
+    pub unwritten : List ℕ
+    pub printed : lines_of first ≡ written ++ unwritten
+    pub answer : AnswerIs why first unwritten
+    pub core_is : IfStands why (HaveSameShape core now)

@@ -1,0 +1,9 @@
+pub mod Fronts
+pub mod Edits
+pub mod Standing
+pub mod Doing
+pub mod Reading
+pub mod Turning
+pub mod Going
+pub mod Ends
+pub mod Leaving

@@ -1,0 +1,334 @@
+// Turns of several sessions, one after the other.
+ghost use Rattle.std.specs.Prelude.{◌≡◌, ◌≤◌, ◌<◌, ◌++◌, ℕ, List, [], ◌∷◌, Option, None, map, length, replicate, IfErr, IfOk, OnOk};
+ghost use Rattle.std.specs.Option.{option_map};
+ghost use Rattle.std.specs.String.{string_bytes};
+ghost use Rattle.sx_base.specs.Calls.{IfAllTold};
+ghost use Rattle.sx_base.specs.Causes.{Steady};
+ghost use Rattle.sx_base.specs.Refusals.{verdict_meant};
+ghost use Rattle.send_model.specs.Receive.{first_of};
+ghost use Rattle.store_model.specs.Turns as meant;
+ghost use Rattle.store_model.specs.Turns.{Turns, after_turns, one_turn, to_the_end};
+ghost use Rattle.turn_model.specs.TurnDues.{which_long, TurnsEnd};
+ghost use Rattle.auditor.specs.Following.{blank};
+ghost use Rattle.store_journal.specs.Shown.{StoreState, IsIdle};
+ghost use Rattle.receiver.specs.Answers.{IsEnd};
+ghost use Rattle.turn_sessions.specs.Standing.{Blank, blank_cells};
+ghost use Rattle.turn_sessions.specs.Doing.{ErrCaused, IdleSays};
+ghost use Rattle.turn_sessions.specs.Ends.{ArePlaces, places_of};
+ghost use Rattle.turn_sessions.specs.Going.{AreNew, AreReading, AreShorter, AreTaking, IsGoing, GoingSays, FewerLeft, HasFewer};
+
+use crate::session::{Session, new_session, take_turn};
+use receiver::{Guarding, Received};
+use std::alloc::{AllocError, Global};
+use store_journal::Store;
+use sx_base::{Disk, Inputs, Sink, Verdict};
+
+// Sessions of these files, in order, each with its own guards.
+pub(crate) fn new_sessions<G: Guarding + Drop>(
+    alloc: Global,
+    files: &[String],
+    guards: Vec<G>,
+) -> Result<Vec<Session<G>>, AllocError>
+    requires { length guards.items ≡ length files.now }
+    ensures { IfOk result (λ sessions. AreNew 1 (map string_bytes files.now) guards.items
+        sessions.items) }
+{
+    let mut rest = guards;
+    let mut sessions = Vec::new(alloc);
+    for place in 0..files.len() {
+        let own = rest.remove(0);
+        let session = match new_session(alloc, place as u64 + 1, files[place].as_str(), own) {
+            Ok(session) => session,
+            Err(error) => return Err(error),
+        };
+        sessions.push(session)?;
+    }
+    Ok(sessions)
+}
+
+// The verdict of the session that was refused first.
+fn first_of(refused: Option<Verdict>, now: Option<Verdict>) -> Option<Verdict>
+    ensures { option_map verdict_meant result
+        ≡ first_of (option_map verdict_meant refused) (option_map verdict_meant now) }
+{
+    match refused {
+        Some(verdict) => Some(verdict),
+        None => now,
+    }
+}
+
+// A turn of the session at a place. The verdict is that of the session that was refused first.
+fn turn_at<I: Inputs, O: Sink, D: Disk, G: Guarding + Drop>(
+    alloc: Global,
+    store: &mut Store,
+    disk: &mut D,
+    inputs: &mut I,
+    sessions: &mut [Session<G>],
+    place: usize,
+    refused: Option<Verdict>,
+    out: &mut O,
+) -> Result<Option<Verdict>, Received>
+    requires idle { IsIdle (D.len disk.old) store.old }
+    requires within { place < length sessions.old }
+    requires reading { (names : List (List ℕ))
+        × AreReading (I.told inputs.old) 1 names sessions.old }
+    requires taking { (w : Turns Blank) × AreTaking G.kept sessions.old (blank store.old.core) w }
+    ensures told { I.told inputs.new ≡ I.told inputs.old }
+    ensures count { length sessions.new ≡ length sessions.old }
+    ensures reading { (names : List (List ℕ)) →
+        AreReading (I.told inputs.old) 1 names sessions.old →
+        OnOk result (AreReading (I.told inputs.new) 1 names sessions.new) }
+    ensures taking { OnOk result ((w : Turns Blank)
+        × AreTaking G.kept sessions.new (blank store.new.core) w) }
+    ensures fewer { OnOk result (FewerLeft place sessions.old sessions.new) }
+    ensures going { (start : D) (was : StoreState) (begun : Option (List ℕ))
+        (names : List (List ℕ)) (w : Turns Blank) (end : TurnsEnd) (last : Turns Blank)
+        (rest : List ℕ) →
+        AreReading (I.told inputs.old) 1 names sessions.old → IfAllTold (I.told inputs.old) names
+        (λ files. IsGoing D.tells D.moment D.left_since D.seen D.pending start disk.old
+        was store.old begun (O.taken out.old) G.kept (which_long 1 files) files w end last
+        (place ∷ rest) refused sessions.old →
+        GoingSays D.tells D.moment D.left_since D.seen D.pending start disk.new
+        was store.new begun (O.taken out.new) G.kept (which_long 1 files) files
+        (one_turn tt blank_cells w place) end last rest sessions.new result) }
+    ensures limit { store.new.log.limit ≡ store.old.log.limit }
+    ensures idle { IdleSays result (D.len disk.new) store.new }
+    ensures stops { IfErr result IsEnd }
+    ensures cause { ErrCaused (I.faults inputs.old) (I.faults inputs.new)
+        (O.faults out.old) (O.faults out.new) (D.faults disk.old) (D.faults disk.new) result }
+    ensures later { D.faults disk.old ≤ D.faults disk.new }
+    ensures in_later { I.faults inputs.old ≤ I.faults inputs.new }
+    ensures out_later { O.faults out.old ≤ O.faults out.new }
+    ensures steady { Steady (D.faults disk.old) (D.faults disk.new) result }
+    ensures in_steady { Steady (I.faults inputs.old) (I.faults inputs.new) result }
+    ensures ends_steady { Steady (I.ends inputs.old) (I.ends inputs.new) result }
+    ensures out_steady { Steady (O.faults out.old) (O.faults out.new) result }
+{
+    match take_turn(alloc, store, disk, inputs, &mut sessions[place], out) {
+        Ok(now) => Ok(first_of(refused, now)),
+        Err(why) => Err(why),
+    }
+}
+
+// A turn for each of these digits, of the session of that number.
+fn take_scheduled<I: Inputs, O: Sink, D: Disk, G: Guarding + Drop>(
+    alloc: Global,
+    store: &mut Store,
+    disk: &mut D,
+    inputs: &mut I,
+    schedule: &[u8],
+    sessions: &mut [Session<G>],
+    out: &mut O,
+) -> Result<Option<Verdict>, Received>
+    requires idle { IsIdle (D.len disk.old) store.old }
+    requires places { ArePlaces (length sessions.old) schedule.now }
+    requires reading { (names : List (List ℕ))
+        × AreReading (I.told inputs.old) 1 names sessions.old }
+    requires taking { (w : Turns Blank) × AreTaking G.kept sessions.old (blank store.old.core) w }
+    ensures told { I.told inputs.new ≡ I.told inputs.old }
+    ensures count { length sessions.new ≡ length sessions.old }
+    ensures reading { (names : List (List ℕ)) →
+        AreReading (I.told inputs.old) 1 names sessions.old →
+        OnOk result (AreReading (I.told inputs.new) 1 names sessions.new) }
+    ensures taking { OnOk result ((w : Turns Blank)
+        × AreTaking G.kept sessions.new (blank store.new.core) w) }
+    ensures going { (start : D) (was : StoreState) (begun : Option (List ℕ))
+        (names : List (List ℕ)) (w : Turns Blank) (end : TurnsEnd) (last : Turns Blank)
+        (rest : List ℕ) →
+        AreReading (I.told inputs.old) 1 names sessions.old → IfAllTold (I.told inputs.old) names
+        (λ files. IsGoing D.tells D.moment D.left_since D.seen D.pending start disk.old
+        was store.old begun (O.taken out.old) G.kept (which_long 1 files) files w end last
+        (places_of schedule.now ++ rest) None sessions.old →
+        GoingSays D.tells D.moment D.left_since D.seen D.pending start disk.new
+        was store.new begun (O.taken out.new) G.kept (which_long 1 files) files
+        (after_turns tt blank_cells w (places_of schedule.now)) end last rest sessions.new
+        result) }
+    ensures limit { store.new.log.limit ≡ store.old.log.limit }
+    ensures idle { IdleSays result (D.len disk.new) store.new }
+    ensures stops { IfErr result IsEnd }
+    ensures cause { ErrCaused (I.faults inputs.old) (I.faults inputs.new)
+        (O.faults out.old) (O.faults out.new) (D.faults disk.old) (D.faults disk.new) result }
+    ensures later { D.faults disk.old ≤ D.faults disk.new }
+    ensures in_later { I.faults inputs.old ≤ I.faults inputs.new }
+    ensures out_later { O.faults out.old ≤ O.faults out.new }
+    ensures steady { Steady (D.faults disk.old) (D.faults disk.new) result }
+    ensures in_steady { Steady (I.faults inputs.old) (I.faults inputs.new) result }
+    ensures ends_steady { Steady (I.ends inputs.old) (I.ends inputs.new) result }
+    ensures out_steady { Steady (O.faults out.old) (O.faults out.new) result }
+{
+    let mut refused = None;
+    for i in 0..schedule.len() {
+        let place = (schedule[i] - b'0') as usize;
+        match turn_at(alloc, store, disk, inputs, sessions, place, refused, out) {
+            Ok(now) => refused = now,
+            Err(why) => return Err(why),
+        }
+    }
+    Ok(refused)
+}
+
+// All turns: those of these digits, and then each session goes on to its end.
+pub(crate) fn take_turns<I: Inputs, O: Sink, D: Disk, G: Guarding + Drop>(
+    alloc: Global,
+    store: &mut Store,
+    disk: &mut D,
+    inputs: &mut I,
+    schedule: &[u8],
+    sessions: &mut [Session<G>],
+    out: &mut O,
+) -> Result<Option<Verdict>, Received>
+    requires idle { IsIdle (D.len disk.old) store.old }
+    requires places { ArePlaces (length sessions.old) schedule.now }
+    requires reading { (names : List (List ℕ))
+        × AreReading (I.told inputs.old) 1 names sessions.old }
+    requires taking { (w : Turns Blank) × AreTaking G.kept sessions.old (blank store.old.core) w }
+    ensures told { I.told inputs.new ≡ I.told inputs.old }
+    ensures count { length sessions.new ≡ length sessions.old }
+    ensures reading { (names : List (List ℕ)) →
+        AreReading (I.told inputs.old) 1 names sessions.old →
+        OnOk result (AreReading (I.told inputs.new) 1 names sessions.new) }
+    ensures taking { OnOk result ((w : Turns Blank)
+        × AreTaking G.kept sessions.new (blank store.new.core) w) }
+    ensures going { (start : D) (was : StoreState) (begun : Option (List ℕ))
+        (names : List (List ℕ)) (at_first : List (meant.Session Blank)) (w : Turns Blank)
+        (end : TurnsEnd) (last : Turns Blank) →
+        length at_first ≡ length sessions.old → AreShorter at_first w.sessions →
+        AreReading (I.told inputs.old) 1 names sessions.old → IfAllTold (I.told inputs.old) names
+        (λ files. IsGoing D.tells D.moment D.left_since D.seen D.pending start disk.old
+        was store.old begun (O.taken out.old) G.kept (which_long 1 files) files w end last
+        (places_of schedule.now ++ to_the_end 0 at_first) None sessions.old →
+        GoingSays D.tells D.moment D.left_since D.seen D.pending start disk.new
+        was store.new begun (O.taken out.new) G.kept (which_long 1 files) files
+        (after_turns tt blank_cells (after_turns tt blank_cells w (places_of schedule.now))
+        (to_the_end 0 at_first)) end last [] sessions.new result) }
+    ensures limit { store.new.log.limit ≡ store.old.log.limit }
+    ensures idle { IdleSays result (D.len disk.new) store.new }
+    ensures stops { IfErr result IsEnd }
+    ensures cause { ErrCaused (I.faults inputs.old) (I.faults inputs.new)
+        (O.faults out.old) (O.faults out.new) (D.faults disk.old) (D.faults disk.new) result }
+    ensures later { D.faults disk.old ≤ D.faults disk.new }
+    ensures in_later { I.faults inputs.old ≤ I.faults inputs.new }
+    ensures out_later { O.faults out.old ≤ O.faults out.new }
+    ensures steady { Steady (D.faults disk.old) (D.faults disk.new) result }
+    ensures in_steady { Steady (I.faults inputs.old) (I.faults inputs.new) result }
+    ensures ends_steady { Steady (I.ends inputs.old) (I.ends inputs.new) result }
+    ensures out_steady { Steady (O.faults out.old) (O.faults out.new) result }
+{
+    match take_scheduled(alloc, store, disk, inputs, schedule, sessions, out) {
+        Ok(first) => take_rest(alloc, store, disk, inputs, first, sessions, out),
+        Err(why) => Err(why),
+    }
+}
+
+// Each session goes on to its end, the first one first.
+fn take_rest<I: Inputs, O: Sink, D: Disk, G: Guarding + Drop>(
+    alloc: Global,
+    store: &mut Store,
+    disk: &mut D,
+    inputs: &mut I,
+    first: Option<Verdict>,
+    sessions: &mut [Session<G>],
+    out: &mut O,
+) -> Result<Option<Verdict>, Received>
+    requires idle { IsIdle (D.len disk.old) store.old }
+    requires reading { (names : List (List ℕ))
+        × AreReading (I.told inputs.old) 1 names sessions.old }
+    requires taking { (w : Turns Blank) × AreTaking G.kept sessions.old (blank store.old.core) w }
+    ensures told { I.told inputs.new ≡ I.told inputs.old }
+    ensures count { length sessions.new ≡ length sessions.old }
+    ensures reading { (names : List (List ℕ)) →
+        AreReading (I.told inputs.old) 1 names sessions.old →
+        OnOk result (AreReading (I.told inputs.new) 1 names sessions.new) }
+    ensures taking { OnOk result ((w : Turns Blank)
+        × AreTaking G.kept sessions.new (blank store.new.core) w) }
+    ensures going { (start : D) (was : StoreState) (begun : Option (List ℕ))
+        (names : List (List ℕ)) (at_first : List (meant.Session Blank)) (w : Turns Blank)
+        (end : TurnsEnd) (last : Turns Blank) →
+        length at_first ≡ length sessions.old → AreShorter at_first w.sessions →
+        AreReading (I.told inputs.old) 1 names sessions.old → IfAllTold (I.told inputs.old) names
+        (λ files. IsGoing D.tells D.moment D.left_since D.seen D.pending start disk.old
+        was store.old begun (O.taken out.old) G.kept (which_long 1 files) files w end last
+        (to_the_end 0 at_first) first sessions.old →
+        GoingSays D.tells D.moment D.left_since D.seen D.pending start disk.new
+        was store.new begun (O.taken out.new) G.kept (which_long 1 files) files
+        (after_turns tt blank_cells w (to_the_end 0 at_first)) end last [] sessions.new
+        result) }
+    ensures limit { store.new.log.limit ≡ store.old.log.limit }
+    ensures idle { IdleSays result (D.len disk.new) store.new }
+    ensures stops { IfErr result IsEnd }
+    ensures cause { ErrCaused (I.faults inputs.old) (I.faults inputs.new)
+        (O.faults out.old) (O.faults out.new) (D.faults disk.old) (D.faults disk.new) result }
+    ensures later { D.faults disk.old ≤ D.faults disk.new }
+    ensures in_later { I.faults inputs.old ≤ I.faults inputs.new }
+    ensures out_later { O.faults out.old ≤ O.faults out.new }
+    ensures steady { Steady (D.faults disk.old) (D.faults disk.new) result }
+    ensures in_steady { Steady (I.faults inputs.old) (I.faults inputs.new) result }
+    ensures ends_steady { Steady (I.ends inputs.old) (I.ends inputs.new) result }
+    ensures out_steady { Steady (O.faults out.old) (O.faults out.new) result }
+{
+    let mut refused = first;
+    for place in 0..sessions.len() {
+        match finish(alloc, store, disk, inputs, sessions, place, refused, out) {
+            Ok(now) => refused = now,
+            Err(why) => return Err(why),
+        }
+    }
+    Ok(refused)
+}
+
+// The session at a place goes on to its end.
+fn finish<I: Inputs, O: Sink, D: Disk, G: Guarding + Drop>(
+    alloc: Global,
+    store: &mut Store,
+    disk: &mut D,
+    inputs: &mut I,
+    sessions: &mut [Session<G>],
+    place: usize,
+    first: Option<Verdict>,
+    out: &mut O,
+) -> Result<Option<Verdict>, Received>
+    requires idle { IsIdle (D.len disk.old) store.old }
+    requires within { place < length sessions.old }
+    requires reading { (names : List (List ℕ))
+        × AreReading (I.told inputs.old) 1 names sessions.old }
+    requires taking { (w : Turns Blank) × AreTaking G.kept sessions.old (blank store.old.core) w }
+    ensures told { I.told inputs.new ≡ I.told inputs.old }
+    ensures count { length sessions.new ≡ length sessions.old }
+    ensures reading { (names : List (List ℕ)) →
+        AreReading (I.told inputs.old) 1 names sessions.old →
+        OnOk result (AreReading (I.told inputs.new) 1 names sessions.new) }
+    ensures taking { OnOk result ((w : Turns Blank)
+        × AreTaking G.kept sessions.new (blank store.new.core) w) }
+    ensures going { (start : D) (was : StoreState) (begun : Option (List ℕ))
+        (names : List (List ℕ)) (w : Turns Blank) (end : TurnsEnd) (last : Turns Blank)
+        (rest : List ℕ) (turns : ℕ) → HasFewer w place turns →
+        AreReading (I.told inputs.old) 1 names sessions.old → IfAllTold (I.told inputs.old) names
+        (λ files. IsGoing D.tells D.moment D.left_since D.seen D.pending start disk.old
+        was store.old begun (O.taken out.old) G.kept (which_long 1 files) files w end last
+        (replicate turns place ++ rest) first sessions.old →
+        GoingSays D.tells D.moment D.left_since D.seen D.pending start disk.new
+        was store.new begun (O.taken out.new) G.kept (which_long 1 files) files
+        (after_turns tt blank_cells w (replicate turns place)) end last rest sessions.new
+        result) }
+    ensures limit { store.new.log.limit ≡ store.old.log.limit }
+    ensures idle { IdleSays result (D.len disk.new) store.new }
+    ensures stops { IfErr result IsEnd }
+    ensures cause { ErrCaused (I.faults inputs.old) (I.faults inputs.new)
+        (O.faults out.old) (O.faults out.new) (D.faults disk.old) (D.faults disk.new) result }
+    ensures later { D.faults disk.old ≤ D.faults disk.new }
+    ensures in_later { I.faults inputs.old ≤ I.faults inputs.new }
+    ensures out_later { O.faults out.old ≤ O.faults out.new }
+    ensures steady { Steady (D.faults disk.old) (D.faults disk.new) result }
+    ensures in_steady { Steady (I.faults inputs.old) (I.faults inputs.new) result }
+    ensures ends_steady { Steady (I.ends inputs.old) (I.ends inputs.new) result }
+    ensures out_steady { Steady (O.faults out.old) (O.faults out.new) result }
+{
+    let mut refused = first;
+    while !sessions[place].is_over {
+        match turn_at(alloc, store, disk, inputs, sessions, place, refused, out) {
+            Ok(now) => refused = now,
+            Err(why) => return Err(why),
+        }
+    }
+    Ok(refused)
+}
