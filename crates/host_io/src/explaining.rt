@@ -2,6 +2,7 @@
 ghost use Rattle.std.specs.Prelude.{◌≡◌};
 
 use crate::advice::{about_note, about_refusal, about_words};
+use crate::named_files::NamedFiles;
 use guard_rules::number_of;
 use std::alloc::{AllocError, Global};
 use std::io::IsTerminal;
@@ -70,20 +71,19 @@ pub(crate) fn is_wanted(rt: &HostRuntime) -> bool {
     rt.stderr().is_terminal() || env::var(rt, "BTRSEND_EXPLAIN").is_ok()
 }
 
-/// Writes the second line behind the note, where there is one and something is to be said of it. `files` are the files of the words, and `trouble` is
-/// what the system said, with what it said it of, or nothing.
+/// Writes the second line behind the note, where there is one and something is to be said of it. `trouble` is what the system said, with
+/// what it said it of, or nothing.
 /// Faults of the notes, and want of memory, are passed over.
 pub(crate) fn explain<N: Sink>(
     alloc: Global,
     words: &[String],
-    files: &[String],
     trouble: &[u8],
     notes: &mut KeptNotes<N>,
 ) {
     if notes.count == 0 {
         return;
     }
-    if let Ok(line) = line_about(alloc, notes.note(), words, files, trouble) {
+    if let Ok(line) = line_about(alloc, notes.note(), words, trouble) {
         let _ = write_whole(&mut notes.inner, line.as_slice());
     }
 }
@@ -93,9 +93,9 @@ fn line_about(
     alloc: Global,
     note: &[u8],
     words: &[String],
-    files: &[String],
     trouble: &[u8],
 ) -> Result<Blob, AllocError> {
+    let files = NamedFiles::of(words);
     let mut line = Blob::new(alloc);
     line.push_all(b"btrsend: ")?;
     if note.starts_with(b"refused ") {
@@ -111,7 +111,7 @@ fn line_about(
 }
 
 // Which command of which file is refused, and what to do about it.
-fn push_refused(note: &[u8], files: &[String], line: &mut Blob) -> Result<(), AllocError> {
+fn push_refused(note: &[u8], files: NamedFiles<'_>, line: &mut Blob) -> Result<(), AllocError> {
     push_file(word_of(note, 1), files, line)?;
     line.push_all(b", command ")?;
     line.push_all(word_of(note, 2))?;
@@ -122,7 +122,7 @@ fn push_refused(note: &[u8], files: &[String], line: &mut Blob) -> Result<(), Al
 // What another note speaks of: what the system said, or the file of a number.
 fn push_subject(
     note: &[u8],
-    files: &[String],
+    files: NamedFiles<'_>,
     trouble: &[u8],
     line: &mut Blob,
 ) -> Result<(), AllocError> {
@@ -141,16 +141,14 @@ fn push_subject(
 }
 
 // The name of the file of a number, which is counted from 1.
-fn push_file(number: &[u8], files: &[String], line: &mut Blob) -> Result<(), AllocError> {
+fn push_file(number: &[u8], files: NamedFiles<'_>, line: &mut Blob) -> Result<(), AllocError> {
     let Some(number) = number_of(number) else {
         return Ok(());
     };
-    for (place, name) in files.iter().enumerate() {
-        if place as u64 + 1 == number {
-            return escape_into(name.as_bytes(), line);
-        }
+    match files.named(number) {
+        Some(name) => escape_into(name.as_bytes(), line),
+        None => Ok(()),
     }
-    Ok(())
 }
 
 // The word of a note at a place, counted from 0; none where there are fewer.

@@ -11,6 +11,9 @@ usage: btrsend init STORE
        btrsend cat STORE NAME PATH > BYTES
        btrsend drop STORE NAME
        btrsend scrub STORE
+       btrsend send STORE NAME > STREAM
+       btrsend restore STORE NAME | btrfs receive FOLDER
+       btrsend interleave STORE SCHEDULE [GUARD..] FILE ..
        btrsend audit [GUARD..] STORE|none FILE..
        btrsend compose STORE|none FILE.. > MERGED
        btrsend export STORE|none FILE.. > STREAM
@@ -28,6 +31,12 @@ usage: btrsend init STORE
   cat       writes the bytes of the file at PATH of a subvolume
   drop      takes a subvolume out of STORE, also one that others stand on. The file does not get smaller
   scrub     reads all of STORE, compares the checksums, and writes `scrub GROUPS UNSEALED`
+  send      writes a complete subvolume of STORE as one full stream. Every store without it receives the stream, and has
+            the same then, but for inode numbers. Holes take no bytes
+  restore   writes it as a full stream for `btrfs receive`, which makes it right: owners, ACLs, capabilities and times too
+  interleave   receives the streams of up to ten FILEs into STORE in turns. Each digit of SCHEDULE is the number of a FILE,
+            from 0, of which one command is received; then each FILE goes on to its end. GUARDs stand before their FILE.
+            A FILE with a command that is refused ends there, and the others go on. Each FILE is read once: a pipe serves
   audit     checks each command of all FILEs in order, as a receiver would, and names the first that it would
             refuse; where there is none it writes `accepted PARTS COMMANDS`. Each FILE is read once: a pipe serves
   compose   writes one stream that makes the last subvolume of a chain in a single part. The first FILE is a full

@@ -3,6 +3,7 @@ use crate::advice::TO_A_TERMINAL;
 use crate::disk_progress::DiskProgress;
 use crate::explaining::{KeptNotes, explain, is_wanted};
 use crate::help::{HELP, VERSION};
+use crate::named_files::{NamedFiles, bytes_of, do_turn, guard_words, is_guard_word};
 use crate::no_disk::NoDisk;
 use crate::out_sink::OutSink;
 use crate::path_inputs::PathInputs;
@@ -55,7 +56,7 @@ pub fn start(rt: &HostRuntime) -> ExitCode {
 // Whether words ask for a stream on standard output.
 fn writes_stream(words: &[String]) -> bool {
     match words {
-        [word, _, _, ..] => matches!(word.as_str(), "compose" | "export"),
+        [word, _, _, ..] => matches!(word.as_str(), "compose" | "export" | "send" | "restore"),
         _ => false,
     }
 }
@@ -113,6 +114,9 @@ fn run_words<O: Sink, N: Sink, D: Disk + Drop>(
     let mut guards: Vec<Box<dyn Guard>> = Vec::new(rt.alloc());
     for word in guard_words(words) {
         let Some(spec) = parse_guard(word.as_str()) else {
+            if do_turn(words) && !is_guard_word(word.as_str()) {
+                continue;
+            }
             break;
         };
         guards.push(Box::new(rt.alloc(), AnyGuard::new(spec))?)?;
@@ -148,7 +152,7 @@ fn explain_run<R: Files, N: Sink>(
 ) {
     let mut trouble = Blob::new(alloc);
     if put_trouble(alloc, words, status, why, inputs, &mut trouble).is_ok() {
-        explain(alloc, words, files_of(words), trouble.as_slice(), notes);
+        explain(alloc, words, trouble.as_slice(), notes);
     }
 }
 
@@ -237,7 +241,7 @@ fn run_shown<D: Disk + Drop>(
     } = shown;
     let alloc = rt.alloc();
     let screen = RefCell::new(Screen::new(OutSink::new(rt.stderr()), began));
-    let all = all_bytes(rt, files_of(words));
+    let all = NamedFiles::of(words).all_bytes(rt);
     let files = PathInputs::new(rt, alloc);
     let mut inputs = Progress::new(files, rt, &screen, alloc, first, all);
     let size = bytes_of(rt, store.as_str());
@@ -278,10 +282,7 @@ fn what_to_show(rt: &HostRuntime, words: &[String]) -> Option<Shown> {
         return None;
     }
     let began = millis_of(rt)?;
-    let first = match files_of(words).first() {
-        Some(name) => name.as_str(),
-        None => "",
-    };
+    let first = NamedFiles::of(words).named(1).unwrap_or("");
     let store = store_word(words).unwrap_or("");
     if first.is_empty() && store.is_empty() {
         return None;
@@ -291,64 +292,6 @@ fn what_to_show(rt: &HostRuntime, words: &[String]) -> Option<Shown> {
         first: String::from_str(rt.alloc(), first).ok()?,
         store: String::from_str(rt.alloc(), store).ok()?,
     })
-}
-
-// The words that name files.
-fn files_of(words: &[String]) -> &[String] {
-    let Some(word) = words.first() else {
-        return &[];
-    };
-    match word.as_str() {
-        "audit" | "receive" => behind_first(behind_guards(&words[1..])),
-        "compose" | "export" => behind_first(&words[1..]),
-        "dump" => &words[1..],
-        _ => &[],
-    }
-}
-
-// The words behind the first, the store.
-fn behind_first(words: &[String]) -> &[String] {
-    match words {
-        [_, files @ ..] => files,
-        [] => &[],
-    }
-}
-
-// The words behind those that begin as guard words.
-fn behind_guards(words: &[String]) -> &[String] {
-    match words
-        .iter()
-        .position(|word| !word.as_bytes().starts_with(b"guard:"))
-    {
-        Some(place) => &words[place..],
-        None => &[],
-    }
-}
-
-// The bytes of all files, where each is a regular one.
-fn all_bytes<R: Files>(files: &R, names: &[String]) -> Option<u64> {
-    let mut sum: u64 = 0;
-    for name in names {
-        sum = sum.checked_add(bytes_of(files, name.as_str())?)?;
-    }
-    Some(sum)
-}
-
-// The bytes of a file, where it is a regular one.
-fn bytes_of<R: Files>(files: &R, name: &str) -> Option<u64> {
-    let about = fs::metadata(files, name).ok()?;
-    if !about.is_file() {
-        return None;
-    }
-    Some(about.len())
-}
-
-// The words behind `audit` and `receive`, of which the first are guard words; none of any other request.
-fn guard_words(words: &[String]) -> &[String] {
-    match words.first() {
-        Some(word) if matches!(word.as_str(), "audit" | "receive") => &words[1..],
-        _ => &[],
-    }
 }
 
 // The words after the program's name. An error where there is no memory, or a word is not UTF-8.

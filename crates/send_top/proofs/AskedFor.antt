@@ -3,7 +3,7 @@ use Rattle.std.specs.Prelude.{◌≡◌, ℕ, true, List, Option, None, Some}
 use Rattle.std.proofs.Common.{refl, sym, ap, subst, ◌∙◌}
 use Rattle.send_model.specs.Guards.{Guard}
 use Rattle.send_model.specs.Words.{new_guards}
-use Rattle.store_model.specs.Requests.{Request, request_of}
+use Rattle.word_model.specs.AllRequests.{Request, request_of}
 use Rattle.send_top.specs.Requests.{Asks, specs_of, store_meant, uses_store}
 use Rattle.send_top.specs.declared.words.StoreRequest.{StoreRequest}
 use Rattle.send_top.specs.declared.words.StoreRequest.TheVariants as of_store
@@ -27,3 +27,6 @@ uses_over words (of_store.List store) = refl
 uses_over words (of_store.Show store name) = refl
 uses_over words (of_store.Cat store name path) = refl
 uses_over words (of_store.Scrub store) = refl
+uses_over words (of_store.Send store name) = refl
+uses_over words (of_store.Restore store name) = refl
+uses_over words (of_store.Interleave store schedule turns) = refl

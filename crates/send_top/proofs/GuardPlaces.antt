@@ -109,11 +109,11 @@ means_one words place word all here none =
     let left = subst AreGuardWords here (left_given place words all) in
     false≢true (sym (ap (λ (o : Option GuardSpec). is_some o) none) ∙ left.0)
 
-pub word_here : {S : Type 0} (text : S → List ℕ) (words : List S) (place : ℕ) (word : S) → place < length words → word ≡ slice_index_or words place word
+pub word_here : {S T : Type 0} (text : S → T) (words : List S) (place : ℕ) (word : S) → place < length words → word ≡ slice_index_or words place word
     → drop place (map text words) ≡ text word ∷ drop (place + 1) (map text words)
 word_here text words place word less is =
     drop-cons (map text words) place (text word) (omega (arith, less, length-map words text))
-    ∙ ap (λ (w : List ℕ). w ∷ drop (suc place) (map text words)) (get_or-map text words place word (text word) less ∙ ap text (sym is))
+    ∙ ap (λ (w : _). w ∷ drop (suc place) (map text words)) (get_or-map text words place word (text word) less ∙ ap text (sym is))
     ∙ ap (λ (k : ℕ). text word ∷ drop k (map text words)) (sym (add-one place))
 
 -- ---- boxes and words of any kind

@@ -9,3 +9,5 @@ pub mod AskedFor
 pub mod StreamsAnswers
 pub mod MissingNote
 pub mod ReceiveAnswers
+pub mod SentAnew
+pub mod TurnsRead

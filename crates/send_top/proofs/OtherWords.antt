@@ -6,7 +6,10 @@ use Rattle.std.proofs.Common.{refl, sym, ap, subst, ◌∙◌}
 use Rattle.send_model.specs.Words as streams
 use Rattle.send_model.specs.Words.{Compose, Dump, Export, Gen, Trial, is_word, store_and_files, guards_and_files, one_file, count_and_seed}
 use Rattle.send_model.proofs.Stores.{bytes_eq_true}
-use Rattle.store_model.specs.Requests.{Request, InitStore, DropEntry, ListStore, ShowEntry, CatFile, ScrubStore, of_one, of_two, of_three, as_receive, over_store, or_over_store, request_of}
+use Rattle.store_model.specs.Requests.{Request, InitStore, DropEntry, ListStore, ShowEntry, CatFile, ScrubStore, of_one, of_two, of_three, as_receive, over_store, or_over_store}
+use Rattle.store_model.specs.Requests as stored
+use Rattle.word_model.specs.AllRequests as all
+use Rattle.word_model.specs.AllRequests.{SendEntry, RestoreEntry, store_and_name, of_turns, of_subvolumes, or_of_subvolumes, request_of}
 
 differ : (xs ys : List ℕ) → (xs ≡ ys → ⊥) → bytes_eq xs ys ≡ false
 differ xs ys other = one (bytes_eq xs ys) refl
@@ -53,6 +56,15 @@ none_over_store word words not_init not_drop not_receive not_list not_show not_c
     ∙ passed (bytes_eq word (codes "cat")) (of_three (CatFile 1 2 3) words) from_scrub (differ word (codes "cat") not_cat)
     ∙ passed (bytes_eq word (codes "scrub")) (of_one (ScrubStore 1) words) None (differ word (codes "scrub") not_scrub)
 
+none_of_subvolumes : (word : List ℕ) (words : List (List ℕ)) → (word ≡ codes "send" → ⊥) → (word ≡ codes "restore" → ⊥) → (word ≡ codes "interleave" → ⊥) → of_subvolumes (word ∷ words) ≡ None
+unfolding of_subvolumes
+none_of_subvolumes word words not_send not_restore not_interleave =
+    let from_turns : Option all.Request = if is_word (codes "interleave") word then of_turns words else None in
+    let from_restore : Option all.Request = if is_word (codes "restore") word then store_and_name RestoreEntry words else from_turns in
+    passed (bytes_eq word (codes "send")) (store_and_name SendEntry words) from_restore (differ word (codes "send") not_send)
+    ∙ passed (bytes_eq word (codes "restore")) (store_and_name RestoreEntry words) from_turns (differ word (codes "restore") not_restore)
+    ∙ passed (bytes_eq word (codes "interleave")) (of_turns words) None (differ word (codes "interleave") not_interleave)
+
 -- What a word is that is none of those that are known.
 pub record IsUnknown (name : List ℕ) : Type 0 where
   pub not_compose : name ≡ codes "compose" → ⊥
@@ -68,12 +80,21 @@ pub record IsUnknown (name : List ℕ) : Type 0 where
   pub not_show : name ≡ codes "show" → ⊥
   pub not_cat : name ≡ codes "cat" → ⊥
   pub not_scrub : name ≡ codes "scrub" → ⊥
+  pub not_send : name ≡ codes "send" → ⊥
+  pub not_restore : name ≡ codes "restore" → ⊥
+  pub not_interleave : name ≡ codes "interleave" → ⊥
+
+none_stored : (word : List ℕ) (words : List (List ℕ)) → IsUnknown word → stored.request_of (word ∷ words) ≡ None
+unfolding stored.request_of
+none_stored word words u =
+    ap (λ (asked : Option streams.Request). or_over_store asked (over_store (word ∷ words))) (none_of_streams word words u.not_compose u.not_audit u.not_dump u.not_export u.not_gen u.not_trial)
+    ∙ none_over_store word words u.not_init u.not_drop u.not_receive u.not_list u.not_show u.not_cat u.not_scrub
 
 none_asked : (word : List ℕ) (words : List (List ℕ)) → IsUnknown word → request_of (word ∷ words) ≡ None
 unfolding request_of
 none_asked word words u =
-    ap (λ (asked : Option streams.Request). or_over_store asked (over_store (word ∷ words))) (none_of_streams word words u.not_compose u.not_audit u.not_dump u.not_export u.not_gen u.not_trial)
-    ∙ none_over_store word words u.not_init u.not_drop u.not_receive u.not_list u.not_show u.not_cat u.not_scrub
+    ap (λ (asked : Option Request). or_of_subvolumes asked (of_subvolumes (word ∷ words))) (none_stored word words u)
+    ∙ none_of_subvolumes word words u.not_send u.not_restore u.not_interleave
 
 pub nothing_asked : {S : Type 0} (text : S → List ℕ) (words : List S) (word : S) (name : List ℕ) → Some word ≡ slice_get words 0 → name ≡ text word
     → IsUnknown name → None ≡ request_of (map text words)

@@ -2,7 +2,8 @@
 use Rattle.std.specs.Prelude.{◌≡◌, ℕ, List, [], ◌∷◌, drop, Option, None, Some}
 use Rattle.std.proofs.Common.{⊎_elim, subst}
 use Rattle.send_model.specs.Guards.{GuardSpec}
-use Rattle.store_model.specs.Requests.{Request, InitStore, ReceiveFiles}
+use Rattle.store_model.specs.Requests.{InitStore, ReceiveFiles}
+use Rattle.word_model.specs.AllRequests.{Request, OfStore, SendEntry, RestoreEntry, TakeTurns, TurnFiles}
 use Rattle.store_model.specs.Answers.{StandsBefore}
 use Rattle.store_model.proofs.AnswerLaws.{nothing_stands_before}
 use Rattle.sx_base.specs.Calls.{IfAllTold}
@@ -27,6 +28,23 @@ all_told None names P holds = tt
 all_told (Some table) names P holds = holds _
 
 -- What holds of a request holds of an equal one.
-pub of_same : (words : List (List ℕ)) (P : List GuardSpec → List (List ℕ) → Type 0) (mine specs : List GuardSpec) (s a store at : ℕ) → ReceiveFiles mine s a ≡ ReceiveFiles specs store at
+pub of_same : (words : List (List ℕ)) (P : List GuardSpec → List (List ℕ) → Type 0) (mine specs : List GuardSpec) (s a store at : ℕ) → OfStore (ReceiveFiles mine s a) ≡ OfStore (ReceiveFiles specs store at)
     → P mine (drop a words) → P specs (drop at words)
 of_same words P mine specs s a store at e holds = subst (λ (r : Request). P (specs_of r) (names_asked r words)) e holds
+
+-- The same of files that take turns.
+abbrev schedule_in : Request → List ℕ
+schedule_in (OfStore request) = []
+schedule_in (SendEntry store name) = []
+schedule_in (RestoreEntry store name) = []
+schedule_in (TakeTurns store schedule turns) = schedule
+
+abbrev files_in : Request → TurnFiles
+files_in (OfStore request) = record { guards = []; shares = []; files = [] }
+files_in (SendEntry store name) = record { guards = []; shares = []; files = [] }
+files_in (RestoreEntry store name) = record { guards = []; shares = []; files = [] }
+files_in (TakeTurns store schedule turns) = turns
+
+pub of_same_turns : (P : List ℕ → TurnFiles → Type 0) (s : ℕ) (mine : List ℕ) (own : TurnFiles) (store : ℕ) (schedule : List ℕ) (turns : TurnFiles)
+    → TakeTurns s mine own ≡ TakeTurns store schedule turns → P mine own → P schedule turns
+of_same_turns P s mine own store schedule turns e holds = subst (λ (r : Request). P (schedule_in r) (files_in r)) e holds

@@ -1,11 +1,14 @@
 -- What the words ask for, with the guards that were handed in. The words are this program's own.
-use Rattle.std.specs.Prelude.{◌≡◌, ℕ, ◌+◌, ◌-◌, ◌<◌, ◌≤◌, Bool, true, List, [], ◌∷◌, take, drop, Option, None, Some, is_some, IsTrue, if◌then◌else◌}
-use Rattle.std.specs.Option.{option_map}
+use Rattle.std.specs.Prelude.{◌≡◌, ℕ, ◌+◌, ◌-◌, ◌<◌, ◌≤◌, Bool, true, List, [], ◌∷◌, length, map, take, drop, Option, None, Some, is_some, IsTrue, if◌then◌else◌}
+use Rattle.std.specs.Option.{option_map, unwrap_or}
 use Rattle.send_model.specs.Guards.{GuardSpec, Guard, guard_of}
 use Rattle.send_model.specs.Words as streams
 use Rattle.send_model.specs.Words.{Compose, Audit, Dump, Export, Gen, Trial, new_guards}
-use Rattle.store_model.specs.Requests as meant
-use Rattle.store_model.specs.Requests.{OfStreams, InitStore, DropEntry, ReceiveFiles, ListStore, ShowEntry, CatFile, ScrubStore, request_of, or_over_store, word_at, store_of, reads_store}
+use Rattle.store_model.specs.Requests as stored
+use Rattle.store_model.specs.Requests.{OfStreams, InitStore, DropEntry, ReceiveFiles, ListStore, ShowEntry, CatFile, ScrubStore, or_over_store, word_at, store_of, reads_store}
+use Rattle.store_model.specs.Turns.{schedule_of}
+use Rattle.word_model.specs.AllRequests as meant
+use Rattle.word_model.specs.AllRequests.{OfStore, SendEntry, RestoreEntry, TakeTurns, TurnFiles, turn_files, request_of, or_of_subvolumes}
 use Rattle.send_top.specs.declared.store_named.StoreUse.{StoreUse}
 use Rattle.send_top.specs.declared.store_named.StoreUse.TheVariants as used
 use Rattle.send_top.specs.declared.words.Request.{Request}
@@ -15,9 +18,12 @@ use Rattle.send_top.specs.declared.words.StreamsRequest.TheVariants as of_files
 use Rattle.send_top.specs.declared.words.StoreRequest.{StoreRequest}
 use Rattle.send_top.specs.declared.words.StoreRequest.TheVariants as of_store
 
--- A request on streams as one of all requests.
+-- A request over a store, and one on streams, as one of all requests.
+abbrev pub of_stored : Option stored.Request → Option meant.Request
+of_stored asked = or_of_subvolumes asked None
+
 abbrev pub of_streams : Option streams.Request → Option meant.Request
-of_streams asked = or_over_store asked None
+of_streams asked = of_stored (or_over_store asked None)
 
 -- The kinds of guards that a request gives, in order.
 abbrev pub streams_specs : streams.Request → List GuardSpec
@@ -28,15 +34,21 @@ streams_specs (Export store files) = []
 streams_specs (Gen count seed) = []
 streams_specs (Trial count seed) = []
 
+abbrev pub stored_specs : stored.Request → List GuardSpec
+stored_specs (OfStreams request) = streams_specs request
+stored_specs (InitStore store) = []
+stored_specs (DropEntry store name) = []
+stored_specs (ReceiveFiles guards store files) = guards
+stored_specs (ListStore store) = []
+stored_specs (ShowEntry store name) = []
+stored_specs (CatFile store name path) = []
+stored_specs (ScrubStore store) = []
+
 abbrev pub specs_of : meant.Request → List GuardSpec
-specs_of (OfStreams request) = streams_specs request
-specs_of (InitStore store) = []
-specs_of (DropEntry store name) = []
-specs_of (ReceiveFiles guards store files) = guards
-specs_of (ListStore store) = []
-specs_of (ShowEntry store name) = []
-specs_of (CatFile store name path) = []
-specs_of (ScrubStore store) = []
+specs_of (OfStore request) = stored_specs request
+specs_of (SendEntry store name) = []
+specs_of (RestoreEntry store name) = []
+specs_of (TakeTurns store schedule turns) = turns.guards
 
 -- The names of the files that a request asks for.
 abbrev pub streams_names : streams.Request → List (List ℕ) → List (List ℕ)
@@ -47,52 +59,76 @@ streams_names (Export store files) words = drop files words
 streams_names (Gen count seed) words = []
 streams_names (Trial count seed) words = []
 
+abbrev pub stored_names : stored.Request → List (List ℕ) → List (List ℕ)
+stored_names (OfStreams request) words = streams_names request words
+stored_names (InitStore store) words = []
+stored_names (DropEntry store name) words = []
+stored_names (ReceiveFiles guards store files) words = drop files words
+stored_names (ListStore store) words = []
+stored_names (ShowEntry store name) words = []
+stored_names (CatFile store name path) words = []
+stored_names (ScrubStore store) words = []
+
 abbrev pub names_asked : meant.Request → List (List ℕ) → List (List ℕ)
-names_asked (OfStreams request) words = streams_names request words
-names_asked (InitStore store) words = []
-names_asked (DropEntry store name) words = []
-names_asked (ReceiveFiles guards store files) words = drop files words
-names_asked (ListStore store) words = []
-names_asked (ShowEntry store name) words = []
-names_asked (CatFile store name path) words = []
-names_asked (ScrubStore store) words = []
+names_asked (OfStore request) words = stored_names request words
+names_asked (SendEntry store name) words = []
+names_asked (RestoreEntry store name) words = []
+names_asked (TakeTurns store schedule turns) words = turns.files
 
 -- The requests that are answered by the disk: those over a store, and of those on streams the ones that read one.
+abbrev pub stored_uses : List (List ℕ) → stored.Request → Bool
+stored_uses words (OfStreams request) = reads_store words (store_of request)
+stored_uses words (InitStore store) = true
+stored_uses words (DropEntry store name) = true
+stored_uses words (ReceiveFiles guards store files) = true
+stored_uses words (ListStore store) = true
+stored_uses words (ShowEntry store name) = true
+stored_uses words (CatFile store name path) = true
+stored_uses words (ScrubStore store) = true
+
 abbrev pub uses_store : List (List ℕ) → meant.Request → Bool
-uses_store words (OfStreams request) = reads_store words (store_of request)
-uses_store words (InitStore store) = true
-uses_store words (DropEntry store name) = true
-uses_store words (ReceiveFiles guards store files) = true
-uses_store words (ListStore store) = true
-uses_store words (ShowEntry store name) = true
-uses_store words (CatFile store name path) = true
-uses_store words (ScrubStore store) = true
+uses_store words (OfStore request) = stored_uses words request
+uses_store words (SendEntry store name) = true
+uses_store words (RestoreEntry store name) = true
+uses_store words (TakeTurns store schedule turns) = true
 
 -- The place of the word that names the disk, of a request that is answered by it.
+abbrev pub stored_place : List (List ℕ) → stored.Request → Option ℕ
+stored_place words (OfStreams request) = if reads_store words (store_of request) then store_of request else None
+stored_place words (InitStore store) = Some store
+stored_place words (DropEntry store name) = Some store
+stored_place words (ReceiveFiles guards store files) = Some store
+stored_place words (ListStore store) = Some store
+stored_place words (ShowEntry store name) = Some store
+stored_place words (CatFile store name path) = Some store
+stored_place words (ScrubStore store) = Some store
+
 abbrev pub store_place : List (List ℕ) → meant.Request → Option ℕ
-store_place words (OfStreams request) = if reads_store words (store_of request) then store_of request else None
-store_place words (InitStore store) = Some store
-store_place words (DropEntry store name) = Some store
-store_place words (ReceiveFiles guards store files) = Some store
-store_place words (ListStore store) = Some store
-store_place words (ShowEntry store name) = Some store
-store_place words (CatFile store name path) = Some store
-store_place words (ScrubStore store) = Some store
+store_place words (OfStore request) = stored_place words request
+store_place words (SendEntry store name) = Some store
+store_place words (RestoreEntry store name) = Some store
+store_place words (TakeTurns store schedule turns) = Some store
 
 -- That word, where words ask for such a request.
 unfoldable pub store_named : List (List ℕ) → Option (List ℕ)
 store_named words = elim (request_of words) [ None ↦ None | Some request ↦ option_map (word_at words) (store_place words request) ]
 
 -- What such a request does with the disk: it makes a store there, writes to the one that is there, or only reads it.
+abbrev pub stored_use : stored.Request → StoreUse
+stored_use (OfStreams request) = used.Read
+stored_use (InitStore store) = used.Make
+stored_use (DropEntry store name) = used.Write
+stored_use (ReceiveFiles guards store files) = used.Write
+stored_use (ListStore store) = used.Read
+stored_use (ShowEntry store name) = used.Read
+stored_use (CatFile store name path) = used.Read
+stored_use (ScrubStore store) = used.Read
+
 abbrev pub use_of : meant.Request → StoreUse
-use_of (OfStreams request) = used.Read
-use_of (InitStore store) = used.Make
-use_of (DropEntry store name) = used.Write
-use_of (ReceiveFiles guards store files) = used.Write
-use_of (ListStore store) = used.Read
-use_of (ShowEntry store name) = used.Read
-use_of (CatFile store name path) = used.Read
-use_of (ScrubStore store) = used.Read
+use_of (OfStore request) = stored_use request
+use_of (SendEntry store name) = used.Read
+use_of (RestoreEntry store name) = used.Read
+use_of (TakeTurns store schedule turns) = used.Write
 
 unfoldable pub use_asked : List (List ℕ) → Option StoreUse
 use_asked words = elim (request_of words) [ None ↦ None | Some request ↦ if uses_store words request then Some (use_of request) else None ]
@@ -122,27 +158,45 @@ abbrev pub AreGuardWords : List (List ℕ) → Type 0
 AreGuardWords [] = Unit {0}
 AreGuardWords (word ∷ words) = IsTrue (is_some (guard_of word)) × AreGuardWords words
 
--- The guard words of a request.
-abbrev pub streams_guard_words : List (List ℕ) → StreamsRequest → List (List ℕ)
-streams_guard_words words (of_files.Compose store files) = []
-streams_guard_words words (of_files.Audit store files) = before_store words store
-streams_guard_words words (of_files.Dump file) = []
-streams_guard_words words (of_files.Export store files) = []
-streams_guard_words words (of_files.Gen count seed) = []
-streams_guard_words words (of_files.Trial count seed) = []
+-- What words of a request mean: those in front of the store a guard each.
+abbrev pub StreamsFit : List (List ℕ) → StreamsRequest → Type 0
+StreamsFit words (of_files.Compose store files) = Unit {0}
+StreamsFit words (of_files.Audit store files) = AreGuardWords (before_store words store)
+StreamsFit words (of_files.Dump file) = Unit {0}
+StreamsFit words (of_files.Export store files) = Unit {0}
+StreamsFit words (of_files.Gen count seed) = Unit {0}
+StreamsFit words (of_files.Trial count seed) = Unit {0}
 
-abbrev pub store_guard_words : List (List ℕ) → StoreRequest → List (List ℕ)
-store_guard_words words (of_store.Init store) = []
-store_guard_words words (of_store.Drop store name) = []
-store_guard_words words (of_store.Receive store files) = before_store words store
-store_guard_words words (of_store.List store) = []
-store_guard_words words (of_store.Show store name) = []
-store_guard_words words (of_store.Cat store name path) = []
-store_guard_words words (of_store.Scrub store) = []
+-- Those of files that take turns are files with their guards, and the schedule is one of these.
+pub record AreTurns (words : List (List ℕ)) (schedule turns : ℕ) : Type 0 where
+  pub files : TurnFiles
+  pub are : turn_files (drop turns words) ≡ Some files
+  pub some : 1 ≤ length files.files
+  pub most : length files.files ≤ 10
+  pub scheduled : IsTrue (is_some (schedule_of (length files.files) (word_at words schedule)))
 
-abbrev pub guard_words : List (List ℕ) → Request → List (List ℕ)
-guard_words words (made.Streams request) = streams_guard_words words request
-guard_words words (made.Store request) = store_guard_words words request
+abbrev pub StoreFits : List (List ℕ) → StoreRequest → Type 0
+StoreFits words (of_store.Init store) = Unit {0}
+StoreFits words (of_store.Drop store name) = Unit {0}
+StoreFits words (of_store.Receive store files) = AreGuardWords (before_store words store)
+StoreFits words (of_store.List store) = Unit {0}
+StoreFits words (of_store.Show store name) = Unit {0}
+StoreFits words (of_store.Cat store name path) = Unit {0}
+StoreFits words (of_store.Scrub store) = Unit {0}
+StoreFits words (of_store.Send store name) = Unit {0}
+StoreFits words (of_store.Restore store name) = Unit {0}
+StoreFits words (of_store.Interleave store schedule turns) = AreTurns words schedule turns
+
+abbrev pub WordsFit : List (List ℕ) → Request → Type 0
+WordsFit words (made.Streams request) = StreamsFit words request
+WordsFit words (made.Store request) = StoreFits words request
+
+-- The files of words that take turns.
+abbrev pub turns_in : List (List ℕ) → TurnFiles
+turns_in words = unwrap_or (turn_files words) (record { guards = []; shares = []; files = [] })
+
+abbrev pub places_in : List ℕ → List ℕ
+places_in schedule = map (λ letter. letter - 48) schedule
 
 -- The code's request among words as that of the definitions.
 abbrev pub streams_meant : List (List ℕ) → StreamsRequest → streams.Request
@@ -154,16 +208,19 @@ streams_meant words (of_files.Gen count seed) = Gen count seed
 streams_meant words (of_files.Trial count seed) = Trial count seed
 
 abbrev pub store_meant : List (List ℕ) → StoreRequest → meant.Request
-store_meant words (of_store.Init store) = InitStore store
-store_meant words (of_store.Drop store name) = DropEntry store name
-store_meant words (of_store.Receive store files) = ReceiveFiles (guards_in (before_store words store)) store files
-store_meant words (of_store.List store) = ListStore store
-store_meant words (of_store.Show store name) = ShowEntry store name
-store_meant words (of_store.Cat store name path) = CatFile store name path
-store_meant words (of_store.Scrub store) = ScrubStore store
+store_meant words (of_store.Init store) = OfStore (InitStore store)
+store_meant words (of_store.Drop store name) = OfStore (DropEntry store name)
+store_meant words (of_store.Receive store files) = OfStore (ReceiveFiles (guards_in (before_store words store)) store files)
+store_meant words (of_store.List store) = OfStore (ListStore store)
+store_meant words (of_store.Show store name) = OfStore (ShowEntry store name)
+store_meant words (of_store.Cat store name path) = OfStore (CatFile store name path)
+store_meant words (of_store.Scrub store) = OfStore (ScrubStore store)
+store_meant words (of_store.Send store name) = SendEntry store name
+store_meant words (of_store.Restore store name) = RestoreEntry store name
+store_meant words (of_store.Interleave store schedule turns) = TakeTurns store (places_in (word_at words schedule)) (turns_in (drop turns words))
 
 abbrev pub request_meant : List (List ℕ) → Request → meant.Request
-request_meant words (made.Streams request) = OfStreams (streams_meant words request)
+request_meant words (made.Streams request) = OfStore (OfStreams (streams_meant words request))
 request_meant words (made.Store request) = store_meant words request
 
 -- What a request names stands among so many words.
@@ -183,6 +240,9 @@ IsOverWithin count (of_store.List store) = store < count
 IsOverWithin count (of_store.Show store name) = (store < count) × (name < count)
 IsOverWithin count (of_store.Cat store name path) = (store < count) × (name < count) × (path < count)
 IsOverWithin count (of_store.Scrub store) = store < count
+IsOverWithin count (of_store.Send store name) = (store < count) × (name < count)
+IsOverWithin count (of_store.Restore store name) = (store < count) × (name < count)
+IsOverWithin count (of_store.Interleave store schedule turns) = (store < count) × (schedule < count) × (turns < count)
 
 abbrev pub IsWithin : ℕ → Request → Type 0
 IsWithin count (made.Streams request) = AreWithin count request

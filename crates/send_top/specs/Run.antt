@@ -10,9 +10,15 @@ use Rattle.send_model.specs.Exported.{IsExported}
 use Rattle.send_model.specs.Answer.{Done, Refused, Usage, InputFault, OutputFault, NoMemory, InputTooLong, TooMuch, InputChanged}
 use Rattle.send_model.specs.Words as streams
 use Rattle.send_model.specs.Words.{Compose, Audit, Dump, Export, Gen, Trial, new_guards}
-use Rattle.store_model.specs.Requests.{Request, OfStreams, InitStore, DropEntry, ReceiveFiles, ListStore, ShowEntry, CatFile, ScrubStore, reads_store, word_at}
+use Rattle.store_model.specs.Requests as stored
+use Rattle.store_model.specs.Requests.{OfStreams, InitStore, DropEntry, ReceiveFiles, ListStore, ShowEntry, CatFile, ScrubStore, reads_store, word_at}
 use Rattle.store_model.specs.Stored.{StandsFor}
-use Rattle.store_model.specs.Answers.{Answer, OfAnyWord, StoreFault, NotStore, Missing, LogFull, StoreThere, Damaged, Answers, ReadsFiles}
+use Rattle.store_model.specs.Answers.{Answer, OfAnyWord, StoreFault, NotStore, Missing, LogFull, StoreThere, Damaged}
+use Rattle.word_model.specs.AllRequests.{Request, OfStore, SendEntry, RestoreEntry, TakeTurns, TurnFiles}
+use Rattle.word_model.specs.AllAnswers.{Answers, ReadsFiles}
+use Rattle.sent_model.specs.Sent.{sent_stream}
+use Rattle.sent_model.specs.Restored.{restored_stream}
+use Rattle.sent_model.specs.Promises.{IsReceivedAnew, IsUnfinished}
 use Rattle.sx_base.specs.Again.{EarlyEnd}
 use Rattle.sx_base.specs.Calls.{IfAllTold, Wrote, Caused, CausedAgain, IsEndOf}
 use Rattle.sx_base.specs.Disk.{Pending, IsImage}
@@ -20,6 +26,7 @@ use Rattle.sx_base.specs.declared.outcome.Outcome.{Outcome}
 use Rattle.store_words.specs.Dropping.{LeftByDrop}
 use Rattle.store_words.specs.Ending.{Ways, init_ways, list_ways, show_ways, cat_ways, drop_ways, audit_ways, receive_ways, scrub_ways}
 use Rattle.store_words.specs.Receiving.{LeftByReceive}
+use Rattle.turn_sessions.specs.Leaving.{LeftByTurns}
 use Rattle.send_top.specs.Requests.{Asks, names_asked, uses_store}
 
 -- ---- the answer
@@ -35,15 +42,21 @@ OfDisk tells true P = tells → P
 OfDisk tells false P = P
 
 -- What is said of receiving is said of files of bytes.
+abbrev pub IfStoredBytes : stored.Request → List (List ℕ) → Type 0 → Type 0
+IfStoredBytes (OfStreams request) files P = P
+IfStoredBytes (InitStore store) files P = P
+IfStoredBytes (DropEntry store name) files P = P
+IfStoredBytes (ReceiveFiles guards store at) files P = AllByRecursion IsBytes files → P
+IfStoredBytes (ListStore store) files P = P
+IfStoredBytes (ShowEntry store name) files P = P
+IfStoredBytes (CatFile store name path) files P = P
+IfStoredBytes (ScrubStore store) files P = P
+
 abbrev pub IfBytes : Request → List (List ℕ) → Type 0 → Type 0
-IfBytes (OfStreams request) files P = P
-IfBytes (InitStore store) files P = P
-IfBytes (DropEntry store name) files P = P
-IfBytes (ReceiveFiles guards store at) files P = AllByRecursion IsBytes files → P
-IfBytes (ListStore store) files P = P
-IfBytes (ShowEntry store name) files P = P
-IfBytes (CatFile store name path) files P = P
-IfBytes (ScrubStore store) files P = P
+IfBytes (OfStore request) files P = IfStoredBytes request files P
+IfBytes (SendEntry store name) files P = P
+IfBytes (RestoreEntry store name) files P = P
+IfBytes (TakeTurns store schedule turns) files P = AllByRecursion IsBytes files → P
 
 -- Of the request that words and guards ask for the answer is one that it may get, by the image at entry, the files that it names, what
 -- was written and the image that is left.
@@ -63,7 +76,7 @@ IsComposedOver told tells words image old new store at = OfDisk tells (reads_sto
     (λ files. Wrote old new (λ written. (s : Store ℕ) → IsOver (reads_store words (Some store)) image s → IsComposed (base s files) files written)))
 
 abbrev pub Composes : (told : Option (List (List ℕ × List ℕ))) → (tells : Type 0) → List (List ℕ) → List Guard → (image : List ℕ) → (old new : Option (List ℕ)) → Type 0
-Composes told tells words guards image old new = (store at : ℕ) → Asks words guards (OfStreams (Compose store at)) → IsComposedOver told tells words image old new store at
+Composes told tells words guards image old new = (store at : ℕ) → Asks words guards (OfStore (OfStreams (Compose store at))) → IsComposedOver told tells words image old new store at
 
 -- What is promised of an exported stream, of what was written where the files of bytes from a place on are exported, over the store that
 -- the word at a place names.
@@ -72,7 +85,24 @@ IsExportedOver told tells words image old new store at = OfDisk tells (reads_sto
     (λ files. Wrote old new (λ written. (s : Store ℕ) → IsOver (reads_store words (Some store)) image s → AllByRecursion IsBytes files → IsExported s files written)))
 
 abbrev pub Exports : (told : Option (List (List ℕ × List ℕ))) → (tells : Type 0) → List (List ℕ) → List Guard → (image : List ℕ) → (old new : Option (List ℕ)) → Type 0
-Exports told tells words guards image old new = (store at : ℕ) → Asks words guards (OfStreams (Export store at)) → IsExportedOver told tells words image old new store at
+Exports told tells words guards image old new = (store at : ℕ) → Asks words guards (OfStore (OfStreams (Export store at))) → IsExportedOver told tells words image old new store at
+
+-- What was written of the complete subvolume of the name at a place is one stream that makes it anew: every store that has neither its name
+-- nor its uuid receives it, with an equal listing.
+abbrev pub SendsOver : (tells : Type 0) → List (List ℕ) → (image : List ℕ) → (old new : Option (List ℕ)) → (name : ℕ) → Type 0
+SendsOver tells words image old new name = tells → Wrote old new (λ written. IsReceivedAnew image (word_at words name) written)
+
+-- So it is of a subvolume that is sent, and of one that is restored.
+abbrev pub Sends : (tells : Type 0) → List (List ℕ) → List Guard → (image : List ℕ) → (old new : Option (List ℕ)) → Type 0
+Sends tells words guards image old new = (store name : ℕ) → (Asks words guards (SendEntry store name)) ⊎ (Asks words guards (RestoreEntry store name))
+    → SendsOver tells words image old new name
+
+-- What is written where not all was done: some of the stream is missing.
+abbrev pub SendsInPart : Request → List (List ℕ) → (image : List ℕ) → (old new : Option (List ℕ)) → Type 0
+SendsInPart (OfStore request) words image old new = ⊤
+SendsInPart (SendEntry store name) words image old new = Wrote old new (λ written. IsUnfinished sent_stream image (word_at words name) written)
+SendsInPart (RestoreEntry store name) words image old new = Wrote old new (λ written. IsUnfinished restored_stream image (word_at words name) written)
+SendsInPart (TakeTurns store schedule turns) words image old new = ⊤
 
 -- ---- causes
 
@@ -106,7 +136,7 @@ EndCaused (Trial count seed) ends_before ends_now inputs_before inputs_now out_b
 
 -- Words and guards ask for a composed stream.
 abbrev pub AskToCompose : List (List ℕ) → List Guard → Type 0
-AskToCompose words guards = (store : ℕ) × (files : ℕ) × Asks words guards (OfStreams (Compose store files))
+AskToCompose words guards = (store : ℕ) × (files : ℕ) × Asks words guards (OfStore (OfStreams (Compose store files)))
 
 -- What holds of the answers that composing alone gives.
 abbrev pub IfOfCompose : Answer → Type 0 → Type 0
@@ -147,15 +177,21 @@ IfOfStore (Damaged group stored computed) P = P
 -- ---- which words get which answers, whether or not the outside tells its bytes
 
 -- All requests but those that print nothing.
+abbrev pub StoredPrints : stored.Request → Type 0
+StoredPrints (OfStreams request) = ⊤
+StoredPrints (InitStore store) = ⊥
+StoredPrints (DropEntry store name) = ⊥
+StoredPrints (ReceiveFiles guards store at) = ⊤
+StoredPrints (ListStore store) = ⊤
+StoredPrints (ShowEntry store name) = ⊤
+StoredPrints (CatFile store name path) = ⊤
+StoredPrints (ScrubStore store) = ⊤
+
 abbrev pub Prints : Request → Type 0
-Prints (OfStreams request) = ⊤
-Prints (InitStore store) = ⊥
-Prints (DropEntry store name) = ⊥
-Prints (ReceiveFiles guards store at) = ⊤
-Prints (ListStore store) = ⊤
-Prints (ShowEntry store name) = ⊤
-Prints (CatFile store name path) = ⊤
-Prints (ScrubStore store) = ⊤
+Prints (OfStore request) = StoredPrints request
+Prints (SendEntry store name) = ⊤
+Prints (RestoreEntry store name) = ⊤
+Prints (TakeTurns store schedule turns) = ⊤
 
 -- The request to compose, which alone may find too much to write, or a file changed.
 abbrev pub streams_compose : streams.Request → Type 0
@@ -166,26 +202,38 @@ streams_compose (Export store files) = ⊥
 streams_compose (Gen count seed) = ⊥
 streams_compose (Trial count seed) = ⊥
 
+abbrev pub IsStoredComposing : stored.Request → Type 0
+IsStoredComposing (OfStreams request) = streams_compose request
+IsStoredComposing (InitStore store) = ⊥
+IsStoredComposing (DropEntry store name) = ⊥
+IsStoredComposing (ReceiveFiles guards store at) = ⊥
+IsStoredComposing (ListStore store) = ⊥
+IsStoredComposing (ShowEntry store name) = ⊥
+IsStoredComposing (CatFile store name path) = ⊥
+IsStoredComposing (ScrubStore store) = ⊥
+
 abbrev pub IsComposing : Request → Type 0
-IsComposing (OfStreams request) = streams_compose request
-IsComposing (InitStore store) = ⊥
-IsComposing (DropEntry store name) = ⊥
-IsComposing (ReceiveFiles guards store at) = ⊥
-IsComposing (ListStore store) = ⊥
-IsComposing (ShowEntry store name) = ⊥
-IsComposing (CatFile store name path) = ⊥
-IsComposing (ScrubStore store) = ⊥
+IsComposing (OfStore request) = IsStoredComposing request
+IsComposing (SendEntry store name) = ⊥
+IsComposing (RestoreEntry store name) = ⊥
+IsComposing (TakeTurns store schedule turns) = ⊥
 
 -- For which other reasons a request that is answered by the disk may end; those on streams end as an audit does.
+abbrev pub stored_ways : stored.Request → Ways
+stored_ways (OfStreams request) = audit_ways
+stored_ways (InitStore store) = init_ways
+stored_ways (DropEntry store name) = drop_ways
+stored_ways (ReceiveFiles guards store at) = receive_ways
+stored_ways (ListStore store) = list_ways
+stored_ways (ShowEntry store name) = show_ways
+stored_ways (CatFile store name path) = cat_ways
+stored_ways (ScrubStore store) = scrub_ways
+
 abbrev pub ways_of : Request → Ways
-ways_of (OfStreams request) = audit_ways
-ways_of (InitStore store) = init_ways
-ways_of (DropEntry store name) = drop_ways
-ways_of (ReceiveFiles guards store at) = receive_ways
-ways_of (ListStore store) = list_ways
-ways_of (ShowEntry store name) = show_ways
-ways_of (CatFile store name path) = cat_ways
-ways_of (ScrubStore store) = scrub_ways
+ways_of (OfStore request) = stored_ways request
+ways_of (SendEntry store name) = show_ways
+ways_of (RestoreEntry store name) = show_ways
+ways_of (TakeTurns store schedule turns) = receive_ways
 
 -- An answer that is given for one of these reasons, or of a request that reads files, reads them again, or prints, where the inputs or the
 -- output failed.
@@ -245,31 +293,50 @@ AreSteady inputs_before inputs_now ends_before ends_now out_before out_now = (in
 
 -- What a crash at any moment of a run may leave, by what is asked for; L says of some images that it leaves no others. A request that
 -- only reads leaves what a crash could leave before, and so does one that makes a store where there is something.
-abbrev pub AtAnyMoment : (told : Option (List (List ℕ × List ℕ))) → Request → List (List ℕ) → Pending → (seen : List ℕ) → (L : (List ℕ → Type 0) → Type 0) → Type 0
-AtAnyMoment told (OfStreams request) words pending seen L = L (IsImage pending)
-AtAnyMoment told (InitStore store) words pending seen L = 0 < length seen → L (IsImage pending)
-AtAnyMoment told (DropEntry store name) words pending seen L = L (LeftByDrop pending seen (word_at words name))
-AtAnyMoment told (ReceiveFiles guards store at) words pending seen L =
+abbrev pub AtStoredMoment : (told : Option (List (List ℕ × List ℕ))) → stored.Request → List (List ℕ) → Pending → (seen : List ℕ) → (L : (List ℕ → Type 0) → Type 0) → Type 0
+AtStoredMoment told (OfStreams request) words pending seen L = L (IsImage pending)
+AtStoredMoment told (InitStore store) words pending seen L = 0 < length seen → L (IsImage pending)
+AtStoredMoment told (DropEntry store name) words pending seen L = L (LeftByDrop pending seen (word_at words name))
+AtStoredMoment told (ReceiveFiles guards store at) words pending seen L =
     IfAllTold told (drop at words) (λ files. AllByRecursion IsBytes files → L (LeftByReceive pending seen (new_guards guards) files []))
-AtAnyMoment told (ListStore store) words pending seen L = L (IsImage pending)
-AtAnyMoment told (ShowEntry store name) words pending seen L = L (IsImage pending)
-AtAnyMoment told (CatFile store name path) words pending seen L = L (IsImage pending)
-AtAnyMoment told (ScrubStore store) words pending seen L = L (IsImage pending)
+AtStoredMoment told (ListStore store) words pending seen L = L (IsImage pending)
+AtStoredMoment told (ShowEntry store name) words pending seen L = L (IsImage pending)
+AtStoredMoment told (CatFile store name path) words pending seen L = L (IsImage pending)
+AtStoredMoment told (ScrubStore store) words pending seen L = L (IsImage pending)
+
+abbrev pub AtAnyMoment : (told : Option (List (List ℕ × List ℕ))) → Request → List (List ℕ) → Pending → (seen : List ℕ) → (L : (List ℕ → Type 0) → Type 0) → Type 0
+AtAnyMoment told (OfStore request) words pending seen L = AtStoredMoment told request words pending seen L
+AtAnyMoment told (SendEntry store name) words pending seen L = L (IsImage pending)
+AtAnyMoment told (RestoreEntry store name) words pending seen L = L (IsImage pending)
+AtAnyMoment told (TakeTurns store schedule turns) words pending seen L =
+    IfAllTold told turns.files (λ files. AllByRecursion IsBytes files → L (LeftByTurns pending seen schedule files (new_guards turns.guards) turns.shares []))
 
 -- What holds where a store was made, or an entry dropped.
+abbrev pub IfStoredMade : stored.Request → Type 0 → Type 0
+IfStoredMade (OfStreams request) P = ⊤
+IfStoredMade (InitStore store) P = P
+IfStoredMade (DropEntry store name) P = P
+IfStoredMade (ReceiveFiles guards store at) P = ⊤
+IfStoredMade (ListStore store) P = ⊤
+IfStoredMade (ShowEntry store name) P = ⊤
+IfStoredMade (CatFile store name path) P = ⊤
+IfStoredMade (ScrubStore store) P = ⊤
+
 abbrev pub IfMadeOrDropped : Request → Type 0 → Type 0
-IfMadeOrDropped (OfStreams request) P = ⊤
-IfMadeOrDropped (InitStore store) P = P
-IfMadeOrDropped (DropEntry store name) P = P
-IfMadeOrDropped (ReceiveFiles guards store at) P = ⊤
-IfMadeOrDropped (ListStore store) P = ⊤
-IfMadeOrDropped (ShowEntry store name) P = ⊤
-IfMadeOrDropped (CatFile store name path) P = ⊤
-IfMadeOrDropped (ScrubStore store) P = ⊤
+IfMadeOrDropped (OfStore request) P = IfStoredMade request P
+IfMadeOrDropped (SendEntry store name) P = ⊤
+IfMadeOrDropped (RestoreEntry store name) P = ⊤
+IfMadeOrDropped (TakeTurns store schedule turns) P = ⊤
 
 -- Where files are received, each image that a crash may leave when the run has ended has each part complete whose line stands whole in
 -- what was written.
 abbrev pub Acknowledges : Option (List (List ℕ × List ℕ)) → List (List ℕ) → List Guard → (old new : Option (List ℕ)) → (early late : Pending) → (seen : List ℕ) → Type 0
-Acknowledges told words guards old new early late seen = (specs : List GuardSpec) (store at : ℕ) → Asks words guards (ReceiveFiles specs store at)
+Acknowledges told words guards old new early late seen = (specs : List GuardSpec) (store at : ℕ) → Asks words guards (OfStore (ReceiveFiles specs store at))
     → IfAllTold told (drop at words) (λ files. Wrote old new (λ written. AllByRecursion IsBytes files
     → (image : List ℕ) → IsImage late image → LeftByReceive early seen (new_guards specs) files written image))
+
+-- So it is where files take turns.
+abbrev pub AcknowledgesInTurn : Option (List (List ℕ × List ℕ)) → List (List ℕ) → List Guard → (old new : Option (List ℕ)) → (early late : Pending) → (seen : List ℕ) → Type 0
+AcknowledgesInTurn told words guards old new early late seen = (store : ℕ) (schedule : List ℕ) (turns : TurnFiles) → Asks words guards (TakeTurns store schedule turns)
+    → IfAllTold told turns.files (λ files. Wrote old new (λ written. AllByRecursion IsBytes files
+    → (image : List ℕ) → IsImage late image → LeftByTurns early seen schedule files (new_guards turns.guards) turns.shares written image))

@@ -4,17 +4,18 @@ ghost use Rattle.std.specs.Option.{option_map};
 ghost use Rattle.std.specs.String.{string_bytes};
 ghost use Rattle.send_model.specs.Guards.{new_guard, guard_of};
 ghost use Rattle.send_model.specs.Words.{new_guards};
+ghost use Rattle.word_model.specs.AllRequests.{TurnFiles, turn_files};
 ghost use Rattle.guard_rules.specs.Meaning.{spec_meant};
-ghost use Rattle.send_top.specs.Requests.{request_meant, specs_of, guard_words, guards_in, before_store, AreGuardWords, IsWithin};
+ghost use Rattle.send_top.specs.Requests.{request_meant, store_meant, specs_of, guards_in, before_store, turns_in, AreGuardWords, IsOverWithin, IsWithin, StoreFits, WordsFit};
 
-use crate::words::{Request, StoreRequest, StreamsRequest};
+use crate::words::{Request, StoreRequest, StreamsRequest, is_guard_word};
 use guard_rules::{Guard, GuardSpec, parse_guard};
 
 /// Whether the guards are those that the words of a request give, in order, and none of them has counted anything. Takes no
 /// memory.
 pub fn guards_fit(words: &[String], request: Request, guards: &[Box<dyn Guard>]) -> bool
     requires within { IsWithin (length words.now) request }
-    requires given { AreGuardWords (guard_words (map string_bytes words.now) request) }
+    requires fit { WordsFit (map string_bytes words.now) request }
     ensures { (result ≡ true)
         ↔ (map (λ g. kept g) guards.now ≡ new_guards
         (specs_of (request_meant (map string_bytes words.now) request))) }
@@ -23,9 +24,22 @@ pub fn guards_fit(words: &[String], request: Request, guards: &[Box<dyn Guard>])
         Request::Streams(StreamsRequest::Audit { store, .. }) => {
             are_new(guards, words_before(words, store))
         }
-        Request::Store(StoreRequest::Receive { store, .. }) => {
-            are_new(guards, words_before(words, store))
-        }
+        Request::Store(request) => guards_fit_store(words, request, guards),
+        _ => guards.is_empty(),
+    }
+}
+
+// The same of a request over a store.
+fn guards_fit_store(words: &[String], request: StoreRequest, guards: &[Box<dyn Guard>]) -> bool
+    requires within { IsOverWithin (length words.now) request }
+    requires fit { StoreFits (map string_bytes words.now) request }
+    ensures { (result ≡ true)
+        ↔ (map (λ g. kept g) guards.now ≡ new_guards
+        (specs_of (store_meant (map string_bytes words.now) request))) }
+{
+    match request {
+        StoreRequest::Receive { store, .. } => are_new(guards, words_before(words, store)),
+        StoreRequest::Interleave { turns, .. } => are_new_among(guards, &words[turns..]),
         _ => guards.is_empty(),
     }
 }
@@ -54,6 +68,29 @@ fn are_new(guards: &[Box<dyn Guard>], words: &[String]) -> bool
         }
     }
     true
+}
+
+// Whether guards are those of files that take turns, in order, and new.
+fn are_new_among(guards: &[Box<dyn Guard>], words: &[String]) -> bool
+    requires turns { (turns : TurnFiles) × (turn_files (map string_bytes words.now) ≡ Some turns) }
+    ensures { (result ≡ true)
+        ↔ (map (λ g. kept g) guards.now
+        ≡ new_guards (turns_in (map string_bytes words.now)).guards) }
+{
+    let mut at = 0;
+    for place in 0..words.len() {
+        let word = words[place].as_str();
+        if is_guard_word(word) {
+            if at == guards.len() {
+                return false;
+            }
+            if !is_new(&guards[at], word) {
+                return false;
+            }
+            at += 1;
+        }
+    }
+    at == guards.len()
 }
 
 // Whether a guard is that of a word, and new.

@@ -2,6 +2,7 @@
 #![tactic(auto)]
 
 mod fitting;
+mod interleaving;
 mod noting;
 mod on_streams;
 mod one_line;
@@ -9,6 +10,7 @@ mod over_store;
 mod receiving;
 mod store_named;
 mod top_call;
+mod turn_words;
 mod words;
 
 pub use noting::{Answer, status, write_note};

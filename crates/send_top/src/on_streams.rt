@@ -11,6 +11,7 @@ ghost use Rattle.send_model.specs.Store.{Store};
 ghost use Rattle.send_model.specs.Words.{Compose, Export, new_guards};
 ghost use Rattle.store_model.specs.Requests.{OfStreams, word_at, store_of, reads_store};
 ghost use Rattle.store_model.specs.Answers.{Answers, OfAnyWord};
+ghost use Rattle.word_model.specs.AllRequests.{OfStore};
 ghost use Rattle.store_model.specs.Stored.{StandsFor};
 ghost use Rattle.sx_base.specs.Calls.{IfAllTold, FoundChanged, Wrote, Ends, SteadyIfDone};
 ghost use Rattle.sx_base.specs.Causes.{Rose};
@@ -68,7 +69,7 @@ pub(crate) fn streams_answer<'a, I: Inputs, O: Sink, D: Disk>(
         (store_of (streams_meant (map string_bytes words.now) request)) ≡ true) }
     ensures allowed { reads_store (map string_bytes words.now)
         (store_of (streams_meant (map string_bytes words.now) request)) ≡ true
-        → MayGet (OfStreams (streams_meant (map string_bytes words.now) request))
+        → MayGet (OfStore (OfStreams (streams_meant (map string_bytes words.now) request)))
         (answer_of result) }
     ensures changed_at { IsChangedIn
         (streams_names (streams_meant (map string_bytes words.now) request)
@@ -129,7 +130,7 @@ fn streams_over_store<'a, I: Inputs, O: Sink, D: Disk>(
     ensures asked { answer_of result ≢ OfAnyWord Usage }
     ensures of_compose { IfOfCompose (answer_of result) ((store : ℕ) × (files : ℕ)
         × (streams_meant (map string_bytes words.now) request ≡ Compose store files)) }
-    ensures allowed { MayGet (OfStreams (streams_meant (map string_bytes words.now) request))
+    ensures allowed { MayGet (OfStore (OfStreams (streams_meant (map string_bytes words.now) request)))
         (answer_of result) }
     ensures changed_at { IsChangedIn
         (streams_names (streams_meant (map string_bytes words.now) request)

@@ -7,20 +7,25 @@ ghost use Rattle.send_model.specs.Attribute.{IsBytes};
 ghost use Rattle.send_model.specs.Guards.{GuardSpec};
 ghost use Rattle.send_model.specs.Words.{new_guards};
 ghost use Rattle.store_model.specs.Requests.{ReceiveFiles, word_at};
-ghost use Rattle.store_model.specs.Answers.{Answers, OfAnyWord, ReadsFiles, ReadsOnly};
+ghost use Rattle.store_model.specs.Answers.{OfAnyWord};
+ghost use Rattle.word_model.specs.AllRequests.{OfStore, TakeTurns, TurnFiles};
+ghost use Rattle.word_model.specs.AllAnswers.{Answers, ReadsFiles, ReadsOnly};
 ghost use Rattle.store_words.specs.Ending as ending;
 ghost use Rattle.store_words.specs.Receiving.{LeftByReceive};
+ghost use Rattle.turn_sessions.specs.Leaving.{LeftByTurns};
 ghost use Rattle.sx_base.specs.Calls.{IfAllTold, Wrote};
 ghost use Rattle.sx_base.specs.Causes.{Rose};
 ghost use Rattle.sx_base.specs.Crash.{LeavesOnly};
 ghost use Rattle.sx_base.specs.Disk.{IsImage, settled};
 ghost use Rattle.send_top.specs.Answered.{answer_of};
-ghost use Rattle.send_top.specs.Requests.{AreGuardWords, IsOverWithin, names_asked, store_guard_words, store_meant};
-ghost use Rattle.send_top.specs.Run.{AreSteady, AtAnyMoment, IfAllRead, IfBytes, IfMadeOrDropped, IfOfCompose, IsCaused, MayGet, Prints};
+ghost use Rattle.send_top.specs.Requests.{IsOverWithin, StoreFits, names_asked, store_meant};
+ghost use Rattle.send_top.specs.Run.{AreSteady, AtAnyMoment, IfAllRead, IfBytes, IfMadeOrDropped, IfOfCompose, IsCaused, MayGet, Prints, SendsInPart};
 
+use crate::interleaving::interleave_answer;
 use crate::noting::Answer;
 use crate::receiving::receive_answer;
 use crate::words::StoreRequest;
+use full_send::{restore_entry, send_entry};
 use std::alloc::Global;
 use store_words::{
     StoreEnd, cat_file, drop_entry, init_store, list_store, scrub_store, show_entry,
@@ -37,7 +42,7 @@ pub(crate) fn store_answer<'a, I: Inputs, O: Sink, D: Disk>(
     disk: &mut D,
 ) -> Answer<'a>
     requires within { IsOverWithin (length words.now) request }
-    requires given { AreGuardWords (store_guard_words (map string_bytes words.now) request) }
+    requires fit { StoreFits (map string_bytes words.now) request }
     ensures same { I.told inputs.new ≡ I.told inputs.old }
     ensures caused { IsCaused (AreSteady (I.faults inputs.old) (I.faults inputs.new)
         (I.ends inputs.old) (I.ends inputs.new) (O.faults out.old) (O.faults out.new)
@@ -58,6 +63,9 @@ pub(crate) fn store_answer<'a, I: Inputs, O: Sink, D: Disk>(
         (Answers (store_meant (map string_bytes words.now) request)
         (map string_bytes words.now) (D.seen disk.old) files (answer_of result) written
         (D.seen disk.new)))) }
+    ensures in_part { answer_of result ≢ OfAnyWord Done → D.tells
+        → SendsInPart (store_meant (map string_bytes words.now) request)
+        (map string_bytes words.now) (D.seen disk.old) (O.taken out.old) (O.taken out.new) }
     ensures unread { (ReadsFiles (store_meant (map string_bytes words.now) request) → ⊥)
         → inputs.new ≡ inputs.old }
     ensures silent { (Prints (store_meant (map string_bytes words.now) request) → ⊥)
@@ -72,13 +80,21 @@ pub(crate) fn store_answer<'a, I: Inputs, O: Sink, D: Disk>(
         → IfMadeOrDropped (store_meant (map string_bytes words.now) request)
         (D.pending disk.new ≡ settled (D.seen disk.new)) }
     ensures acknowledged { D.tells → (specs : List GuardSpec) (store at : ℕ)
-        → store_meant (map string_bytes words.now) request ≡ ReceiveFiles specs store at
+        → store_meant (map string_bytes words.now) request ≡ OfStore (ReceiveFiles specs store at)
         → IfAllTold (I.told inputs.old) (drop at (map string_bytes words.now))
         (λ files. Wrote (O.taken out.old) (O.taken out.new)
         (λ written. AllByRecursion IsBytes files → (image : List ℕ)
         → IsImage (D.pending disk.new) image
         → LeftByReceive (D.pending disk.old) (D.seen disk.old) (new_guards specs) files
         written image)) }
+    ensures acknowledged_in_turn { D.tells → (store : ℕ) (schedule : List ℕ) (turns : TurnFiles)
+        → store_meant (map string_bytes words.now) request ≡ TakeTurns store schedule turns
+        → IfAllTold (I.told inputs.old) turns.files
+        (λ files. Wrote (O.taken out.old) (O.taken out.new)
+        (λ written. AllByRecursion IsBytes files → (image : List ℕ)
+        → IsImage (D.pending disk.new) image
+        → LeftByTurns (D.pending disk.old) (D.seen disk.old) schedule files
+        (new_guards turns.guards) turns.shares written image)) }
 {
     match request {
         StoreRequest::Init { .. } => answer_by(init_store(disk), b"", b""),
@@ -100,6 +116,19 @@ pub(crate) fn store_answer<'a, I: Inputs, O: Sink, D: Disk>(
             answer_by(cat_file(alloc, disk, name, path, out), name, path)
         }
         StoreRequest::Scrub { .. } => answer_by(scrub_store(alloc, disk, out), b"", b""),
+        StoreRequest::Send { name, .. } => {
+            let name = word_bytes(words, name);
+            answer_by(send_entry(alloc, disk, name, out), name, b"")
+        }
+        StoreRequest::Restore { name, .. } => {
+            let name = word_bytes(words, name);
+            answer_by(restore_entry(alloc, disk, name, out), name, b"")
+        }
+        StoreRequest::Interleave {
+            schedule,
+            turns,
+            ..
+        } => interleave_answer(alloc, words, schedule, turns, inputs, out, disk),
     }
 }
 
@@ -129,7 +158,7 @@ pub(crate) fn answer_by<'a>(end: StoreEnd, name: &'a [u8], path: &'a [u8]) -> An
 }
 
 // The bytes of the word at a place.
-fn word_bytes(words: &[String], at: usize) -> &[u8]
+pub(crate) fn word_bytes(words: &[String], at: usize) -> &[u8]
     requires within { at < length words.now }
     ensures bytes { word_at (map string_bytes words.now) at ≡ result.now }
 {

@@ -3,6 +3,7 @@ ghost use Rattle.std.specs.Prelude.{◌≡◌, ◌<◌, ℕ, List, map, length, 
 ghost use Rattle.std.specs.Option.{option_map};
 ghost use Rattle.std.specs.String.{string_bytes};
 ghost use Rattle.store_model.specs.Requests.{OfStreams, reads_store, store_of};
+ghost use Rattle.word_model.specs.AllRequests.{OfStore};
 ghost use Rattle.send_top.specs.Requests.{AreWithin, IsOverWithin, IsWithin, request_meant, streams_meant, store_meant, store_named, store_place, use_asked, use_of};
 
 use crate::words::{NO_STORE, Request, StoreRequest, StreamsRequest, read_words};
@@ -54,7 +55,7 @@ fn place_in(words: &[String], request: Request) -> Option<usize>
 fn place_in_streams(words: &[String], request: StreamsRequest) -> Option<usize>
     requires within { AreWithin (length words.now) request }
     ensures place { result ≡ store_place (map string_bytes words.now)
-        (OfStreams (streams_meant (map string_bytes words.now) request)) }
+        (OfStore (OfStreams (streams_meant (map string_bytes words.now) request))) }
     ensures within { IfSome result (λ place. place < length words.now) }
 {
     match request {
@@ -117,6 +118,9 @@ fn place_over_store(request: StoreRequest) -> usize
         StoreRequest::Show { store, .. } => store,
         StoreRequest::Cat { store, .. } => store,
         StoreRequest::Scrub { store } => store,
+        StoreRequest::Send { store, .. } => store,
+        StoreRequest::Restore { store, .. } => store,
+        StoreRequest::Interleave { store, .. } => store,
     }
 }
 
@@ -141,5 +145,8 @@ fn use_over_store(request: StoreRequest) -> StoreUse
         StoreRequest::Show { .. } => StoreUse::Read,
         StoreRequest::Cat { .. } => StoreUse::Read,
         StoreRequest::Scrub { .. } => StoreUse::Read,
+        StoreRequest::Send { .. } => StoreUse::Read,
+        StoreRequest::Restore { .. } => StoreUse::Read,
+        StoreRequest::Interleave { .. } => StoreUse::Write,
     }
 }

@@ -2,15 +2,16 @@
 ghost use Rattle.std.specs.Prelude.{◌≡◌, ◌↔◌, ◌⊎◌, false, map};
 ghost use Rattle.std.specs.String.{string_bytes};
 ghost use Rattle.send_model.specs.Answer.{Done, Usage};
-ghost use Rattle.store_model.specs.Requests as requests;
 ghost use Rattle.store_model.specs.Answers as meant;
-ghost use Rattle.store_model.specs.Answers.{OfAnyWord, ReadsFiles, ReadsOnly};
+ghost use Rattle.store_model.specs.Answers.{OfAnyWord};
+ghost use Rattle.word_model.specs.AllRequests as requests;
+ghost use Rattle.word_model.specs.AllAnswers.{ReadsFiles, ReadsOnly};
 ghost use Rattle.sx_base.specs.Causes.{Rose};
 ghost use Rattle.sx_base.specs.Crash.{LeavesOnly};
 ghost use Rattle.sx_base.specs.Disk.{settled};
 ghost use Rattle.send_top.specs.Answered.{IsGiven, answer_of};
 ghost use Rattle.send_top.specs.Requests.{AskNothing, Asks, uses_store};
-ghost use Rattle.send_top.specs.Run.{Acknowledges, AreSteady, AtAnyMoment, IfMadeOrDropped, AskForStore, AskToCompose, Composes, Exports, IfOfCompose, IfOfStore, IsAllowed, IsAnswered, IsCaused, IsChangedAt, IsStoreStatus, Prints};
+ghost use Rattle.send_top.specs.Run.{Acknowledges, AcknowledgesInTurn, AreSteady, AtAnyMoment, IfMadeOrDropped, AskForStore, AskToCompose, Composes, Exports, IfOfCompose, IfOfStore, IsAllowed, IsAnswered, IsCaused, IsChangedAt, IsStoreStatus, Prints, Sends, SendsInPart};
 
 use crate::fitting::guards_fit;
 use crate::noting::{Answer, status, write_note};
@@ -69,6 +70,12 @@ pub fn run<I: Inputs, O: Sink, N: Sink, D: Disk>(
     ensures exported { result ≡ 0
         → Exports (I.told inputs.old) D.tells (map string_bytes words.now)
         (map (λ g. kept g) guards.items) (D.seen disk.old) (O.taken out.old) (O.taken out.new) }
+    ensures sent { result ≡ 0 → Sends D.tells (map string_bytes words.now)
+        (map (λ g. kept g) guards.items) (D.seen disk.old) (O.taken out.old) (O.taken out.new) }
+    ensures in_part { (result ≡ 0 → ⊥) → D.tells → (request : requests.Request)
+        → Asks (map string_bytes words.now) (map (λ g. kept g) guards.items) request
+        → SendsInPart request (map string_bytes words.now) (D.seen disk.old)
+        (O.taken out.old) (O.taken out.new) }
     ensures answered { (answer : meant.Answer)
         × IsAnswered (I.told inputs.old) D.tells (map string_bytes words.now)
         (map (λ g. kept g) guards.items) (O.taken out.old) (O.taken out.new)
@@ -100,6 +107,10 @@ pub fn run<I: Inputs, O: Sink, N: Sink, D: Disk>(
         → Asks (map string_bytes words.now) (map (λ g. kept g) guards.items) request
         → IfMadeOrDropped request (D.pending disk.new ≡ settled (D.seen disk.new)) }
     ensures acknowledged { D.tells → Acknowledges (I.told inputs.old) (map string_bytes words.now)
+        (map (λ g. kept g) guards.items) (O.taken out.old) (O.taken out.new)
+        (D.pending disk.old) (D.pending disk.new) (D.seen disk.old) }
+    ensures acknowledged_in_turn { D.tells
+        → AcknowledgesInTurn (I.told inputs.old) (map string_bytes words.now)
         (map (λ g. kept g) guards.items) (O.taken out.old) (O.taken out.new)
         (D.pending disk.old) (D.pending disk.new) (D.seen disk.old) }
 {
@@ -142,6 +153,11 @@ fn answer_to<'a, I: Inputs, O: Sink, D: Disk>(
     ensures answered { IsAnswered (I.told inputs.old) D.tells (map string_bytes words.now)
         (map (λ g. kept g) guards.old) (O.taken out.old) (O.taken out.new)
         (D.seen disk.old) (D.seen disk.new) (answer_of result) }
+    ensures in_part { (answer_of result ≡ OfAnyWord Done → ⊥) → D.tells
+        → (request : requests.Request)
+        → Asks (map string_bytes words.now) (map (λ g. kept g) guards.old) request
+        → SendsInPart request (map string_bytes words.now) (D.seen disk.old)
+        (O.taken out.old) (O.taken out.new) }
     ensures changed_at { IsChangedAt (map string_bytes words.now) (map (λ g. kept g) guards.old)
         (I.last_end inputs.new) (answer_of result) }
     ensures allowed { IsAllowed (map string_bytes words.now) (map (λ g. kept g) guards.old)
@@ -167,6 +183,10 @@ fn answer_to<'a, I: Inputs, O: Sink, D: Disk>(
         → Asks (map string_bytes words.now) (map (λ g. kept g) guards.old) request
         → IfMadeOrDropped request (D.pending disk.new ≡ settled (D.seen disk.new)) }
     ensures acknowledged { D.tells → Acknowledges (I.told inputs.old) (map string_bytes words.now)
+        (map (λ g. kept g) guards.old) (O.taken out.old) (O.taken out.new)
+        (D.pending disk.old) (D.pending disk.new) (D.seen disk.old) }
+    ensures acknowledged_in_turn { D.tells
+        → AcknowledgesInTurn (I.told inputs.old) (map string_bytes words.now)
         (map (λ g. kept g) guards.old) (O.taken out.old) (O.taken out.new)
         (D.pending disk.old) (D.pending disk.new) (D.seen disk.old) }
 {

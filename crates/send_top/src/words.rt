@@ -4,10 +4,12 @@ ghost use Rattle.std.specs.Option.{IfNone};
 ghost use Rattle.std.specs.String.{string_bytes};
 ghost use Rattle.send_model.specs.Guards.{is_guard_word};
 ghost use Rattle.send_model.specs.Words.{Compose, Dump, Export, Gen, Trial, store_and_files, one_file, guards_and_files, count_and_seed};
-ghost use Rattle.store_model.specs.Requests.{request_of, InitStore, DropEntry, ListStore, ShowEntry, CatFile, ScrubStore, of_one, of_two, of_three, as_receive};
-ghost use Rattle.send_top.specs.Requests.{request_meant, of_streams, guard_words, AreGuardWords, IsWithin};
+ghost use Rattle.store_model.specs.Requests.{InitStore, DropEntry, ListStore, ShowEntry, CatFile, ScrubStore, of_one, of_two, of_three, as_receive};
+ghost use Rattle.word_model.specs.AllRequests.{request_of, SendEntry, RestoreEntry, store_and_name};
+ghost use Rattle.send_top.specs.Requests.{request_meant, of_stored, of_streams, IsWithin, WordsFit};
 ghost use Rattle.send_top.specs.AuditWords.{HasStore};
 
+use crate::turn_words::read_interleave;
 use guard_rules::{number_of, parse_guard};
 
 /// What the words ask for. Places among the words are counted from 0.
@@ -112,6 +114,29 @@ pub enum StoreRequest {
         /// The place of the store.
         store: usize,
     },
+    /// A subvolume of a store is to be written as one stream.
+    Send {
+        /// The place of the store.
+        store: usize,
+        /// The place of the subvolume's name.
+        name: usize,
+    },
+    /// The same, as a stream that the real receiver makes right.
+    Restore {
+        /// The place of the store.
+        store: usize,
+        /// The place of the subvolume's name.
+        name: usize,
+    },
+    /// The streams of some files are to be received into a store in turns. In front of each file stand its guard words.
+    Interleave {
+        /// The place of the store.
+        store: usize,
+        /// The place of the schedule.
+        schedule: usize,
+        /// The place of the first word behind it. All words from there on are files and their guards.
+        turns: usize,
+    },
 }
 
 // The word that stands for the store without subvolumes.
@@ -121,13 +146,12 @@ pub(crate) const NO_STORE: &str = "none";
 const MOST_PARTS: u64 = 4_096;
 
 /// What the words after the program's name ask for; `None` exactly where they mean nothing. Takes no memory.
-#[tactic(auto, unfolding(send_model::specs::Words::request_of, store_model::specs::Requests::request_of, store_model::specs::Requests::over_store))]
+#[tactic(auto, unfolding(send_model::specs::Words::request_of, store_model::specs::Requests::request_of, store_model::specs::Requests::over_store, word_model::specs::AllRequests::request_of, word_model::specs::AllRequests::of_subvolumes))]
 pub fn read_words(words: &[String]) -> Option<Request>
     ensures meaning { option_map (request_meant (map string_bytes words.now)) result
         ≡ request_of (map string_bytes words.now) }
     ensures within { IfSome result (IsWithin (length words.now)) }
-    ensures guards { IfSome result
-        (λ request. AreGuardWords (guard_words (map string_bytes words.now) request)) }
+    ensures fit { IfSome result (WordsFit (map string_bytes words.now)) }
 {
     let command = words.first()?;
     match command.as_str() {
@@ -144,6 +168,9 @@ pub fn read_words(words: &[String]) -> Option<Request>
         "show" => read_show(words),
         "cat" => read_cat(words),
         "scrub" => read_scrub(words),
+        "send" => read_send(words),
+        "restore" => read_restore(words),
+        "interleave" => read_interleave(words),
         _ => None,
     }
 }
@@ -153,8 +180,7 @@ fn read_compose(words: &[String]) -> Option<Request>
     ensures meaning { option_map (request_meant (map string_bytes words.now)) result
         ≡ of_streams (store_and_files Compose 1 (drop 1 (map string_bytes words.now))) }
     ensures within { IfSome result (IsWithin (length words.now)) }
-    ensures guards { IfSome result
-        (λ request. AreGuardWords (guard_words (map string_bytes words.now) request)) }
+    ensures fit { IfSome result (WordsFit (map string_bytes words.now)) }
 {
     let [_, _, _, ..] = words else {
         return None;
@@ -168,8 +194,7 @@ fn read_audit(words: &[String]) -> Option<Request>
     ensures meaning { option_map (request_meant (map string_bytes words.now)) result
         ≡ of_streams (guards_and_files 1 (drop 1 (map string_bytes words.now))) }
     ensures within { IfSome result (IsWithin (length words.now)) }
-    ensures guards { IfSome result
-        (λ request. AreGuardWords (guard_words (map string_bytes words.now) request)) }
+    ensures fit { IfSome result (WordsFit (map string_bytes words.now)) }
 {
     let store = store_place(words)?;
     let files = store + 1;
@@ -198,7 +223,7 @@ fn store_place(words: &[String]) -> Option<usize>
 }
 
 // Whether a word is to be a guard's.
-fn is_guard_word(word: &str) -> bool
+pub(crate) fn is_guard_word(word: &str) -> bool
     ensures { result ≡ is_guard_word word.now }
 {
     word.as_bytes().starts_with(b"guard:")
@@ -209,8 +234,7 @@ fn read_dump(words: &[String]) -> Option<Request>
     ensures meaning { option_map (request_meant (map string_bytes words.now)) result
         ≡ of_streams (one_file Dump (drop 1 (map string_bytes words.now))) }
     ensures within { IfSome result (IsWithin (length words.now)) }
-    ensures guards { IfSome result
-        (λ request. AreGuardWords (guard_words (map string_bytes words.now) request)) }
+    ensures fit { IfSome result (WordsFit (map string_bytes words.now)) }
 {
     let [_, _] = words else {
         return None;
@@ -223,8 +247,7 @@ fn read_export(words: &[String]) -> Option<Request>
     ensures meaning { option_map (request_meant (map string_bytes words.now)) result
         ≡ of_streams (store_and_files Export 1 (drop 1 (map string_bytes words.now))) }
     ensures within { IfSome result (IsWithin (length words.now)) }
-    ensures guards { IfSome result
-        (λ request. AreGuardWords (guard_words (map string_bytes words.now) request)) }
+    ensures fit { IfSome result (WordsFit (map string_bytes words.now)) }
 {
     let [_, _, _, ..] = words else {
         return None;
@@ -237,8 +260,7 @@ fn read_gen(words: &[String]) -> Option<Request>
     ensures meaning { option_map (request_meant (map string_bytes words.now)) result
         ≡ of_streams (count_and_seed Gen (drop 1 (map string_bytes words.now))) }
     ensures within { IfSome result (IsWithin (length words.now)) }
-    ensures guards { IfSome result
-        (λ request. AreGuardWords (guard_words (map string_bytes words.now) request)) }
+    ensures fit { IfSome result (WordsFit (map string_bytes words.now)) }
 {
     let [_, count, seed] = words else {
         return None;
@@ -256,8 +278,7 @@ fn read_trial(words: &[String]) -> Option<Request>
     ensures meaning { option_map (request_meant (map string_bytes words.now)) result
         ≡ of_streams (count_and_seed Trial (drop 1 (map string_bytes words.now))) }
     ensures within { IfSome result (IsWithin (length words.now)) }
-    ensures guards { IfSome result
-        (λ request. AreGuardWords (guard_words (map string_bytes words.now) request)) }
+    ensures fit { IfSome result (WordsFit (map string_bytes words.now)) }
 {
     let [_, count, seed] = words else {
         return None;
@@ -273,10 +294,9 @@ fn read_trial(words: &[String]) -> Option<Request>
 // `init STORE`
 fn read_init(words: &[String]) -> Option<Request>
     ensures meaning { option_map (request_meant (map string_bytes words.now)) result
-        ≡ of_one (InitStore 1) (drop 1 (map string_bytes words.now)) }
+        ≡ of_stored (of_one (InitStore 1) (drop 1 (map string_bytes words.now))) }
     ensures within { IfSome result (IsWithin (length words.now)) }
-    ensures guards { IfSome result
-        (λ request. AreGuardWords (guard_words (map string_bytes words.now) request)) }
+    ensures fit { IfSome result (WordsFit (map string_bytes words.now)) }
 {
     let [_, _] = words else {
         return None;
@@ -287,10 +307,9 @@ fn read_init(words: &[String]) -> Option<Request>
 // `drop STORE NAME`
 fn read_drop(words: &[String]) -> Option<Request>
     ensures meaning { option_map (request_meant (map string_bytes words.now)) result
-        ≡ of_two (DropEntry 1 2) (drop 1 (map string_bytes words.now)) }
+        ≡ of_stored (of_two (DropEntry 1 2) (drop 1 (map string_bytes words.now))) }
     ensures within { IfSome result (IsWithin (length words.now)) }
-    ensures guards { IfSome result
-        (λ request. AreGuardWords (guard_words (map string_bytes words.now) request)) }
+    ensures fit { IfSome result (WordsFit (map string_bytes words.now)) }
 {
     let [_, _, _] = words else {
         return None;
@@ -302,10 +321,9 @@ fn read_drop(words: &[String]) -> Option<Request>
 fn read_receive(words: &[String]) -> Option<Request>
     requires some { 1 ≤ length words.now }
     ensures meaning { option_map (request_meant (map string_bytes words.now)) result
-        ≡ as_receive (guards_and_files 1 (drop 1 (map string_bytes words.now))) }
+        ≡ of_stored (as_receive (guards_and_files 1 (drop 1 (map string_bytes words.now)))) }
     ensures within { IfSome result (IsWithin (length words.now)) }
-    ensures guards { IfSome result
-        (λ request. AreGuardWords (guard_words (map string_bytes words.now) request)) }
+    ensures fit { IfSome result (WordsFit (map string_bytes words.now)) }
 {
     let store = store_place(words)?;
     let files = store + 1;
@@ -318,10 +336,9 @@ fn read_receive(words: &[String]) -> Option<Request>
 // `list STORE`
 fn read_list(words: &[String]) -> Option<Request>
     ensures meaning { option_map (request_meant (map string_bytes words.now)) result
-        ≡ of_one (ListStore 1) (drop 1 (map string_bytes words.now)) }
+        ≡ of_stored (of_one (ListStore 1) (drop 1 (map string_bytes words.now))) }
     ensures within { IfSome result (IsWithin (length words.now)) }
-    ensures guards { IfSome result
-        (λ request. AreGuardWords (guard_words (map string_bytes words.now) request)) }
+    ensures fit { IfSome result (WordsFit (map string_bytes words.now)) }
 {
     let [_, _] = words else {
         return None;
@@ -332,10 +349,9 @@ fn read_list(words: &[String]) -> Option<Request>
 // `show STORE NAME`
 fn read_show(words: &[String]) -> Option<Request>
     ensures meaning { option_map (request_meant (map string_bytes words.now)) result
-        ≡ of_two (ShowEntry 1 2) (drop 1 (map string_bytes words.now)) }
+        ≡ of_stored (of_two (ShowEntry 1 2) (drop 1 (map string_bytes words.now))) }
     ensures within { IfSome result (IsWithin (length words.now)) }
-    ensures guards { IfSome result
-        (λ request. AreGuardWords (guard_words (map string_bytes words.now) request)) }
+    ensures fit { IfSome result (WordsFit (map string_bytes words.now)) }
 {
     let [_, _, _] = words else {
         return None;
@@ -346,10 +362,9 @@ fn read_show(words: &[String]) -> Option<Request>
 // `cat STORE NAME PATH`
 fn read_cat(words: &[String]) -> Option<Request>
     ensures meaning { option_map (request_meant (map string_bytes words.now)) result
-        ≡ of_three (CatFile 1 2 3) (drop 1 (map string_bytes words.now)) }
+        ≡ of_stored (of_three (CatFile 1 2 3) (drop 1 (map string_bytes words.now))) }
     ensures within { IfSome result (IsWithin (length words.now)) }
-    ensures guards { IfSome result
-        (λ request. AreGuardWords (guard_words (map string_bytes words.now) request)) }
+    ensures fit { IfSome result (WordsFit (map string_bytes words.now)) }
 {
     let [_, _, _, _] = words else {
         return None;
@@ -364,13 +379,38 @@ fn read_cat(words: &[String]) -> Option<Request>
 // `scrub STORE`
 fn read_scrub(words: &[String]) -> Option<Request>
     ensures meaning { option_map (request_meant (map string_bytes words.now)) result
-        ≡ of_one (ScrubStore 1) (drop 1 (map string_bytes words.now)) }
+        ≡ of_stored (of_one (ScrubStore 1) (drop 1 (map string_bytes words.now))) }
     ensures within { IfSome result (IsWithin (length words.now)) }
-    ensures guards { IfSome result
-        (λ request. AreGuardWords (guard_words (map string_bytes words.now) request)) }
+    ensures fit { IfSome result (WordsFit (map string_bytes words.now)) }
 {
     let [_, _] = words else {
         return None;
     };
     Some(Request::Store(StoreRequest::Scrub { store: 1 }))
+}
+
+// `send STORE NAME`
+fn read_send(words: &[String]) -> Option<Request>
+    ensures meaning { option_map (request_meant (map string_bytes words.now)) result
+        ≡ store_and_name SendEntry (drop 1 (map string_bytes words.now)) }
+    ensures within { IfSome result (IsWithin (length words.now)) }
+    ensures fit { IfSome result (WordsFit (map string_bytes words.now)) }
+{
+    let [_, _, _] = words else {
+        return None;
+    };
+    Some(Request::Store(StoreRequest::Send { store: 1, name: 2 }))
+}
+
+// `restore STORE NAME`
+fn read_restore(words: &[String]) -> Option<Request>
+    ensures meaning { option_map (request_meant (map string_bytes words.now)) result
+        ≡ store_and_name RestoreEntry (drop 1 (map string_bytes words.now)) }
+    ensures within { IfSome result (IsWithin (length words.now)) }
+    ensures fit { IfSome result (WordsFit (map string_bytes words.now)) }
+{
+    let [_, _, _] = words else {
+        return None;
+    };
+    Some(Request::Store(StoreRequest::Restore { store: 1, name: 2 }))
 }

@@ -1,7 +1,7 @@
 // Runs over a store that a disk in memory holds. The expected bytes, images and notes are not this program's own.
 use crate::streams::{
-    END, FIRST, HEADER, Pieces, SECOND, SNAPSHOT_B, SNAPSHOT_C_OF_A, SUBVOL_A, UNLINK_X, joined,
-    words_of,
+    END, FIRST, HEADER, Pieces, SECOND, SNAPSHOT_B, SNAPSHOT_C_OF_A, SUBVOL_A, SUBVOL_C, UNLINK_X,
+    joined, words_of,
 };
 use disk_model::{FuseDisk, MemDisk};
 use guard_rules::{AnyGuard, Guard, parse_guard};
@@ -13,8 +13,9 @@ use std::test::Fail;
 use sx_base::{Disk, MemInputs, MemSink};
 
 // The files that words may name.
-const FILES: [(&str, Pieces); 6] = [
+const FILES: [(&str, Pieces); 7] = [
     ("first", FIRST),
+    ("other", &[HEADER, SUBVOL_C, END]),
     ("second", SECOND),
     ("third", &[HEADER, SNAPSHOT_C_OF_A, END]),
     ("no_part", &[HEADER, END]),
@@ -50,6 +51,10 @@ const ONLY_B: &[u8] =
 const ONLY_C: &[u8] =
     b"btrfs-stream\x00\x01\x00\x00\x00E\x00\x00\x00\x02\x00\xc5)\xd3b\x01\x00\x10\x003333333333333333\x02\x00\x08\x00\x03\x00\x00\x00\x00\x00\x00\x00\x0f\x00\x01\x00c\x14\x00\x10\x00\x11\x11\x11\x11\x11\x11\x11\x11\x11\x11\x11\x11\x11\x11\x11\x11\x15\x00\x08\x00\x01\x00\x00\x00\x00\x00\x00\x00\x00\x00\x00\x00\x15\x00Pl\xc9\x9d";
 
+// The subvolume of the first file as a full stream of its own.
+const SENT_A: &[u8] =
+    b"btrfs-stream\x00\x01\x00\x00\x00%\x00\x00\x00\x01\x0033C\xee\x01\x00\x10\x00\x11\x11\x11\x11\x11\x11\x11\x11\x11\x11\x11\x11\x11\x11\x11\x11\x02\x00\x08\x00\x01\x00\x00\x00\x00\x00\x00\x00\x0f\x00\x01\x00a\x1c\x00\x00\x00\x13\x00'\x05g}\x06\x00\x08\x00\x00\x00\x00\x00\x00\x00\x00\x00\x07\x00\x08\x00\x00\x00\x00\x00\x00\x00\x00\x00\x0f\x00\x00\x00\x10\x00\x00\x00\x12\x00\xf1\\.\xf0\x05\x00\x08\x00\xc0\x01\x00\x00\x00\x00\x00\x00\x0f\x00\x00\x00$\x00\x00\x00\x14\x00L5\x17V\x0a\x00\x0c\x00\x00\x00\x00\x00\x00\x00\x00\x00\x00\x00\x00\x00\x0b\x00\x0c\x00\x00\x00\x00\x00\x00\x00\x00\x00\x00\x00\x00\x00\x0f\x00\x00\x00\x05\x00\x00\x00\x03\x00/\x8a6s\x0f\x00\x01\x00x\x17\x00\x00\x00\x0f\x00C~\xee_\x0f\x00\x01\x00x\x12\x00\x08\x00\x00\x00\x00\x00\x00\x00\x00\x00\x13\x00\x02\x00hi\x1d\x00\x00\x00\x13\x00\xf2\x12\xf4\x8a\x06\x00\x08\x00\x00\x00\x00\x00\x00\x00\x00\x00\x07\x00\x08\x00\x00\x00\x00\x00\x00\x00\x00\x00\x0f\x00\x01\x00x\x11\x00\x00\x00\x12\x00:\xbb\x97\x0d\x05\x00\x08\x00\x80\x01\x00\x00\x00\x00\x00\x00\x0f\x00\x01\x00x%\x00\x00\x00\x14\x00\xb9\\f\x1d\x0a\x00\x0c\x00\x00\x00\x00\x00\x00\x00\x00\x00\x00\x00\x00\x00\x0b\x00\x0c\x00\x00\x00\x00\x00\x00\x00\x00\x00\x00\x00\x00\x00\x0f\x00\x01\x00x\x00\x00\x00\x00\x15\x00Pl\xc9\x9d";
+
 const LINE_A: &[u8] = b"complete a 11111111-1111-1111-1111-111111111111 1\n";
 
 const LINE_B: &[u8] = b"complete b 22222222-2222-2222-2222-222222222222 2\n";
@@ -71,6 +76,24 @@ b 22222222-2222-2222-2222-222222222222 2 complete 11111111-1111-1111-1111-111111
 
 const LIST_CUT: &[u8] = b"a 11111111-1111-1111-1111-111111111111 1 complete -
 b 22222222-2222-2222-2222-222222222222 2 unfinished 11111111-1111-1111-1111-111111111111:1
+";
+
+const LINE_C: &[u8] = b"complete c 33333333-3333-3333-3333-333333333333 3\n";
+
+const LINES_C_A: &[u8] = b"complete c 33333333-3333-3333-3333-333333333333 3
+complete a 11111111-1111-1111-1111-111111111111 1
+";
+
+const LINES_A_C: &[u8] = b"complete a 11111111-1111-1111-1111-111111111111 1
+complete c 33333333-3333-3333-3333-333333333333 3
+";
+
+const LIST_A_C: &[u8] = b"a 11111111-1111-1111-1111-111111111111 1 complete -
+c 33333333-3333-3333-3333-333333333333 3 complete -
+";
+
+const LIST_A_BEGUN_C: &[u8] = b"a 11111111-1111-1111-1111-111111111111 1 unfinished -
+c 33333333-3333-3333-3333-333333333333 3 complete -
 ";
 
 const SHOW_A: &[u8] = b"subvol a 11111111-1111-1111-1111-111111111111 1 258
@@ -482,7 +505,7 @@ fn an_output_that_fails_is_told(rt: HostRuntime) -> Result<(), Fail> {
 
 #[test]
 fn the_store_is_named_by_its_word(rt: HostRuntime) -> Result<(), Fail> {
-    let table: [(&[&str], Option<&str>, Option<StoreUse>); 15] = [
+    let table: [(&[&str], Option<&str>, Option<StoreUse>); 18] = [
         (&["init", "st"], Some("st"), Some(StoreUse::Make)),
         (&["drop", "st", "a"], Some("st"), Some(StoreUse::Write)),
         (
@@ -501,6 +524,13 @@ fn the_store_is_named_by_its_word(rt: HostRuntime) -> Result<(), Fail> {
             Some(StoreUse::Read),
         ),
         (&["export", "st", "first"], Some("st"), Some(StoreUse::Read)),
+        (&["send", "st", "a"], Some("st"), Some(StoreUse::Read)),
+        (&["restore", "st", "a"], Some("st"), Some(StoreUse::Read)),
+        (
+            &["interleave", "st", "0", "first"],
+            Some("st"),
+            Some(StoreUse::Write),
+        ),
         (&["audit", "none", "first"], None, None),
         (&["compose", "none", "first"], None, None),
         (&["dump", "st"], None, None),
@@ -511,6 +541,157 @@ fn the_store_is_named_by_its_word(rt: HostRuntime) -> Result<(), Fail> {
         let words = words_of(rt.alloc(), words)?;
         assert_eq!(rt; store_word(&words), named);
         assert_eq!(rt; store_use(&words), usage);
+    }
+    Ok(())
+}
+
+#[test]
+fn a_subvolume_is_sent(rt: HostRuntime) -> Result<(), Fail> {
+    let table: [Row; 6] = [
+        (&["send", "st", "a"], 0, SENT_A, b""),
+        (&["send", "st", "zz"], 8, b"", b"missing zz\n"),
+        (&["restore", "st", "zz"], 8, b"", b"missing zz\n"),
+        (&["send", "st"], 2, b"", b"usage\n"),
+        (&["restore", "st", "a", "more"], 2, b"", b"usage\n"),
+        (&["send", "st", "b"], 8, b"", b"missing b\n"),
+    ];
+    let mut disk = MemDisk::new(rt.alloc(), STORE)?;
+    for row in table {
+        check(&rt, rt.alloc(), &mut disk, row)?;
+    }
+    assert!(rt; has_image(&mut disk, STORE)?);
+    Ok(())
+}
+
+// What a word writes of the subvolume of the first file makes an equal one in a new store.
+#[test]
+fn what_is_sent_and_restored_is_received(rt: HostRuntime) -> Result<(), Fail> {
+    for word in ["send", "restore"] {
+        let mut store = MemDisk::new(rt.alloc(), STORE)?;
+        let mut written = MemSink::new(rt.alloc());
+        let mut notes = MemSink::new(rt.alloc());
+        let words = [word, "st", "a"];
+        assert_eq!(rt;
+            status_of(rt.alloc(), &mut store, &words, &mut written, &mut notes)?,
+            0
+        );
+        let mut inputs = MemInputs::new(rt.alloc());
+        inputs.add("stream", written.bytes())?;
+        let mut disk = MemDisk::new(rt.alloc(), NEW)?;
+        let mut out = MemSink::new(rt.alloc());
+        let words = words_of(rt.alloc(), &["receive", "other", "stream"])?;
+        let none: Vec<Box<dyn Guard>> = Vec::new(rt.alloc());
+        let status = run(
+            rt.alloc(),
+            &words,
+            none,
+            &mut inputs,
+            &mut out,
+            &mut notes,
+            &mut disk,
+        );
+        assert_eq!(rt; status, 0);
+        assert_eq!(rt; out.bytes(), LINE_A);
+        check(
+            &rt,
+            rt.alloc(),
+            &mut disk,
+            (&["show", "other", "a"], 0, SHOW_A, b""),
+        )?;
+    }
+    Ok(())
+}
+
+// Each schedule over a new store, with what is listed then.
+#[test]
+fn files_take_turns(rt: HostRuntime) -> Result<(), Fail> {
+    let table: [(Row, &[u8]); 9] = [
+        (
+            (
+                &["interleave", "st", "01", "first", "second"],
+                1,
+                LINE_A,
+                b"refused 2 1 17 13 NoParent\n",
+            ),
+            LIST_A,
+        ),
+        (
+            (
+                &["interleave", "st", "00001", "first", "second"],
+                0,
+                LINES,
+                b"",
+            ),
+            LIST_BOTH,
+        ),
+        (
+            (
+                &["interleave", "st", "01111", "first", "other"],
+                0,
+                LINES_C_A,
+                b"",
+            ),
+            LIST_A_C,
+        ),
+        (
+            (
+                &["interleave", "st", "2", "first", "other"],
+                2,
+                b"",
+                b"usage\n",
+            ),
+            b"",
+        ),
+        (
+            (&["interleave", "st", "", "first"], 2, b"", b"usage\n"),
+            b"",
+        ),
+        (
+            (
+                &["interleave", "st", "0", "first", "guard:nodev"],
+                2,
+                b"",
+                b"usage\n",
+            ),
+            b"",
+        ),
+        (
+            (
+                &["interleave", "st", "01", "guard:bytes=1", "first", "other"],
+                1,
+                LINE_C,
+                b"refused 1 3 79 33 Guarded 0 0\n",
+            ),
+            LIST_A_BEGUN_C,
+        ),
+        (
+            (
+                &["interleave", "st", "01", "first", "guard:bytes=1", "other"],
+                0,
+                LINES_A_C,
+                b"",
+            ),
+            LIST_A_C,
+        ),
+        (
+            (
+                &["interleave", "st", "0", "first", "nowhere"],
+                1,
+                LINE_A,
+                b"refused 2 1 0 3 Truncated\n",
+            ),
+            LIST_A,
+        ),
+    ];
+    for (row, listed) in table {
+        let mut disk = MemDisk::new(rt.alloc(), NEW)?;
+        check(&rt, rt.alloc(), &mut disk, row)?;
+        check(
+            &rt,
+            rt.alloc(),
+            &mut disk,
+            (&["list", "st"], 0, listed, b""),
+        )?;
     }
     Ok(())
 }

@@ -1,17 +1,25 @@
-use Rattle.std.specs.Prelude.{ℕ, [], List, map}
+use Rattle.std.specs.Prelude.{ℕ, [], List, map, drop}
 use Rattle.std.specs.List.{AllByRecursion}
 use Rattle.std.specs.String.{string_bytes}
-use Rattle.std.proofs.Common.{sym, subst}
+use Rattle.std.proofs.Common.{sym, ap, subst, ◌∙◌}
 use Rattle.std.proofs.KnownBytes.{Appends-nil}
 use Rattle.send_model.specs.Attribute.{IsBytes}
 use Rattle.send_model.specs.Words.{new_guards}
-use Rattle.store_model.specs.Requests.{DropEntry}
+use Rattle.store_model.specs.Requests.{DropEntry, word_at}
 use Rattle.store_model.specs.Answers.{Answer, Answers}
+use Rattle.word_model.specs.AllRequests.{TurnFiles}
+use Rattle.sent_model.specs.Sent.{sent_stream}
+use Rattle.sent_model.specs.Restored.{restored_stream}
+use Rattle.sent_model.specs.HeldStores.{SendAnswers}
+use Rattle.sent_model.specs.Promises.{IsUnfinished}
+use Rattle.store_words.specs.Ending as ending
+use Rattle.store_words.specs.declared.ends.StoreEnd.{StoreEnd}
+use Rattle.turn_sessions.specs.Leaving.{LeftByTurns}
 use Rattle.store_words.specs.Receiving.{LeftByReceive}
 use Rattle.sx_base.specs.Calls.{IfAllTold, Wrote}
 use Rattle.sx_base.specs.Disk.{IsImage}
-use Rattle.send_top.specs.Requests.{before_store, guards_in}
-use Rattle.send_top.proofs.ReceiveAnswers.{of_same}
+use Rattle.send_top.specs.Requests.{before_store, guards_in, places_in, turns_in}
+use Rattle.send_top.proofs.ReceiveAnswers.{of_same, of_same_turns}
 use Rattle.send_top.proofs.over_store.store_answer.Goals as goal
 
 pub returns-in-Drop-clause-answered : goal.returns-in-Drop-clause-answered
@@ -59,3 +67,80 @@ returns-in-Cat-clause-silent g c = rw c.in-Cat.is (λ none. absurd (none tt))
 
 pub returns-in-Scrub-clause-silent : goal.returns-in-Scrub-clause-silent
 returns-in-Scrub-clause-silent g c = rw c.in-Scrub.is (λ none. absurd (none tt))
+
+pub returns-in-Send-clause-silent : goal.returns-in-Send-clause-silent
+returns-in-Send-clause-silent g c = rw c.in-Send.is (λ none. absurd (none tt))
+
+pub returns-in-Restore-clause-silent : goal.returns-in-Restore-clause-silent
+returns-in-Restore-clause-silent g c = rw c.in-Restore.is (λ none. absurd (none tt))
+
+pub returns-in-Interleave-clause-unread : goal.returns-in-Interleave-clause-unread
+returns-in-Interleave-clause-unread g c = rw c.in-Interleave.is (λ none. absurd (none tt))
+
+pub returns-in-Interleave-clause-silent : goal.returns-in-Interleave-clause-silent
+returns-in-Interleave-clause-silent g c = rw c.in-Interleave.is (λ none. absurd (none tt))
+
+pub returns-in-Interleave-clause-answered : goal.returns-in-Interleave-clause-answered
+returns-in-Interleave-clause-answered g c = rw c.in-Interleave.is c.interleave_answer.ensures.answered
+
+pub returns-in-Send-clause-answered : goal.returns-in-Send-clause-answered
+returns-in-Send-clause-answered g c =
+    let words : List (List ℕ) = map string_bytes c.args.words.now in
+    let image : List ℕ = g.D.Disk.seen c.args.disk.now in
+    let left : List ℕ = g.D.Disk.seen c.send_entry.new.disk in
+    rw c.in-Send.is (λ tells.
+    let w = c.send_entry.ensures.answered tells in (
+      w.0,
+      w.1,
+      subst (λ (a : Answer). SendAnswers sent_stream image (word_at words c.in-Send.name) a w.0 left) (sym c.answer_by-in-Send.ensures.answer)
+          (subst (λ (name : List ℕ). SendAnswers sent_stream image name (ending.answer_of c.word_bytes-name-in-Send.result.now [] c.send_entry.result) w.0 left) (sym c.word_bytes-name-in-Send.ensures.bytes) w.2),
+    ))
+
+pub returns-in-Send-clause-in_part : goal.returns-in-Send-clause-in_part
+returns-in-Send-clause-in_part g c =
+    let image : List ℕ = g.D.Disk.seen c.args.disk.now in
+    rw c.in-Send.is (λ other tells.
+    let w = c.send_entry.ensures.unfinished tells in (
+      w.0,
+      w.1,
+      subst (λ (name : List ℕ). IsUnfinished sent_stream image name w.0) (sym c.word_bytes-name-in-Send.ensures.bytes)
+          (w.2 (λ done. other (c.answer_by-in-Send.ensures.answer ∙ ap (λ (end : StoreEnd). ending.answer_of c.word_bytes-name-in-Send.result.now [] end) done))),
+    ))
+
+pub returns-in-Restore-clause-answered : goal.returns-in-Restore-clause-answered
+returns-in-Restore-clause-answered g c =
+    let words : List (List ℕ) = map string_bytes c.args.words.now in
+    let image : List ℕ = g.D.Disk.seen c.args.disk.now in
+    let left : List ℕ = g.D.Disk.seen c.restore_entry.new.disk in
+    rw c.in-Restore.is (λ tells.
+    let w = c.restore_entry.ensures.answered tells in (
+      w.0,
+      w.1,
+      subst (λ (a : Answer). SendAnswers restored_stream image (word_at words c.in-Restore.name) a w.0 left) (sym c.answer_by-in-Restore.ensures.answer)
+          (subst (λ (name : List ℕ). SendAnswers restored_stream image name (ending.answer_of c.word_bytes-name-in-Restore.result.now [] c.restore_entry.result) w.0 left) (sym c.word_bytes-name-in-Restore.ensures.bytes) w.2),
+    ))
+
+pub returns-in-Restore-clause-in_part : goal.returns-in-Restore-clause-in_part
+returns-in-Restore-clause-in_part g c =
+    let image : List ℕ = g.D.Disk.seen c.args.disk.now in
+    rw c.in-Restore.is (λ other tells.
+    let w = c.restore_entry.ensures.unfinished tells in (
+      w.0,
+      w.1,
+      subst (λ (name : List ℕ). IsUnfinished restored_stream image name w.0) (sym c.word_bytes-name-in-Restore.ensures.bytes)
+          (w.2 (λ done. other (c.answer_by-in-Restore.ensures.answer ∙ ap (λ (end : StoreEnd). ending.answer_of c.word_bytes-name-in-Restore.result.now [] end) done))),
+    ))
+
+pub returns-in-Interleave-clause-acknowledged_in_turn : goal.returns-in-Interleave-clause-acknowledged_in_turn
+returns-in-Interleave-clause-acknowledged_in_turn g c =
+    let words : List (List ℕ) = map string_bytes c.args.words.now in
+    let told = g.I.Inputs.told c.args.inputs.now in
+    let old = g.O.Sink.taken c.args.out.now in
+    let new = g.O.Sink.taken c.interleave_answer.new.out in
+    let early = g.D.Disk.pending c.args.disk.now in
+    let late = g.D.Disk.pending c.interleave_answer.new.disk in
+    let seen : List ℕ = g.D.Disk.seen c.args.disk.now in
+    rw c.in-Interleave.is (λ tells store schedule turns same.
+    of_same_turns (λ (places : List ℕ) (files : TurnFiles). IfAllTold told files.files (λ bytes. Wrote old new (λ written. AllByRecursion IsBytes bytes
+    → (image : List ℕ) → IsImage late image → LeftByTurns early seen places bytes (new_guards files.guards) files.shares written image)))
+    c.in-Interleave.store (places_in (word_at words c.in-Interleave.schedule)) (turns_in (drop c.in-Interleave.turns words)) store schedule turns same (c.interleave_answer.ensures.acknowledged tells))

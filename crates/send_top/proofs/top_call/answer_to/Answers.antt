@@ -3,8 +3,9 @@ use Rattle.std.specs.String.{string_bytes}
 use Rattle.std.proofs.Common.{refl, sym, ap, subst, ◌∙◌}
 use Rattle.send_model.specs.Guards.{Guard}
 use Rattle.send_model.specs.Words.{new_guards}
-use Rattle.store_model.specs.Requests.{Request, OfStreams, ReceiveFiles}
-use Rattle.store_model.specs.Answers.{Answers}
+use Rattle.store_model.specs.Requests.{OfStreams, ReceiveFiles}
+use Rattle.word_model.specs.AllRequests.{Request, OfStore}
+use Rattle.word_model.specs.AllAnswers.{Answers}
 use Rattle.sx_base.specs.Calls.{Wrote}
 use Rattle.send_top.specs.Answered.{answer_of}
 use Rattle.send_top.specs.Requests.{request_meant, specs_of, streams_meant, store_meant, names_asked, uses_store}
@@ -33,13 +34,13 @@ returns-in-Store-clause-acknowledged g c tells specs store at asks =
     let guards : List Guard = map (λ b. (goal.Guard-dyn g (b.vtable, b.value)).kept b.value) c.args.guards.now in
     let mine : Request = store_meant words c.in-Store.request in
     c.store_answer.ensures.acknowledged tells specs store at
-    (of_asked (λ r. mine ≡ r) words guards mine (ReceiveFiles specs store at) (ap (λ r. Some (request_meant words r)) (sym c.in-Store.is) ∙ c.in-Some.ensures.meaning) refl asks)
+    (of_asked (λ r. mine ≡ r) words guards mine (OfStore (ReceiveFiles specs store at)) (ap (λ r. Some (request_meant words r)) (sym c.in-Store.is) ∙ c.in-Some.ensures.meaning) refl asks)
 
 pub returns-in-Streams-clause-allowed : goal.returns-in-Streams-clause-allowed
 returns-in-Streams-clause-allowed g c request asks =
     let words : List (List ℕ) = map string_bytes c.args.words.now in
     let guards : List Guard = map (λ b. (goal.Guard-dyn g (b.vtable, b.value)).kept b.value) c.args.guards.now in
-    let mine : Request = OfStreams (streams_meant words c.in-Streams.request) in
+    let mine : Request = OfStore (OfStreams (streams_meant words c.in-Streams.request)) in
     of_asked (λ r. uses_store words r ≡ true → MayGet r (answer_of c.streams_answer.result)) words guards mine request (ap (λ r. Some (request_meant words r)) (sym c.in-Streams.is) ∙ c.in-Some.ensures.meaning)
     c.streams_answer.ensures.allowed asks
 
@@ -47,7 +48,7 @@ pub returns-in-Streams-clause-unread : goal.returns-in-Streams-clause-unread
 returns-in-Streams-clause-unread g c none =
     let words : List (List ℕ) = map string_bytes c.args.words.now in
     let guards : List Guard = map (λ b. (goal.Guard-dyn g (b.vtable, b.value)).kept b.value) c.args.guards.now in
-    let mine : Request = OfStreams (streams_meant words c.in-Streams.request) in
+    let mine : Request = OfStore (OfStreams (streams_meant words c.in-Streams.request)) in
     let fits : guards ≡ new_guards (specs_of mine) = subst (λ r. guards ≡ new_guards (specs_of (request_meant words r))) c.in-Streams.is (c.guards_fit.ensures.0 c.if-not-guards_fit.false) in
     let asked = is_asked words guards mine (ap (λ r. Some (request_meant words r)) (sym c.in-Streams.is) ∙ c.in-Some.ensures.meaning) fits in
     absurd (none mine asked tt)
@@ -56,7 +57,7 @@ pub returns-in-Streams-clause-silent : goal.returns-in-Streams-clause-silent
 returns-in-Streams-clause-silent g c none =
     let words : List (List ℕ) = map string_bytes c.args.words.now in
     let guards : List Guard = map (λ b. (goal.Guard-dyn g (b.vtable, b.value)).kept b.value) c.args.guards.now in
-    let mine : Request = OfStreams (streams_meant words c.in-Streams.request) in
+    let mine : Request = OfStore (OfStreams (streams_meant words c.in-Streams.request)) in
     let fits : guards ≡ new_guards (specs_of mine) = subst (λ r. guards ≡ new_guards (specs_of (request_meant words r))) c.in-Streams.is (c.guards_fit.ensures.0 c.if-not-guards_fit.false) in
     let asked = is_asked words guards mine (ap (λ r. Some (request_meant words r)) (sym c.in-Streams.is) ∙ c.in-Some.ensures.meaning) fits in
     absurd (none mine asked tt)

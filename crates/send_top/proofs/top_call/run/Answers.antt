@@ -1,13 +1,16 @@
-use Rattle.std.specs.Prelude.{◌≡◌, ◌↔◌, ◌⊎◌, ℕ, false, map}
+use Rattle.std.specs.Prelude.{◌≡◌, ◌↔◌, ◌⊎◌, ℕ, List, false, map}
 use Rattle.std.specs.String.{string_bytes}
 use Rattle.std.proofs.Common.{sym, ◌∙◌, ap, subst, rules}
-use Rattle.store_model.specs.Requests.{Request}
-use Rattle.store_model.specs.Answers.{ReadsFiles, ReadsOnly, status_of}
+use Rattle.send_model.specs.Guards.{Guard}
+use Rattle.store_model.specs.Answers.{Answer, status_of}
+use Rattle.word_model.specs.AllRequests.{Request}
+use Rattle.word_model.specs.AllAnswers.{ReadsFiles, ReadsOnly}
 use Rattle.sx_base.specs.Causes.{Rose}
 use Rattle.send_top.specs.Answered.{answer_of}
 use Rattle.send_top.specs.Requests.{AskNothing, Asks, uses_store}
-use Rattle.send_top.specs.Run.{Acknowledges, AreSteady, AskForStore, AskToCompose, Composes, Exports, IsAllowed, IsAnswered, IsChangedAt, IsStoreStatus, Prints}
-use Rattle.send_top.proofs.Statuses.{usage-of_two, two-of_usage, done-of_zero, steady-of_zero, input_fault-of_three, output_fault-of_four, store_fault-of_five, changed-of_thirteen, of_compose, of_store}
+use Rattle.send_top.specs.Run.{Acknowledges, AreSteady, AskForStore, AskToCompose, Composes, Exports, IsAllowed, IsAnswered, IsChangedAt, IsStoreStatus, Prints, Sends}
+use Rattle.send_top.proofs.SentAnew.{sends}
+use Rattle.send_top.proofs.Statuses.{usage-of_two, two-of_usage, zero-of_done, done-of_zero, steady-of_zero, input_fault-of_three, output_fault-of_four, store_fault-of_five, changed-of_thirteen, of_compose, of_store}
 use Rattle.send_top.proofs.top_call.run.Given.{Over}
 use Rattle.send_top.proofs.top_call.run.Goals.{After-status}
 use Rattle.send_top.proofs.top_call.run.Goals as goal
@@ -85,6 +88,23 @@ pub returns-clause-exported : goal.returns-clause-exported
 returns-clause-exported g c none =
     subst (λ gs. Exports (g.I.Inputs.told c.args.inputs.now) g.D.Disk.tells (map string_bytes c.args.words.now) (map (λ b. (goal.Guard-dyn g (b.vtable, b.value)).kept b.value) gs) (g.D.Disk.seen c.args.disk.now) (g.O.Sink.taken c.args.out.now) (g.O.Sink.taken c.answer_to-answer.new.out))
     c.deref_mut.ensures.value (c.answer_to-answer.ensures.exported (done-of_zero (answer_of c.answer_to-answer.result) (sym c.status.ensures ∙ none)))
+
+pub returns-clause-sent : goal.returns-clause-sent
+returns-clause-sent g c none =
+    let words : List (List ℕ) = map string_bytes c.args.words.now in
+    let old = g.O.Sink.taken c.args.out.now in
+    let new = g.O.Sink.taken c.answer_to-answer.new.out in
+    let image : List ℕ = g.D.Disk.seen c.args.disk.now in
+    let left : List ℕ = g.D.Disk.seen c.answer_to-answer.new.disk in
+    let told = g.I.Inputs.told c.args.inputs.now in
+    let guards : List Guard = map (λ b. (goal.Guard-dyn g (b.vtable, b.value)).kept b.value) c.deref_mut.result.now in
+    subst (λ gs. Sends g.D.Disk.tells words (map (λ b. (goal.Guard-dyn g (b.vtable, b.value)).kept b.value) gs) image old new) c.deref_mut.ensures.value
+    (sends told g.D.Disk.tells words guards old new image left
+    (subst (λ (a : Answer). IsAnswered told g.D.Disk.tells words guards old new image left a) (done-of_zero (answer_of c.answer_to-answer.result) (sym c.status.ensures ∙ none)) c.answer_to-answer.ensures.answered))
+
+pub returns-clause-in_part : goal.returns-clause-in_part
+returns-clause-in_part g c other tells request asks = c.answer_to-answer.ensures.in_part (λ done. other (c.status.ensures ∙ zero-of_done (answer_of c.answer_to-answer.result) done)) tells request
+    (subst (λ gs. Asks (map string_bytes c.args.words.now) (map (λ b. (goal.Guard-dyn g (b.vtable, b.value)).kept b.value) gs) request) (sym c.deref_mut.ensures.value) asks)
 
 pub returns-clause-quiet : goal.returns-clause-quiet
 returns-clause-quiet g c none = c.write_note.ensures.quiet (done-of_zero (answer_of c.answer_to-answer.result) (sym c.status.ensures ∙ none))

@@ -19,4 +19,7 @@ returns-in_default-clause-meaning c =
       not_show = c.in_default.not-show;
       not_cat = c.in_default.not-cat;
       not_scrub = c.in_default.not-scrub;
+      not_send = c.in_default.not-send;
+      not_restore = c.in_default.not-restore;
+      not_interleave = c.in_default.not-interleave;
     })

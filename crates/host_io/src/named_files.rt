@@ -1,0 +1,111 @@
+// Which words name files, and which give guards.
+use std::fs::{self, Files};
+
+/// The words of a run that name files. Where files take turns, guards stand among them.
+#[derive(Debug, Clone, Copy)]
+pub(crate) struct NamedFiles<'a> {
+    words: &'a [String],
+    are_guards_among: bool,
+}
+
+impl<'a> NamedFiles<'a> {
+    /// The files that some words name.
+    pub(crate) fn of(words: &'a [String]) -> NamedFiles<'a> {
+        let names = match words {
+            [word, ..] => names_behind(word.as_str(), &words[1..]),
+            [] => words,
+        };
+        NamedFiles {
+            words: names,
+            are_guards_among: do_turn(words),
+        }
+    }
+
+    /// The name of the file of a number, which is counted from 1.
+    pub(crate) fn named(&self, number: u64) -> Option<&'a str> {
+        let mut left = number;
+        for word in self.words {
+            if !self.is_guard(word.as_str()) {
+                if left == 1 {
+                    return Some(word.as_str());
+                }
+                left = left.saturating_sub(1);
+            }
+        }
+        None
+    }
+
+    /// The bytes of all files, where each is a regular one.
+    pub(crate) fn all_bytes<R: Files>(&self, files: &R) -> Option<u64> {
+        let mut sum: u64 = 0;
+        for word in self.words {
+            if !self.is_guard(word.as_str()) {
+                sum = sum.checked_add(bytes_of(files, word.as_str())?)?;
+            }
+        }
+        Some(sum)
+    }
+
+    // Whether a word gives a guard.
+    fn is_guard(&self, word: &str) -> bool {
+        self.are_guards_among && is_guard_word(word)
+    }
+}
+
+/// The words that give guards, and perhaps others behind or, where files take turns, among them.
+pub(crate) fn guard_words(words: &[String]) -> &[String] {
+    match words {
+        [word, ..] if matches!(word.as_str(), "audit" | "receive") => &words[1..],
+        [word, _, _, turns @ ..] if word.as_str() == "interleave" => turns,
+        _ => &[],
+    }
+}
+
+/// Whether words ask for files that take turns.
+pub(crate) fn do_turn(words: &[String]) -> bool {
+    match words {
+        [word, ..] => word.as_str() == "interleave",
+        [] => false,
+    }
+}
+
+/// Whether a word is to be a guard's.
+pub(crate) fn is_guard_word(word: &str) -> bool {
+    word.as_bytes().starts_with(b"guard:")
+}
+
+/// The bytes of a file, where it is a regular one.
+pub(crate) fn bytes_of<R: Files>(files: &R, name: &str) -> Option<u64> {
+    let about = fs::metadata(files, name).ok()?;
+    if !about.is_file() {
+        return None;
+    }
+    Some(about.len())
+}
+
+// The words that name files, of those behind the first.
+fn names_behind<'a>(word: &str, words: &'a [String]) -> &'a [String] {
+    match word {
+        "audit" | "receive" => behind_first(behind_guards(words)),
+        "compose" | "export" => behind_first(words),
+        "dump" => words,
+        "interleave" => behind_first(behind_first(words)),
+        _ => &[],
+    }
+}
+
+// The words behind the first.
+fn behind_first(words: &[String]) -> &[String] {
+    match words {
+        [_, more @ ..] => more,
+        [] => &[],
+    }
+}
+
+// The words behind those that begin as guard words.
+fn behind_guards(words: &[String]) -> &[String] {
+    match words.iter().position(|word| !is_guard_word(word.as_str())) {
+        Some(place) => &words[place..],
+        None => &[],
+    }
+}

@@ -1,0 +1,4 @@
+pub mod Anew
+pub mod RequestExamples
+pub mod TurnWords
+pub mod TurnGuards

@@ -1,0 +1,80 @@
+-- What all words ask for: those on streams or over a store, those that write a stored subvolume as a stream, and those that receive files
+-- in turns. The words are this program's own.
+use Rattle.std.specs.Prelude.{ℕ, suc, List, [], ◌∷◌, length, Option, None, Some, Bool, ◌&&◌, codes, nat_le, if◌then◌else◌}
+use Rattle.send_model.specs.Guards.{GuardSpec, guard_of, is_guard_word}
+use Rattle.send_model.specs.Words.{is_word}
+use Rattle.store_model.specs.Requests as stored
+use Rattle.store_model.specs.Turns.{schedule_of}
+
+-- Files that take turns: all their guards in order, how many of these each file has, and the files' names.
+pub record TurnFiles : Type 0 where
+  pub guards : List GuardSpec
+  pub shares : List ℕ
+  pub files : List (List ℕ)
+
+-- A request. A store and a name are given by their places in the words, counted from 0. Of files that take turns, the store is at a place,
+-- and the schedule says whose turn it is, by numbers counted from 0.
+pub data Request : Type 0 where
+  OfStore : (request : stored.Request) → Request
+  SendEntry : (store name : ℕ) → Request
+  RestoreEntry : (store name : ℕ) → Request
+  TakeTurns : (store : ℕ) (schedule : List ℕ) (turns : TurnFiles) → Request
+
+-- ---- words of files that take turns
+
+-- A guard in front of the first file, and a file with no guards in front of the others. A guard behind which there is no file is none.
+abbrev pub with_guard : GuardSpec → TurnFiles → Option TurnFiles
+with_guard guard turns = elim turns.shares [
+  | [] ↦ None
+  | share ∷ shares ↦ Some (record { guards = guard ∷ turns.guards; shares = suc share ∷ shares; files = turns.files })
+]
+
+abbrev pub with_file : List ℕ → TurnFiles → TurnFiles
+with_file name turns = record { guards = turns.guards; shares = 0 ∷ turns.shares; files = name ∷ turns.files }
+
+-- `[GUARD..] FILE ..`: a word that begins as a guard's is one, of the next file; the others are files.
+unfoldable pub turn_files : List (List ℕ) → Option TurnFiles
+turn_files [] = Some (record { guards = []; shares = []; files = [] })
+turn_files (word ∷ words) = elim (turn_files words) [
+  | None ↦ None
+  | Some turns ↦ if is_guard_word word then elim (guard_of word) [ None ↦ None | Some guard ↦ with_guard guard turns ] else Some (with_file word turns)
+]
+
+-- One to ten files, and a schedule of these.
+abbrev pub are_turns : TurnFiles → Bool
+are_turns turns = nat_le 1 (length turns.files) && nat_le (length turns.files) 10
+
+abbrev pub with_schedule : List ℕ → TurnFiles → Option Request
+with_schedule word turns = if are_turns turns
+    then elim (schedule_of (length turns.files) word) [ None ↦ None | Some schedule ↦ Some (TakeTurns 1 schedule turns) ]
+    else None
+
+-- The store and the schedule are taken by their places.
+abbrev pub of_turns : List (List ℕ) → Option Request
+of_turns (store ∷ schedule ∷ words) = elim (turn_files words) [ None ↦ None | Some turns ↦ with_schedule schedule turns ]
+of_turns (store ∷ []) = None
+of_turns [] = None
+
+-- ---- all words
+
+abbrev pub store_and_name : (ℕ → ℕ → Request) → List (List ℕ) → Option Request
+store_and_name request (store ∷ name ∷ []) = Some (request 1 2)
+store_and_name request (store ∷ name ∷ more ∷ words) = None
+store_and_name request (store ∷ []) = None
+store_and_name request [] = None
+
+-- `send STORE NAME`, `restore STORE NAME` and `interleave STORE SCHEDULE [GUARD..] FILE ..`.
+unfoldable pub of_subvolumes : List (List ℕ) → Option Request
+of_subvolumes [] = None
+of_subvolumes (word ∷ words) =
+    if is_word (codes "send") word then store_and_name SendEntry words
+    else (if is_word (codes "restore") word then store_and_name RestoreEntry words
+    else (if is_word (codes "interleave") word then of_turns words else None))
+
+-- And the words on streams and over a store; no other words mean anything.
+abbrev pub or_of_subvolumes : Option stored.Request → Option Request → Option Request
+or_of_subvolumes (Some request) other = Some (OfStore request)
+or_of_subvolumes None other = other
+
+unfoldable pub request_of : List (List ℕ) → Option Request
+request_of words = or_of_subvolumes (stored.request_of words) (of_subvolumes words)

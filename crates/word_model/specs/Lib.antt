@@ -1,0 +1,2 @@
+pub mod AllRequests
+pub mod AllAnswers
