@@ -3,7 +3,7 @@ ghost use Rattle.std.specs.Prelude.{ℕ, ◌+◌, ◌*◌, ◌^◌, ◌<◌, ◌
 
 use crate::block::Byte;
 use extent_map::Extents;
-use std::alloc::AllocError;
+use std::alloc::{AllocError, Global};
 
 const BLOCK: u64 = 4096;
 
@@ -75,6 +75,49 @@ pub fn clone_parts(
         }
     }
     Ok(())
+}
+
+/// Copies the file `count` times, each time from the last copy, writes 4 KiB at `edits` places of each copy, and keeps all.
+pub fn change_copies(
+    alloc: Global,
+    file: &Extents<Byte>,
+    draw: &mut Draw,
+    count: u32,
+    edits: u32,
+) -> Result<Vec<Extents<Byte>>, AllocError> {
+    let mut copies = Vec::new(alloc);
+    let mut last = file.copy()?;
+    for n in 0..count {
+        let mut next = last.copy()?;
+        let size = next.size().max(1).min(1 << 61);
+        for k in 0..edits {
+            let at = draw.below(size);
+            next.put_run(
+                at,
+                Byte {
+                    number: (1 << 61) + (n as u64 * (1 << 28)) + k as u64 % (1 << 28),
+                },
+                BLOCK,
+            )?;
+        }
+        copies.push(last)?;
+        last = next;
+    }
+    copies.push(last)?;
+    Ok(copies)
+}
+
+/// A file of one cell that is cloned onto its own end `times` times.
+pub fn double(alloc: Global, times: u32) -> Result<Extents<Byte>, AllocError> {
+    let mut file = Extents::new(alloc);
+    file.put_run(0, Byte { number: 0 }, 1)?;
+    for _ in 0..times {
+        let size = file.size();
+        if size < 1 << 61 {
+            file.copy_within(size, 0, size)?;
+        }
+    }
+    Ok(file)
 }
 
 /// What reading all pieces of a file finds.

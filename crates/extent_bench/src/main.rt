@@ -7,7 +7,8 @@ mod load;
 
 use block::Byte;
 use extent_map::Extents;
-use load::{Draw, clone_parts, fill, overwrite, read};
+use load::{Draw, change_copies, clone_parts, double, fill, overwrite, read};
+use std::alloc::Global;
 use std::rt::Runtime;
 use std::time::Instant;
 use std::{env, io};
@@ -79,6 +80,47 @@ fn copy_and_read(rt: &impl Runtime, words: &Words, file: &Extents<Byte>) -> io::
     )
 }
 
+/// Changes copies of the file, which stays as it was.
+fn copy_and_change(
+    rt: &impl Runtime,
+    alloc: Global,
+    words: &Words,
+    file: &Extents<Byte>,
+) -> io::Result<()> {
+    let mut draw = Draw::new();
+    let start = Instant::now(rt)?;
+    let copies = change_copies(alloc, file, &mut draw, 100, 100)?;
+    tell(
+        rt,
+        words,
+        "100 copies with 100 writes each, for each write into a hole",
+        start,
+    )?;
+    for copy in [copies.first(), copies.last()] {
+        if let Some(copy) = copy {
+            let found = read(copy);
+            println!(rt;
+                "a copy: {} runs, {} holes, sum {}",
+                found.runs, found.holes, found.sum
+            )?;
+        }
+    }
+    Ok(())
+}
+
+/// Clones a file onto its own end again and again.
+fn clone_onto_end(rt: &impl Runtime, alloc: Global, words: &Words) -> io::Result<()> {
+    let start = Instant::now(rt)?;
+    let doubled = double(alloc, 60)?;
+    tell(
+        rt,
+        words,
+        "60 clones onto the end of a file, for each write into a hole",
+        start,
+    )?;
+    println!(rt; "cloned onto its own end: {} cells", doubled.size())
+}
+
 /// Puts one hole over all runs but the first cell.
 fn hollow(rt: &impl Runtime, words: &Words, file: &mut Extents<Byte>) -> io::Result<()> {
     let start = Instant::now(rt)?;
@@ -99,5 +141,7 @@ fn main(rt: HostRuntime) -> io::Result<()> {
     let mut file = Extents::new(rt.alloc());
     change(&rt, &words, &mut file)?;
     copy_and_read(&rt, &words, &file)?;
+    copy_and_change(&rt, rt.alloc(), &words, &file)?;
+    clone_onto_end(&rt, rt.alloc(), &words)?;
     hollow(&rt, &words, &mut file)
 }

@@ -3,7 +3,7 @@ use Rattle.std.proofs.Common.{◌≡◌, ℕ, ◌+◌, ◌-◌, ◌<◌, ◌≤�
 use lib.ListN.{replicate}
 use Rattle.std.proofs.Math.Logic.{⊎_elim}
 use Rattle.std.proofs.lemmas.Bool.{cases_lt}
-use Rattle.std.proofs.lemmas.List.{append-nil, take_all, length-take, length-replicate, get_or-replicate, get_or_append_left, get_or-take, get_or-drop, get_or-append_right, get_or_past, ext_get_or}
+use Rattle.std.proofs.lemmas.List.{append-nil, take_all, length-take, length-replicate, get_or-replicate, get_or_append_left, get_or-take, get_or-drop, get_or-append_right, get_or_past, ext_get_or, drop_all}
 use Rattle.extent_map.specs.Cells.{resize_cells, put_cells, cells_between}
 
 module _ {C : Type 0} (empty : C) where
@@ -35,6 +35,22 @@ module _ {C : Type 0} (empty : C) where
   unfolding put_cells
   put_some at [] cells h = absurd (omega arith)
   put_some at (c ∷ cs) cells h = refl
+
+  pub resized_shorter : (size : ℕ) (cells : List C) → size ≤ length cells → resize_cells empty size cells ≡ take size cells
+  unfolding resize_cells
+  resized_shorter size cells h =
+      let e : size - length cells ≡ 0 = omega (arith, h) in
+      ap (λ (n : ℕ). take size cells ++ replicate n empty) e ∙ append-nil (take size cells)
+
+  pub resized_longer : (size : ℕ) (cells : List C) → length cells ≤ size → resize_cells empty size cells ≡ cells ++ replicate (size - length cells) empty
+  unfolding resize_cells
+  resized_longer size cells h = ap (λ (l : List C). l ++ replicate (size - length cells) empty) (take_all size cells h)
+
+  pub put_to_end : (at : ℕ) (new cells : List C) → 0 < length new → length cells ≤ at + length new → put_cells empty at new cells ≡ resize_cells empty at cells ++ new
+  put_to_end at new cells some h =
+      put_some at new cells some
+      ∙ ap (λ (l : List C). resize_cells empty at cells ++ new ++ l) (drop_all (at + length new) cells h)
+      ∙ append-nil (resize_cells empty at cells ++ new)
 
   pub length-put : (at : ℕ) (new cells : List C) → 0 < length new → length (put_cells empty at new cells) ≡ at + length new + (length cells - (at + length new))
   length-put at new cells h =

@@ -1,8 +1,11 @@
+pub mod Ahead
 pub mod CellLists
-pub mod Clearing
-pub mod Cover
-pub mod Edits
-pub mod Keys
+pub mod Halves
 pub mod Layouts
+pub mod LeafEdits
+pub mod Makes
 pub mod PieceByPiece
-pub mod Writing
+pub mod Ranges
+pub mod RootCells
+pub mod Shapes
+pub mod Spans

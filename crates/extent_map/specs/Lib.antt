@@ -1,3 +1,10 @@
 pub mod Cells
-pub mod Layout
+pub mod Falls
+pub mod Leaves
+pub mod Opened
+pub mod Parts
 pub mod Pieces
+pub mod Reading
+pub mod Roots
+pub mod Seen
+pub mod Trees

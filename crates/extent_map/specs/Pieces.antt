@@ -1,6 +1,6 @@
 -- The cells of runs and of holes, and what the pieces of a range are. Source: this project; a piece is what a reader of a
 -- file's extents takes at a time.
-use Rattle.std.specs.Prelude.{◌≡◌, ℕ, ◌<◌, ◌≤◌, Option, Some, None, MatchOption, IfSome, List, [], ◌++◌, map}
+use Rattle.std.specs.Prelude.{◌≡◌, ℕ, ◌+◌, ◌<◌, ◌≤◌, Option, Some, None, MatchOption, IfSome, List, [], ◌++◌, map, length, ◌^◌}
 use Rattle.std.specs.List.{range_with_len}
 use lib.ListN.{replicate}
 
@@ -21,3 +21,21 @@ piece_cells advanced (Some origin) len = run_cells advanced origin len
 -- leaves the others, or there are none.
 abbrev pub TakesPiece : {O : Type 0} → (O → ℕ → O) → (O → ℕ) → List (Option O) → Option (Option O × ℕ) → List (Option O) → Type 0
 TakesPiece advanced reach left given rest = MatchOption given ((left ≡ []) × (rest ≡ [])) (λ piece. (0 < piece.1) × IfSome piece.0 (λ origin. piece.1 ≤ reach origin) × (left ≡ piece_cells advanced piece.0 piece.1 ++ rest))
+
+-- A run of `len` cells goes on in one of `more` cells from `next`: both are one run, which its origin reaches.
+pub record RunsOn {O : Type 0} (advanced : O → ℕ → O) (reach : O → ℕ) (origin : O) (len : ℕ) (next : O) (more : ℕ) : Type 0 where
+  pub follows : next ≡ advanced origin len
+  pub reaches : len + more ≤ reach origin
+
+-- Two pieces that are one.
+abbrev pub AreOne : {O : Type 0} → (O → ℕ → O) → (O → ℕ) → Option O → ℕ → Option O → ℕ → Type 0
+AreOne advanced reach None len None more = Unit {0}
+AreOne advanced reach (Some origin) len (Some next) more = RunsOn advanced reach origin len next more
+AreOne advanced reach None len (Some next) more = ⊥
+AreOne advanced reach (Some origin) len None more = ⊥
+
+-- A range of cells.
+pub record IsRange {C : Type 0} (cells : List C) (from to : ℕ) : Type 0 where
+  pub order : from ≤ to
+  pub within : to ≤ length cells
+  pub fits : length cells < 2 ^ 63

@@ -19,6 +19,11 @@ impl Origin for Nowhere {
         Nowhere
     }
 
+    fn goes_on(&self, len: u64, next: &Nowhere, more: u64) -> bool {
+        let _ = next;
+        len.checked_add(more).is_some()
+    }
+
     ghost advanced_by_none = { λ o. refl };
 
     ghost reach_is_left = { λ o j k h. Prim.omega (arith, h) };

@@ -1,5 +1,6 @@
 // What a cell that is not empty is.
-ghost use Rattle.std.specs.Prelude.{◌≡◌, ℕ, ◌+◌, ◌≤◌};
+ghost use Rattle.std.specs.Prelude.{◌≡◌, ℕ, ◌+◌, ◌≤◌, IsTrue};
+ghost use Rattle.extent_map.specs.Pieces.{RunsOn};
 
 /// Where a byte of a file comes from. The next byte of a run comes from the origin advanced by one.
 pub trait Origin: Copy {
@@ -13,6 +14,17 @@ pub trait Origin: Copy {
     fn advance(&self, k: u64) -> Self
         requires { k ≤ reach self.now }
         ensures { result ≡ advanced self.now k };
+
+    /// Whether a run of `len` cells goes on in one of `more` cells from `next`, so that both are one run. An origin may
+    /// always say no.
+    fn goes_on(&self, len: u64, next: &Self, more: u64) -> bool
+        ensures { IsTrue result → RunsOn advanced reach self.now len next.now more }
+    {
+        let _ = len;
+        let _ = next;
+        let _ = more;
+        false
+    }
 
     ghost advanced_by_none: { (o : Self) → advanced o 0 ≡ o };
 

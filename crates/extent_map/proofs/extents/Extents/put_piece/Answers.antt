@@ -1,26 +1,39 @@
-use Rattle.std.proofs.Common.{◌<◌, None, sym, ◌∙◌, ap, arith}
+use Rattle.std.proofs.Common.{◌≡◌, ◌+◌, ◌++◌, ◌<◌, ◌≤◌, None, List, Option, length, take, sym, ap, ◌∙◌, arith}
+use Rattle.std.proofs.lemmas.List.{nil_from_length, take_all}
 use Rattle.extent_map.specs.Cells.{put_cells}
-use Rattle.extent_map.proofs.Layouts.{put_no_piece, written_file, written_cells}
+use Rattle.extent_map.specs.Leaves.{cells_in}
+use Rattle.extent_map.proofs.CellLists.{put_none, put_to_end, length-put, resized_shorter}
+use Rattle.extent_map.proofs.LeafEdits.{length-cells_in}
 use Rattle.extent_map.proofs.extents.Extents.put_piece.Goals as goal
 
-pub returns-then-len-eq0 : goal.returns-then-len-eq0
-returns-then-len-eq0 g c = sym (put_no_piece _ c.args.origin c.args.len c.args.at c.args.self.now c.if-len-eq0.true)
+pub returns-then-piece-eq0 : goal.returns-then-piece-eq0
+returns-then-piece-eq0 g c =
+    sym (ap (λ (l : List (Option g.row.O.Denot)). put_cells None c.args.at l c.args.self.now) (nil_from_length (cells_in g.O.Origin.advanced c.args.piece) (length-cells_in g.O.Origin.advanced g.O.Origin.reach c.args.piece ∙ c.if-piece-eq0.true)) ∙ put_none None c.args.at c.args.self.now)
 
--- a call that ran out of memory left some of the cells, and none past the end
-pub invariant_of-self : goal.invariant_of-self
-invariant_of-self g c = record {
-  are_runs = c.in_err-write_over.ensures.runs;
-  fits = c.self.invariant.fits;
-  none_past = λ place le. c.in_err-write_over.ensures.err place (c.self.invariant.none_past place le);
-}
+pub returns-then-piece-size : goal.returns-then-piece-size
+returns-then-piece-size g c =
+    let some : 0 < length (cells_in g.O.Origin.advanced c.args.piece) = (omega (arith, c.if-piece-eq0.false, length-cells_in g.O.Origin.advanced g.O.Origin.reach c.args.piece)) in
+    let le : length c.args.self.now ≤ c.args.at + length (cells_in g.O.Origin.advanced c.args.piece) = omega (arith, c.if-piece-size.true, c.size.ensures.count, length-cells_in g.O.Origin.advanced g.O.Origin.reach c.args.piece) in
+    let from : c.args.at ≤ length c.args.self.now = omega (arith, c.if-at-eq0.true) in
+    sym (put_to_end None c.args.at (cells_in g.O.Origin.advanced c.args.piece) c.args.self.now some le
+    ∙ ap (λ (l : List (Option g.row.O.Denot)). l ++ (cells_in g.O.Origin.advanced c.args.piece)) (resized_shorter None c.args.at c.args.self.now from ∙ ap (λ n. take n c.args.self.now) c.if-at-eq0.true))
 
-pub invariant_of-self-2 : goal.invariant_of-self-2
-invariant_of-self-2 g c =
-    let some : 0 < c.args.len = omega (arith, c.if-len-eq0.false) in
-    written_file _ _ _ _ _ _ _ _ _ c.self.invariant c.in_ok-write_over.ensures.runs c.in_ok-write_over.ensures.cells some c.requires.end c.max-self-inside.ensures
+pub returns-in-Some : goal.returns-in-Some
+returns-in-Some g c =
+    let some : 0 < length (cells_in g.O.Origin.advanced c.args.piece) = (omega (arith, c.if-piece-eq0.false, length-cells_in g.O.Origin.advanced g.O.Origin.reach c.args.piece)) in
+    let is = c.in-Some.ensures in
+    let n : length c.args.self.now ≡ c.args.at = sym (ap length c.self.view_is) ∙ is.end in
+    let le : length c.args.self.now ≤ c.args.at + length (cells_in g.O.Origin.advanced c.args.piece) = omega (arith, n) in
+    let from : c.args.at ≤ length c.args.self.now = omega (arith, n) in
+    is.cells_are
+    ∙ ap (λ (l : List (Option g.row.O.Denot)). l ++ (cells_in g.O.Origin.advanced c.args.piece)) c.self.view_is
+    ∙ sym (put_to_end None c.args.at (cells_in g.O.Origin.advanced c.args.piece) c.args.self.now some le
+    ∙ ap (λ (l : List (Option g.row.O.Denot)). l ++ (cells_in g.O.Origin.advanced c.args.piece)) (resized_shorter None c.args.at c.args.self.now from ∙ take_all c.args.at c.args.self.now (omega (arith, n))))
 
-pub returns : goal.returns
-returns g c =
-    let some : 0 < c.args.len = omega (arith, c.if-len-eq0.false) in
-    written_cells _ _ _ _ _ _ _ _ _ c.self.invariant c.in_ok-write_over.ensures.runs c.in_ok-write_over.ensures.cells some c.requires.end c.max-self-inside.ensures
-    ∙ ap (put_cells None c.args.at _) c.self.view_is
+pub with-requires-2-clause-fits : goal.with-requires-2-clause-fits
+with-requires-2-clause-fits g c =
+    c.in_ok-taken.ensures.fits
+
+pub of-requires : goal.of-requires
+of-requires g c =
+    omega (arith, c.requires.end, c.in_ok-taken.ensures.fits, ap length c.in_ok-tree.ensures, length-put None c.args.at (cells_in g.O.Origin.advanced c.args.piece) c.in_ok-taken.field-0.cells (omega (arith, c.if-piece-eq0.false, length-cells_in g.O.Origin.advanced g.O.Origin.reach c.args.piece)), length-cells_in g.O.Origin.advanced g.O.Origin.reach c.args.piece)

@@ -1,6 +1,6 @@
-use Rattle.std.proofs.Common.{length, sym, ◌∙◌, ap}
-use Rattle.extent_map.proofs.Layouts.{length-cells_of}
+use Rattle.std.proofs.Common.{arith}
+use Rattle.extent_map.proofs.RootCells.{root_fits}
 use Rattle.extent_map.proofs.extents.Extents.size.Goals as goal
 
-pub returns-clause-count : goal.returns-clause-count
-returns-clause-count g c = sym (length-cells_of _ _ 0 c.self.inside.size) ∙ ap length c.self.view_is
+pub returns-clause-fits : goal.returns-clause-fits
+returns-clause-fits g c = omega (arith, c.size.ensures, root_fits g.O.Origin.advanced g.O.Origin.reach c.self.inside.root c.self.invariant)
