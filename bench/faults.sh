@@ -92,6 +92,7 @@ put('first-other-head', full(b'd', 2, long + other))
 # The last command of `taker` is a clone of the first's file, whose data begin at place 110 of `donor`.
 given = bytes(range(250)) * 80
 clone = dict(offset=0, clone_uuid=uuid(1), clone_ctransid=1, clone_path=b'1', clone_offset=0, clone_len=len(given))
+put('sourceless', full(b'c', 3, file(b'2') + command(16, path=b'2', **clone)))
 put('donor', full(b'a', 1, file(b'1', given)))
 put('taker', later(b'b', 2, long + file(b'2') + command(16, path=b'2', **clone)))
 put('donor-taker', full(b'b', 2, file(b'1', given) + long + file(b'2', given)))
@@ -578,12 +579,29 @@ printf '%s\n' 'store fault' \
     >wanted
 explain list nostore; explained 'what to do about a missing store' 5 note
 printf '%s\n' 'refused 1 1 17 13 NoParent' \
-    'btrsend: second, command 1: it stands on a subvolume that is not there: give the streams in the order in which they were sent' \
+    'btrsend: second, command 1: it stands on a subvolume that is not there: give the streams in the order in which they were sent; its UUID is 00000000-0000-0001-0000-000000000001' \
     >wanted
 explain compose none second; explained 'what to do about a missing parent' 1 note
+explain audit none /dev/stdin <second; sed -i 's/second,/\/dev\/stdin,/' wanted
+explained 'a file that is given as standard input is read again for the UUID' 1 note
+sed -i 's/; its UUID.*//' wanted
+cat second | BTRSEND_EXPLAIN=1 timeout 20 "$program" audit none /dev/stdin >out 2>note; status=$?
+explained 'a pipe is not' 1 note
+printf '%s\n' 'refused 1 3 79 28 NoSource' \
+    'btrsend: sourceless, command 3: a clone takes its data from a subvolume that is not there: give the streams of that one in front; its UUID is 00000000-0000-0001-0000-000000000001' \
+    >wanted
+explain audit none sourceless; explained 'what to do about a missing source' 1 note
 printf '%s\n' 'output fault' \
     'btrsend: standard output is a terminal, and a stream is no text: write it to a file or into a pipe' >wanted
 on_terminal compose none small second; explained 'no stream goes to a terminal' 4 shown
+printf '%s\n' 'output fault' \
+    'btrsend: standard output is one of the files that are read: write the stream to another file' >wanted
+for word in export compose; do
+    cp small itself
+    timeout 20 "$program" $word none itself >>itself 2>note; status=$?
+    explained "$word >> its own file ends" 4 note
+    case_is "$word leaves its own file as it was" "$(cmp small itself 2>&1)"
+done
 
 # ---- the files are as they were
 

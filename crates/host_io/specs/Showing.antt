@@ -1,5 +1,5 @@
 -- What a run says of how far it is, on one line of a terminal. This program's own.
-use Rattle.std.specs.Prelude.{ℕ, ◌+◌, ◌-◌, ◌*◌, ◌/◌, ◌%◌, ◌^◌, nat_lt, List, [], ◌∷◌, ◌++◌, take, codes, decimal, Bool, not, ◌&&◌, ◌||◌, if◌then◌else◌, min, Option, None, Some}
+use Rattle.std.specs.Prelude.{ℕ, ◌+◌, ◌-◌, ◌*◌, ◌/◌, ◌%◌, ◌^◌, nat_lt, List, [], ◌∷◌, ◌++◌, take, drop, length, codes, decimal, Bool, not, ◌&&◌, ◌||◌, if◌then◌else◌, min, Option, None, Some}
 use Rattle.std.specs.Io.KnownBytes.{Appends}
 use Rattle.send_model.specs.Printed.{escaped}
 
@@ -22,10 +22,14 @@ abbrev pub amounts : ℕ → Option ℕ → List ℕ
 amounts done None = amount (unit_of done) done ++ unit_name done
 amounts done (Some all) = amount (unit_of all) done ++ codes " of " ++ amount (unit_of all) all ++ unit_name all
 
--- The text: of the escaped name 30 bytes at the most, and 79 of all.
+-- A text of 30 bytes at the most, and of a longer one the last 27 bytes behind three points.
+unfoldable pub ending : List ℕ → List ℕ
+ending text = if nat_lt 30 (length text) then codes "..." ++ drop (length text - 27) text else text
+
+-- The text: of the escaped name 30 bytes at the most, those at its end, and 79 of all.
 abbrev pub text_of : (name : List ℕ) (pass done : ℕ) → Option ℕ → List ℕ
 text_of name pass done all =
-    take 79 (codes "btrsend: reading " ++ take 30 (escaped name) ++ codes ", pass " ++ decimal pass ++ codes ", " ++ amounts done all)
+    take 79 (codes "btrsend: reading " ++ ending (escaped name) ++ codes ", pass " ++ decimal pass ++ codes ", " ++ amounts done all)
 
 -- What clears the line from the cursor on.
 abbrev pub clears : List ℕ

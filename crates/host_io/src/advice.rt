@@ -155,6 +155,10 @@ pub(crate) fn about_words(words: &[String]) -> &'static str {
 pub(crate) const TO_A_TERMINAL: &str =
     "standard output is a terminal, and a stream is no text: write it to a file or into a pipe";
 
+/// What is said where standard output is one of the files that a stream is made of.
+pub(crate) const TO_ITSELF: &str =
+    "standard output is one of the files that are read: write the stream to another file";
+
 /// What to do about another note.
 pub(crate) fn about_note(note: &[u8]) -> Option<&'static str> {
     for (begins, advice) in NOTES {

@@ -2,9 +2,11 @@
 ghost use Rattle.std.specs.Prelude.{◌≡◌};
 
 use crate::advice::{about_note, about_refusal, about_words};
+use crate::missing::push_missing;
 use crate::named_files::NamedFiles;
 use guard_rules::number_of;
 use std::alloc::{AllocError, Global};
+use std::fs::Files;
 use std::io::IsTerminal;
 use std::{env, io};
 use sx_base::{Blob, Failed, Sink, escape_into, write_whole};
@@ -74,7 +76,8 @@ pub(crate) fn is_wanted(rt: &HostRuntime) -> bool {
 /// Writes the second line behind the note, where there is one and something is to be said of it. `trouble` is what the system said, with
 /// what it said it of, or nothing.
 /// Faults of the notes, and want of memory, are passed over.
-pub(crate) fn explain<N: Sink>(
+pub(crate) fn explain<R: Files, N: Sink>(
+    files: &R,
     alloc: Global,
     words: &[String],
     trouble: &[u8],
@@ -83,27 +86,38 @@ pub(crate) fn explain<N: Sink>(
     if notes.count == 0 {
         return;
     }
-    if let Ok(line) = line_about(alloc, notes.note(), words, trouble) {
+    if let Ok(line) = line_about(files, alloc, notes.note(), words, trouble) {
         let _ = write_whole(&mut notes.inner, line.as_slice());
     }
 }
 
 // The line about a note; without a byte where there is nothing to say.
-fn line_about(
+fn line_about<R: Files>(
+    files: &R,
     alloc: Global,
     note: &[u8],
     words: &[String],
     trouble: &[u8],
 ) -> Result<Blob, AllocError> {
-    let files = NamedFiles::of(words);
+    let named = NamedFiles::of(words);
     let mut line = Blob::new(alloc);
     line.push_all(b"btrsend: ")?;
     if note.starts_with(b"refused ") {
-        push_refused(note, files, &mut line)?;
+        push_refused(note, named, &mut line)?;
+        if let b"NoParent" | b"NoSource" = word_of(note, 5) {
+            push_missing(
+                files,
+                alloc,
+                named,
+                word_of(note, 1),
+                word_of(note, 3),
+                &mut line,
+            )?;
+        }
     } else if note.starts_with(b"usage") {
         line.push_all(about_words(words).as_bytes())?;
     } else {
-        push_subject(note, files, trouble, &mut line)?;
+        push_subject(note, named, trouble, &mut line)?;
         line.push_all(about_note(note).unwrap_or("").as_bytes())?;
     }
     line.push_all(b"\n")?;

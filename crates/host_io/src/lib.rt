@@ -6,6 +6,7 @@ mod disk_progress;
 mod explaining;
 mod help;
 mod line;
+mod missing;
 mod named_files;
 mod no_disk;
 mod out_sink;

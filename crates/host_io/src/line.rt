@@ -1,13 +1,15 @@
 // The line that says how far a run is.
 ghost use Rattle.std.specs.Prelude.{◌≡◌, ◌+◌, ◌≤◌, ◌<◌, ◌^◌, ◌++◌, length, take, decimal, IfOk, OnOk};
-ghost use Rattle.host_io.specs.Showing.{unit_of, unit_name, amount, amounts, text_of, line_of};
+ghost use Rattle.host_io.specs.Showing.{unit_of, unit_name, ending, amount, amounts, text_of, line_of};
 
 use itoa::Buffer;
 use std::alloc::{AllocError, Global};
 use sx_base::{Blob, escape_into};
 
-// Of an escaped name so many bytes are shown.
+// Of an escaped name so many bytes are shown, of a longer one the last 27 behind three points.
 const NAME: usize = 30;
+
+const END: usize = 27;
 // So many columns of a terminal the text takes at the most: one less than a terminal of 80 has.
 const COLUMNS: usize = 79;
 
@@ -46,12 +48,24 @@ fn whole_text(
     escape_into(name.as_bytes(), &mut shown)?;
     let mut text = Blob::new(alloc);
     text.push_all(b"btrsend: reading ")?;
-    text.push_all(front(shown.as_slice(), NAME))?;
+    push_ending(shown.as_slice(), &mut text)?;
     text.push_all(b", pass ")?;
     push_number(pass, &mut text)?;
     text.push_all(b", ")?;
     push_amounts(done, all, &mut text)?;
     Ok(text)
+}
+
+// Appends a text, of a long one its end.
+#[tactic(auto, unfolding(crate::specs::Showing::ending))]
+fn push_ending(text: &[u8], to: &mut Blob) -> Result<(), AllocError>
+    ensures { OnOk result (to.new ≡ to.old ++ ending text.now) }
+{
+    if text.len() > NAME {
+        to.push_all(b"...")?;
+        return to.push_all(&text[text.len() - END..]);
+    }
+    to.push_all(text)
 }
 
 fn push_amounts(done: u64, all: Option<u64>, to: &mut Blob) -> Result<(), AllocError>

@@ -1,5 +1,6 @@
 // Which words name files, and which give guards.
 use std::fs::{self, Files};
+use std::os::unix::fs::MetadataExt;
 
 /// The words of a run that name files. Where files take turns, guards stand among them.
 #[derive(Debug, Clone, Copy)]
@@ -46,6 +47,15 @@ impl<'a> NamedFiles<'a> {
         Some(sum)
     }
 
+    /// Whether one of them is the regular file that standard output goes to, of which `files` tells by the path /dev/stdout.
+    pub(crate) fn have_output<R: Files>(&self, files: &R) -> bool {
+        let Some(output) = place_of(files, "/dev/stdout") else {
+            return false;
+        };
+        self.words.iter().any(|word| !self.is_guard(word.as_str())
+            && place_of(files, word.as_str()) == Some(output))
+    }
+
     // Whether a word gives a guard.
     fn is_guard(&self, word: &str) -> bool {
         self.are_guards_among && is_guard_word(word)
@@ -81,6 +91,15 @@ pub(crate) fn bytes_of<R: Files>(files: &R, name: &str) -> Option<u64> {
         return None;
     }
     Some(about.len())
+}
+
+// The numbers of the device and the inode of a file, where it is a regular one.
+fn place_of<R: Files>(files: &R, name: &str) -> Option<(u64, u64)> {
+    let about = fs::metadata(files, name).ok()?;
+    if !about.is_file() {
+        return None;
+    }
+    Some((about.dev(), about.ino()))
 }
 
 // The words that name files, of those behind the first.

@@ -6,13 +6,16 @@ ghost use Rattle.sx_base.specs.Outside.{GivesAt};
 ghost use Rattle.host_io.specs.Counting.{one_more, CountsFaults, CountsLosses};
 
 use std::alloc::Global;
-use std::io::{BufReader, Read, Seek, SeekFrom};
+use std::io::{BufReader, ErrorKind, Read, Seek, SeekFrom};
 use std::rt::Files;
 use std::{fs, io};
 use sx_base::{Failed, Inputs, Lost};
 
 // How many files are open at the most.
 const OPEN_FILES: usize = 16;
+
+// So often a read is made again that a signal interrupts.
+const TRIES: u64 = 1000;
 
 /// Files of the system, named by their paths. They tell nothing of their bytes. Each `Failed` raises the count of faults, and
 /// each `Ended` that of ends; both end at the greatest u64. Of the last end the name and the place are kept; where there is no
@@ -177,10 +180,23 @@ impl<F: Read + Seek> OpenInput<F> {
             self.place = None;
             self.reader.seek(SeekFrom::Start(at))?;
         }
-        let count = self.reader.read(buf)?;
+        let count = read_on(&mut self.reader, buf)?;
         self.place = at.checked_add(count as u64);
         Ok(count)
     }
+}
+
+// Reads bytes, once more where a signal interrupts it.
+fn read_on<R: Read>(reader: &mut R, buf: &mut [u8]) -> io::Result<usize>
+    ensures { IfOk result (λ count. count ≤ length buf.new) }
+{
+    for _ in 0..TRIES {
+        match reader.read(buf) {
+            Err(error) if error.kind() == ErrorKind::Interrupted => {}
+            answer => return answer,
+        }
+    }
+    Err(ErrorKind::Interrupted.into())
 }
 
 impl<'a, R: Files> Inputs for PathInputs<'a, R> {

@@ -1,5 +1,5 @@
 // From the system's arguments, files and streams to the call that does the work.
-use crate::advice::TO_A_TERMINAL;
+use crate::advice::{TO_A_TERMINAL, TO_ITSELF};
 use crate::disk_progress::DiskProgress;
 use crate::explaining::{KeptNotes, explain, is_wanted};
 use crate::help::{HELP, VERSION};
@@ -40,10 +40,10 @@ pub fn start(rt: &HostRuntime) -> ExitCode {
             Err(_) => answered(&Answer::Ended(Outcome::OutputFault), &mut notes),
         };
     }
-    if writes_stream(&words) && rt.stdout().is_terminal() {
+    if let Some(why) = no_place_for_a_stream(rt, &words) {
         let status = answered(&Answer::Ended(Outcome::OutputFault), &mut notes);
         let _ = write_whole(&mut notes, b"btrsend: ");
-        let _ = write_whole(&mut notes, TO_A_TERMINAL.as_bytes());
+        let _ = write_whole(&mut notes, why.as_bytes());
         let _ = write_whole(&mut notes, b"\n");
         return status;
     }
@@ -51,6 +51,20 @@ pub fn start(rt: &HostRuntime) -> ExitCode {
         Ok(status) => ExitCode::from(status),
         Err(AllocError) => answered(&Answer::Ended(Outcome::NoMemory), &mut notes),
     }
+}
+
+// Why standard output can not take the stream that words ask for, if it can not: it is a terminal, or a file that is read for it.
+fn no_place_for_a_stream(rt: &HostRuntime, words: &[String]) -> Option<&'static str> {
+    if !writes_stream(words) {
+        return None;
+    }
+    if rt.stdout().is_terminal() {
+        return Some(TO_A_TERMINAL);
+    }
+    if NamedFiles::of(words).have_output(rt) {
+        return Some(TO_ITSELF);
+    }
+    None
 }
 
 // Whether words ask for a stream on standard output.
@@ -136,13 +150,14 @@ fn run_words<O: Sink, N: Sink, D: Disk + Drop>(
         &mut disk,
     );
     if is_wanted(rt) {
-        explain_run(rt.alloc(), words, status, why, &inputs, notes);
+        explain_run(rt, rt.alloc(), words, status, why, &inputs, notes);
     }
     Ok(status)
 }
 
 // Writes the second line of a run, for people, with what the system said.
 fn explain_run<R: Files, N: Sink>(
+    files: &R,
     alloc: Global,
     words: &[String],
     status: u8,
@@ -152,7 +167,7 @@ fn explain_run<R: Files, N: Sink>(
 ) {
     let mut trouble = Blob::new(alloc);
     if put_trouble(alloc, words, status, why, inputs, &mut trouble).is_ok() {
-        explain(alloc, words, trouble.as_slice(), notes);
+        explain(files, alloc, words, trouble.as_slice(), notes);
     }
 }
 
@@ -271,7 +286,7 @@ fn run_shown<D: Disk + Drop>(
         )
     };
     end_line(&screen);
-    explain_run(alloc, words, status, why, inputs.inputs(), &mut notes);
+    explain_run(rt, alloc, words, status, why, inputs.inputs(), &mut notes);
     status
 }
 

@@ -89,14 +89,14 @@ fn a_line_says_how_far_a_run_is(rt: HostRuntime) -> Result<(), Fail> {
             1,
             0,
             Some(0),
-            b"\rbtrsend: reading 012345678901234567890123456789, pass 1, 0.0 of 0.0 KiB\x1b[K",
+            b"\rbtrsend: reading ...345678901234567890123456789, pass 1, 0.0 of 0.0 KiB\x1b[K",
         ),
         (
             "0123456789012345678901234567890123456789",
             u64::MAX,
             0,
             Some(u64::MAX),
-            b"\rbtrsend: reading 012345678901234567890123456789, pass 18446744073709551615, 0.0\x1b[K",
+            b"\rbtrsend: reading ...345678901234567890123456789, pass 18446744073709551615, 0.0\x1b[K",
         ),
     ];
     for (name, pass, done, all, want) in table {
