@@ -9,7 +9,7 @@ use Rattle.send_model.specs.Subvolume.{NodeKind, File, Directory, SymbolicLink, 
 use Rattle.send_commands.specs.Writing.{IsWritable, IsShortEnough, IfSecond}
 use Rattle.sent_model.specs.Sent.{making}
 use Rattle.inode_commands.specs.Spelled.{CanPush, IsShortPath, HasLength}
-use Rattle.inode_commands.proofs.Frames.{room_of, room_len}
+use Rattle.receivable_form.proofs.Frames.{room_of, room_len}
 
 by_version : (b : Bool) (P : Type 0) → P → IfSecond b P
 by_version true P p = p

@@ -1,3 +1,2 @@
-pub mod Frames
 pub mod Can
 pub mod Joined

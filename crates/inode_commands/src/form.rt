@@ -6,7 +6,7 @@ ghost use Rattle.send_model.specs.Receivable.{receivable};
 ghost use Rattle.send_commands.specs.Meaning.{meaning_of};
 ghost use Rattle.inode_commands.specs.Spelled.{CanPush};
 
-use crate::receivable::push_receivable;
+use receivable_form::push_receivable;
 use send_commands::{Command, encode};
 use std::alloc::AllocError;
 use sx_base::Blob;

@@ -4,7 +4,6 @@
 mod form;
 mod making;
 mod plain;
-mod receivable;
 mod setting;
 mod spelling;
 

@@ -15,7 +15,7 @@ use Rattle.send_model.specs.Reading.{Frame, number16, number32, frame_with, fram
 use Rattle.send_model.proofs.Fuel.{required, not_refused}
 use Rattle.send_model.proofs.ReadSpelled.{two_back, four_back, ten_in_parts}
 use Rattle.send_model.proofs.Sound.{bytes_drop}
-use Rattle.stream_export.proofs.Frames.{text_of}
+use Rattle.receivable_form.proofs.Frames.{text_of}
 
 pub long_frame : (bytes : List ℕ) (frame : Frame) → frame_at bytes ≡ Ok frame → 10 ≤ length bytes
 unfolding frame_at

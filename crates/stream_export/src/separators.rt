@@ -7,10 +7,10 @@ ghost use Rattle.send_commands.specs.Meaning.{time_of};
 ghost use Rattle.inode_tree.specs.Kinds.{time_of as moment_of};
 ghost use Rattle.sx_base.specs.Bytes.{IsFront};
 
-use crate::spelling::push_times;
 use extent_map::Origin;
 use inode_tree::{Timestamp, Tree};
 use itoa::Buffer;
+use receivable_form::push_times;
 use send_commands::{Kind, Time};
 use std::alloc::{AllocError, Global};
 use sx_base::Blob;

@@ -3,7 +3,8 @@ use Rattle.send_model.specs.Command.{row}
 use Rattle.send_model.specs.Attribute.{PATH, PATH_LINK, FILE_OFFSET, DATA, Number, field_bytes}
 use Rattle.send_model.specs.Spelling.{attribute_bytes, body_of, frame_of}
 use Rattle.tlv_frame.specs.Frame.{Begun, head_room}
-use Rattle.stream_export.proofs.Frames.{text_of, two_body, by_writer, can_finish, finished, link_is}
+use Rattle.receivable_form.proofs.Frames.{text_of, two_body, by_writer, can_finish, finished}
+use Rattle.stream_export.proofs.Frames.{link_is}
 use Rattle.stream_export.proofs.separators.push_link.Goals.{In_ok-attr_bytes-2}
 use Rattle.stream_export.proofs.separators.push_link.Goals as goal
 

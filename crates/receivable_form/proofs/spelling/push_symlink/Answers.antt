@@ -4,9 +4,9 @@ use Rattle.send_model.specs.Attribute.{PATH, PATH_LINK}
 use Rattle.send_model.specs.Spelling.{attribute_bytes, body_of, frame_of}
 use Rattle.send_model.specs.Receivable.{number_zero}
 use Rattle.tlv_frame.specs.Frame.{Begun, head_room}
-use Rattle.stream_export.proofs.Frames.{text_of, symlink_attributes, symlink_is, three_body, by_writer, can_finish, finished}
-use Rattle.stream_export.proofs.spelling.push_symlink.Goals.{In_ok-attr_bytes-2}
-use Rattle.stream_export.proofs.spelling.push_symlink.Goals as goal
+use Rattle.receivable_form.proofs.Frames.{text_of, symlink_attributes, symlink_is, three_body, by_writer, can_finish, finished}
+use Rattle.receivable_form.proofs.spelling.push_symlink.Goals.{In_ok-attr_bytes-2}
+use Rattle.receivable_form.proofs.spelling.push_symlink.Goals as goal
 
 -- Where the frame begins, and what stands there before its header is put in.
 unfinished : (c : In_ok-attr_bytes-2) → (c.attr_bytes-2.new.self.start ≡ length c.args.to.now) × (c.attr_bytes-2.new.self.number ≡ 8) × (c.attr_bytes-2.new.to ≡ (c.args.to.now ++ head_room) ++ body_of c.args.version (symlink_attributes c.args.path.now c.args.path_link.now))

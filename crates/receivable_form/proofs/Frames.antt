@@ -1,14 +1,14 @@
--- A frame that is written attribute by attribute, and one that is written as it came.
+-- A frame that is written attribute by attribute, and the canonical one of a command of which nothing more is asked.
 use Rattle.std.specs.Prelude.{◌≡◌, ℕ, ◌+◌, ◌^◌, ◌<◌, ◌≤◌, ◌==◌, false, List, [], ◌∷◌, ◌++◌, length, take, drop}
 use Rattle.std.proofs.Common.{refl, sym, ap, ◌∙◌, arith, append_assoc, append-nil, length-append}
 use Rattle.std.proofs.lemmas.Bool.{and_right}
 use Rattle.std.proofs.Math.Seq.{take-append_seam, drop-append_seam}
-use Rattle.send_model.specs.Attribute.{HasRoom, Time, Moment, Number, field_bytes, MODE, RDEV, CTIME, MTIME, ATIME, PATH, PATH_LINK, FILE_OFFSET, DATA}
-use Rattle.send_model.specs.Command.{Command, kind_of, MkNod, Symlink, Write, Link, Unlink, Utimes, row}
+use Rattle.send_model.specs.Attribute.{HasRoom, Time, Moment, Number, field_bytes, MODE, RDEV, CTIME, MTIME, ATIME, PATH, PATH_LINK, DATA}
+use Rattle.send_model.specs.Command.{Command, kind_of, MkNod, Symlink, Utimes, row}
 use Rattle.send_model.specs.Spelling.{Attribute, attribute_bytes, attributes_of, body_of, frame_of, canonical}
 use Rattle.send_model.specs.Receivable.{number_zero, asked_for, receivable, receivable_attributes}
 use Rattle.send_model.proofs.Canonical.{attribute_len}
-use Rattle.tlv_frame.specs.Frame.{Begun, head_room}
+use Rattle.tlv_frame.specs.Frame.{head_room}
 
 -- ---- attributes one after the other
 
@@ -69,33 +69,21 @@ finished number start to body now written at is framed =
     framed ∙ ap (λ (n : ℕ). take n now ++ frame_of number (drop (n + 10) now)) at
     ∙ ap (λ (l : List ℕ). l ++ frame_of number (drop (length to + 10) now)) front ∙ ap (λ (l : List ℕ). to ++ frame_of number l) back
 
--- ---- the commands of separators
+-- ---- attributes by their values
 
 -- A path, or another of a command's texts, as an attribute.
 abbrev pub text_of : ℕ → List ℕ → Attribute
 text_of kind bytes = record { kind = kind; bytes = bytes }
 
-abbrev pub moment_of : ℕ → Time → Attribute
-moment_of kind time = record { kind = kind; bytes = field_bytes (Moment time) }
-
--- The attributes of each.
-pub unlink_is : (version : ℕ) (path : List ℕ) → frame_of 11 (body_of version (text_of PATH path ∷ [])) ≡ receivable version (Unlink path)
-unfolding receivable receivable_attributes attributes_of row
-unlink_is version path = refl
-
-pub link_is : (version : ℕ) (name path : List ℕ) → frame_of 10 (body_of version (text_of PATH name ∷ text_of PATH_LINK path ∷ [])) ≡ receivable version (Link name path)
-unfolding receivable receivable_attributes attributes_of row
-link_is version name path = refl
-
-pub touch_is : (version : ℕ) (path : List ℕ) → frame_of 15 (body_of version (text_of PATH path ∷ text_of FILE_OFFSET (field_bytes (Number 0)) ∷ text_of DATA [] ∷ [])) ≡ receivable version (Write path 0 [])
-unfolding receivable receivable_attributes attributes_of row
-touch_is version path = refl
-
--- ---- the commands of which more is asked
-
 -- A number as an attribute.
 abbrev pub count_of : ℕ → ℕ → Attribute
 count_of kind n = record { kind = kind; bytes = field_bytes (Number n) }
+
+-- A moment as an attribute.
+abbrev pub moment_of : ℕ → Time → Attribute
+moment_of kind time = record { kind = kind; bytes = field_bytes (Moment time) }
+
+-- ---- the commands of which more is asked
 
 -- The attributes of each, by its values.
 abbrev pub made_attributes : List ℕ → List Attribute
@@ -133,11 +121,6 @@ unfolding canonical receivable receivable_attributes
 plain_is version c none = sym (ap (λ (more : List Attribute). frame_of (row (kind_of c)).number (body_of version (more ++ attributes_of c))) none)
 
 -- ---- the writer
-
--- What the writer of a frame is.
-pub is_begun : (start number version : ℕ) (first now : Begun) → first ≡ record { start = start; number = number; version = version } → now ≡ first → (now.start ≡ start) × (now.number ≡ number) × (now.version ≡ version)
-is_begun start number version first now is same =
-    (ap (λ (w : Begun). w.start) (same ∙ is), ap (λ (w : Begun). w.number) (same ∙ is), ap (λ (w : Begun). w.version) (same ∙ is))
 
 -- One attribute more, by a writer of a version.
 pub by_writer : (version said : ℕ) (to now : List ℕ) (a : Attribute) → said ≡ version → now ≡ to ++ attribute_bytes said a → now ≡ to ++ attribute_bytes version a

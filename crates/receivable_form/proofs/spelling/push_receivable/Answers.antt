@@ -1,5 +1,5 @@
 use Rattle.std.proofs.Common.{rules}
-use Rattle.stream_export.proofs.spelling.push_receivable.Goals as goal
+use Rattle.receivable_form.proofs.spelling.push_receivable.Goals as goal
 
 pub returns-in-MkNod-clause-added : goal.returns-in-MkNod-clause-added
 returns-in-MkNod-clause-added c = search rules

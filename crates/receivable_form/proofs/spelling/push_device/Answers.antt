@@ -4,9 +4,9 @@ use Rattle.send_model.specs.Attribute.{MODE, RDEV, PATH}
 use Rattle.send_model.specs.Spelling.{attribute_bytes, body_of, frame_of}
 use Rattle.send_model.specs.Receivable.{number_zero}
 use Rattle.tlv_frame.specs.Frame.{Begun, head_room}
-use Rattle.inode_commands.proofs.Frames.{text_of, count_of, device_attributes, device_is, four_body, by_writer, can_finish, finished}
-use Rattle.inode_commands.proofs.receivable.push_device.Goals.{In_ok-attr_bytes}
-use Rattle.inode_commands.proofs.receivable.push_device.Goals as goal
+use Rattle.receivable_form.proofs.Frames.{text_of, count_of, device_attributes, device_is, four_body, by_writer, can_finish, finished}
+use Rattle.receivable_form.proofs.spelling.push_device.Goals.{In_ok-attr_bytes}
+use Rattle.receivable_form.proofs.spelling.push_device.Goals as goal
 
 -- Where the frame begins, and what stands there before its header is put in.
 unfinished : (c : In_ok-attr_bytes) → (c.attr_bytes.new.self.start ≡ length c.args.to.now) × (c.attr_bytes.new.self.number ≡ 5) × (c.attr_bytes.new.to ≡ (c.args.to.now ++ head_room) ++ body_of c.args.version (device_attributes c.args.mode c.args.rdev c.args.path.now))

@@ -16,17 +16,16 @@ use tlv_frame::attribute_numbers::{
     ATIME, CTIME, INO, MODE, MTIME, PATH as PATH_NUMBER, PATH_LINK, RDEV,
 };
 
-// Appends a command. One of which more is asked than its wanted attributes is spelled here, attribute by attribute.
+/// Appends a command in the receivable spelling of a version, 1 or 2. One of which more is asked than its wanted attributes is spelled
+/// attribute by attribute; the number of an inode that is made is 0. Fails for want of memory alone; then a part of the frame may stand
+/// behind what stood there.
 #[tactic(auto, unfolding(send_model::specs::Receivable::receivable, send_model::specs::Receivable::receivable_attributes, send_model::specs::Spelling::attributes_of, send_model::specs::Command::row, send_commands::specs::Writing::IsWritable), using(crate::proofs::Frames::short_text))]
-pub(crate) fn push_receivable(
-    command: &Command,
-    version: u32,
-    to: &mut Blob,
-) -> Result<(), AllocError>
+pub fn push_receivable(command: &Command, version: u32, to: &mut Blob) -> Result<(), AllocError>
     requires writable { IsWritable version (meaning_of command.now) }
     requires short { IsShortEnough version (meaning_of command.now) }
     ensures added { OnOk result
         (to.new ≡ to.old ++ receivable version (meaning_of command.now)) }
+    ensures kept { IsFront to.old to.new }
 {
     match command {
         Command::MkFile { path } => push_made(Kind::MkFile, path.as_slice(), version, to),
@@ -70,6 +69,7 @@ fn push_plain(command: &Command, version: u32, to: &mut Blob) -> Result<(), Allo
     requires short { IsShortEnough version (meaning_of command.now) }
     ensures added { OnOk result
         (to.new ≡ to.old ++ receivable version (meaning_of command.now)) }
+    ensures kept { IsFront to.old to.new }
 {
     encode(command, version, to)
 }
@@ -132,8 +132,9 @@ fn push_symlink(
     Ok(())
 }
 
-// Appends UTIMES.
-fn push_times(
+/// Appends UTIMES in the receivable spelling of a version, 1 or 2. The time of the last change is that of the contents. Fails for want
+/// of memory alone; then a part of the frame may stand behind what stood there.
+pub fn push_times(
     mtime: Time,
     atime: Time,
     path: &[u8],

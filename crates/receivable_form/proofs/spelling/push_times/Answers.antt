@@ -4,9 +4,9 @@ use Rattle.send_model.specs.Attribute.{CTIME, MTIME, ATIME, PATH, Moment, field_
 use Rattle.send_model.specs.Spelling.{attribute_bytes, body_of, frame_of}
 use Rattle.send_commands.specs.Meaning.{time_of}
 use Rattle.tlv_frame.specs.Frame.{Begun, head_room}
-use Rattle.stream_export.proofs.Frames.{text_of, moment_of, times_attributes, times_are, four_body, by_writer, with_bytes, can_finish, finished}
-use Rattle.stream_export.proofs.spelling.push_times.Goals.{In_ok-attr_bytes-4}
-use Rattle.stream_export.proofs.spelling.push_times.Goals as goal
+use Rattle.receivable_form.proofs.Frames.{text_of, moment_of, times_attributes, times_are, four_body, by_writer, with_bytes, can_finish, finished}
+use Rattle.receivable_form.proofs.spelling.push_times.Goals.{In_ok-attr_bytes-4}
+use Rattle.receivable_form.proofs.spelling.push_times.Goals as goal
 
 -- Where the frame begins, and what stands there before its header is put in.
 unfinished : (c : In_ok-attr_bytes-4) → (c.attr_bytes-4.new.self.start ≡ length c.args.to.now) × (c.attr_bytes-4.new.self.number ≡ 20) × (c.attr_bytes-4.new.to ≡ (c.args.to.now ++ head_room) ++ body_of c.args.version (times_attributes (time_of c.args.mtime) (time_of c.args.atime) c.args.path.now))
