@@ -248,7 +248,7 @@ for chain in 'small second' 'first second'; do
     refused "a full device, $chain" 4 'output fault'
     timeout 20 "$program" compose none $chain 2>note >&-; status=$?
     refused "a closed output, $chain" 4 'output fault'
-    timeout 20 "$program" compose none $chain 2>note 1<second; status=$?
+    timeout 20 "$program" compose none $chain 2>note 1<third; status=$?
     refused "an output that is open for reading, $chain" 4 'output fault'
     # The only reader is gone before the program begins.
     exec 3<>nobody 4>nobody 3>&-
