@@ -603,6 +603,28 @@ for word in export compose; do
     case_is "$word leaves its own file as it was" "$(cmp small itself 2>&1)"
 done
 
+# ---- names for the parts of files
+
+printf '%s\n' 'refused 2 1 17 10 BadName' \
+    'btrsend: second, command 1: the name is not lawful: write name:NEW in front of the file, with a lawful one' >wanted
+explain audit none small name:. second; explained 'the file is named and not the word in front of it' 1 note
+printf '%s\n' 'refused 1 1 17 13 NoParent' \
+    'btrsend: second, command 1: it stands on a subvolume that is not there: give the streams in the order in which they were sent; its UUID is 00000000-0000-0001-0000-000000000001' \
+    >wanted
+explain audit none name:other second; explained 'a missing parent of a file with a name' 1 note
+printf '%s\n' 'usage' 'btrsend: a file stands behind the name that is given for it' >wanted
+explain audit none small name:other; explained 'a name behind the last file' 2 note
+cp small itself
+printf '%s\n' 'output fault' \
+    'btrsend: standard output is one of the files that are read: write the stream to another file' >wanted
+timeout 20 env BTRSEND_EXPLAIN=1 "$program" compose none name:other itself >>itself 2>note; status=$?
+explained 'a file with a name is not written to itself' 4 note
+cp small name:x
+timeout 20 "$program" audit none ./name:x >out 2>note; status=$?
+case_is 'a file that is called like a name' "$([ "$status" = 0 ] || echo "status $status")"
+timeout 20 "$program" audit none name:1 small name:2 second >out 2>note; status=$?
+case_is 'a chain with names' "$([ "$status" = 0 ] && grep -q '^accepted 2 ' out || echo "status $status, $(cat out note)")"
+
 # ---- the files are as they were
 
 for name in small first second third damaged donor taker; do

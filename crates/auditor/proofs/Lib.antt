@@ -1,6 +1,7 @@
 pub mod Runs
 pub mod Steps
 pub mod Short
+pub mod Named
 pub mod TooLong
 pub mod Dues
 pub mod OneFile

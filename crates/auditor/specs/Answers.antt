@@ -7,8 +7,11 @@ use Rattle.send_model.specs.Store.{Store, After}
 use Rattle.send_model.specs.Guards.{Guard}
 use Rattle.send_model.specs.Order.{heads}
 use Rattle.send_model.specs.Headline.{IsProperFrontOf}
-use Rattle.send_model.specs.Due.{Due, DoneWhole, RefusedAt, TooLong, limited_from, audit_due, accepted_line}
-use Rattle.send_model.specs.Words.{Audit, EndSays}
+use Rattle.send_model.specs.Due.{Due, DoneWhole, RefusedAt, TooLong, limited_from, audit_due_of, accepted_line_of}
+use Rattle.send_model.specs.Words.{Audit}
+use Rattle.send_model.specs.Renamed.{Names, renamed, renamed_limited}
+use Rattle.send_model.specs.Sources.{EndSaysOf}
+use Rattle.part_names.specs.Naming.{sources_named}
 use Rattle.sx_base.specs.Causes.{Rose}
 use Rattle.sx_base.specs.Outside.{AppendsPart}
 use Rattle.sx_base.specs.Calls.{EndsAs}
@@ -22,7 +25,7 @@ use Rattle.clone_resolve.specs.declared.done.Done.{Done}
 use Rattle.clone_resolve.specs.declared.done.Done.TheVariants as did
 use Rattle.auditor.specs.declared.counts.Counts.{Counts}
 use Rattle.auditor.specs.declared.counts.Totals.{Totals}
-use Rattle.auditor.specs.Following.{Followed, follow, AreAccepted, due_from_here, file_read, read_whole}
+use Rattle.auditor.specs.Following.{Followed, follow, AreAccepted, due_from_here, named_read, file_read, read_whole}
 
 -- An outcome that ends an audit early is the answer that is due. Nothing is said where the inputs failed or there is no memory.
 abbrev pub Stops : Due → Outcome → Type 0
@@ -72,27 +75,27 @@ pub record AreCounted (parts commands : ℕ) (items : List Item) : Type 0 where
   pub parts_are : parts ≡ length (heads items)
   pub commands_are : commands ≡ length items
 
--- All commands of a file are accepted, and counted.
-pub record FileAccepted (file : ℕ) (old new : Followed) (counts : Counts) (bytes : List ℕ) : Type 0 where
+-- All commands of a file are accepted, and counted, with the name that is given with it for its heads.
+pub record FileAccepted (name : Option (List ℕ)) (file : ℕ) (old new : Followed) (counts : Counts) (bytes : List ℕ) : Type 0 where
   pub items : List Item
-  pub read : file_read file bytes ≡ read_whole items
+  pub read : named_read name (file_read file bytes) ≡ read_whole items
   pub all : AreAccepted old items new
   pub counted : AreCounted counts.parts counts.commands items
 
-abbrev pub FileEnds : ℕ → Followed → Followed → Result Counts Outcome → List ℕ → Type 0
-FileEnds file old new (Ok counts) bytes = FileAccepted file old new counts bytes
-FileEnds file old new (Err outcome) bytes = Stops (due_from_here old (file_read file bytes)) outcome
+abbrev pub FileEnds : Option (List ℕ) → ℕ → Followed → Followed → Result Counts Outcome → List ℕ → Type 0
+FileEnds name file old new (Ok counts) bytes = FileAccepted name file old new counts bytes
+FileEnds name file old new (Err outcome) bytes = Stops (due_from_here old (named_read name (file_read file bytes))) outcome
 
 -- ---- all files
 
--- All commands of the files are accepted, and counted.
-pub record AllAccepted (start : Followed) (totals : Totals) (files : List (List ℕ)) : Type 0 where
-  pub done : due_from_here start (limited_from 1 files) ≡ DoneWhole
-  pub counted : AreCounted totals.parts totals.commands (input files).items
+-- All commands of the files, with the names that are given, are accepted, and counted.
+pub record AllAccepted (names : Names) (start : Followed) (totals : Totals) (files : List (List ℕ)) : Type 0 where
+  pub done : due_from_here start (renamed_limited names (limited_from 1 files)) ≡ DoneWhole
+  pub counted : AreCounted totals.parts totals.commands (renamed names (input files)).items
 
-abbrev pub AllEnd : Followed → Result Totals Outcome → List (List ℕ) → Type 0
-AllEnd start (Ok totals) files = AllAccepted start totals files
-AllEnd start (Err outcome) files = Stops (due_from_here start (limited_from 1 files)) outcome
+abbrev pub AllEnd : Names → Followed → Result Totals Outcome → List (List ℕ) → Type 0
+AllEnd names start (Ok totals) files = AllAccepted names start totals files
+AllEnd names start (Err outcome) files = Stops (due_from_here start (renamed_limited names (limited_from 1 files))) outcome
 
 -- ---- the line
 
@@ -113,9 +116,10 @@ WritesLine text old new before now (ended.InputChanged file place) = ⊥
 
 -- ---- the whole call
 
--- The outcome is the answer that is due to an audit of the files over a store, under guards, and what was written stands with it:
--- the line where all is accepted, a proper front part of it where the output failed then, and else nothing.
-abbrev pub AuditEnds : Store ℕ → List Guard → List (List ℕ) → Outcome → List ℕ → Type 0
-AuditEnds store guards files outcome written =
-    EndsAs (audit_due store guards files) (EndSays (Audit [] 0 0) store files) (λ w. w ≡ [])
-    (λ w. (audit_due store guards files ≡ DoneWhole) × IsProperFrontOf (accepted_line files) w) outcome written
+-- The outcome is the answer that is due to an audit of the files, with the names that are given, over a store, under guards, and what was
+-- written stands with it: the line where all is accepted, a proper front part of it where the output failed then, and else nothing.
+abbrev pub AuditEnds : Store ℕ → List Guard → Names → List (List ℕ) → Outcome → List ℕ → Type 0
+AuditEnds store guards names files outcome written =
+    EndsAs (audit_due_of store guards (renamed_limited names (limited_from 1 files))) (EndSaysOf (Audit [] 0 0) store (sources_named names files)) (λ w. w ≡ [])
+    (λ w. (audit_due_of store guards (renamed_limited names (limited_from 1 files)) ≡ DoneWhole) × IsProperFrontOf (accepted_line_of (renamed names (input files)).items) w)
+    outcome written

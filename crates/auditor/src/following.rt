@@ -1,11 +1,13 @@
 // Following commands: each is looked at by the guards, and then it is one step of the core.
-ghost use Rattle.std.specs.Prelude.{◌≡◌, ◌≤◌, ◌^◌, ℕ, map, None, IfOk, IfErr};
-ghost use Rattle.std.specs.Option.{option_map};
+ghost use Rattle.std.specs.Prelude.{◌≡◌, ◌≤◌, ◌^◌, ℕ, map, None, IfOk, IfErr, IfSome};
+ghost use Rattle.std.specs.Option.{option_copied, option_map};
 ghost use Rattle.send_model.specs.Cells.{recelled};
+ghost use Rattle.send_model.specs.Renamed.{named_as};
 ghost use Rattle.sx_base.specs.Calls.{IsStop};
 ghost use Rattle.send_commands.specs.Meaning.{meaning_of};
 ghost use Rattle.clone_resolve.specs.Steps.{data_len, done_by, Answers};
 ghost use Rattle.cmd_reader.specs.Next.{item_of};
+ghost use Rattle.part_names.specs.Naming.{IsShort};
 ghost use Rattle.auditor.specs.Following.{blank, blank_step, beside, follow};
 ghost use Rattle.auditor.specs.Answers.{Follows, ItemEnds};
 
@@ -14,9 +16,11 @@ use cmd_reader::Item;
 use extent_map::Origin;
 use guard_rules::{Guard, look_all};
 use inode_tree::Tree;
+use part_names::rename;
 use send_commands::Command;
+use std::alloc::Global;
 use std::marker::Model;
-use sx_base::{Outcome, Refusal, Stop, Verdict};
+use sx_base::{Blob, Outcome, Refusal, Stop, Verdict};
 
 /// The subvolumes and the part so far, seen without their cells, and the origin of every WRITE.
 #[derive(Drop)]
@@ -104,7 +108,7 @@ fn count_of(guard: &Box<dyn Guard>) -> u64
 }
 
 // The next command of a file, which is the given one of several: it is accepted, or its outcome ends the audit.
-pub(crate) fn follow_item<R: Origin>(
+fn follow_item<R: Origin>(
     follower: &mut Follower<R>,
     guards: &mut [Box<dyn Guard>],
     file: u64,
@@ -124,5 +128,27 @@ pub(crate) fn follow_item<R: Origin>(
             offset: item.offset,
             refusal,
         })),
+    }
+}
+
+// The same, with the name that is given for the parts of the file.
+pub(crate) fn follow_named<R: Origin>(
+    alloc: Global,
+    follower: &mut Follower<R>,
+    guards: &mut [Box<dyn Guard>],
+    file: u64,
+    new_name: Option<&Blob>,
+    item: Item,
+) -> Result<Done, Outcome>
+    requires short { data_len (meaning_of item.command) ≤ 2 ^ 18 }
+    requires name_fits { IfSome (option_copied new_name) IsShort }
+    ensures stops { IfErr result IsStop }
+    ensures followed { ItemEnds (beside (map (λ g. kept g) guards.old) follower.old)
+        (beside (map (λ g. kept g) guards.new) follower.new)
+        (named_as (option_copied new_name.entry) (item_of file item)) result }
+{
+    match rename(alloc, new_name, item) {
+        Ok(item) => follow_item(follower, guards, file, &item),
+        Err(_) => Err(Outcome::NoMemory),
     }
 }

@@ -7,15 +7,19 @@ use Rattle.send_model.specs.Reading.{Item, reads}
 use Rattle.send_model.specs.Order.{commands_of}
 use Rattle.send_model.specs.Counts.{literal}
 use Rattle.send_model.specs.Generated.{chain_of, trial_line}
-use Rattle.send_model.specs.Headline.{IsComposed, whole_output}
+use Rattle.send_model.specs.Headline.{IsComposed, IsComposedOf, whole_output}
 use Rattle.send_model.specs.Due.{DoneWhole, compose_due}
 use Rattle.send_model.specs.Lengths.{limit}
-use Rattle.send_model.specs.Words.{Gen, Trial, due, whole_of}
+use Rattle.send_model.specs.Words.{Compose, Gen, Trial, due, whole_of}
+use Rattle.send_model.specs.Renamed.{Names}
+use Rattle.send_model.specs.Sources.{Sources, sources, due_of, whole_from}
+use Rattle.send_model.proofs.SourceLaws.{no_names_change_nothing}
 use Rattle.sx_base.specs.Outside.{AppendsPart, file_at}
 use Rattle.sx_base.specs.Calls.{IfAllTold, Wrote, Ends}
 use Rattle.sx_base.specs.declared.outcome.Outcome.{Outcome}
 use Rattle.sx_base.specs.declared.outcome.Outcome.TheVariants as ended
 use Rattle.cmd_reader.specs.Places.{IfTold}
+use Rattle.part_names.specs.Naming.{sources_named}
 use Rattle.composer.specs.Files.{ComposeEnds}
 use Rattle.chain_trial.specs.declared.counting.Counted.{Counted}
 use Rattle.chain_trial.specs.declared.trying.Numbers.{Numbers}
@@ -46,21 +50,22 @@ pub record IsDone (chain written : List ℕ) : Type 0 where
   pub all : written ≡ whole_output [] (chain ∷ [])
   pub composed : IsComposed [] (chain ∷ []) written
 
-pub composed_written : (table : List (List ℕ × List ℕ)) (names : List (List ℕ)) (chain old new : List ℕ) (outcome : Outcome) → table ≡ alone chain → names ≡ codes "chain" ∷ [] → old ≡ [] → outcome ≡ ended.Done
-    → IfAllTold (Some table) names (λ told. Wrote (Some old) (Some new) (ComposeEnds [] told outcome)) → IsDone chain new
-unfolding due whole_of
-composed_written table names chain old new outcome table_is names_are none done wrote =
-    let Here : List (List ℕ) → List ℕ → Outcome → Type 0 = λ told o x. Wrote (Some o) (Some new) (ComposeEnds [] told x) in
+pub composed_written : (table : List (List ℕ × List ℕ)) (names : List (List ℕ)) (given : Names) (chain old new : List ℕ) (outcome : Outcome) → table ≡ alone chain → names ≡ codes "chain" ∷ [] → given ≡ [] → old ≡ [] → outcome ≡ ended.Done
+    → IfAllTold (Some table) names (λ told. Wrote (Some old) (Some new) (ComposeEnds [] given told outcome)) → IsDone chain new
+composed_written table names given chain old new outcome table_is names_are no_names none done wrote =
+    let Here : List (List ℕ) → List ℕ → Outcome → Type 0 = λ told o x. Wrote (Some o) (Some new) (ComposeEnds [] given told x) in
     let at : IfAllTold (Some (alone chain)) (codes "chain" ∷ []) (λ told. Here told old outcome) =
     subst (λ (ns : List (List ℕ)). IfAllTold (Some (alone chain)) ns (λ told. Here told old outcome)) names_are
     (subst (λ (t : List (List ℕ × List ℕ)). IfAllTold (Some t) names (λ told. Here told old outcome)) table_is wrote) in
     let named : Here (chain ∷ []) old outcome = subst (λ (bytes : List ℕ). Here (bytes ∷ []) old outcome) (found chain) at in
     let w : Here (chain ∷ []) [] ended.Done = subst (λ (x : Outcome). Here (chain ∷ []) [] x) done (subst (λ (o : List ℕ). Here (chain ∷ []) o outcome) none named) in
     let is : new ≡ w.0 = w.1 in
+    -- The chain's parts keep their names.
+    let read : sources_named given (chain ∷ []) ≡ sources (chain ∷ []) = ap (λ (ns : Names). sources_named ns (chain ∷ [])) no_names ∙ no_names_change_nothing (sources (chain ∷ [])) in
     record {
-      due_is = w.2.ends.0;
-      all = is ∙ w.2.ends.1;
-      composed = subst (λ (l : List ℕ). IsComposed [] (chain ∷ []) l) (sym is) (w.2.composed refl);
+      due_is = subst (λ (r : Sources). due_of (Compose 1 2) [] r ≡ DoneWhole) read w.2.ends.0;
+      all = is ∙ subst (λ (r : Sources). w.0 ≡ whole_from (Compose 1 2) [] r) read w.2.ends.1;
+      composed = subst (λ (l : List ℕ). IsComposed [] (chain ∷ []) l) (sym is) (subst (λ (r : Sources). IsComposedOf [] r.reading w.0) read (w.2.composed refl));
     }
 
 -- The file was counted.

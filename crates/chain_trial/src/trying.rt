@@ -9,6 +9,7 @@ ghost use Rattle.chain_trial.specs.Trying.{IfTried, line_text};
 use crate::counting::count_file;
 use composer::compose;
 use itoa::Buffer;
+use part_names::PartNames;
 use std::alloc::{AllocError, Global};
 use stream_gen::write_chain;
 use sx_base::{Blob, MemSink, Outcome, PlainInputs, Sink, write_whole};
@@ -96,7 +97,8 @@ fn numbers_of(alloc: Global, count: u64, seed: u64) -> Option<Numbers>
     let mut inputs = file_of(alloc, chain.bytes())?;
     let names = names_of(alloc)?;
     let mut composed = MemSink::new(alloc);
-    let Outcome::Done = compose(alloc, &mut inputs, &names, &mut composed) else {
+    let kept = PartNames::none(alloc);
+    let Outcome::Done = compose(alloc, &mut inputs, &names, &kept, &mut composed) else {
         return None;
     };
     let read = count_file(alloc, &mut inputs, NAME)?;

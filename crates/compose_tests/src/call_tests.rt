@@ -4,6 +4,7 @@ ghost use Rattle.std.specs.Prelude.{None, string_bytes};
 use crate::streams::{CLONE_FROM_A, END, FIRST, HEADER, MKFILE_Y, SNAPSHOT_B, joined};
 use crate::values::two_names;
 use composer::compose;
+use part_names::PartNames;
 use std::alloc::{AllocError, Global};
 use std::test::Fail;
 use sx_base::{Failed, Inputs, Lost, MemSink, Outcome, PlainInputs};
@@ -137,9 +138,10 @@ fn two_files(alloc: Global, ended: bool) -> Result<ListedInputs, AllocError> {
 fn each_file_is_asked_for_once_in_a_pass(rt: HostRuntime) -> Result<(), Fail> {
     let mut inputs = two_files(rt.alloc(), false)?;
     let names = two_names(rt.alloc())?;
+    let own = PartNames::none(rt.alloc());
     let mut out = MemSink::new(rt.alloc());
     assert_eq!(rt;
-        compose(rt.alloc(), &mut inputs, &names, &mut out),
+        compose(rt.alloc(), &mut inputs, &names, &own, &mut out),
         Outcome::Done
     );
     let first = joined(rt.alloc(), FIRST)?;
@@ -166,9 +168,10 @@ fn each_file_is_asked_for_once_in_a_pass(rt: HostRuntime) -> Result<(), Fail> {
 fn data_that_are_gone_are_no_data(rt: HostRuntime) -> Result<(), Fail> {
     let mut inputs = two_files(rt.alloc(), true)?;
     let names = two_names(rt.alloc())?;
+    let own = PartNames::none(rt.alloc());
     let mut out = MemSink::new(rt.alloc());
     assert_eq!(rt;
-        compose(rt.alloc(), &mut inputs, &names, &mut out),
+        compose(rt.alloc(), &mut inputs, &names, &own, &mut out),
         Outcome::InputChanged {
             file: 1,
             place: PLACE

@@ -18,6 +18,7 @@ use clone_pieces::{Known, OutsideBytes};
 use clone_resolve::{EditCore, Part};
 use composer::compose_over;
 use file_survey::{Survey, survey};
+use part_names::PartNames;
 use provenance::{Ends, Trace};
 use send_commands::Command;
 use std::alloc::{AllocError, Global};
@@ -173,7 +174,7 @@ fn over(
 ) -> Outcome
     requires some { files.now ≢ [] }
     requires surveyed { IfAllTold (Some inputs.old.files) (map string_bytes files.now)
-        (SurveyEnd (Ok seen.now)) }
+        (SurveyEnd [] (Ok seen.now)) }
     requires had { AllCells (IsHad 0 (held_store (key_of bytes.old.key))) (start_of core) }
     requires apart { is_among seen.now.parts bytes.old.key.uuid ≡ false }
     ensures steady { SteadyIfDone bytes.old.faults bytes.new.faults result }
@@ -181,7 +182,8 @@ fn over(
         (inputs.new.faults + bytes.new.faults) out.old.faults out.new.faults result }
 {
     let known = Silent { key: bytes.key };
-    compose_over(alloc, seen, core, &known, bytes, inputs, files, out)
+    let own = PartNames::none(alloc);
+    compose_over(alloc, seen, core, &known, bytes, inputs, files, &own, out)
 }
 
 // Composes two files over the base, of whose reads one fails; gives the outcome, what is written, and how often the base was read
@@ -206,7 +208,7 @@ fn composed(
         calls: 0,
         faults: 0,
     };
-    let Ok(seen) = survey(alloc, &mut inputs, &names) else {
+    let Ok(seen) = survey(alloc, &mut inputs, &names, &PartNames::none(alloc)) else {
         panic!(rt; "the files are not surveyed")
     };
     assert!(rt; !seen.has_part(key.uuid));

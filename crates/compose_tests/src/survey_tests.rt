@@ -4,6 +4,7 @@ use crate::streams::{
 };
 use crate::values::{key, two_names, uuid};
 use file_survey::{Survey, survey};
+use part_names::PartNames;
 use std::alloc::{AllocError, Global};
 use std::process::Abort;
 use std::test::Fail;
@@ -38,7 +39,8 @@ fn surveyed(
     inputs.add("first", joined(alloc, first)?.as_slice())?;
     inputs.add("second", joined(alloc, second)?.as_slice())?;
     let files = two_names(alloc)?;
-    Ok(survey(alloc, &mut inputs, files.as_slice()))
+    let own = PartNames::none(alloc);
+    Ok(survey(alloc, &mut inputs, files.as_slice(), &own))
 }
 
 #[test]

@@ -5,6 +5,7 @@ use crate::streams::{
     joined,
 };
 use composer::compose;
+use part_names::PartNames;
 use std::alloc::{AllocError, Global};
 use std::process::Abort;
 use std::test::Fail;
@@ -29,9 +30,10 @@ fn expect(
         names.push(String::from_str(alloc, name)?)?;
     }
     assert!(rt; names.len() == files.len() && !names.is_empty());
+    let own = PartNames::none(alloc);
     let mut out = MemSink::new(alloc);
     assert_eq!(rt;
-        compose(alloc, &mut inputs, &names, &mut out),
+        compose(alloc, &mut inputs, &names, &own, &mut out),
         Outcome::Done
     );
     assert_eq!(rt; out.bytes(), joined(alloc, written)?.as_slice());

@@ -1,9 +1,9 @@
 -- Composing one file, item by item: what its loop keeps, and what holds at each of its ends.
-use Rattle.std.specs.Prelude.{◌≡◌, ◌⊎◌, ℕ, ◌+◌, ◌≤◌, ◌<◌, List, [], ◌∷◌, ◌++◌, length, take, get_or, Option, None, Some, Ok, Err}
+use Rattle.std.specs.Prelude.{◌≡◌, ◌⊎◌, ℕ, ◌+◌, ◌≤◌, ◌<◌, List, [], ◌∷◌, ◌++◌, length, map, take, get_or, Option, None, Some, Ok, Err}
 use Rattle.std.specs.Io.KnownBytes.{Appends}
 use Rattle.std.proofs.Common.{refl, sym, ap, subst, ◌∙◌, append-nil, arith, inl, inr, ⊎_elim}
 use Rattle.std.proofs.Math.Seq.{take-append-add}
-use Rattle.std.proofs.lemmas.List.{length-append}
+use Rattle.std.proofs.lemmas.List.{length-append, map-append}
 use Rattle.std.proofs.KnownBytes.{Appends-nil, Appends-trans}
 use Rattle.send_model.specs.Reading.{Item, Reading, Whole, with_item, reads}
 use Rattle.send_model.specs.Receive.{first_of}
@@ -12,6 +12,7 @@ use Rattle.send_model.specs.Order.{heads, last_item}
 use Rattle.send_model.specs.Composed.{last_head}
 use Rattle.send_model.specs.Due.{RefusedAt}
 use Rattle.send_model.specs.Lengths.{limit, only_ends}
+use Rattle.send_model.specs.Renamed.{named_as}
 use Rattle.sx_base.specs.Refusals.{refusal_of}
 use Rattle.sx_base.specs.Calls.{IfAllTold}
 use Rattle.sx_base.specs.declared.outcome.Verdict.{Verdict}
@@ -43,19 +44,20 @@ use Rattle.clone_pieces.proofs.Told as all
 use Rattle.composer.proofs.AllTold.{told_file}
 use Rattle.composer.proofs.LastHeads.{latest_none, latest_more}
 use Rattle.composer.proofs.DataAhead.{data_left, data_stand}
+use Rattle.composer.proofs.NamedItem.{data_stay}
 use Rattle.composer.proofs.OverBaseFolds.{advance_unsent_ok, advance_unsent_err, unsent_more, all_more, all_one}
 
 -- ---- what the loop keeps
 
--- These items of the file were read and taken, and of the bytes that are then to be written some were.
-pub record Stands (files : List (List ℕ)) (plan : Plan) (file : ℕ) (old : Kept) (out_old : Option (List ℕ)) (reader : Reader) (now : Kept) (out_now : Option (List ℕ)) (before place : Place) (bytes : List ℕ) : Type 0 where
+-- These items of the file were read, and taken with the name that is given for it, and of the bytes that are then to be written some were.
+pub record Stands (files : List (List ℕ)) (plan : Plan) (file : ℕ) (given : Option (List ℕ)) (old : Kept) (out_old : Option (List ℕ)) (reader : Reader) (now : Kept) (out_now : Option (List ℕ)) (before place : Place) (bytes : List ℕ) : Type 0 where
   items : List Item
   sent : List ℕ
   read : reads file bytes ≡ then_reading items (left reader bytes)
-  all : advance_all plan (composing_of files plan.base old) items ≡ Ok (unsent sent (composing_of files plan.base now))
+  all : advance_all plan (composing_of files plan.base old) (map (named_as given) items) ≡ Ok (unsent sent (composing_of files plan.base now))
   appends : Appends out_old out_now sent
   last : IsLastPlace before place (last_item items)
-  latest : now.latest ≡ first_of (last_head (heads items)) old.latest
+  latest : now.latest ≡ first_of (last_head (heads (map (named_as given) items))) old.latest
   reached : reader.offset ≤ length bytes
 
 -- What is left ends as the file does.
@@ -73,11 +75,11 @@ none_taken plan now = refl
 pub alike_at_start : (told : Option (List (List ℕ × List ℕ))) (file : ℕ) (name spelled : List ℕ) (reader : Reader) → reader ≡ at_start file spelled → IfTold told name (EndsAlike file reader)
 alike_at_start told file name spelled reader e = told_always told name (EndsAlike file reader) (λ bytes. ap (λ (r : Reading). r.end) (sym (left_fresh file spelled bytes)) ∙ ap (λ (r : Reader). (left r bytes).end) (sym e))
 
-pub stands_at_start : (told : Option (List (List ℕ × List ℕ))) (names : List (List ℕ)) (plan : Plan) (number file : ℕ) (name : List ℕ) (reader : Reader) (now : Kept) (out : Option (List ℕ)) (place : Place) → reader ≡ at_start file name
-    → IfAllTold told names (λ files. Stands files plan file now out reader now out place place (get_or files number []))
-stands_at_start told names plan number file name reader now out place e =
-    all_always told names (λ files. Stands files plan file now out reader now out place place (get_or files number [])) (λ files.
-    subst (λ (r : Reader). Stands files plan file now out r now out place place (get_or files number [])) (sym e) (record {
+pub stands_at_start : (told : Option (List (List ℕ × List ℕ))) (names : List (List ℕ)) (plan : Plan) (number file : ℕ) (given : Option (List ℕ)) (name : List ℕ) (reader : Reader) (now : Kept) (out : Option (List ℕ)) (place : Place) → reader ≡ at_start file name
+    → IfAllTold told names (λ files. Stands files plan file given now out reader now out place place (get_or files number []))
+stands_at_start told names plan number file given name reader now out place e =
+    all_always told names (λ files. Stands files plan file given now out reader now out place place (get_or files number [])) (λ files.
+    subst (λ (r : Reader). Stands files plan file given now out r now out place place (get_or files number [])) (sym e) (record {
       items = [];
       sent = [];
       read = sym (left_fresh file name (get_or files number []));
@@ -124,16 +126,17 @@ in_files_after told inputs names number old new now next item same next_is there
 pub cells_in_files : (told : Option (List (List ℕ × List ℕ))) (names : List (List ℕ)) (number : ℕ) (reader : Reader) (now : Kept) → IfAllTold told names (InFiles number reader now) → IfAllTold told names (λ files. AllCells (IsInInput files) now.state)
 cells_in_files told names number reader now there = all_map told names (InFiles number reader now) (λ files. AllCells (IsInInput files) now.state) (λ files t. t.0) there
 
--- The data of the next item stand in its file, and the cells so far in theirs.
-pub data_there : (told : Option (List (List ℕ × List ℕ))) (names : List (List ℕ)) (number file : ℕ) (old new : Reader) (now : Kept) (item : read.Item)
-    → file ≡ number + 1 → old.file ≡ file → IfAllTold told names (λ files. IsNext old new item (get_or files number [])) → IfAllTold told names (InFiles number old now)
-    → IfAllTold told names (λ files. AllCells (IsInInput files) now.state × DataStand files (item_of file item))
-data_there told names number file old new now item file_is old_file next there =
-    all_two told names (λ files. IsNext old new item (get_or files number [])) (InFiles number old now) (λ files. AllCells (IsInInput files) now.state × DataStand files (item_of file item))
+-- The data of the next item stand in its file, whatever name it has, and the cells so far in theirs.
+pub data_there : (told : Option (List (List ℕ × List ℕ))) (names : List (List ℕ)) (number file : ℕ) (given : Option (List ℕ)) (old new : Reader) (now : Kept) (item taken_item : read.Item)
+    → file ≡ number + 1 → old.file ≡ file → item_of file taken_item ≡ named_as given (item_of file item) → IfAllTold told names (λ files. IsNext old new item (get_or files number [])) → IfAllTold told names (InFiles number old now)
+    → IfAllTold told names (λ files. AllCells (IsInInput files) now.state × DataStand files (item_of file taken_item))
+data_there told names number file given old new now item taken_item file_is old_file named next there =
+    all_two told names (λ files. IsNext old new item (get_or files number [])) (InFiles number old now) (λ files. AllCells (IsInInput files) now.state × DataStand files (item_of file taken_item))
     (λ files n t. (
       t.0,
-      data_stand files number (item_of file item) file_is (data_left old (get_or files number []) (item_of file item) (left new (get_or files number [])) t.1
-          (n.left_is ∙ ap (λ (k : ℕ). with_item (item_of k item) (left new (get_or files number []))) old_file)),
+      subst (DataStand files) (sym named) (data_stay files given (item_of file item)
+          (data_stand files number (item_of file item) file_is (data_left old (get_or files number []) (item_of file item) (left new (get_or files number [])) t.1
+          (n.left_is ∙ ap (λ (k : ℕ). with_item (item_of k item) (left new (get_or files number []))) old_file)))),
     )) next there
 
 -- ---- one more item
@@ -159,51 +162,54 @@ is_place file item after at_item = record {
 left_next : (file : ℕ) (old new : Reader) (item : read.Item) (bytes : List ℕ) → old.file ≡ file → IsNext old new item bytes → left old bytes ≡ with_item (item_of file item) (left new bytes)
 left_next file old new item bytes old_file n = n.left_is ∙ ap (λ (k : ℕ). with_item (item_of k item) (left new bytes)) old_file
 
--- One more item was read and taken.
-pub stands_after : (told inputs : Option (List (List ℕ × List ℕ))) (names : List (List ℕ)) (plan : Plan) (number file : ℕ) (c0 : Kept) (out0 : Option (List ℕ)) (old new : Reader) (now next : Kept) (out_now out_next : Option (List ℕ)) (before place after : Place)
-    (item : read.Item) → old.file ≡ file → after ≡ record { file = file; command = item.number; offset = item.offset } → inputs ≡ told
+-- One more item was read, and taken with the name that is given.
+pub stands_after : (told inputs : Option (List (List ℕ × List ℕ))) (names : List (List ℕ)) (plan : Plan) (number file : ℕ) (given : Option (List ℕ)) (c0 : Kept) (out0 : Option (List ℕ)) (old new : Reader) (now next : Kept) (out_now out_next : Option (List ℕ)) (before place after : Place)
+    (item taken_item : read.Item) → old.file ≡ file → after ≡ record { file = file; command = item.number; offset = item.offset } → item_of file taken_item ≡ named_as given (item_of file item) → inputs ≡ told
     → IfAllTold told names (λ files. IsNext old new item (get_or files number []))
-    → IfAllTold inputs names (λ files. ItemEnd files plan now next (item_of file item) out_now out_next (Ok tt))
-    → IfAllTold told names (λ files. Stands files plan file c0 out0 old now out_now before place (get_or files number []))
-    → IfAllTold told names (λ files. Stands files plan file c0 out0 new next out_next before after (get_or files number []))
-stands_after told inputs names plan number file c0 out0 old new now next out_now out_next before place after item old_file at_item same next_is taken stands =
-    all_two told names (λ files. IsNext old new item (get_or files number []) × ItemEnd files plan now next meant_item out_now out_next (Ok tt))
-    (λ files. Stands files plan file c0 out0 old now out_now before place (get_or files number [])) (λ files. Stands files plan file c0 out0 new next out_next before after (get_or files number []))
-    (λ files p s. step files (get_or files number []) p.0 p.1.0 p.1.1 s)
-    (all_two told names (λ files. IsNext old new item (get_or files number [])) (λ files. ItemEnd files plan now next meant_item out_now out_next (Ok tt))
-    (λ files. IsNext old new item (get_or files number []) × ItemEnd files plan now next meant_item out_now out_next (Ok tt)) (λ files a b. (a, b)) next_is
-    (all.told_moved told inputs names (λ files. ItemEnd files plan now next meant_item out_now out_next (Ok tt)) same taken))
+    → IfAllTold inputs names (λ files. ItemEnd files plan now next (item_of file taken_item) out_now out_next (Ok tt))
+    → IfAllTold told names (λ files. Stands files plan file given c0 out0 old now out_now before place (get_or files number []))
+    → IfAllTold told names (λ files. Stands files plan file given c0 out0 new next out_next before after (get_or files number []))
+stands_after told inputs names plan number file given c0 out0 old new now next out_now out_next before place after item taken_item old_file at_item named same next_is taken stands =
+    all_two told names (λ files. IsNext old new item (get_or files number []) × ItemEnd files plan now next (item_of file taken_item) out_now out_next (Ok tt))
+    (λ files. Stands files plan file given c0 out0 old now out_now before place (get_or files number [])) (λ files. Stands files plan file given c0 out0 new next out_next before after (get_or files number []))
+    (λ files p s. step files (get_or files number []) p.0 (subst (λ (x : Item). ItemEnd files plan now next x out_now out_next (Ok tt)) named p.1) s)
+    (all_two told names (λ files. IsNext old new item (get_or files number [])) (λ files. ItemEnd files plan now next (item_of file taken_item) out_now out_next (Ok tt))
+    (λ files. IsNext old new item (get_or files number []) × ItemEnd files plan now next (item_of file taken_item) out_now out_next (Ok tt)) (λ files a b. (a, b)) next_is
+    (all.told_moved told inputs names (λ files. ItemEnd files plan now next (item_of file taken_item) out_now out_next (Ok tt)) same taken))
     stands
   where
-    meant_item : Item
-    meant_item = item_of file item
-
-    step : (files : List (List ℕ)) (bytes : List ℕ) → IsNext old new item bytes → ItemTaken plan (composing_of files plan.base now) (composing_of files plan.base next) meant_item out_now out_next → ItemKept now next meant_item
-        → Stands files plan file c0 out0 old now out_now before place bytes → Stands files plan file c0 out0 new next out_next before after bytes
-    step files bytes n t k s = record {
-      items = s.items ++ meant_item ∷ [];
-      sent = s.sent ++ t.sent;
-      read = s.read ∙ ap (then_reading s.items) (left_next file old new item bytes old_file n) ∙ then_item s.items meant_item (left new bytes);
-      all = one_more plan s.items meant_item (composing_of files plan.base c0) (composing_of files plan.base now) t.next (composing_of files plan.base next) s.sent t.sent s.all t.taken t.rest;
-      appends = Appends-trans out0 out_now out_next s.sent t.sent s.appends t.appends;
-      last = last_place s.items meant_item before after (is_place file item after at_item);
-      latest = k ∙ ap (first_of (head_of meant_item.command)) s.latest ∙ latest_more s.items meant_item c0.latest;
-      reached = n.reached s.reached;
-    }
+    step : (files : List (List ℕ)) (bytes : List ℕ) → IsNext old new item bytes → ItemTaken plan (composing_of files plan.base now) (composing_of files plan.base next) (named_as given (item_of file item)) out_now out_next × ItemKept now next (named_as given (item_of file item))
+        → Stands files plan file given c0 out0 old now out_now before place bytes → Stands files plan file given c0 out0 new next out_next before after bytes
+    step files bytes n (t, k) s =
+        let this : Item = item_of file item in
+        let before_it : List Item = map (named_as given) s.items in
+        let more : map (named_as given) (s.items ++ this ∷ []) ≡ before_it ++ named_as given this ∷ [] = map-append (named_as given) s.items (this ∷ []) in
+        record {
+          items = s.items ++ this ∷ [];
+          sent = s.sent ++ t.sent;
+          read = s.read ∙ ap (then_reading s.items) (left_next file old new item bytes old_file n) ∙ then_item s.items this (left new bytes);
+          all = ap (advance_all plan (composing_of files plan.base c0)) more
+              ∙ one_more plan before_it (named_as given this) (composing_of files plan.base c0) (composing_of files plan.base now) t.next (composing_of files plan.base next) s.sent t.sent s.all t.taken t.rest;
+          appends = Appends-trans out0 out_now out_next s.sent t.sent s.appends t.appends;
+          last = last_place s.items this before after (is_place file item after at_item);
+          latest = k ∙ ap (first_of (head_of (named_as given this).command)) s.latest ∙ latest_more before_it (named_as given this) c0.latest
+              ∙ ap (λ (xs : List Item). first_of (last_head (heads xs)) c0.latest) (sym more);
+          reached = n.reached s.reached;
+        }
 
 -- ---- the ends
 
 -- The file ends.
-pub file_ends : (told inputs : Option (List (List ℕ × List ℕ))) (names : List (List ℕ)) (plan : Plan) (number file : ℕ) (c0 : Kept) (out0 : Option (List ℕ)) (old new : Reader) (now : Kept) (out_now : Option (List ℕ)) (before place : Place)
+pub file_ends : (told inputs : Option (List (List ℕ × List ℕ))) (names : List (List ℕ)) (plan : Plan) (number file : ℕ) (given : Option (List ℕ)) (c0 : Kept) (out0 : Option (List ℕ)) (old new : Reader) (now : Kept) (out_now : Option (List ℕ)) (before place : Place)
     (f0 f1 : ℕ) (o : Option read.Item) → o ≡ None → inputs ≡ told → number < length names → old.name ≡ get_or names number [] → NextSays inputs old new f0 f1 (Ok o)
-    → IfAllTold told names (λ files. Stands files plan file c0 out0 old now out_now before place (get_or files number []))
-    → IfAllTold told names (λ files. FileTaken files plan file c0 now out0 out_now before place (get_or files number []))
-file_ends told inputs names plan number file c0 out0 old new now out_now before place f0 f1 o e same less is says stands =
-    all_two told names (λ files. HasEnded old (get_or files number [])) (λ files. Stands files plan file c0 out0 old now out_now before place (get_or files number []))
-    (λ files. FileTaken files plan file c0 now out0 out_now before place (get_or files number [])) (λ files. step files (get_or files number []))
+    → IfAllTold told names (λ files. Stands files plan file given c0 out0 old now out_now before place (get_or files number []))
+    → IfAllTold told names (λ files. FileTaken files plan file given c0 now out0 out_now before place (get_or files number []))
+file_ends told inputs names plan number file given c0 out0 old new now out_now before place f0 f1 o e same less is says stands =
+    all_two told names (λ files. HasEnded old (get_or files number [])) (λ files. Stands files plan file given c0 out0 old now out_now before place (get_or files number []))
+    (λ files. FileTaken files plan file given c0 now out0 out_now before place (get_or files number [])) (λ files. step files (get_or files number []))
     (told_file told inputs names number old.name (HasEnded old) same less is (next_end inputs inputs old.name old new f0 f1 o e refl refl says)) stands
   where
-    step : (files : List (List ℕ)) (bytes : List ℕ) → HasEnded old bytes → Stands files plan file c0 out0 old now out_now before place bytes → FileTaken files plan file c0 now out0 out_now before place bytes
+    step : (files : List (List ℕ)) (bytes : List ℕ) → HasEnded old bytes → Stands files plan file given c0 out0 old now out_now before place bytes → FileTaken files plan file given c0 now out0 out_now before place bytes
     step files bytes (ends, short) s = record {
       items = s.items;
       sent = s.sent;
@@ -227,8 +233,8 @@ no_front : (out : Option (List ℕ)) (pending : List ℕ) → AppendsFront out o
 no_front out pending = record { count = 0; within = omega (arith); appends = Appends-nil out }
 
 -- There is no memory for a reader.
-pub file_unopened : (told : Option (List (List ℕ × List ℕ))) (names : List (List ℕ)) (plan : Plan) (number file : ℕ) (now : Kept) (out : Option (List ℕ)) → IfAllTold told names (λ files. FileStops files plan file now out out over.NoMemory (get_or files number []))
-file_unopened told names plan number file now out = all_always told names (λ files. FileStops files plan file now out out over.NoMemory (get_or files number [])) (λ files. record {
+pub file_unopened : (told : Option (List (List ℕ × List ℕ))) (names : List (List ℕ)) (plan : Plan) (number file : ℕ) (given : Option (List ℕ)) (now : Kept) (out : Option (List ℕ)) → IfAllTold told names (λ files. FileStops files plan file given now out out over.NoMemory (get_or files number []))
+file_unopened told names plan number file given now out = all_always told names (λ files. FileStops files plan file given now out out over.NoMemory (get_or files number [])) (λ files. record {
   items = [];
   rest = reads file (get_or files number []);
   next = composing_of files plan.base now;
@@ -238,33 +244,49 @@ file_unopened told names plan number file now out = all_always told names (λ fi
   why = tt;
 })
 
+-- There is no memory for the name of the next item.
+pub file_unnamed : (told : Option (List (List ℕ × List ℕ))) (names : List (List ℕ)) (plan : Plan) (number file : ℕ) (given : Option (List ℕ)) (c0 : Kept) (out0 : Option (List ℕ)) (old : Reader) (now : Kept) (out_now : Option (List ℕ)) (before place : Place)
+    → IfAllTold told names (λ files. Stands files plan file given c0 out0 old now out_now before place (get_or files number []))
+    → IfAllTold told names (λ files. FileStops files plan file given c0 out0 out_now over.NoMemory (get_or files number []))
+file_unnamed told names plan number file given c0 out0 old now out_now before place stands =
+    all_map told names (λ files. Stands files plan file given c0 out0 old now out_now before place (get_or files number [])) (λ files. FileStops files plan file given c0 out0 out_now over.NoMemory (get_or files number []))
+    (λ files s. record {
+      items = s.items;
+      rest = left old (get_or files number []);
+      next = unsent s.sent (composing_of files plan.base now);
+      read = s.read;
+      all = s.all;
+      front = front_after out0 out_now out_now s.sent now.pending s.appends (no_front out_now now.pending);
+      why = tt;
+    }) stands
+
 -- Why a file can not be read on, whatever was composed.
-Unread : Plan → ℕ → Reader → ReadStop → List ℕ → Type 0
-Unread plan file old why bytes = old.offset ≤ length bytes → (now : Composing) → FileWhy plan file now (left old bytes) (outcome_at file why) bytes
+Unread : Plan → ℕ → Option (List ℕ) → Reader → ReadStop → List ℕ → Type 0
+Unread plan file given old why bytes = old.offset ≤ length bytes → (now : Composing) → FileWhy plan file given now (left old bytes) (outcome_at file why) bytes
 
 -- The same by how its bytes before the limit end.
-Unread_by : Plan → ℕ → Reader → ReadStop → List ℕ → Type 0
-Unread_by plan file old why bytes = old.offset ≤ length bytes → (reads file (take limit bytes)).end ≡ (left old (take limit bytes)).end → (now : Composing) → FileWhy plan file now (left old bytes) (outcome_at file why) bytes
+Unread_by : Plan → ℕ → Option (List ℕ) → Reader → ReadStop → List ℕ → Type 0
+Unread_by plan file given old why bytes = old.offset ≤ length bytes → (reads file (take limit bytes)).end ≡ (left old (take limit bytes)).end → (now : Composing) → FileWhy plan file given now (left old bytes) (outcome_at file why) bytes
 
-unread_by : (told : Option (List (List ℕ × List ℕ))) (plan : Plan) (file : ℕ) (old new : Reader) (f0 f1 : ℕ) (why : ReadStop) → NextSays told old new f0 f1 (Err why) → IfTold told old.name (Unread_by plan file old why)
+unread_by : (told : Option (List (List ℕ × List ℕ))) (plan : Plan) (file : ℕ) (given : Option (List ℕ)) (old new : Reader) (f0 f1 : ℕ) (why : ReadStop) → NextSays told old new f0 f1 (Err why) → IfTold told old.name (Unread_by plan file given old why)
 unfolding Unread_by
-unread_by told plan file old new f0 f1 (stop.Refused verdict) says = told_map told old.name (IsRefused (λ _. IsFaulty old verdict) (refusal_of verdict.refusal)) (Unread_by plan file old (stop.Refused verdict)) (λ bytes (bad, early) reached ends now. inl bad) says
-unread_by told plan file old new f0 f1 stop.NoMemory says = told_always told old.name (Unread_by plan file old stop.NoMemory) (λ bytes reached ends now. tt)
-unread_by told plan file old new f0 f1 stop.InputFault says = told_always told old.name (Unread_by plan file old stop.InputFault) (λ bytes reached ends now. tt)
-unread_by told plan file old new f0 f1 stop.InputTooLong says =
-    told_map told old.name (IsLongAt old.offset (OnlyEnds old)) (Unread_by plan file old stop.InputTooLong) (λ bytes long reached ends now. (let l = long reached in (refl, long_is file bytes l.0 (ap only_ends ends ∙ l.1.1)))) says
+unread_by told plan file given old new f0 f1 (stop.Refused verdict) says = told_map told old.name (IsRefused (λ _. IsFaulty old verdict) (refusal_of verdict.refusal)) (Unread_by plan file given old (stop.Refused verdict)) (λ bytes (bad, early) reached ends now. inl bad) says
+unread_by told plan file given old new f0 f1 stop.NoMemory says = told_always told old.name (Unread_by plan file given old stop.NoMemory) (λ bytes reached ends now. tt)
+unread_by told plan file given old new f0 f1 stop.InputFault says = told_always told old.name (Unread_by plan file given old stop.InputFault) (λ bytes reached ends now. tt)
+unread_by told plan file given old new f0 f1 stop.InputTooLong says =
+    told_map told old.name (IsLongAt old.offset (OnlyEnds old)) (Unread_by plan file given old stop.InputTooLong) (λ bytes long reached ends now. (let l = long reached in (refl, long_is file bytes l.0 (ap only_ends ends ∙ l.1.1)))) says
 
-unread : (told : Option (List (List ℕ × List ℕ))) (plan : Plan) (file : ℕ) (old new : Reader) (f0 f1 : ℕ) (why : ReadStop) → NextSays told old new f0 f1 (Err why) → IfTold told old.name (EndsAlike file old) → IfTold told old.name (Unread plan file old why)
+unread : (told : Option (List (List ℕ × List ℕ))) (plan : Plan) (file : ℕ) (given : Option (List ℕ)) (old new : Reader) (f0 f1 : ℕ) (why : ReadStop) → NextSays told old new f0 f1 (Err why) → IfTold told old.name (EndsAlike file old) → IfTold told old.name (Unread plan file given old why)
 unfolding Unread Unread_by
-unread told plan file old new f0 f1 why says alike =
-    told_both told old.name (Unread_by plan file old why) (Here (EndsAlike file old)) (Unread plan file old why) (λ bytes u h reached now. u reached h.1 now)
-    (unread_by told plan file old new f0 f1 why says) (told_here told old.name (EndsAlike file old) alike)
+unread told plan file given old new f0 f1 why says alike =
+    told_both told old.name (Unread_by plan file given old why) (Here (EndsAlike file old)) (Unread plan file given old why) (λ bytes u h reached now. u reached h.1 now)
+    (unread_by told plan file given old new f0 f1 why says) (told_here told old.name (EndsAlike file old) alike)
 
 -- Composing ends before the next command, for some reason: what was kept back is sent, or the output failed.
-ends_here : (files : List (List ℕ)) (plan : Plan) (file : ℕ) (c0 : Kept) (out0 : Option (List ℕ)) (old : Reader) (now : Kept) (out_now out_next : Option (List ℕ)) (before place : Place) (g0 g1 : ℕ) (outcome result : Outcome) (bytes : List ℕ)
-    → StopEnd now.pending out_now out_next g0 g1 outcome result → (s : Stands files plan file c0 out0 old now out_now before place bytes)
-    → FileWhy plan file (unsent s.sent (composing_of files plan.base now)) (left old bytes) outcome bytes → FileStops files plan file c0 out0 out_next result bytes
-ends_here files plan file c0 out0 old now out_now out_next before place g0 g1 outcome result bytes stopped s why =
+ends_here : (files : List (List ℕ)) (plan : Plan) (file : ℕ) (given : Option (List ℕ)) (c0 : Kept) (out0 : Option (List ℕ)) (old : Reader) (now : Kept) (out_now out_next : Option (List ℕ)) (before place : Place) (g0 g1 : ℕ) (outcome result : Outcome) (bytes : List ℕ)
+    → StopEnd now.pending out_now out_next g0 g1 outcome result → (s : Stands files plan file given c0 out0 old now out_now before place bytes)
+    → FileWhy plan file given (unsent s.sent (composing_of files plan.base now)) (left old bytes) outcome bytes → FileStops files plan file given c0 out0 out_next result bytes
+ends_here files plan file given c0 out0 old now out_now out_next before place g0 g1 outcome result bytes stopped s why =
     let next : Composing = unsent s.sent (composing_of files plan.base now) in
     record {
       items = s.items;
@@ -273,50 +295,50 @@ ends_here files plan file c0 out0 old now out_now out_next before place g0 g1 ou
       read = s.read;
       all = s.all;
       front = front_after out0 out_now out_next s.sent now.pending s.appends stopped.front;
-      why = ⊎_elim (λ kept. subst (λ (x : Outcome). FileWhy plan file next (left old bytes) x bytes) (sym kept) why)
-          (λ failed. subst (λ (x : Outcome). FileWhy plan file next (left old bytes) x bytes) (sym failed.0) tt) stopped.outcome_is;
+      why = ⊎_elim (λ kept. subst (λ (x : Outcome). FileWhy plan file given next (left old bytes) x bytes) (sym kept) why)
+          (λ failed. subst (λ (x : Outcome). FileWhy plan file given next (left old bytes) x bytes) (sym failed.0) tt) stopped.outcome_is;
     }
 
 -- The file can not be read on.
-pub file_stops : (told inputs : Option (List (List ℕ × List ℕ))) (names : List (List ℕ)) (plan : Plan) (number file : ℕ) (c0 : Kept) (out0 : Option (List ℕ)) (old new : Reader) (now : Kept) (out_now out_next : Option (List ℕ)) (before place : Place)
+pub file_stops : (told inputs : Option (List (List ℕ × List ℕ))) (names : List (List ℕ)) (plan : Plan) (number file : ℕ) (given : Option (List ℕ)) (c0 : Kept) (out0 : Option (List ℕ)) (old new : Reader) (now : Kept) (out_now out_next : Option (List ℕ)) (before place : Place)
     (f0 f1 g0 g1 : ℕ) (why : ReadStop) (outcome result : Outcome) → inputs ≡ told → number < length names → old.name ≡ get_or names number [] → NextSays inputs old new f0 f1 (Err why)
     → outcome ≡ outcome_at file why → StopEnd now.pending out_now out_next g0 g1 outcome result → IfTold inputs old.name (EndsAlike file old)
-    → IfAllTold told names (λ files. Stands files plan file c0 out0 old now out_now before place (get_or files number []))
-    → IfAllTold told names (λ files. FileStops files plan file c0 out0 out_next result (get_or files number []))
+    → IfAllTold told names (λ files. Stands files plan file given c0 out0 old now out_now before place (get_or files number []))
+    → IfAllTold told names (λ files. FileStops files plan file given c0 out0 out_next result (get_or files number []))
 unfolding Unread
-file_stops told inputs names plan number file c0 out0 old new now out_now out_next before place f0 f1 g0 g1 why outcome result same less is says outcome_is stopped alike stands =
-    all_two told names (λ files. Unread plan file old why (get_or files number [])) (λ files. Stands files plan file c0 out0 old now out_now before place (get_or files number []))
-    (λ files. FileStops files plan file c0 out0 out_next result (get_or files number [])) (λ files. step files (get_or files number []))
-    (told_file told inputs names number old.name (Unread plan file old why) same less is (unread inputs plan file old new f0 f1 why says alike)) stands
+file_stops told inputs names plan number file given c0 out0 old new now out_now out_next before place f0 f1 g0 g1 why outcome result same less is says outcome_is stopped alike stands =
+    all_two told names (λ files. Unread plan file given old why (get_or files number [])) (λ files. Stands files plan file given c0 out0 old now out_now before place (get_or files number []))
+    (λ files. FileStops files plan file given c0 out0 out_next result (get_or files number [])) (λ files. step files (get_or files number []))
+    (told_file told inputs names number old.name (Unread plan file given old why) same less is (unread inputs plan file given old new f0 f1 why says alike)) stands
   where
-    step : (files : List (List ℕ)) (bytes : List ℕ) → Unread plan file old why bytes → Stands files plan file c0 out0 old now out_now before place bytes → FileStops files plan file c0 out0 out_next result bytes
+    step : (files : List (List ℕ)) (bytes : List ℕ) → Unread plan file given old why bytes → Stands files plan file given c0 out0 old now out_now before place bytes → FileStops files plan file given c0 out0 out_next result bytes
     step files bytes u s =
-        ends_here files plan file c0 out0 old now out_now out_next before place g0 g1 outcome result bytes stopped s
-        (subst (λ (x : Outcome). FileWhy plan file (unsent s.sent (composing_of files plan.base now)) (left old bytes) x bytes) (sym outcome_is) (u s.reached (unsent s.sent (composing_of files plan.base now))))
+        ends_here files plan file given c0 out0 old now out_now out_next before place g0 g1 outcome result bytes stopped s
+        (subst (λ (x : Outcome). FileWhy plan file given (unsent s.sent (composing_of files plan.base now)) (left old bytes) x bytes) (sym outcome_is) (u s.reached (unsent s.sent (composing_of files plan.base now))))
 
 -- The next item has a version above that of the stream that is written.
-pub file_above : (told : Option (List (List ℕ × List ℕ))) (names : List (List ℕ)) (plan : Plan) (number file : ℕ) (c0 : Kept) (out0 : Option (List ℕ)) (old new : Reader) (now : Kept) (out_now out_next : Option (List ℕ)) (before place : Place)
+pub file_above : (told : Option (List (List ℕ × List ℕ))) (names : List (List ℕ)) (plan : Plan) (number file : ℕ) (given : Option (List ℕ)) (c0 : Kept) (out0 : Option (List ℕ)) (old new : Reader) (now : Kept) (out_now out_next : Option (List ℕ)) (before place : Place)
     (g0 g1 : ℕ) (item : read.Item) (verdict : Verdict) (result : Outcome) → plan.version < item.version → old.file ≡ file → StopEnd now.pending out_now out_next g0 g1 (over.Refused verdict) result
     → IfAllTold told names (λ files. IsNext old new item (get_or files number []))
-    → IfAllTold told names (λ files. Stands files plan file c0 out0 old now out_now before place (get_or files number []))
-    → IfAllTold told names (λ files. FileStops files plan file c0 out0 out_next result (get_or files number []))
-file_above told names plan number file c0 out0 old new now out_now out_next before place g0 g1 item verdict result above old_file stopped next_is stands =
-    all_two told names (λ files. IsNext old new item (get_or files number [])) (λ files. Stands files plan file c0 out0 old now out_now before place (get_or files number []))
-    (λ files. FileStops files plan file c0 out0 out_next result (get_or files number [])) (λ files. step files (get_or files number [])) next_is stands
+    → IfAllTold told names (λ files. Stands files plan file given c0 out0 old now out_now before place (get_or files number []))
+    → IfAllTold told names (λ files. FileStops files plan file given c0 out0 out_next result (get_or files number []))
+file_above told names plan number file given c0 out0 old new now out_now out_next before place g0 g1 item verdict result above old_file stopped next_is stands =
+    all_two told names (λ files. IsNext old new item (get_or files number [])) (λ files. Stands files plan file given c0 out0 old now out_now before place (get_or files number []))
+    (λ files. FileStops files plan file given c0 out0 out_next result (get_or files number [])) (λ files. step files (get_or files number [])) next_is stands
   where
-    step : (files : List (List ℕ)) (bytes : List ℕ) → IsNext old new item bytes → Stands files plan file c0 out0 old now out_now before place bytes → FileStops files plan file c0 out0 out_next result bytes
+    step : (files : List (List ℕ)) (bytes : List ℕ) → IsNext old new item bytes → Stands files plan file given c0 out0 old now out_now before place bytes → FileStops files plan file given c0 out0 out_next result bytes
     step files bytes n s =
-        ends_here files plan file c0 out0 old now out_now out_next before place g0 g1 (over.Refused verdict) result bytes stopped s
+        ends_here files plan file given c0 out0 old now out_now out_next before place g0 g1 (over.Refused verdict) result bytes stopped s
         (inr (inr (record { item = item_of file item; more = left new bytes; front = left_next file old new item bytes old_file n; above = above })))
 
 -- ---- an item ends composing
 
-module _ (files : List (List ℕ)) (plan : Plan) (file : ℕ) (c0 : Kept) (out0 : Option (List ℕ)) (old new : Reader) (now : Kept) (out_now out_next : Option (List ℕ)) (before place : Place) (item : Item) (bytes : List ℕ) (s : Stands files plan file c0 out0 old now out_now before place bytes) (n : left old bytes ≡ with_item item (left new bytes)) where
+module _ (files : List (List ℕ)) (plan : Plan) (file : ℕ) (given : Option (List ℕ)) (c0 : Kept) (out0 : Option (List ℕ)) (old new : Reader) (now : Kept) (out_now out_next : Option (List ℕ)) (before place : Place) (item : Item) (bytes : List ℕ) (s : Stands files plan file given c0 out0 old now out_now before place bytes) (n : left old bytes ≡ with_item item (left new bytes)) where
   so_far : Composing
   so_far = composing_of files plan.base now
 
   -- Composing stops at the item, which is not taken.
-  stops_at : (outcome : Outcome) → AppendsFront out_now out_next now.pending → FileWhy plan file (unsent s.sent so_far) (left old bytes) outcome bytes → FileStops files plan file c0 out0 out_next outcome bytes
+  stops_at : (outcome : Outcome) → AppendsFront out_now out_next now.pending → FileWhy plan file given (unsent s.sent so_far) (left old bytes) outcome bytes → FileStops files plan file given c0 out0 out_next outcome bytes
   unfolding so_far
   stops_at outcome front why = record {
     items = s.items;
@@ -329,33 +351,35 @@ module _ (files : List (List ℕ)) (plan : Plan) (file : ℕ) (c0 : Kept) (out0 
   }
 
   -- Composing stops after the item, which was taken.
-  stops_after : (next : Composing) (outcome : Outcome) → advance plan so_far item ≡ Ok next → AppendsFront out_now out_next next.pending → FileWhy plan file (unsent s.sent next) (left new bytes) outcome bytes → FileStops files plan file c0 out0 out_next outcome bytes
+  stops_after : (next : Composing) (outcome : Outcome) → advance plan so_far (named_as given item) ≡ Ok next → AppendsFront out_now out_next next.pending → FileWhy plan file given (unsent s.sent next) (left new bytes) outcome bytes → FileStops files plan file given c0 out0 out_next outcome bytes
   unfolding so_far
   stops_after next outcome taken front why = record {
     items = s.items ++ item ∷ [];
     rest = left new bytes;
     next = unsent s.sent next;
     read = s.read ∙ ap (then_reading s.items) n ∙ then_item s.items item (left new bytes);
-    all = all_more plan (composing_of files plan.base c0) (unsent s.sent so_far) (unsent s.sent next) s.items (item ∷ []) s.all (all_one plan (unsent s.sent so_far) (unsent s.sent next) item (advance_unsent_ok plan s.sent so_far next item taken));
+    all = ap (advance_all plan (composing_of files plan.base c0)) (map-append (named_as given) s.items (item ∷ []))
+        ∙ all_more plan (composing_of files plan.base c0) (unsent s.sent so_far) (unsent s.sent next) (map (named_as given) s.items) (named_as given item ∷ []) s.all
+        (all_one plan (unsent s.sent so_far) (unsent s.sent next) (named_as given item) (advance_unsent_ok plan s.sent so_far next (named_as given item) taken));
     front = front_after out0 out_now out_next s.sent next.pending s.appends front;
     why = why;
   }
 
-  halts : (halt : Halt) → advance plan so_far item ≡ Err halt → NextHalts plan (unsent s.sent so_far) (left old bytes) halt item
-  halts halt e = record { more = left new bytes; front = n; halted = advance_unsent_err plan s.sent so_far item halt e }
+  halts : (halt : Halt) → advance plan so_far (named_as given item) ≡ Err halt → NextHalts plan given (unsent s.sent so_far) (left old bytes) halt item
+  halts halt e = record { more = left new bytes; front = n; halted = advance_unsent_err plan s.sent so_far (named_as given item) halt e }
 
   same_front : (next : Composing) → next ≡ so_far → AppendsFront out_now out_next next.pending → AppendsFront out_now out_next now.pending
   unfolding so_far
   same_front next is front = subst (λ (x : Composing). AppendsFront out_now out_next x.pending) is front
 
   -- Where no reason has to be given.
-  stops_either : (next : Composing) (outcome : Outcome) → ((now : Composing) (rest : Reading) → FileWhy plan file now rest outcome bytes) → (next ≡ so_far) ⊎ (advance plan so_far item ≡ Ok next) → AppendsFront out_now out_next next.pending
-      → FileStops files plan file c0 out0 out_next outcome bytes
+  stops_either : (next : Composing) (outcome : Outcome) → ((now : Composing) (rest : Reading) → FileWhy plan file given now rest outcome bytes) → (next ≡ so_far) ⊎ (advance plan so_far (named_as given item) ≡ Ok next) → AppendsFront out_now out_next next.pending
+      → FileStops files plan file given c0 out0 out_next outcome bytes
   stops_either next outcome why either front =
       ⊎_elim (λ (is : next ≡ so_far). stops_at outcome (same_front next is front) (why (unsent s.sent so_far) (left old bytes)))
-      (λ (taken : advance plan so_far item ≡ Ok next). stops_after next outcome taken front (why (unsent s.sent next) (left new bytes))) either
+      (λ (taken : advance plan so_far (named_as given item) ≡ Ok next). stops_after next outcome taken front (why (unsent s.sent next) (left new bytes))) either
 
-  item_ends : (outcome : Outcome) (next : Composing) → ItemWhy plan so_far next item outcome → AppendsFront out_now out_next next.pending → FileStops files plan file c0 out0 out_next outcome bytes
+  item_ends : (outcome : Outcome) (next : Composing) → ItemWhy plan so_far next (named_as given item) outcome → AppendsFront out_now out_next next.pending → FileStops files plan file given c0 out0 out_next outcome bytes
   item_ends over.Done next why front = elim why [ ]
   item_ends (over.Refused verdict) next (is, r) front =
       stops_at (over.Refused verdict) (same_front next is front) (inr (inl (item, Refuses r.refusal, halts (Refuses r.refusal) r.refused, ap RefusedAt (sym r.verdict_is))))
@@ -366,19 +390,20 @@ module _ (files : List (List ℕ)) (plan : Plan) (file : ℕ) (c0 : Kept) (out0 
   item_ends (over.InputTooLong number) next why front = elim why [ ]
   item_ends (over.InputChanged number at) next why front = elim why [ ]
 
-pub item_stops : (told inputs : Option (List (List ℕ × List ℕ))) (names : List (List ℕ)) (plan : Plan) (number file : ℕ) (c0 : Kept) (out0 : Option (List ℕ)) (old new : Reader) (now next : Kept) (out_now out_next : Option (List ℕ)) (before place : Place)
-    (item : read.Item) (outcome : Outcome) → old.file ≡ file → inputs ≡ told
+pub item_stops : (told inputs : Option (List (List ℕ × List ℕ))) (names : List (List ℕ)) (plan : Plan) (number file : ℕ) (given : Option (List ℕ)) (c0 : Kept) (out0 : Option (List ℕ)) (old new : Reader) (now next : Kept) (out_now out_next : Option (List ℕ)) (before place : Place)
+    (item taken_item : read.Item) (outcome : Outcome) → old.file ≡ file → item_of file taken_item ≡ named_as given (item_of file item) → inputs ≡ told
     → IfAllTold told names (λ files. IsNext old new item (get_or files number []))
-    → IfAllTold inputs names (λ files. ItemEnd files plan now next (item_of file item) out_now out_next (Err outcome))
-    → IfAllTold told names (λ files. Stands files plan file c0 out0 old now out_now before place (get_or files number []))
-    → IfAllTold told names (λ files. FileStops files plan file c0 out0 out_next outcome (get_or files number []))
+    → IfAllTold inputs names (λ files. ItemEnd files plan now next (item_of file taken_item) out_now out_next (Err outcome))
+    → IfAllTold told names (λ files. Stands files plan file given c0 out0 old now out_now before place (get_or files number []))
+    → IfAllTold told names (λ files. FileStops files plan file given c0 out0 out_next outcome (get_or files number []))
 unfolding so_far
-item_stops told inputs names plan number file c0 out0 old new now next out_now out_next before place item outcome old_file same next_is stops stands =
-    all_two told names (λ files. IsNext old new item (get_or files number []) × ItemStops plan (composing_of files plan.base now) (item_of file item) outcome out_now out_next)
-    (λ files. Stands files plan file c0 out0 old now out_now before place (get_or files number [])) (λ files. FileStops files plan file c0 out0 out_next outcome (get_or files number []))
-    (λ files p s. item_ends files plan file c0 out0 old new now out_now out_next before place (item_of file item) (get_or files number []) s
-    (left_next file old new item (get_or files number []) old_file p.0) outcome p.1.next p.1.why p.1.front)
-    (all_two told names (λ files. IsNext old new item (get_or files number [])) (λ files. ItemStops plan (composing_of files plan.base now) (item_of file item) outcome out_now out_next)
-    (λ files. IsNext old new item (get_or files number []) × ItemStops plan (composing_of files plan.base now) (item_of file item) outcome out_now out_next) (λ files a b. (a, b)) next_is
-    (all.told_moved told inputs names (λ files. ItemStops plan (composing_of files plan.base now) (item_of file item) outcome out_now out_next) same stops))
+item_stops told inputs names plan number file given c0 out0 old new now next out_now out_next before place item taken_item outcome old_file named same next_is stops stands =
+    all_two told names (λ files. IsNext old new item (get_or files number []) × ItemStops plan (composing_of files plan.base now) (item_of file taken_item) outcome out_now out_next)
+    (λ files. Stands files plan file given c0 out0 old now out_now before place (get_or files number [])) (λ files. FileStops files plan file given c0 out0 out_next outcome (get_or files number []))
+    (λ files p s. (let t : ItemStops plan (composing_of files plan.base now) (named_as given (item_of file item)) outcome out_now out_next = subst (λ (x : Item). ItemStops plan (composing_of files plan.base now) x outcome out_now out_next) named p.1 in
+    item_ends files plan file given c0 out0 old new now out_now out_next before place (item_of file item) (get_or files number []) s
+    (left_next file old new item (get_or files number []) old_file p.0) outcome t.next t.why t.front))
+    (all_two told names (λ files. IsNext old new item (get_or files number [])) (λ files. ItemStops plan (composing_of files plan.base now) (item_of file taken_item) outcome out_now out_next)
+    (λ files. IsNext old new item (get_or files number []) × ItemStops plan (composing_of files plan.base now) (item_of file taken_item) outcome out_now out_next) (λ files a b. (a, b)) next_is
+    (all.told_moved told inputs names (λ files. ItemStops plan (composing_of files plan.base now) (item_of file taken_item) outcome out_now out_next) same stops))
     stands

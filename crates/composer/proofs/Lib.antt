@@ -2,6 +2,7 @@ pub mod AllTold
 pub mod Starting
 pub mod LastHeads
 pub mod DataAhead
+pub mod NamedItem
 pub mod FileWriting
 pub mod FilesWriting
 pub mod OneMore

@@ -1,9 +1,10 @@
 -- Composing files over any base, as far as a loop over them has come: what is due, and what stands written, where it stops and where
 -- all is done.
-use Rattle.std.specs.Prelude.{◌≡◌, ◌≢◌, ℕ, ◌+◌, ◌<◌, ◌≤◌, true, false, List, [], ◌∷◌, ◌++◌, length, take, Option, None, Some, Err, is_some}
+use Rattle.std.specs.Prelude.{◌≡◌, ◌≢◌, ℕ, ◌+◌, ◌<◌, ◌≤◌, true, false, List, [], ◌∷◌, ◌++◌, length, take, Option, None, Some, Err, is_some, option_map}
 use Rattle.std.proofs.Common.{refl, sym, ap, subst, ◌∙◌, append-nil}
 use Rattle.std.proofs.lemmas.Bool.{false≢true}
-use Rattle.send_model.specs.Refusal.{NotConsecutive}
+use Rattle.std.proofs.lemmas.List.{map-append}
+use Rattle.send_model.specs.Refusal.{Refusal, NotConsecutive}
 use Rattle.send_model.specs.Command.{End}
 use Rattle.send_model.specs.Spelling.{canonical}
 use Rattle.send_model.specs.Reading.{Item, Verdict, Reading, Whole, Faulty, ended, joined, with_item, input, input_from}
@@ -13,8 +14,9 @@ use Rattle.send_model.specs.Order.{heads, last_item}
 use Rattle.send_model.specs.Outside.{base_of, keys_outside, FindsSayable}
 use Rattle.send_model.specs.Composed.{first_head, version_of}
 use Rattle.send_model.specs.Lengths.{too_long}
-use Rattle.send_model.specs.Due.{DoneWhole, RefusedAt, reading_due, compose_due, compose_due_of}
-use Rattle.send_model.specs.Headline.{IsComposed, IsStopped, whole_output}
+use Rattle.send_model.specs.Due.{DoneWhole, RefusedAt, reading_due, compose_due_of}
+use Rattle.send_model.specs.Headline.{IsComposedOf, IsStoppedOf, whole_output_of}
+use Rattle.send_model.specs.Renamed.{Names, name_for, named_as, renamed_item, renamed_items, renamed}
 use Rattle.send_model.specs.Laws.{IsWhole, ReadingsHold}
 use Rattle.file_survey.specs.Ahead.{IsAhead}
 use Rattle.composer.specs.OverBase.{Plan, plan_for, Composing, Halt, halt_due, advance, AreReady}
@@ -24,44 +26,51 @@ use Rattle.composer.proofs.OverBaseEnds.{due_halted, due_at_fault, due_without_p
 use Rattle.composer.proofs.OverBaseStops.{stopped, stopped_end}
 
 -- The answer that is due to files of which none is too long is that of what is read.
-pub due_fits : (base : Store ℕ) (files : List (List ℕ)) → too_long files ≡ None → compose_due base files ≡ reading_due base (input files)
-due_fits base files e = ap (λ (o : Option ℕ). compose_due_of o base (input files)) e
+pub due_fits : (base : Store ℕ) (given : Names) (files : List (List ℕ)) → too_long files ≡ None → compose_due_of (too_long files) base (renamed given (input files)) ≡ reading_due base (renamed given (input files))
+due_fits base given files e = ap (λ (o : Option ℕ). compose_due_of o base (renamed given (input files))) e
 
 -- ---- what is ahead
 
-items_ahead : (files : List (List ℕ)) (items : List Item) (left : Reading) (number : ℕ) (after : List (List ℕ)) → IsAhead files items left number after → (more : List Item) × ((input files).items ≡ items ++ more)
-items_ahead files items left number after is = let rest : Reading = joined left (input_from (number + 1) after) in (rest.items, ap (λ (r : Reading). r.items) is)
+-- All items with their names, where these are followed by others.
+all_named : (given : Names) (files : List (List ℕ)) (items more : List Item) → (input files).items ≡ items ++ more → (renamed given (input files)).items ≡ renamed_items given items ++ renamed_items given more
+all_named given files items more is = ap (renamed_items given) is ∙ map-append (renamed_item given) items more
+
+items_ahead : (given : Names) (files : List (List ℕ)) (items : List Item) (left : Reading) (number : ℕ) (after : List (List ℕ)) → IsAhead files items left number after → (more : List Item) × ((renamed given (input files)).items ≡ renamed_items given items ++ more)
+items_ahead given files items left number after is =
+    let rest : Reading = joined left (input_from (number + 1) after) in
+    (renamed_items given rest.items, all_named given files items rest.items (ap (λ (r : Reading). r.items) is))
 
 -- An item that is not taken gives the answer.
-pub halted_ahead : (base : Store ℕ) (files : List (List ℕ)) (items : List Item) (item : Item) (left next : Reading) (number : ℕ) (after : List (List ℕ)) (now : Composing) (sent : List ℕ) (halt : Halt)
-    → IsAhead files items left number after → left ≡ with_item item next → Progress (plan_for base files) items now sent → advance (plan_for base files) now item ≡ Err halt
-    → reading_due base (input files) ≡ halt_due item halt
-halted_ahead base files items item left next number after now sent halt is e p h =
+pub halted_ahead : (base : Store ℕ) (given : Names) (files : List (List ℕ)) (items : List Item) (item : Item) (left next : Reading) (number : ℕ) (after : List (List ℕ)) (now : Composing) (sent : List ℕ) (halt : Halt)
+    → IsAhead files items left number after → left ≡ with_item item next → Progress (plan_for base given files) (renamed_items given items) now sent → advance (plan_for base given files) now (renamed_item given item) ≡ Err halt
+    → reading_due base (renamed given (input files)) ≡ halt_due (renamed_item given item) halt
+halted_ahead base given files items item left next number after now sent halt is e p h =
     let all = ahead_input files items item left next number after is e in
-    due_halted base (input files) items item all.0 now sent halt (ap (λ (r : Reading). r.items) all.2) p h
+    due_halted base (renamed given (input files)) (renamed_items given items) (renamed_item given item) (renamed_items given all.0) now sent halt
+    (all_named given files items (item ∷ all.0) (ap (λ (r : Reading). r.items) all.2)) p h
 
 -- So does a fault of reading.
-pub fault_ahead : (base : Store ℕ) (files : List (List ℕ)) (items : List Item) (left : Reading) (verdict : Verdict) (number : ℕ) (after : List (List ℕ)) (now : Composing) (sent : List ℕ)
-    → IsAhead files items left number after → left ≡ record { items = []; end = Faulty verdict } → Progress (plan_for base files) items now sent → reading_due base (input files) ≡ RefusedAt verdict
-fault_ahead base files items left verdict number after now sent is e p =
+pub fault_ahead : (base : Store ℕ) (given : Names) (files : List (List ℕ)) (items : List Item) (left : Reading) (verdict : Verdict) (number : ℕ) (after : List (List ℕ)) (now : Composing) (sent : List ℕ)
+    → IsAhead files items left number after → left ≡ record { items = []; end = Faulty verdict } → Progress (plan_for base given files) (renamed_items given items) now sent → reading_due base (renamed given (input files)) ≡ RefusedAt verdict
+fault_ahead base given files items left verdict number after now sent is e p =
     let all = ahead_fault files items left verdict number after is e in
-    let same : items ≡ (input files).items = ap (λ (r : Reading). r.items) (sym all) in
-    due_at_fault base (input files) verdict now sent (subst (λ (xs : List Item). Progress (plan_for base files) xs now sent) same p) (ap (λ (r : Reading). r.end) all)
+    let same : renamed_items given items ≡ (renamed given (input files)).items = ap (λ (r : Reading). renamed_items given r.items) (sym all) in
+    due_at_fault base (renamed given (input files)) verdict now sent (subst (λ (xs : List Item). Progress (plan_for base given files) xs now sent) same p) (ap (λ (r : Reading). r.end) all)
 
 -- ---- the end of the last file
 
 -- All items of the files are taken, and reading came to a whole end.
-record AtEnd (base : Store ℕ) (files : List (List ℕ)) (items : List Item) (now : Composing) (sent : List ℕ) : Type 0 where
+record AtEnd (base : Store ℕ) (given : Names) (files : List (List ℕ)) (items : List Item) (now : Composing) (sent : List ℕ) : Type 0 where
   whole : (input files).end ≡ Whole
-  same : items ≡ (input files).items
-  progress : Progress (plan_for base files) (input files).items now sent
+  same : renamed_items given items ≡ (renamed given (input files)).items
+  progress : Progress (plan_for base given files) (renamed given (input files)).items now sent
 
-at_end : (base : Store ℕ) (files : List (List ℕ)) (items : List Item) (left : Reading) (number : ℕ) (now : Composing) (sent : List ℕ) → IsAhead files items left number [] → left ≡ ended → Progress (plan_for base files) items now sent
-    → AtEnd base files items now sent
-at_end base files items left number now sent is e p =
+at_end : (base : Store ℕ) (given : Names) (files : List (List ℕ)) (items : List Item) (left : Reading) (number : ℕ) (now : Composing) (sent : List ℕ) → IsAhead files items left number [] → left ≡ ended
+    → Progress (plan_for base given files) (renamed_items given items) now sent → AtEnd base given files items now sent
+at_end base given files items left number now sent is e p =
     let all = ahead_whole files items left number is e in
-    let same : items ≡ (input files).items = ap (λ (r : Reading). r.items) (sym all) in
-    record { whole = ap (λ (r : Reading). r.end) all; same = same; progress = subst (λ (xs : List Item). Progress (plan_for base files) xs now sent) same p }
+    let same : renamed_items given items ≡ (renamed given (input files)).items = ap (λ (r : Reading). renamed_items given r.items) (sym all) in
+    record { whole = ap (λ (r : Reading). r.end) all; same = same; progress = subst (λ (xs : List Item). Progress (plan_for base given files) xs now sent) same p }
 
 -- The stream has begun where there is a head, and only there.
 some_heads : (plan : Plan) (items : List Item) (now : Composing) (sent : List ℕ) → Progress plan items now sent → now.begun ≡ true → heads items ≢ []
@@ -74,47 +83,62 @@ no_heads plan items now sent p b = by_heads (heads items) (sym p.begun ∙ b)
     by_heads [] e = refl
     by_heads (h ∷ hs) e = cc
 
+-- The last of items with their names.
+last_named : (given : Names) (items : List Item) (item : Item) → last_item items ≡ Some item → last_item (renamed_items given items) ≡ Some (renamed_item given item)
+last_named given [] item e = cc
+last_named given (x ∷ []) item e = ap (option_map (renamed_item given)) e
+last_named given (x ∷ y ∷ items) item e = last_named given (y ∷ items) item e
+
+pub verdict_named : (name : Option (List ℕ)) (item : Item) (refusal : Refusal) → verdict_of (named_as name item) refusal ≡ verdict_of item refusal
+verdict_named None item refusal = refl
+verdict_named (Some name) item refusal = refl
+
 -- Where no part has begun, the last command gives the answer.
-pub empty_ahead : (base : Store ℕ) (files : List (List ℕ)) (items : List Item) (item : Item) (left : Reading) (number : ℕ) (now : Composing) (sent : List ℕ) → IsAhead files items left number [] → left ≡ ended
-    → Progress (plan_for base files) items now sent → now.begun ≡ false → last_item items ≡ Some item → reading_due base (input files) ≡ RefusedAt (verdict_of item NotConsecutive)
-empty_ahead base files items item left number now sent is e p b last =
-    let a = at_end base files items left number now sent is e p in
-    due_without_parts base (input files) item now sent a.progress a.whole (no_heads (plan_for base files) (input files).items now sent a.progress b)
-    (ap last_item (sym a.same) ∙ last)
+pub empty_ahead : (base : Store ℕ) (given : Names) (files : List (List ℕ)) (items : List Item) (item : Item) (left : Reading) (number : ℕ) (now : Composing) (sent : List ℕ) → IsAhead files items left number [] → left ≡ ended
+    → Progress (plan_for base given files) (renamed_items given items) now sent → now.begun ≡ false → last_item items ≡ Some item → reading_due base (renamed given (input files)) ≡ RefusedAt (verdict_of item NotConsecutive)
+empty_ahead base given files items item left number now sent is e p b last =
+    let a = at_end base given files items left number now sent is e p in
+    due_without_parts base (renamed given (input files)) (renamed_item given item) now sent a.progress a.whole (no_heads (plan_for base given files) (renamed given (input files)).items now sent a.progress b)
+    (ap last_item (sym a.same) ∙ last_named given items item last)
+    ∙ ap RefusedAt (verdict_named (name_for given item.file) item NotConsecutive)
 
 -- Where one has, all is done: what is written with END is all that is due.
-pub done_ahead : (base : Store ℕ) (files : List (List ℕ)) (items : List Item) (left : Reading) (number : ℕ) (now : Composing) (sent : List ℕ) → IsAhead files items left number [] → left ≡ ended
-    → Progress (plan_for base files) items now sent → now.begun ≡ true
-    → (reading_due base (input files) ≡ DoneWhole) × ((sent ++ now.pending) ++ canonical (version_of (input files).items) End ≡ whole_output base files)
-done_ahead base files items left number now sent is e p b =
-    let a = at_end base files items left number now sent is e p in
-    let some = some_heads (plan_for base files) (input files).items now sent a.progress b in
-    (due_done_whole base (input files) now sent a.progress a.whole some, written_is base (input files) now sent a.progress a.whole some)
+pub done_ahead : (base : Store ℕ) (given : Names) (files : List (List ℕ)) (items : List Item) (left : Reading) (number : ℕ) (now : Composing) (sent : List ℕ) → IsAhead files items left number [] → left ≡ ended
+    → Progress (plan_for base given files) (renamed_items given items) now sent → now.begun ≡ true
+    → (reading_due base (renamed given (input files)) ≡ DoneWhole) × ((sent ++ now.pending) ++ canonical (version_of (renamed given (input files)).items) End ≡ whole_output_of base (renamed given (input files)))
+done_ahead base given files items left number now sent is e p b =
+    let a = at_end base given files items left number now sent is e p in
+    let some = some_heads (plan_for base given files) (renamed given (input files)).items now sent a.progress b in
+    (due_done_whole base (renamed given (input files)) now sent a.progress a.whole some, written_is base (renamed given (input files)) now sent a.progress a.whole some)
 
 -- And the headline holds of it, by its law.
-pub composed_ahead : ReadingsHold → (store : Store ℕ) (files : List (List ℕ)) (items : List Item) (left : Reading) (number : ℕ) (now : Composing) (sent : List ℕ)
-    → IsWhole (input files) → FindsSayable (base_of store (input files).items) (keys_outside (input files).items) → IsAhead files items left number [] → left ≡ ended
-    → Progress (plan_for (base_of store (input files).items) files) items now sent → now.begun ≡ true
-    → IsComposed (base_of store (input files).items) files ((sent ++ now.pending) ++ canonical (version_of (input files).items) End)
-composed_ahead law store files items left number now sent whole sayable is e p b =
-    let base : Store ℕ = base_of store (input files).items in
-    let a = at_end base files items left number now sent is e p in
-    composed law store (input files) now sent whole sayable (some_heads (plan_for base files) (input files).items now sent a.progress b) a.progress
+pub composed_ahead : ReadingsHold → (store : Store ℕ) (given : Names) (files : List (List ℕ)) (items : List Item) (left : Reading) (number : ℕ) (now : Composing) (sent : List ℕ)
+    → let read = renamed given (input files) in
+    IsWhole read → FindsSayable (base_of store read.items) (keys_outside read.items) → IsAhead files items left number [] → left ≡ ended
+    → Progress (plan_for (base_of store read.items) given files) (renamed_items given items) now sent → now.begun ≡ true
+    → IsComposedOf (base_of store read.items) read ((sent ++ now.pending) ++ canonical (version_of read.items) End)
+composed_ahead law store given files items left number now sent whole sayable is e p b =
+    let read : Reading = renamed given (input files) in
+    let base : Store ℕ = base_of store read.items in
+    let a = at_end base given files items left number now sent is e p in
+    composed law store read now sent whole sayable (some_heads (plan_for base given files) read.items now sent a.progress b) a.progress
 
 -- ---- where it stops
 
 -- Wherever composing stops before END, what was written is no whole stream, and a front part of all that is due.
-pub stopped_ahead : (base : Store ℕ) (files : List (List ℕ)) (items : List Item) (left : Reading) (number : ℕ) (after : List (List ℕ)) (now : Composing) (sent : List ℕ) (count : ℕ) → AreReady base files
-    → IsAhead files items left number after → Progress (plan_for base files) items now sent → count ≤ length (sent ++ now.pending) → IsStopped base files (take count (sent ++ now.pending))
-stopped_ahead base files items left number after now sent count ready is p within =
-    let all = items_ahead files items left number after is in
-    stopped base (input files) items all.0 now sent count ready.none all.1 ready.version (ready.writable items all.0 now.state all.1 p.taken) p within
+pub stopped_ahead : (base : Store ℕ) (given : Names) (files : List (List ℕ)) (items : List Item) (left : Reading) (number : ℕ) (after : List (List ℕ)) (now : Composing) (sent : List ℕ) (count : ℕ) → AreReady base given files
+    → IsAhead files items left number after → Progress (plan_for base given files) (renamed_items given items) now sent → count ≤ length (sent ++ now.pending) → IsStoppedOf base (renamed given (input files)) (take count (sent ++ now.pending))
+stopped_ahead base given files items left number after now sent count ready is p within =
+    let all = items_ahead given files items left number after is in
+    stopped base (renamed given (input files)) (renamed_items given items) all.0 now sent count ready.none all.1 ready.version (ready.writable (renamed_items given items) all.0 now.state all.1 p.taken) p within
 
 -- The same where END was to be written, and not all of it was.
-pub stopped_end_ahead : (base : Store ℕ) (files : List (List ℕ)) (items : List Item) (left : Reading) (number : ℕ) (now : Composing) (sent : List ℕ) (count : ℕ) → AreReady base files
-    → IsAhead files items left number [] → left ≡ ended → Progress (plan_for base files) items now sent → now.begun ≡ true
-    → count < length ((sent ++ now.pending) ++ canonical (version_of (input files).items) End) → IsStopped base files (take count ((sent ++ now.pending) ++ canonical (version_of (input files).items) End))
-stopped_end_ahead base files items left number now sent count ready is e p b within =
-    let a = at_end base files items left number now sent is e p in
-    stopped_end base (input files) now sent count a.whole (some_heads (plan_for base files) (input files).items now sent a.progress b) ready.version
-    (ready.writable (input files).items [] now.state (sym (append-nil (input files).items)) a.progress.taken) a.progress within
+pub stopped_end_ahead : (base : Store ℕ) (given : Names) (files : List (List ℕ)) (items : List Item) (left : Reading) (number : ℕ) (now : Composing) (sent : List ℕ) (count : ℕ) → AreReady base given files
+    → IsAhead files items left number [] → left ≡ ended → Progress (plan_for base given files) (renamed_items given items) now sent → now.begun ≡ true
+    → count < length ((sent ++ now.pending) ++ canonical (version_of (renamed given (input files)).items) End)
+    → IsStoppedOf base (renamed given (input files)) (take count ((sent ++ now.pending) ++ canonical (version_of (renamed given (input files)).items) End))
+stopped_end_ahead base given files items left number now sent count ready is e p b within =
+    let read : Reading = renamed given (input files) in
+    let a = at_end base given files items left number now sent is e p in
+    stopped_end base read now sent count a.whole (some_heads (plan_for base given files) read.items now sent a.progress b) ready.version
+    (ready.writable read.items [] now.state (sym (append-nil read.items)) a.progress.taken) a.progress within

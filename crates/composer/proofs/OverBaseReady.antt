@@ -8,6 +8,7 @@ use Rattle.send_model.specs.Receive.{Run, start_of}
 use Rattle.send_model.specs.Outside.{part_uuids, base_of, keys_outside, FindsSayable}
 use Rattle.send_model.specs.Cells.{recelled_state}
 use Rattle.send_model.specs.Laws.{CanWrite, FrontsAreWritable}
+use Rattle.send_model.specs.Renamed.{Names, renamed}
 use Rattle.send_model.proofs.Runs.{runs_taken}
 use Rattle.send_model.proofs.Headlines.{without_finds}
 use Rattle.send_model.proofs.ReadCommands.{output_is_read}
@@ -15,10 +16,12 @@ use Rattle.composer.specs.OverBase.{AreReady}
 use Rattle.send_model.proofs.Tracing.{byte_of}
 use Rattle.composer.proofs.OverBaseEnds.{taken_bytes}
 
-pub are_ready : FrontsAreWritable → (store : Store ℕ) (files : List (List ℕ)) → FindsSayable (base_of store (input files).items) (keys_outside (input files).items)
-    → AllByRecursion (λ item. CanWrite item.version item.command × (is_version item.version ≡ true)) (input files).items → AreReady (base_of store (input files).items) files
-are_ready law store files sayable writable =
-    let all : List Item = (input files).items in
+pub are_ready : FrontsAreWritable → (store : Store ℕ) (given : Names) (files : List (List ℕ))
+    → FindsSayable (base_of store (renamed given (input files)).items) (keys_outside (renamed given (input files)).items)
+    → AllByRecursion (λ item. CanWrite item.version item.command × (is_version item.version ≡ true)) (renamed given (input files)).items
+    → AreReady (base_of store (renamed given (input files)).items) given files
+are_ready law store given files sayable writable =
+    let all : List Item = (renamed given (input files)).items in
     let base : Store ℕ = base_of store all in
     record {
       none = λ k e. without_finds (part_uuids all) store k e;

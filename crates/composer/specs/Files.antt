@@ -1,19 +1,20 @@
 -- What is said of whole files: what composing one file and all files ends with, and why it stops.
-use Rattle.std.specs.Prelude.{◌≡◌, ◌⊎◌, ⊤, ℕ, ◌<◌, true, false, List, [], Option, None, Some, Result, Ok, Err}
+use Rattle.std.specs.Prelude.{◌≡◌, ◌⊎◌, ⊤, ℕ, ◌<◌, true, false, List, [], map, Option, None, Some, Result, Ok, Err}
 use Rattle.std.specs.Io.KnownBytes.{Appends}
-use Rattle.send_model.specs.Reading.{Item, Reading, Whole, Faulty, reads, with_item}
+use Rattle.send_model.specs.Reading.{Item, Reading, Whole, Faulty, reads, with_item, input}
 use Rattle.send_model.specs.Store.{Store}
 use Rattle.send_model.specs.Receive.{first_of}
 use Rattle.send_model.specs.Order.{heads, last_item}
 use Rattle.send_model.specs.Composed.{last_head}
 use Rattle.send_model.specs.Due.{RefusedAt}
 use Rattle.send_model.specs.Lengths.{is_too_long}
-use Rattle.send_model.specs.Headline.{IsComposed}
-use Rattle.sx_base.specs.Calls.{Ends}
+use Rattle.send_model.specs.Headline.{IsComposedOf}
+use Rattle.send_model.specs.Renamed.{Names, named_as, renamed}
 use Rattle.sx_base.specs.Refusals.{verdict_meant}
 use Rattle.sx_base.specs.declared.outcome.Outcome.{Outcome}
 use Rattle.sx_base.specs.declared.outcome.Outcome.TheVariants as ended
 use Rattle.send_model.specs.Words.{Compose}
+use Rattle.part_names.specs.Naming.{sources_named, EndsOf}
 use Rattle.file_survey.specs.Findings.{Surveyed}
 use Rattle.file_survey.specs.Ahead.{then_reading}
 use Rattle.file_survey.specs.declared.places.Place.{Place}
@@ -38,22 +39,23 @@ abbrev pub IsLastPlace : Place → Place → Option Item → Type 0
 IsLastPlace before place None = place ≡ before
 IsLastPlace before place (Some item) = IsPlace place item
 
--- All items of a file were taken, and of the bytes that are then to be written some were. The file is not too long.
-pub record FileTaken (files : List (List ℕ)) (plan : Plan) (file : ℕ) (old new : Kept) (out_old out_new : Option (List ℕ)) (before place : Place) (bytes : List ℕ) : Type 0 where
+-- All items of a file were taken, with the name that is given for it, and of the bytes that are then to be written some were. The file is
+-- not too long.
+pub record FileTaken (files : List (List ℕ)) (plan : Plan) (file : ℕ) (given : Option (List ℕ)) (old new : Kept) (out_old out_new : Option (List ℕ)) (before place : Place) (bytes : List ℕ) : Type 0 where
   pub items : List Item
   pub sent : List ℕ
   pub read : reads file bytes ≡ record { items = items; end = Whole }
-  pub all : advance_all plan (composing_of files plan.base old) items ≡ Ok (unsent sent (composing_of files plan.base new))
+  pub all : advance_all plan (composing_of files plan.base old) (map (named_as given) items) ≡ Ok (unsent sent (composing_of files plan.base new))
   pub appends : Appends out_old out_new sent
   pub last : IsLastPlace before place (last_item items)
-  pub latest : new.latest ≡ first_of (last_head (heads items)) old.latest
+  pub latest : new.latest ≡ first_of (last_head (heads (map (named_as given) items))) old.latest
   pub fits : is_too_long file bytes ≡ false
 
--- The next item that is read is not taken.
-pub record NextHalts (plan : Plan) (now : Composing) (rest : Reading) (halt : Halt) (item : Item) : Type 0 where
+-- The next item that is read is not taken, with the name that is given.
+pub record NextHalts (plan : Plan) (given : Option (List ℕ)) (now : Composing) (rest : Reading) (halt : Halt) (item : Item) : Type 0 where
   pub more : Reading
   pub front : rest ≡ with_item item more
-  pub halted : advance plan now item ≡ Err halt
+  pub halted : advance plan now (named_as given item) ≡ Err halt
 
 -- The next item that is read has a version above that of the stream that is written.
 pub record NextAbove (plan : Plan) (rest : Reading) : Type 0 where
@@ -63,38 +65,39 @@ pub record NextAbove (plan : Plan) (rest : Reading) : Type 0 where
   pub above : plan.version < item.version
 
 -- Why composing a file stopped before what is left of it.
-abbrev pub FileWhy : Plan → ℕ → Composing → Reading → Outcome → List ℕ → Type 0
-FileWhy plan file now rest (ended.Refused verdict) bytes =
+abbrev pub FileWhy : Plan → ℕ → Option (List ℕ) → Composing → Reading → Outcome → List ℕ → Type 0
+FileWhy plan file given now rest (ended.Refused verdict) bytes =
     (rest ≡ record { items = []; end = Faulty (verdict_meant verdict) })
-    ⊎ (((item : Item) × (halt : Halt) × NextHalts plan now rest halt item × (halt_due item halt ≡ RefusedAt (verdict_meant verdict))) ⊎ NextAbove plan rest)
-FileWhy plan file now rest (ended.TooMuch sum) bytes = (item : Item) × NextHalts plan now rest (Exceeds sum) item
-FileWhy plan file now rest (ended.InputTooLong number) bytes = (number ≡ file) × (is_too_long file bytes ≡ true)
-FileWhy plan file now rest ended.Done bytes = ⊥
-FileWhy plan file now rest (ended.InputChanged number place) bytes = ⊥
-FileWhy plan file now rest ended.InputFault bytes = ⊤
-FileWhy plan file now rest ended.OutputFault bytes = ⊤
-FileWhy plan file now rest ended.NoMemory bytes = ⊤
+    ⊎ (((item : Item) × (halt : Halt) × NextHalts plan given now rest halt item × (halt_due (named_as given item) halt ≡ RefusedAt (verdict_meant verdict))) ⊎ NextAbove plan rest)
+FileWhy plan file given now rest (ended.TooMuch sum) bytes = (item : Item) × NextHalts plan given now rest (Exceeds sum) item
+FileWhy plan file given now rest (ended.InputTooLong number) bytes = (number ≡ file) × (is_too_long file bytes ≡ true)
+FileWhy plan file given now rest ended.Done bytes = ⊥
+FileWhy plan file given now rest (ended.InputChanged number place) bytes = ⊥
+FileWhy plan file given now rest ended.InputFault bytes = ⊤
+FileWhy plan file given now rest ended.OutputFault bytes = ⊤
+FileWhy plan file given now rest ended.NoMemory bytes = ⊤
 
 -- Some items of the file were taken, and a front part of the bytes was written that were then to be written.
-pub record FileStops (files : List (List ℕ)) (plan : Plan) (file : ℕ) (old : Kept) (out_old out_new : Option (List ℕ)) (outcome : Outcome) (bytes : List ℕ) : Type 0 where
+pub record FileStops (files : List (List ℕ)) (plan : Plan) (file : ℕ) (given : Option (List ℕ)) (old : Kept) (out_old out_new : Option (List ℕ)) (outcome : Outcome) (bytes : List ℕ) : Type 0 where
   pub items : List Item
   pub rest : Reading
   pub next : Composing
   pub read : reads file bytes ≡ then_reading items rest
-  pub all : advance_all plan (composing_of files plan.base old) items ≡ Ok next
+  pub all : advance_all plan (composing_of files plan.base old) (map (named_as given) items) ≡ Ok next
   pub front : AppendsFront out_old out_new next.pending
-  pub why : FileWhy plan file next rest outcome bytes
+  pub why : FileWhy plan file given next rest outcome bytes
 
-abbrev pub FileEnd : List (List ℕ) → Plan → ℕ → Kept → Kept → Option (List ℕ) → Option (List ℕ) → Place → Result Place Outcome → List ℕ → Type 0
-FileEnd files plan file old new out_old out_new before (Ok place) bytes = FileTaken files plan file old new out_old out_new before place bytes
-FileEnd files plan file old new out_old out_new before (Err outcome) bytes = FileStops files plan file old out_old out_new outcome bytes
+abbrev pub FileEnd : List (List ℕ) → Plan → ℕ → Option (List ℕ) → Kept → Kept → Option (List ℕ) → Option (List ℕ) → Place → Result Place Outcome → List ℕ → Type 0
+FileEnd files plan file given old new out_old out_new before (Ok place) bytes = FileTaken files plan file given old new out_old out_new before place bytes
+FileEnd files plan file given old new out_old out_new before (Err outcome) bytes = FileStops files plan file given old out_old out_new outcome bytes
 
 -- ---- all files
 
--- Composing all files over a base ends as is due, and the headline holds of what was written where all was done.
-pub record ComposeEnds (base : Store ℕ) (files : List (List ℕ)) (outcome : Outcome) (written : List ℕ) : Type 0 where
-  pub ends : Ends (Compose 1 2) base files outcome written
-  pub composed : outcome ≡ ended.Done → IsComposed base files written
+-- Composing all files over a base, with the names that are given, ends as is due, and the headline holds of what was written where all
+-- was done.
+pub record ComposeEnds (base : Store ℕ) (given : Names) (files : List (List ℕ)) (outcome : Outcome) (written : List ℕ) : Type 0 where
+  pub ends : EndsOf (Compose 1 2) base (sources_named given files) outcome written
+  pub composed : outcome ≡ ended.Done → IsComposedOf base (renamed given (input files)) written
 
 abbrev pub outcome_in : Result (Unit {0}) Outcome → Outcome
 outcome_in (Ok done) = ended.Done

@@ -14,6 +14,7 @@ use Rattle.send_model.specs.Composed.{first_head, last_head, head_command, versi
 use Rattle.send_model.specs.Headline.{stream_front}
 use Rattle.send_model.specs.Laws.{AreInner}
 use Rattle.send_model.specs.Due.{Due, RefusedAt, TooMuch, most_literal, uncarried_of}
+use Rattle.send_model.specs.Renamed.{Names, renamed}
 
 -- What is known before the first command: the base, which is the store without the parts; the parts' uuids; the version of the
 -- stream that is written; and the last part's head, where there is a part.
@@ -145,9 +146,9 @@ AreWritable plan items = (first last : Head) → first_head (heads items) ≡ So
 
 -- ---- files
 
--- The plan for files: what reading them once over finds.
-abbrev pub plan_for : Store ℕ → List (List ℕ) → Plan
-plan_for base files = plan_of base (input files).items
+-- The plan for files with the names that are given: what reading them once over finds.
+abbrev pub plan_for : Store ℕ → Names → List (List ℕ) → Plan
+plan_for base given files = plan_of base (renamed given (input files)).items
 
 -- A base finds none of the uuids.
 abbrev pub HasNone : Store ℕ → List (List ℕ) → Type 0
@@ -155,8 +156,8 @@ HasNone base uuids = (k : Key) → is_among uuids k.uuid ≡ true → find base 
 
 -- What is known once the files were read for their heads: the base has none of their parts, the version of the stream is one that is
 -- read, and what stands for items that are taken can be written in it.
-pub record AreReady (base : Store ℕ) (files : List (List ℕ)) : Type 0 where
-  pub none : HasNone base (part_uuids (input files).items)
-  pub version : is_version (version_of (input files).items) ≡ true
-  pub writable : (items more : List Item) (end : State Traced) → (input files).items ≡ items ++ more → AreTaken (start_of (traced_store base)) items end
-      → AreWritable (plan_for base files) items
+pub record AreReady (base : Store ℕ) (given : Names) (files : List (List ℕ)) : Type 0 where
+  pub none : HasNone base (part_uuids (renamed given (input files)).items)
+  pub version : is_version (version_of (renamed given (input files)).items) ≡ true
+  pub writable : (items more : List Item) (end : State Traced) → (renamed given (input files)).items ≡ items ++ more → AreTaken (start_of (traced_store base)) items end
+      → AreWritable (plan_for base given files) items

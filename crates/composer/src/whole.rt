@@ -5,6 +5,7 @@ ghost use Rattle.send_model.specs.Outside.{store_without, AllSayable};
 ghost use Rattle.send_model.specs.Provenance.{traced_store};
 ghost use Rattle.send_model.specs.Receive.{start_of};
 ghost use Rattle.send_model.specs.Cells.{recelled_store, AllCells};
+ghost use Rattle.send_model.specs.Renamed.{name_for};
 ghost use Rattle.provenance.specs.Traces.{place_of};
 ghost use Rattle.clone_pieces.specs.Origins.{outside_cells, IsHad, IsInInput, AreAsLong, AreHeld, byte_of_trace};
 ghost use Rattle.clone_pieces.specs.Seen.{seen};
@@ -21,12 +22,14 @@ use clone_pieces::{Known, NoBase, OutsideBytes};
 use clone_resolve::EditCore;
 use cmd_reader::{CmdReader, outcome_of};
 use file_survey::{Place, Survey, survey};
+use part_names::{PartNames, rename};
 use provenance::Trace;
 use std::alloc::Global;
 use sx_base::{Inputs, Outcome, Refusal, Sink};
 
 /// Composes the consecutive parts in the files into one stream and writes it to `out`, over no base. The files are read twice, in
-/// order and one command at a time: first for their heads, then to write. `Done` says that `out` took the composed stream, and
+/// order and one command at a time: first for their heads, then to write. Each head has the name that is given for its file, if one
+/// is, in place of its own. `Done` says that `out` took the composed stream, and
 /// `Refused` gives the verdict on the files; then and with every other outcome what `out` took is no whole stream. `InputTooLong`
 /// gives the first file that is too long, and with `Done` and `Refused` there is none. `InputChanged` gives the file and the place
 /// of the end that the inputs answered last.
@@ -34,6 +37,7 @@ pub fn compose<I: Inputs, O: Sink>(
     alloc: Global,
     inputs: &mut I,
     files: &[String],
+    names: &PartNames,
     out: &mut O,
 ) -> Outcome
     requires some { files.now ≢ [] }
@@ -45,9 +49,9 @@ pub fn compose<I: Inputs, O: Sink>(
         (I.faults inputs.old) (I.faults inputs.new) (O.faults out.old) (O.faults out.new) result }
     ensures changed { FoundChanged (map string_bytes files.now) (I.last_end inputs.new) result }
     ensures ends { IfAllTold (I.told inputs.old) (map string_bytes files.now)
-        (λ told. Wrote (O.taken out.old) (O.taken out.new) (ComposeEnds [] told result)) }
+        (λ told. Wrote (O.taken out.old) (O.taken out.new) (ComposeEnds [] names.now told result)) }
 {
-    let known = match survey(alloc, inputs, files) {
+    let known = match survey(alloc, inputs, files, names) {
         Ok(known) => known,
         Err(outcome) => return outcome,
     };
@@ -61,6 +65,7 @@ pub fn compose<I: Inputs, O: Sink>(
         &mut nothing,
         inputs,
         files,
+        names,
         out,
     )
 }
@@ -76,11 +81,12 @@ pub fn compose_over<I: Inputs, E: Known, B: OutsideBytes, O: Sink>(
     bytes: &mut B,
     inputs: &mut I,
     files: &[String],
+    names: &PartNames,
     out: &mut O,
 ) -> Outcome
     requires some { files.now ≢ [] }
     requires surveyed { IfAllTold (I.told inputs.old) (map string_bytes files.now)
-        (SurveyEnd (Ok survey.now)) }
+        (SurveyEnd names.now (Ok survey.now)) }
     requires traced { B.tells → IfAllTold (I.told inputs.old) (map string_bytes files.now)
         (λ told. recelled_store (seen (byte_of_trace told (E.base known.now)) place_of) core
         ≡ traced_store (E.base known.now)) }
@@ -100,7 +106,7 @@ pub fn compose_over<I: Inputs, E: Known, B: OutsideBytes, O: Sink>(
     ensures changed { FoundChanged (map string_bytes files.now) (I.last_end inputs.new) result }
     ensures ends { B.tells → IfAllTold (I.told inputs.old) (map string_bytes files.now)
         (λ told. Wrote (O.taken out.old) (O.taken out.new)
-        (ComposeEnds (E.base known.now) told result)) }
+        (ComposeEnds (E.base known.now) names.now told result)) }
 {
     let mut composer = Composer::new(alloc, core);
     match write_files(
@@ -110,6 +116,7 @@ pub fn compose_over<I: Inputs, E: Known, B: OutsideBytes, O: Sink>(
         bytes,
         inputs,
         files,
+        names,
         out,
         &mut composer,
     ) {
@@ -126,12 +133,13 @@ fn write_files<I: Inputs, E: Known, B: OutsideBytes, O: Sink>(
     bytes: &mut B,
     inputs: &mut I,
     files: &[String],
+    names: &PartNames,
     out: &mut O,
     composer: &mut Composer,
 ) -> Result<(), Outcome>
     requires some { files.now ≢ [] }
     requires surveyed { IfAllTold (I.told inputs.old) (map string_bytes files.now)
-        (SurveyEnd (Ok survey.now)) }
+        (SurveyEnd names.now (Ok survey.now)) }
     requires start { B.tells → IfAllTold (I.told inputs.old) (map string_bytes files.now)
         (λ told. composing_of told (E.base known.now) composer.old
         ≡ at_start (plan_with (E.base known.now) survey.now)) }
@@ -154,13 +162,13 @@ fn write_files<I: Inputs, E: Known, B: OutsideBytes, O: Sink>(
     ensures changed { ErrFoundChanged (map string_bytes files.now) (I.last_end inputs.new) result }
     ensures ends { B.tells → IfAllTold (I.told inputs.old) (map string_bytes files.now)
         (λ told. Wrote (O.taken out.old) (O.taken out.new)
-        (ComposeEnds (E.base known.now) told (outcome_in result))) }
+        (ComposeEnds (E.base known.now) names.now told (outcome_in result))) }
 {
     let mut place = Place::start();
     let mut file = 0;
     while file < files.len() {
         place = match write_file(
-            alloc, survey, known, bytes, inputs, files, file, out, composer, place,
+            alloc, survey, known, bytes, inputs, files, names, file, out, composer, place,
         ) {
             Ok(place) => place,
             Err(outcome) => return Err(outcome),
@@ -181,6 +189,7 @@ fn write_file<I: Inputs, E: Known, B: OutsideBytes, O: Sink>(
     bytes: &mut B,
     inputs: &mut I,
     files: &[String],
+    names: &PartNames,
     number: usize,
     out: &mut O,
     composer: &mut Composer,
@@ -214,13 +223,15 @@ fn write_file<I: Inputs, E: Known, B: OutsideBytes, O: Sink>(
     ensures changed { ErrFoundChanged (map string_bytes files.now) (I.last_end inputs.new) result }
     ensures wrote { B.tells → IfAllTold (I.told inputs.old) (map string_bytes files.now)
         (λ told. FileEnd told (plan_with (E.base known.now) survey.now) (number + 1)
-        composer.old composer.new (O.taken out.old) (O.taken out.new) before result
+        (name_for names.now (number + 1)) composer.old composer.new (O.taken out.old)
+        (O.taken out.new) before result
         (get_or told number [])) }
 {
     let file = number as u64 + 1;
     let Ok(mut reader) = CmdReader::new(alloc, file, files[number].as_str()) else {
         return Err(Outcome::NoMemory);
     };
+    let name = names.of_file(file);
     let mut place = before;
     loop {
         match reader.next(inputs) {
@@ -235,11 +246,14 @@ fn write_file<I: Inputs, E: Known, B: OutsideBytes, O: Sink>(
                     let refused = place.refused(Refusal::NotConsecutive);
                     return Err(composer.stopped(Outcome::Refused(refused), out));
                 }
+                let Ok(named) = rename(alloc, name, item) else {
+                    return Err(Outcome::NoMemory);
+                };
                 let frame = reader.last_frame();
                 let taken = composer.take(
-                    &item, frame, file, survey, files, inputs, known, bytes, out,
+                    &named, frame, file, survey, files, inputs, known, bytes, out,
                 );
-                drop(item);
+                drop(named);
                 if let Err(outcome) = taken {
                     return Err(outcome);
                 }

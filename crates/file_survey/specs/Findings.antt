@@ -11,6 +11,7 @@ use Rattle.send_model.specs.Outside.{part_uuids, is_among, keys_named}
 use Rattle.send_model.specs.Composed.{last_head, version_of}
 use Rattle.send_model.specs.Laws.{CanWrite}
 use Rattle.send_model.specs.Lengths.{is_too_long, too_long}
+use Rattle.send_model.specs.Renamed.{Names, named_as, renamed}
 use Rattle.send_commands.specs.declared.command.Command as made
 use Rattle.send_commands.specs.Meaning.{meaning_of}
 use Rattle.sx_base.specs.declared.outcome.Outcome.{Outcome}
@@ -108,14 +109,15 @@ abbrev pub EndIs : Bool → reading.Ending → Type 0
 EndIs true ending = ending ≡ Whole
 EndIs false ending = (verdict : reading.Verdict) × (ending ≡ Faulty verdict)
 
--- All commands of a file were read, up to its end or to a fault, and it is not too long.
-pub record FileRead (file : ℕ) (whole : Bool) (old new : Surveyed) (bytes : List ℕ) : Type 0 where
+-- All commands of a file were read, up to its end or to a fault, and it is not too long. What is known is what they say with the name
+-- that is given for the file.
+pub record FileRead (file : ℕ) (name : Option (List ℕ)) (whole : Bool) (old new : Surveyed) (bytes : List ℕ) : Type 0 where
   pub items : List Item
   pub ending : reading.Ending
   pub read : reads file bytes ≡ record { items = items; end = ending }
   pub end_is : EndIs whole ending
-  pub writable : AreReadable items
-  pub seen : new ≡ after_items old items
+  pub writable : AreReadable (map (named_as name) items)
+  pub seen : new ≡ after_items old (map (named_as name) items)
   pub fits : is_too_long file bytes ≡ false
 
 -- Why a file could not be read.
@@ -129,19 +131,19 @@ FileStop file ended.OutputFault bytes = ⊥
 FileStop file (ended.TooMuch sum) bytes = ⊥
 FileStop file (ended.InputChanged number place) bytes = ⊥
 
-abbrev pub FileEnd : ℕ → Surveyed → Surveyed → Result Bool Outcome → List ℕ → Type 0
-FileEnd file old new (Ok whole) bytes = FileRead file whole old new bytes
-FileEnd file old new (Err outcome) bytes = FileStop file outcome bytes
+abbrev pub FileEnd : ℕ → Option (List ℕ) → Surveyed → Surveyed → Result Bool Outcome → List ℕ → Type 0
+FileEnd file name old new (Ok whole) bytes = FileRead file name whole old new bytes
+FileEnd file name old new (Err outcome) bytes = FileStop file outcome bytes
 
 -- ---- all files
 
--- What is known is what holds of all that the files are read as, and none of them is too long.
-pub record AllRead (seen : Surveyed) (files : List (List ℕ)) : Type 0 where
-  pub last : seen.last ≡ last_head (heads (input files).items)
-  pub parts : seen.parts ≡ part_uuids (input files).items
-  pub named : seen.named ≡ joined_by [] (all_uuids_named (commands_of (input files).items))
-  pub version : seen.version ≡ version_of (input files).items
-  pub writable : AreReadable (input files).items
+-- What is known is what holds of all that the files are read as, with the names that are given, and none of them is too long.
+pub record AllRead (names : Names) (seen : Surveyed) (files : List (List ℕ)) : Type 0 where
+  pub last : seen.last ≡ last_head (heads (renamed names (input files)).items)
+  pub parts : seen.parts ≡ part_uuids (renamed names (input files)).items
+  pub named : seen.named ≡ joined_by [] (all_uuids_named (commands_of (renamed names (input files)).items))
+  pub version : seen.version ≡ version_of (renamed names (input files)).items
+  pub writable : AreReadable (renamed names (input files)).items
   pub fits : too_long files ≡ None
 
 -- Why files could not be read. InputTooLong gives the first that is too long.
@@ -155,6 +157,6 @@ SurveyStop ended.OutputFault files = ⊥
 SurveyStop (ended.TooMuch sum) files = ⊥
 SurveyStop (ended.InputChanged number place) files = ⊥
 
-abbrev pub SurveyEnd : Result Surveyed Outcome → List (List ℕ) → Type 0
-SurveyEnd (Ok seen) files = AllRead seen files
-SurveyEnd (Err outcome) files = SurveyStop outcome files
+abbrev pub SurveyEnd : Names → Result Surveyed Outcome → List (List ℕ) → Type 0
+SurveyEnd names (Ok seen) files = AllRead names seen files
+SurveyEnd names (Err outcome) files = SurveyStop outcome files

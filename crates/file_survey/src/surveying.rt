@@ -1,19 +1,30 @@
 // Once over all files, for their heads and versions.
-ghost use Rattle.std.specs.Prelude.{◌≡◌, ◌≤◌, map, IfErr};
+ghost use Rattle.std.specs.Prelude.{◌≡◌, ◌≤◌, map, IfErr, IfOk, IfSome};
+ghost use Rattle.std.specs.Option.{option_copied};
 ghost use Rattle.std.specs.String.{string_bytes};
+ghost use Rattle.send_model.specs.Renamed.{name_for};
 ghost use Rattle.cmd_reader.specs.Places.{IfTold};
+ghost use Rattle.part_names.specs.Naming.{IsShort};
 ghost use Rattle.file_survey.specs.Findings.{FileEnd, SurveyEnd};
+ghost use Rattle.file_survey.specs.NamedGlances.{HasName};
 ghost use Rattle.sx_base.specs.Calls.{IfAllTold, ErrCaused, IsStop};
 ghost use Rattle.sx_base.specs.Causes.{Steady};
 
 use crate::summary::Survey;
-use cmd_reader::{CmdReader, ReadStop, outcome_of};
-use std::alloc::Global;
-use sx_base::{Inputs, Outcome};
+use cmd_reader::{CmdReader, Glance, ReadStop, outcome_of};
+use part_names::{PartNames, rename_command};
+use std::alloc::{AllocError, Global};
+use sx_base::{Blob, Inputs, Outcome};
 
 /// Reads the files once, in order, for their heads and versions, as far as they can be read: what stands behind a fault is not
-/// looked at, and the fault is no error. `InputTooLong` gives the first file that is too long.
-pub fn survey<I: Inputs>(alloc: Global, inputs: &mut I, files: &[String]) -> Result<Survey, Outcome>
+/// looked at, and the fault is no error. Heads have the names that are given for their files. `InputTooLong` gives the first file
+/// that is too long.
+pub fn survey<I: Inputs>(
+    alloc: Global,
+    inputs: &mut I,
+    files: &[String],
+    names: &PartNames,
+) -> Result<Survey, Outcome>
     ensures same { I.told inputs.new ≡ I.told inputs.old }
     ensures later { I.faults inputs.old ≤ I.faults inputs.new }
     ensures steady { Steady (I.faults inputs.old) (I.faults inputs.new) result }
@@ -22,13 +33,13 @@ pub fn survey<I: Inputs>(alloc: Global, inputs: &mut I, files: &[String]) -> Res
     ensures cause { ErrCaused (I.faults inputs.old) (I.faults inputs.new) 0 0 result }
     ensures stops { IfErr result IsStop }
     ensures surveyed { IfAllTold (I.told inputs.old) (map string_bytes files.now)
-        (SurveyEnd result) }
+        (SurveyEnd names.now result) }
 {
     let mut seen = Survey::new(alloc);
     let mut file = 0;
     while file < files.len() {
         let name = files[file].as_str();
-        match survey_file(alloc, inputs, file as u64 + 1, name, &mut seen) {
+        match survey_file(alloc, inputs, file as u64 + 1, name, names, &mut seen) {
             Ok(true) => {}
             Ok(false) => return Ok(seen),
             Err(outcome) => return Err(outcome),
@@ -44,6 +55,7 @@ fn survey_file<I: Inputs>(
     inputs: &mut I,
     file: u64,
     name: &str,
+    names: &PartNames,
     seen: &mut Survey,
 ) -> Result<bool, Outcome>
     ensures same { I.told inputs.new ≡ I.told inputs.old }
@@ -53,8 +65,10 @@ fn survey_file<I: Inputs>(
     ensures ends_steady { Steady (I.ends inputs.old) (I.ends inputs.new) result }
     ensures cause { ErrCaused (I.faults inputs.old) (I.faults inputs.new) 0 0 result }
     ensures stops { IfErr result IsStop }
-    ensures seen { IfTold (I.told inputs.old) name.now (FileEnd file seen.old seen.new result) }
+    ensures seen { IfTold (I.told inputs.old) name.now
+        (FileEnd file (name_for names.now file) seen.old seen.new result) }
 {
+    let new_name = names.of_file(file);
     let Ok(mut reader) = CmdReader::new(alloc, file, name) else {
         return Err(Outcome::NoMemory);
     };
@@ -67,9 +81,31 @@ fn survey_file<I: Inputs>(
                 _ => return Err(outcome_of(file, stop)),
             },
         };
-        match seen.keep(alloc, glance) {
+        let Ok(named) = glance_as(alloc, new_name, glance) else {
+            return Err(Outcome::NoMemory);
+        };
+        match seen.keep(alloc, named) {
             Ok(()) => {}
             Err(_) => return Err(Outcome::NoMemory),
         }
     }
+}
+
+// What is seen of a command of a file for which this name is given, if one is.
+fn glance_as(alloc: Global, name: Option<&Blob>, glance: Glance) -> Result<Glance, AllocError>
+    requires short { IfSome (option_copied name) IsShort }
+    ensures named { IfOk result (HasName (option_copied name.entry) glance) }
+{
+    let Glance { mention, version } = glance;
+    let Some(mention) = mention else {
+        return Ok(Glance {
+            mention: None,
+            version,
+        });
+    };
+    let command = rename_command(alloc, name, mention)?;
+    Ok(Glance {
+        mention: Some(command),
+        version,
+    })
 }

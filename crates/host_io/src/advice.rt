@@ -8,7 +8,7 @@ const NO_FIT: &str =
     "the stream does not fit the subvolume that it says it stands on: send it again from the right parent";
 
 // About a refusal, by its name.
-const REFUSALS: [(&str, &str); 34] = [
+const REFUSALS: [(&str, &str); 35] = [
     (
         "BadMagic",
         "other bytes stand where a stream begins: it is no send stream, or still compressed or encrypted",
@@ -29,11 +29,11 @@ const REFUSALS: [(&str, &str); 34] = [
     ("NoSubvolume", LIKE_THIS),
     (
         "BadName",
-        "the subvolume has no lawful name: send one with a lawful name",
+        "the name is not lawful: write name:NEW in front of the file, with a lawful one",
     ),
     (
         "NameThere",
-        "a subvolume of this name is there: leave out what is given twice, or give snapshots names of their own",
+        "a subvolume of this name is there: leave out what is given twice, or write name:NEW in front of the file",
     ),
     (
         "UuidThere",
@@ -72,6 +72,7 @@ const REFUSALS: [(&str, &str); 34] = [
         "Guarded",
         "a guard refuses it: raise the limit, or do not receive the stream",
     ),
+    ("BadFallocate", LIKE_THIS),
     (
         "NotConsecutive",
         "each part has to stand on the one just before it: leave out streams that the last one does not need",
@@ -146,6 +147,9 @@ pub(crate) fn about_words(words: &[String]) -> &'static str {
         [_, none, guard, ..]
             if none.as_str() == "none" && guard.as_bytes().starts_with(b"guard:") => {
             "guards stand before the store"
+        }
+        [.., word] if word.as_bytes().starts_with(b"name:") => {
+            "a file stands behind the name that is given for it"
         }
         _ => "these words mean nothing: --help shows the words that there are",
     }

@@ -5,7 +5,7 @@ btrsend receives Btrfs send streams into a store file, checks them, merges a cha
 them. It needs no Btrfs.
 
 usage: btrsend init STORE
-       btrsend receive [GUARD..] STORE FILE..
+       btrsend receive [GUARD..] STORE [name:NEW] FILE ..
        btrsend list STORE
        btrsend show STORE NAME
        btrsend cat STORE NAME PATH > BYTES
@@ -14,8 +14,8 @@ usage: btrsend init STORE
        btrsend send STORE NAME > STREAM
        btrsend restore STORE NAME | btrfs receive FOLDER
        btrsend interleave STORE SCHEDULE [GUARD..] FILE ..
-       btrsend audit [GUARD..] STORE|none FILE..
-       btrsend compose STORE|none FILE.. > MERGED
+       btrsend audit [GUARD..] STORE|none [name:NEW] FILE ..
+       btrsend compose STORE|none [name:NEW] FILE .. > MERGED
        btrsend export STORE|none FILE.. > STREAM
        btrsend dump FILE
        btrsend gen COUNT SEED > CHAIN
@@ -56,6 +56,7 @@ usage: btrsend init STORE
   none      no store: the streams stand on nothing else
   NAME      the name of a subvolume, PATH a path in it: `dir/file`
   FILE      a file that `btrfs send` wrote, with one stream or several
+  name:NEW  the subvolume in the FILE behind it is called NEW: so are told apart those of a tool that calls each the same
   GUARD     guard:bytes=N, guard:commands=N, guard:nodev or guard:end=N: refuses more bytes of data, more
             commands, device nodes, and a WRITE, CLONE or TRUNCATE that ends above N
 

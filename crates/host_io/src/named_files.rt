@@ -2,23 +2,22 @@
 use std::fs::{self, Files};
 use std::os::unix::fs::MetadataExt;
 
-/// The words of a run that name files. Where files take turns, guards stand among them.
+/// The words of a run that name files. Where files take turns, guards stand among them; where the parts in them may be given names, these.
 #[derive(Debug, Clone, Copy)]
 pub(crate) struct NamedFiles<'a> {
     words: &'a [String],
-    are_guards_among: bool,
+    among: Option<&'static [u8]>,
 }
 
 impl<'a> NamedFiles<'a> {
     /// The files that some words name.
     pub(crate) fn of(words: &'a [String]) -> NamedFiles<'a> {
-        let names = match words {
-            [word, ..] => names_behind(word.as_str(), &words[1..]),
-            [] => words,
-        };
-        NamedFiles {
-            words: names,
-            are_guards_among: do_turn(words),
+        match words {
+            [word, ..] => NamedFiles {
+                words: names_behind(word.as_str(), &words[1..]),
+                among: among_files(word.as_str()),
+            },
+            [] => NamedFiles { words, among: None },
         }
     }
 
@@ -26,7 +25,7 @@ impl<'a> NamedFiles<'a> {
     pub(crate) fn named(&self, number: u64) -> Option<&'a str> {
         let mut left = number;
         for word in self.words {
-            if !self.is_guard(word.as_str()) {
+            if !self.is_other(word.as_str()) {
                 if left == 1 {
                     return Some(word.as_str());
                 }
@@ -40,7 +39,7 @@ impl<'a> NamedFiles<'a> {
     pub(crate) fn all_bytes<R: Files>(&self, files: &R) -> Option<u64> {
         let mut sum: u64 = 0;
         for word in self.words {
-            if !self.is_guard(word.as_str()) {
+            if !self.is_other(word.as_str()) {
                 sum = sum.checked_add(bytes_of(files, word.as_str())?)?;
             }
         }
@@ -52,13 +51,16 @@ impl<'a> NamedFiles<'a> {
         let Some(output) = place_of(files, "/dev/stdout") else {
             return false;
         };
-        self.words.iter().any(|word| !self.is_guard(word.as_str())
+        self.words.iter().any(|word| !self.is_other(word.as_str())
             && place_of(files, word.as_str()) == Some(output))
     }
 
-    // Whether a word gives a guard.
-    fn is_guard(&self, word: &str) -> bool {
-        self.are_guards_among && is_guard_word(word)
+    // Whether a word names no file.
+    fn is_other(&self, word: &str) -> bool {
+        match self.among {
+            Some(begin) => word.as_bytes().starts_with(begin),
+            None => false,
+        }
     }
 }
 
@@ -100,6 +102,15 @@ fn place_of<R: Files>(files: &R, name: &str) -> Option<(u64, u64)> {
         return None;
     }
     Some((about.dev(), about.ino()))
+}
+
+// What words begin with that stand among files and name none, by the first word.
+fn among_files(word: &str) -> Option<&'static [u8]> {
+    match word {
+        "audit" | "compose" | "receive" => Some(b"name:"),
+        "interleave" => Some(b"guard:"),
+        _ => None,
+    }
 }
 
 // The words that name files, of those behind the first.

@@ -1,6 +1,7 @@
 // Files that are received over objects in memory. The frames and the store are from another program.
 use disk_model::{FuseDisk, MemDisk};
 use guard_rules::{AnyGuard, GuardSpec};
+use part_names::PartNames;
 use receiver::{GuardList, Received, receive};
 use std::alloc::{AllocError, Global};
 use std::test::Fail;
@@ -76,6 +77,7 @@ pub(crate) fn received<D: Disk>(
         disk,
         &mut inputs,
         &names,
+        &PartNames::none(alloc),
         &mut guards,
         out,
     );
@@ -267,7 +269,8 @@ fn a_part_whose_line_fails_is_complete(rt: HostRuntime) -> Result<(), Fail> {
 fn word_ends(alloc: Global, disk: &mut MemDisk, out: &mut MemSink) -> Result<StoreEnd, AllocError> {
     let Files { mut inputs, names } = input_files(alloc, &[A])?;
     let mut guards = guards_of(alloc, 100)?;
-    Ok(receive_store(alloc, disk, &mut inputs, &names, &mut guards, out))
+    let own = PartNames::none(alloc);
+    Ok(receive_store(alloc, disk, &mut inputs, &names, &own, &mut guards, out))
 }
 
 #[test]

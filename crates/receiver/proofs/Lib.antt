@@ -11,6 +11,7 @@ pub mod LeftItems
 pub mod LeftGroups
 pub mod Ends
 pub mod ItemEnds
+pub mod NamedReads
 pub mod FileSteps
 pub mod FileStops
 pub mod DiskRuns

@@ -4,8 +4,9 @@ use Rattle.sx_base.specs.Disk.{Pending}
 use Rattle.send_model.specs.Store.{Store}
 use Rattle.send_model.specs.Receive.{byte_cells}
 use Rattle.send_model.specs.Guards.{Guard}
-use Rattle.send_model.specs.Due.{DoneWhole, RefusedAt, TooLong, limited_from}
+use Rattle.send_model.specs.Due.{DoneWhole, RefusedAt, TooLong}
 use Rattle.store_model.specs.Image.{Header}
+use Rattle.store_model.specs.NamedFiles.{NamedFiles, read_of}
 use Rattle.store_model.specs.Stored.{Group, as_bytes, made_all}
 use Rattle.store_model.specs.States.{received, lines_behind}
 use Rattle.store_model.specs.Written.{groups_of}
@@ -25,7 +26,7 @@ use Rattle.receiver.specs.Answers.{ReadySays}
 use Rattle.receiver.specs.Disks.{EndLeaves, EachHas}
 use Rattle.receiver.specs.Running.{IfAllRead, IfDecided}
 
-module _ (limit gate : ℕ) (base : Store ℕ) (guards : List Guard) (files : List (List ℕ)) where
+module _ (limit gate : ℕ) (base : Store ℕ) (guards : List Guard) (files : NamedFiles) where
   -- This answer is due, and the lines of the parts that are complete were written.
   abbrev pub IsDue : Due → List ℕ → Type 0
   IsDue due written = (receive_due limit gate base guards files ≡ due) × (written ≡ lines_behind base (receive_left limit gate base guards files))
@@ -36,7 +37,7 @@ module _ (limit gate : ℕ) (base : Store ℕ) (guards : List Guard) (files : Li
 
   -- So many lines stand in front of all that receiving prints.
   abbrev pub IsFront : (written unwritten : List ℕ) → Type 0
-  IsFront written unwritten = lines_behind base (received 0 byte_cells base guards (limited_from 1 files).items).state.state.store ≡ written ++ unwritten
+  IsFront written unwritten = lines_behind base (received 0 byte_cells base guards (read_of files).limited.items).state.state.store ≡ written ++ unwritten
 
   abbrev pub OutcomeEnds : Outcome → Store (Option Place) → List ℕ → Type 0
   OutcomeEnds ended.Done core written = IsDueLeft (Ends DoneWhole) core written
@@ -64,13 +65,13 @@ SteadyIfReceived before now (how.LogFull end wanted limit) = ⊤
 abbrev pub IdleAfter : Received → ℕ → StoreState → Type 0
 IdleAfter result len store = ReadySays (Err result) len None store
 
-module _ (limit gate : ℕ) (base : Store ℕ) (guards : List Guard) (files : List (List ℕ)) where
+module _ (limit gate : ℕ) (base : Store ℕ) (guards : List Guard) (files : NamedFiles) where
   -- H holds of the first of the groups that are due. They make a store in which each part is complete of whose line something was written.
   -- Where the answer is due, that is what is left; and where all was read, these are all groups.
   pub record AreLeft (why : Received) (written : List ℕ) (H : List Group → Type 0) : Type 0 where
     pub first : List Group
     pub more : List Group
-    pub all : groups_of base guards (limited_from 1 files).items ≡ first ++ more
+    pub all : groups_of base guards (read_of files).limited.items ≡ first ++ more
     pub has : H first
     pub now : Store ℕ
     pub made : (place : ℕ) → made_all 0 as_bytes place base first ≡ Some now

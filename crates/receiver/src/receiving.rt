@@ -4,6 +4,7 @@ ghost use Rattle.std.specs.String.{string_bytes};
 ghost use Rattle.sx_base.specs.Calls.{IfAllTold, Wrote};
 ghost use Rattle.sx_base.specs.Crash.{LeavesOnly};
 ghost use Rattle.send_model.specs.Due.{limited_from};
+ghost use Rattle.send_model.specs.Renamed.{renamed_limited};
 ghost use Rattle.send_model.specs.Store as meant;
 ghost use Rattle.store_model.specs.Image.{Header};
 ghost use Rattle.store_model.specs.Stored.{Group};
@@ -18,14 +19,16 @@ ghost use Rattle.receiver.specs.ReceiveEnds.{ReceiveEnds, AreLeft, LeavesMore, S
 use crate::files::receive_files;
 use crate::guarding::Guarding;
 use crate::outcome::Received;
+use part_names::PartNames;
 use std::alloc::Global;
 use store_journal::Store;
 use sx_base::{Disk, Inputs, Outcome, Sink};
 
 /// Receives the streams in the files into the store, under guards. The files are read once, in order and one command at a time, so a
-/// pipe serves: each command is read, looked at by the guards, done, and put into the journal. A head and END complete the part that
-/// is open: its group is published, and then `out` gets its line, `complete NAME UUID CTRANSID`. A part that is open where receiving
-/// ends early stays unfinished. The answer is the one that is due, and the lines are those of the parts that are complete; else an
+/// pipe serves: each command is read, looked at by the guards, done, and put into the journal; and each head of a file for which a
+/// name is given has that name in place of its own before anything looks at it. A head and END complete the part that is open: its
+/// group is published, and then `out` gets its line, `complete NAME UUID CTRANSID`. A part that is open where receiving ends early
+/// stays unfinished. The answer is the one that is due, and the lines are those of the parts that are complete; else an
 /// object of the outside failed, or there was no memory, and some of the lines were written. Where the disk tells, a crash at any
 /// moment leaves the groups that there were and the first of those that are due; and whatever ends it, it then has the groups of each
 /// part of whose line something was written.
@@ -35,6 +38,7 @@ pub fn receive<I: Inputs, O: Sink, D: Disk, G: Guarding>(
     disk: &mut D,
     inputs: &mut I,
     files: &[String],
+    names: &PartNames,
     guards: &mut G,
     out: &mut O,
 ) -> Received
@@ -45,17 +49,18 @@ pub fn receive<I: Inputs, O: Sink, D: Disk, G: Guarding>(
     ensures received { (base : meant.Store ℕ) → HaveSameShape store.old.core base →
         IfAllTold (I.told inputs.old) (map string_bytes files.now)
         (λ files. Wrote (O.taken out.old) (O.taken out.new) (λ written.
-        ReceiveEnds store.old.log.limit store.old.log.gate base (G.kept guards.old) files
-        result store.new.core written
+        ReceiveEnds store.old.log.limit store.old.log.gate base (G.kept guards.old)
+        (record { bytes = files; names = names.now }) result store.new.core written
         × LeavesMore D.tells D.seen D.pending disk.old disk.new store.old store.new result
-        (AreLeft store.old.log.limit store.old.log.gate base (G.kept guards.old) files
-        result written))) }
+        (AreLeft store.old.log.limit store.old.log.gate base (G.kept guards.old)
+        (record { bytes = files; names = names.now }) result written))) }
     ensures any_moment { D.tells → (header : Header) (groups : List Group) →
         Holds header groups store.old (D.seen disk.old) (D.pending disk.old) →
         (base : meant.Store ℕ) → HaveSameShape store.old.core base →
         IfAllTold (I.told inputs.old) (map string_bytes files.now)
         (λ files. LeavesOnly D.moment D.left_since disk.old disk.new (HasFront header groups
-        (groups_of base (G.kept guards.old) (limited_from 1 files).items))) }
+        (groups_of base (G.kept guards.old)
+        (renamed_limited names.now (limited_from 1 files)).items))) }
     ensures cause { Caused (I.faults inputs.old) (I.faults inputs.new)
         (O.faults out.old) (O.faults out.new) (D.faults disk.old) (D.faults disk.new) result }
     ensures later { D.faults disk.old ≤ D.faults disk.new }
@@ -64,7 +69,7 @@ pub fn receive<I: Inputs, O: Sink, D: Disk, G: Guarding>(
     ensures out_steady { SteadyIfReceived (O.faults out.old) (O.faults out.new) result }
     ensures disk_steady { SteadyIfReceived (D.faults disk.old) (D.faults disk.new) result }
 {
-    match receive_files(alloc, store, disk, inputs, files, guards, out) {
+    match receive_files(alloc, store, disk, inputs, files, names, guards, out) {
         Ok(()) => Received::Files(Outcome::Done),
         Err(ended) => ended,
     }

@@ -9,7 +9,7 @@ use Rattle.send_model.proofs.Stores.{bytes_eq_true}
 use Rattle.store_model.specs.Requests.{Request, InitStore, DropEntry, ListStore, ShowEntry, CatFile, ScrubStore, of_one, of_two, of_three, as_receive, over_store, or_over_store}
 use Rattle.store_model.specs.Requests as stored
 use Rattle.word_model.specs.AllRequests as all
-use Rattle.word_model.specs.AllRequests.{SendEntry, RestoreEntry, store_and_name, of_turns, of_subvolumes, or_of_subvolumes, request_of}
+use Rattle.word_model.specs.AllRequests.{SendEntry, RestoreEntry, store_and_name, of_turns, of_subvolumes, or_of_subvolumes, request_read}
 
 differ : (xs ys : List ℕ) → (xs ≡ ys → ⊥) → bytes_eq xs ys ≡ false
 differ xs ys other = one (bytes_eq xs ys) refl
@@ -90,14 +90,14 @@ none_stored word words u =
     ap (λ (asked : Option streams.Request). or_over_store asked (over_store (word ∷ words))) (none_of_streams word words u.not_compose u.not_audit u.not_dump u.not_export u.not_gen u.not_trial)
     ∙ none_over_store word words u.not_init u.not_drop u.not_receive u.not_list u.not_show u.not_cat u.not_scrub
 
-none_asked : (word : List ℕ) (words : List (List ℕ)) → IsUnknown word → request_of (word ∷ words) ≡ None
-unfolding request_of
+none_asked : (word : List ℕ) (words : List (List ℕ)) → IsUnknown word → request_read (word ∷ words) ≡ None
+unfolding request_read
 none_asked word words u =
     ap (λ (asked : Option Request). or_of_subvolumes asked (of_subvolumes (word ∷ words))) (none_stored word words u)
     ∙ none_of_subvolumes word words u.not_send u.not_restore u.not_interleave
 
 pub nothing_asked : {S : Type 0} (text : S → List ℕ) (words : List S) (word : S) (name : List ℕ) → Some word ≡ slice_get words 0 → name ≡ text word
-    → IsUnknown name → None ≡ request_of (map text words)
+    → IsUnknown name → None ≡ request_read (map text words)
 nothing_asked text [] word name first is unknown = cc
 nothing_asked text (w ∷ words) word name first is unknown =
     let same : word ≡ w = ap (λ (o : Option _). elim o [ None ↦ word | Some x ↦ x ]) first in

@@ -2,18 +2,19 @@
 use Rattle.std.specs.Prelude.{◌≡◌, ℕ, List, [], ◌∷◌, drop, Option, None, Some}
 use Rattle.std.proofs.Common.{⊎_elim, subst}
 use Rattle.send_model.specs.Guards.{GuardSpec}
+use Rattle.store_model.specs.NamedFiles.{NamedFiles}
 use Rattle.store_model.specs.Requests.{InitStore, ReceiveFiles}
 use Rattle.word_model.specs.AllRequests.{Request, OfStore, SendEntry, RestoreEntry, TakeTurns, TurnFiles}
 use Rattle.store_model.specs.Answers.{StandsBefore}
 use Rattle.store_model.proofs.AnswerLaws.{nothing_stands_before}
 use Rattle.sx_base.specs.Calls.{IfAllTold}
-use Rattle.send_top.specs.Requests.{names_asked, specs_of}
+use Rattle.send_top.specs.Requests.{specs_of}
 use Rattle.send_top.specs.Run.{IfAllRead}
 
 no_init : (specs : List GuardSpec) (store at other : ℕ) → ReceiveFiles specs store at ≡ InitStore other → ⊥
 no_init specs store at other e = cc
 
-pub nothing_received : (specs : List GuardSpec) (store at : ℕ) (words : List (List ℕ)) (image : List ℕ) (files : List (List ℕ)) → StandsBefore (ReceiveFiles specs store at) words image files [] image
+pub nothing_received : (specs : List GuardSpec) (store at : ℕ) (words : List (List ℕ)) (image : List ℕ) (files : NamedFiles) → StandsBefore (ReceiveFiles specs store at) words image files [] image
 nothing_received specs store at words image files =
     ⊎_elim (λ other. absurd (no_init specs store at other.0 other.1)) (λ stands. stands) (nothing_stands_before (ReceiveFiles specs store at) words image files)
 
@@ -28,9 +29,13 @@ all_told None names P holds = tt
 all_told (Some table) names P holds = holds _
 
 -- What holds of a request holds of an equal one.
+abbrev first_of : Request → ℕ
+first_of (OfStore (ReceiveFiles specs store files)) = files
+first_of request = 0
+
 pub of_same : (words : List (List ℕ)) (P : List GuardSpec → List (List ℕ) → Type 0) (mine specs : List GuardSpec) (s a store at : ℕ) → OfStore (ReceiveFiles mine s a) ≡ OfStore (ReceiveFiles specs store at)
     → P mine (drop a words) → P specs (drop at words)
-of_same words P mine specs s a store at e holds = subst (λ (r : Request). P (specs_of r) (names_asked r words)) e holds
+of_same words P mine specs s a store at e holds = subst (λ (r : Request). P (specs_of r) (drop (first_of r) words)) e holds
 
 -- The same of files that take turns.
 abbrev schedule_in : Request → List ℕ

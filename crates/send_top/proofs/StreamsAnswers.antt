@@ -1,54 +1,63 @@
 -- What words on streams answer, over a store and over none.
 use Rattle.std.specs.Prelude.{◌≡◌, ℕ, Bool, true, false, List, [], ◌∷◌, drop, Option, None, Some}
 use Rattle.std.specs.List.{AllByRecursion}
-use Rattle.std.proofs.Common.{refl, sym, ap, subst}
-use Rattle.send_model.specs.Answer.{Done}
+use Rattle.std.proofs.Common.{refl, sym, ap, subst, ⊎_elim}
+use Rattle.send_model.specs.Answer.{Done, NoMemory}
 use Rattle.send_model.specs.Attribute.{IsBytes}
 use Rattle.send_model.specs.Due.{DoneWhole, RefusedAt, TooLong}
 use Rattle.send_model.specs.Due as dues
 use Rattle.send_model.specs.Exported.{IsExported}
-use Rattle.send_model.specs.Headline.{IsComposed}
-use Rattle.send_model.specs.Outside.{base}
+use Rattle.send_model.specs.Headline.{IsComposedOf}
+use Rattle.send_model.specs.Reading.{input}
+use Rattle.send_model.specs.Renamed.{renamed}
+use Rattle.send_model.specs.Sources.{due_of, EndSaysOf}
 use Rattle.send_model.specs.Store.{Store}
-use Rattle.send_model.specs.Words.{Request, due, EndSays}
+use Rattle.send_model.specs.Words.{Request}
 use Rattle.sx_base.specs.Again.{EarlyEnd}
-use Rattle.sx_base.specs.Calls.{IfAllTold, Wrote, Ends}
+use Rattle.std.proofs.KnownBytes.{Appends-nil}
+use Rattle.sx_base.specs.Calls.{IfAllTold, Wrote}
 use Rattle.sx_base.specs.Refusals.{verdict_meant}
 use Rattle.sx_base.specs.declared.outcome.Outcome.{Outcome}
 use Rattle.sx_base.specs.declared.outcome.Outcome.TheVariants as ended
 use Rattle.store_model.specs.Dues as store_dues
 use Rattle.store_model.specs.Stored.{StandsFor}
-use Rattle.store_model.specs.Requests.{OfStreams, store_of, reads_store, IsStreamsDue, StreamsSay}
-use Rattle.store_model.specs.Answers.{Answer, OfAnyWord, Answers, StreamsBefore, StreamsCut}
+use Rattle.store_model.specs.NamedFiles.{NamedFiles, read_of}
+use Rattle.store_model.specs.Requests.{OfStreams, InitStore, store_of, reads_store, IsStreamsDue, StreamsSay}
+use Rattle.store_model.specs.Answers.{Answer, OfAnyWord, Answers, StandsBefore, StreamsBefore, StreamsCut}
+use Rattle.store_model.proofs.AnswerLaws.{nothing_stands_before}
+use Rattle.word_model.specs.AllRequests.{OfStore}
+use Rattle.word_model.specs.NameWords.{files_in, names_in}
+use Rattle.part_names.specs.Naming.{sources_named, EndsOf}
 use Rattle.store_words.specs.declared.ends.StoreEnd.{StoreEnd}
 use Rattle.store_words.specs.declared.ends.StoreEnd.TheVariants as made
 use Rattle.store_words.specs.Ending as ending
 use Rattle.store_words.specs.Ending.{outcome_meant}
 use Rattle.store_words.proofs.StreamAnswers.{then_told}
-use Rattle.send_top.specs.Requests.{streams_names}
+use Rattle.send_top.specs.Requests.{named_files, streams_names, streams_part_names}
 use Rattle.store_base.specs.Ending.{ChangeFound}
-use Rattle.send_top.specs.Run.{IfAllRead, OfDisk, IsChangedIn, IsOver, IsComposedOver, IsExportedOver}
+use Rattle.send_top.specs.Run.{IfAllRead, OfDisk, IsChangedIn, IsOver, IsComposedFor, IsComposedOver, IsExportedOver}
+use Rattle.send_top.proofs.ReceiveAnswers.{all_read}
 
 -- ---- over no store
 
-module _ (request : Request) (words : List (List ℕ)) (image : List ℕ) (files : List (List ℕ)) (written : List ℕ) (none : reads_store words (store_of request) ≡ false) where
+module _ (request : Request) (words : List (List ℕ)) (image : List ℕ) (files : NamedFiles) (written : List ℕ) (none : reads_store words (store_of request) ≡ false) where
   -- What the files decide is due and said.
-  decided : (the_due : dues.Due) → due request [] files ≡ the_due → EndSays request [] files the_due written
-      → IsStreamsDue (reads_store words (store_of request)) request image files (store_dues.Ends the_due) × ((image ≡ image) × StreamsSay (reads_store words (store_of request)) request image files (store_dues.Ends the_due) written)
+  decided : (the_due : dues.Due) → due_of request [] (read_of files) ≡ the_due → EndSaysOf request [] (read_of files) the_due written
+      → IsStreamsDue (reads_store words (store_of request)) request image (read_of files) (store_dues.Ends the_due) × ((image ≡ image) × StreamsSay (reads_store words (store_of request)) request image (read_of files) (store_dues.Ends the_due) written)
   decided the_due is says = (
-    subst (λ (b : Bool). IsStreamsDue b request image files (store_dues.Ends the_due)) (sym none) (ap (λ (d : dues.Due). store_dues.Ends d) (sym is)),
-    (refl, subst (λ (b : Bool). StreamsSay b request image files (store_dues.Ends the_due) written) (sym none) says),
+    subst (λ (b : Bool). IsStreamsDue b request image (read_of files) (store_dues.Ends the_due)) (sym none) (ap (λ (d : dues.Due). store_dues.Ends d) (sym is)),
+    (refl, subst (λ (b : Bool). StreamsSay b request image (read_of files) (store_dues.Ends the_due) written) (sym none) says),
   )
 
-  pub over_none : (outcome : Outcome) → Ends request [] files outcome written → Answers (OfStreams request) words image files (OfAnyWord (outcome_meant outcome)) written image
+  pub over_none : (outcome : Outcome) → EndsOf request [] (read_of files) outcome written → Answers (OfStreams request) words image files (OfAnyWord (outcome_meant outcome)) written image
   over_none ended.Done (is, says) = decided DoneWhole is says
   over_none (ended.Refused verdict) (is, says) = decided (RefusedAt (verdict_meant verdict)) is says
   over_none (ended.InputTooLong file) (is, says) = decided (TooLong file) is says
   over_none (ended.TooMuch sum) (is, says) = decided (dues.TooMuch sum) is says
-  over_none ended.InputFault before = (tt, (refl, subst (λ (b : Bool). StreamsBefore b request image files written) (sym none) before))
-  over_none (ended.InputChanged file place) before = (tt, (refl, subst (λ (b : Bool). StreamsBefore b request image files written) (sym none) before))
-  over_none ended.OutputFault cut = (refl, subst (λ (b : Bool). StreamsCut b request image files written) (sym none) cut)
-  over_none ended.NoMemory before = (refl, subst (λ (b : Bool). StreamsBefore b request image files written) (sym none) before)
+  over_none ended.InputFault before = (tt, (refl, subst (λ (b : Bool). StreamsBefore b request image (read_of files) written) (sym none) before))
+  over_none (ended.InputChanged file place) before = (tt, (refl, subst (λ (b : Bool). StreamsBefore b request image (read_of files) written) (sym none) before))
+  over_none ended.OutputFault cut = (refl, subst (λ (b : Bool). StreamsCut b request image (read_of files) written) (sym none) cut)
+  over_none ended.NoMemory before = (refl, subst (λ (b : Bool). StreamsBefore b request image (read_of files) written) (sym none) before)
 
 -- What follows of files that are read.
 pub then_read : (told : Option (List (List ℕ × List ℕ))) (names : List (List ℕ)) (P Q : List (List ℕ) → Type 0) → ((files : List (List ℕ)) → P files → Q files)
@@ -64,14 +73,29 @@ of_disk tells false P holds = holds
 
 pub unread_store : (tells : Type 0) (told : Option (List (List ℕ × List ℕ))) (words : List (List ℕ)) (request : Request) (old new : Option (List ℕ)) (image : List ℕ) (outcome : Outcome)
     → reads_store words (store_of request) ≡ false
-    → IfAllRead told (streams_names request words) (λ files. Wrote old new (Ends request [] files outcome))
+    → IfAllRead told (streams_names request words) (λ files. Wrote old new (EndsOf request [] (sources_named (streams_part_names request words) files) outcome))
     → OfDisk tells (reads_store words (store_of request)) (IfAllRead told (streams_names request words)
-    (λ files. Wrote old new (λ written. Answers (OfStreams request) words image files (OfAnyWord (outcome_meant outcome)) written image)))
+    (λ files. Wrote old new (λ written. Answers (OfStreams request) words image (named_files (OfStore (OfStreams request)) words files) (OfAnyWord (outcome_meant outcome)) written image)))
 unread_store tells told words request old new image outcome none ends =
     of_disk tells (reads_store words (store_of request)) _
-    (then_read told (streams_names request words) (λ files. Wrote old new (Ends request [] files outcome))
-    (λ files. Wrote old new (λ written. Answers (OfStreams request) words image files (OfAnyWord (outcome_meant outcome)) written image))
-    (λ files w. (w.0, w.1, over_none request words image files w.0 none outcome w.2)) ends)
+    (then_read told (streams_names request words) (λ files. Wrote old new (EndsOf request [] (sources_named (streams_part_names request words) files) outcome))
+    (λ files. Wrote old new (λ written. Answers (OfStreams request) words image (named_files (OfStore (OfStreams request)) words files) (OfAnyWord (outcome_meant outcome)) written image))
+    (λ files w. (w.0, w.1, over_none request words image (named_files (OfStore (OfStreams request)) words files) w.0 none outcome w.2)) ends)
+
+-- Where there is no memory before anything was done.
+no_init : (request : Request) (store : ℕ) → OfStreams request ≡ InitStore store → ⊥
+no_init request store e = cc
+
+pub nothing_done : (request : Request) (words : List (List ℕ)) (image : List ℕ) (files : NamedFiles) → StandsBefore (OfStreams request) words image files [] image
+nothing_done request words image files = ⊎_elim (λ other. absurd (no_init request other.0 other.1)) (λ stands. stands) (nothing_stands_before (OfStreams request) words image files)
+
+pub nothing_read : (tells : Type 0) (told : Option (List (List ℕ × List ℕ))) (words : List (List ℕ)) (request : Request) (out : Option (List ℕ)) (image : List ℕ)
+    → OfDisk tells (reads_store words (store_of request)) (IfAllRead told (streams_names request words)
+    (λ files. Wrote out out (λ written. Answers (OfStreams request) words image (named_files (OfStore (OfStreams request)) words files) (OfAnyWord NoMemory) written image)))
+nothing_read tells told words request out image =
+    of_disk tells (reads_store words (store_of request)) _
+    (all_read told (streams_names request words) (λ files. Wrote out out (λ written. Answers (OfStreams request) words image (named_files (OfStore (OfStreams request)) words files) (OfAnyWord NoMemory) written image))
+    (λ files. ([], Appends-nil out, nothing_done request words image (named_files (OfStore (OfStreams request)) words files))))
 
 -- ---- over a store
 
@@ -127,18 +151,21 @@ outcome_done ended.NoMemory e = cc
 -- The headline and what is promised, over the store that is read and over none.
 module _ (told : Option (List (List ℕ × List ℕ))) (tells : Type 0) (words : List (List ℕ)) (image : List ℕ) (old new : Option (List ℕ)) (store at : ℕ) where
   abbrev IsComposedBy : Bool → Type 0
-  IsComposedBy reads = OfDisk tells reads (IfAllTold told (drop at words) (λ files. Wrote old new (λ written. (s : Store ℕ) → IsOver reads image s → IsComposed (base s files) files written)))
+  IsComposedBy reads = OfDisk tells reads (IfAllTold told (files_in (drop at words)) (λ files. Wrote old new (λ written. (s : Store ℕ) → IsOver reads image s → IsComposedFor s (names_in (drop at words)) files written)))
 
   pub composed_over : reads_store words (Some store) ≡ true
-      → (tells → IfAllTold told (drop at words) (λ files. Wrote old new (λ written. (s : Store ℕ) → StandsFor image s → IsComposed (base s files) files written)))
+      → (tells → IfAllTold told (files_in (drop at words)) (λ files. Wrote old new (λ written. (s : Store ℕ) → StandsFor image s → IsComposedFor s (names_in (drop at words)) files written)))
       → IsComposedOver told tells words image old new store at
   composed_over reads holds = subst IsComposedBy (sym reads) holds
 
-  pub composed_alone : reads_store words (Some store) ≡ false → IfAllTold told (drop at words) (λ files. Wrote old new (λ written. IsComposed [] files written)) → IsComposedOver told tells words image old new store at
+  pub composed_alone : reads_store words (Some store) ≡ false
+      → IfAllTold told (files_in (drop at words)) (λ files. Wrote old new (λ written. IsComposedOf [] (renamed (names_in (drop at words)) (input files)) written))
+      → IsComposedOver told tells words image old new store at
   composed_alone none holds =
       subst IsComposedBy (sym none)
-      (then_told told (drop at words) (λ files. Wrote old new (λ written. IsComposed [] files written)) (λ files. Wrote old new (λ written. (s : Store ℕ) → s ≡ [] → IsComposed (base s files) files written))
-      (λ files w. (w.0, w.1, λ s is. subst (λ (t : Store ℕ). IsComposed (base t files) files w.0) (sym is) w.2)) holds)
+      (then_told told (files_in (drop at words)) (λ files. Wrote old new (λ written. IsComposedOf [] (renamed (names_in (drop at words)) (input files)) written))
+      (λ files. Wrote old new (λ written. (s : Store ℕ) → s ≡ [] → IsComposedFor s (names_in (drop at words)) files written))
+      (λ files w. (w.0, w.1, λ s is. subst (λ (t : Store ℕ). IsComposedFor t (names_in (drop at words)) files w.0) (sym is) w.2)) holds)
 
   abbrev IsExportedBy : Bool → Type 0
   IsExportedBy reads = OfDisk tells reads (IfAllTold told (drop at words) (λ files. Wrote old new (λ written. (s : Store ℕ) → IsOver reads image s → AllByRecursion IsBytes files → IsExported s files written)))

@@ -1,12 +1,15 @@
 -- What the words ask for, with the guards that were handed in. The words are this program's own.
-use Rattle.std.specs.Prelude.{◌≡◌, ℕ, ◌+◌, ◌-◌, ◌<◌, ◌≤◌, Bool, true, List, [], ◌∷◌, length, map, take, drop, Option, None, Some, is_some, IsTrue, if◌then◌else◌}
+use Rattle.std.specs.Prelude.{◌≡◌, ◌≢◌, ℕ, ◌+◌, ◌-◌, ◌<◌, ◌≤◌, Bool, true, List, [], ◌∷◌, length, map, take, drop, Option, None, Some, is_some, IsTrue, if◌then◌else◌}
 use Rattle.std.specs.Option.{option_map, unwrap_or}
 use Rattle.send_model.specs.Guards.{GuardSpec, Guard, guard_of}
+use Rattle.send_model.specs.Renamed.{Names}
 use Rattle.send_model.specs.Words as streams
 use Rattle.send_model.specs.Words.{Compose, Audit, Dump, Export, Gen, Trial, new_guards}
+use Rattle.store_model.specs.NamedFiles.{NamedFiles}
 use Rattle.store_model.specs.Requests as stored
 use Rattle.store_model.specs.Requests.{OfStreams, InitStore, DropEntry, ReceiveFiles, ListStore, ShowEntry, CatFile, ScrubStore, or_over_store, word_at, store_of, reads_store}
 use Rattle.store_model.specs.Turns.{schedule_of}
+use Rattle.word_model.specs.NameWords.{GivenFiles, given_from, files_in, names_in, streams_named_at}
 use Rattle.word_model.specs.AllRequests as meant
 use Rattle.word_model.specs.AllRequests.{OfStore, SendEntry, RestoreEntry, TakeTurns, TurnFiles, turn_files, request_of, or_of_subvolumes}
 use Rattle.send_top.specs.declared.store_named.StoreUse.{StoreUse}
@@ -52,8 +55,8 @@ specs_of (TakeTurns store schedule turns) = turns.guards
 
 -- The names of the files that a request asks for.
 abbrev pub streams_names : streams.Request → List (List ℕ) → List (List ℕ)
-streams_names (Compose store files) words = drop files words
-streams_names (Audit guards store files) words = drop files words
+streams_names (Compose store files) words = files_in (drop files words)
+streams_names (Audit guards store files) words = files_in (drop files words)
 streams_names (Dump file) words = word_at words file ∷ []
 streams_names (Export store files) words = drop files words
 streams_names (Gen count seed) words = []
@@ -63,7 +66,7 @@ abbrev pub stored_names : stored.Request → List (List ℕ) → List (List ℕ)
 stored_names (OfStreams request) words = streams_names request words
 stored_names (InitStore store) words = []
 stored_names (DropEntry store name) words = []
-stored_names (ReceiveFiles guards store files) words = drop files words
+stored_names (ReceiveFiles guards store files) words = files_in (drop files words)
 stored_names (ListStore store) words = []
 stored_names (ShowEntry store name) words = []
 stored_names (CatFile store name path) words = []
@@ -74,6 +77,50 @@ names_asked (OfStore request) words = stored_names request words
 names_asked (SendEntry store name) words = []
 names_asked (RestoreEntry store name) words = []
 names_asked (TakeTurns store schedule turns) words = turns.files
+
+-- The names that a request gives for the parts in these files.
+abbrev pub streams_part_names : streams.Request → List (List ℕ) → Names
+streams_part_names (Compose store files) words = names_in (drop files words)
+streams_part_names (Audit guards store files) words = names_in (drop files words)
+streams_part_names (Dump file) words = []
+streams_part_names (Export store files) words = []
+streams_part_names (Gen count seed) words = []
+streams_part_names (Trial count seed) words = []
+
+abbrev pub stored_part_names : stored.Request → List (List ℕ) → Names
+stored_part_names (OfStreams request) words = streams_part_names request words
+stored_part_names (InitStore store) words = []
+stored_part_names (DropEntry store name) words = []
+stored_part_names (ReceiveFiles guards store files) words = names_in (drop files words)
+stored_part_names (ListStore store) words = []
+stored_part_names (ShowEntry store name) words = []
+stored_part_names (CatFile store name path) words = []
+stored_part_names (ScrubStore store) words = []
+
+abbrev pub part_names : meant.Request → List (List ℕ) → Names
+part_names (OfStore request) words = stored_part_names request words
+part_names (SendEntry store name) words = []
+part_names (RestoreEntry store name) words = []
+part_names (TakeTurns store schedule turns) words = []
+
+-- The bytes of the files among words with the names that the words give; and those of a request.
+abbrev pub with_names : List (List ℕ) → List (List ℕ) → NamedFiles
+with_names words files = record { bytes = files; names = names_in words }
+
+abbrev pub named_files : meant.Request → List (List ℕ) → List (List ℕ) → NamedFiles
+named_files request words files = record { bytes = files; names = part_names request words }
+
+-- What words give, where they may give names: their files, of which there are some, with the names for the parts in these.
+pub record IsGivenAt (place : ℕ) (words : List (List ℕ)) (given : GivenFiles) : Type 0 where
+  pub is : given_from None (drop place words) ≡ Some given
+  pub some : given.files ≢ []
+
+abbrev pub IfGivenAt : Option ℕ → List (List ℕ) → GivenFiles → Type 0
+IfGivenAt None words given = Unit {0}
+IfGivenAt (Some place) words given = IsGivenAt place words given
+
+abbrev pub HasGiven : streams.Request → List (List ℕ) → GivenFiles → Type 0
+HasGiven request words given = IfGivenAt (streams_named_at request) words given
 
 -- The requests that are answered by the disk: those over a store, and of those on streams the ones that read one.
 abbrev pub stored_uses : List (List ℕ) → stored.Request → Bool

@@ -2,10 +2,12 @@
 use Rattle.std.specs.Prelude.{◌≡◌, ◌≢◌, ◌⊎◌, ℕ, ◌<◌, Bool, true, false, List, [], ◌∷◌, drop, length, Option, Some, ⊤}
 use Rattle.std.specs.List.{AllByRecursion}
 use Rattle.send_model.specs.Guards.{Guard, GuardSpec}
-use Rattle.send_model.specs.Outside.{base}
+use Rattle.send_model.specs.Outside.{base_of}
+use Rattle.send_model.specs.Reading.{Reading, input}
+use Rattle.send_model.specs.Renamed.{Names, renamed}
 use Rattle.send_model.specs.Store.{Store}
 use Rattle.send_model.specs.Attribute.{IsBytes}
-use Rattle.send_model.specs.Headline.{IsComposed}
+use Rattle.send_model.specs.Headline.{IsComposedOf}
 use Rattle.send_model.specs.Exported.{IsExported}
 use Rattle.send_model.specs.Answer.{Done, Refused, Usage, InputFault, OutputFault, NoMemory, InputTooLong, TooMuch, InputChanged}
 use Rattle.send_model.specs.Words as streams
@@ -27,7 +29,8 @@ use Rattle.store_words.specs.Dropping.{LeftByDrop}
 use Rattle.store_words.specs.Ending.{Ways, init_ways, list_ways, show_ways, cat_ways, drop_ways, audit_ways, receive_ways, scrub_ways}
 use Rattle.store_words.specs.Receiving.{LeftByReceive}
 use Rattle.turn_sessions.specs.Leaving.{LeftByTurns}
-use Rattle.send_top.specs.Requests.{Asks, names_asked, uses_store}
+use Rattle.word_model.specs.NameWords.{files_in, names_in}
+use Rattle.send_top.specs.Requests.{Asks, names_asked, named_files, with_names, uses_store}
 
 -- ---- the answer
 
@@ -63,17 +66,21 @@ IfBytes (TakeTurns store schedule turns) files P = AllByRecursion IsBytes files 
 abbrev pub IsAnswered : (told : Option (List (List ℕ × List ℕ))) → (tells : Type 0) → List (List ℕ) → List Guard → (old new : Option (List ℕ)) → (image left : List ℕ) → Answer → Type 0
 IsAnswered told tells words guards old new image left answer = (request : Request) → Asks words guards request
     → OfDisk tells (uses_store words request) (IfAllRead told (names_asked request words)
-    (λ files. Wrote old new (λ written. IfBytes request files (Answers request words image files answer written left))))
+    (λ files. Wrote old new (λ written. IfBytes request files (Answers request words image (named_files request words files) answer written left))))
 
 -- A store is the one that words are over: where a store is read, one that the image stands for, and else the one without subvolumes.
 abbrev pub IsOver : (reads : Bool) → (image : List ℕ) → Store ℕ → Type 0
 IsOver true image s = StandsFor image s
 IsOver false image s = s ≡ []
 
+-- What the headline says, over a store without the parts of the files, of what is read of them with the names that are given.
+abbrev pub IsComposedFor : Store ℕ → Names → List (List ℕ) → (written : List ℕ) → Type 0
+IsComposedFor s names files written = let reading : Reading = renamed names (input files) in IsComposedOf (base_of s reading.items) reading written
+
 -- The headline, of what was written where the files from a place on are composed, over the store that the word at a place names.
 abbrev pub IsComposedOver : (told : Option (List (List ℕ × List ℕ))) → (tells : Type 0) → List (List ℕ) → (image : List ℕ) → (old new : Option (List ℕ)) → (store at : ℕ) → Type 0
-IsComposedOver told tells words image old new store at = OfDisk tells (reads_store words (Some store)) (IfAllTold told (drop at words)
-    (λ files. Wrote old new (λ written. (s : Store ℕ) → IsOver (reads_store words (Some store)) image s → IsComposed (base s files) files written)))
+IsComposedOver told tells words image old new store at = OfDisk tells (reads_store words (Some store)) (IfAllTold told (files_in (drop at words))
+    (λ files. Wrote old new (λ written. (s : Store ℕ) → IsOver (reads_store words (Some store)) image s → IsComposedFor s (names_in (drop at words)) files written)))
 
 abbrev pub Composes : (told : Option (List (List ℕ × List ℕ))) → (tells : Type 0) → List (List ℕ) → List Guard → (image : List ℕ) → (old new : Option (List ℕ)) → Type 0
 Composes told tells words guards image old new = (store at : ℕ) → Asks words guards (OfStore (OfStreams (Compose store at))) → IsComposedOver told tells words image old new store at
@@ -298,7 +305,8 @@ AtStoredMoment told (OfStreams request) words pending seen L = L (IsImage pendin
 AtStoredMoment told (InitStore store) words pending seen L = 0 < length seen → L (IsImage pending)
 AtStoredMoment told (DropEntry store name) words pending seen L = L (LeftByDrop pending seen (word_at words name))
 AtStoredMoment told (ReceiveFiles guards store at) words pending seen L =
-    IfAllTold told (drop at words) (λ files. AllByRecursion IsBytes files → L (LeftByReceive pending seen (new_guards guards) files []))
+    IfAllTold told (files_in (drop at words))
+    (λ files. AllByRecursion IsBytes files → L (LeftByReceive pending seen (new_guards guards) (with_names (drop at words) files) []))
 AtStoredMoment told (ListStore store) words pending seen L = L (IsImage pending)
 AtStoredMoment told (ShowEntry store name) words pending seen L = L (IsImage pending)
 AtStoredMoment told (CatFile store name path) words pending seen L = L (IsImage pending)
@@ -332,8 +340,8 @@ IfMadeOrDropped (TakeTurns store schedule turns) P = ⊤
 -- what was written.
 abbrev pub Acknowledges : Option (List (List ℕ × List ℕ)) → List (List ℕ) → List Guard → (old new : Option (List ℕ)) → (early late : Pending) → (seen : List ℕ) → Type 0
 Acknowledges told words guards old new early late seen = (specs : List GuardSpec) (store at : ℕ) → Asks words guards (OfStore (ReceiveFiles specs store at))
-    → IfAllTold told (drop at words) (λ files. Wrote old new (λ written. AllByRecursion IsBytes files
-    → (image : List ℕ) → IsImage late image → LeftByReceive early seen (new_guards specs) files written image))
+    → IfAllTold told (files_in (drop at words)) (λ files. Wrote old new (λ written. AllByRecursion IsBytes files
+    → (image : List ℕ) → IsImage late image → LeftByReceive early seen (new_guards specs) (with_names (drop at words) files) written image))
 
 -- So it is where files take turns.
 abbrev pub AcknowledgesInTurn : Option (List (List ℕ × List ℕ)) → List (List ℕ) → List Guard → (old new : Option (List ℕ)) → (early late : Pending) → (seen : List ℕ) → Type 0

@@ -1,26 +1,29 @@
 // What words on streams do.
-ghost use Rattle.std.specs.Prelude.{◌≡◌, ◌≢◌, ◌<◌, ℕ, [], map, length, drop, true, false};
+ghost use Rattle.std.specs.Prelude.{◌≡◌, ◌≢◌, ◌<◌, ℕ, [], map, length, drop, true, false, IfOk};
 ghost use Rattle.std.specs.List.{AllByRecursion};
 ghost use Rattle.std.specs.String.{string_bytes};
 ghost use Rattle.send_model.specs.Answer.{Done, Usage};
 ghost use Rattle.send_model.specs.Attribute.{IsBytes};
 ghost use Rattle.send_model.specs.Exported.{IsExported};
-ghost use Rattle.send_model.specs.Headline.{IsComposed};
-ghost use Rattle.send_model.specs.Outside.{base};
+ghost use Rattle.send_model.specs.Headline.{IsComposedOf};
+ghost use Rattle.send_model.specs.Reading.{input};
+ghost use Rattle.send_model.specs.Renamed.{renamed};
 ghost use Rattle.send_model.specs.Store.{Store};
 ghost use Rattle.send_model.specs.Words.{Compose, Export, new_guards};
 ghost use Rattle.store_model.specs.Requests.{OfStreams, word_at, store_of, reads_store};
 ghost use Rattle.store_model.specs.Answers.{Answers, OfAnyWord};
 ghost use Rattle.word_model.specs.AllRequests.{OfStore};
+ghost use Rattle.word_model.specs.NameWords.{files_in, names_in, names_stand, streams_named_at};
+ghost use Rattle.part_names.specs.Naming.{EndsOf, sources_named};
 ghost use Rattle.store_model.specs.Stored.{StandsFor};
-ghost use Rattle.sx_base.specs.Calls.{IfAllTold, FoundChanged, Wrote, Ends, SteadyIfDone};
+ghost use Rattle.sx_base.specs.Calls.{IfAllTold, FoundChanged, Wrote, SteadyIfDone};
 ghost use Rattle.sx_base.specs.Causes.{Rose};
 ghost use Rattle.sx_base.specs.Crash.{LeavesOnly};
 ghost use Rattle.sx_base.specs.Disk.{IsImage};
 ghost use Rattle.sx_base.specs.declared.outcome.Outcome.TheVariants as ended;
 ghost use Rattle.send_top.specs.Answered.{answer_of};
-ghost use Rattle.send_top.specs.Requests.{AreWithin, streams_meant, streams_specs, streams_names};
-ghost use Rattle.send_top.specs.Run.{AreSteady, EndCaused, IfAllRead, IfOfCompose, IfOfStore, IsCaused, IsChangedIn, IsComposedOver, IsExportedOver, MayGet, OfDisk};
+ghost use Rattle.send_top.specs.Requests.{AreWithin, HasGiven, named_files, streams_meant, streams_specs, streams_names, streams_part_names};
+ghost use Rattle.send_top.specs.Run.{AreSteady, EndCaused, IfAllRead, IfOfCompose, IfOfStore, IsCaused, IsChangedIn, IsComposedFor, IsComposedOver, IsExportedOver, MayGet, OfDisk};
 
 use crate::noting::Answer;
 use crate::over_store::answer_by;
@@ -31,8 +34,9 @@ use chain_trial::write_trial;
 use clone_resolve::EditCore;
 use composer::compose;
 use extent_map::Nowhere;
+use file_words::GivenFiles;
 use guard_rules::Guard;
-use std::alloc::Global;
+use std::alloc::{AllocError, Global};
 use store_base::compose_store;
 use store_words::{audit_store, export_store};
 use stream_dump::dump;
@@ -53,6 +57,8 @@ pub(crate) fn streams_answer<'a, I: Inputs, O: Sink, D: Disk>(
     requires within { AreWithin (length words.now) request }
     requires fits { map (λ g. kept g) guards.old ≡ new_guards
         (streams_specs (streams_meant (map string_bytes words.now) request)) }
+    requires named { names_stand (streams_named_at (streams_meant
+        (map string_bytes words.now) request)) (map string_bytes words.now) ≡ true }
     ensures same { I.told inputs.new ≡ I.told inputs.old }
     ensures caused { IsCaused (AreSteady (I.faults inputs.old) (I.faults inputs.new)
         (I.ends inputs.old) (I.ends inputs.new) (O.faults out.old) (O.faults out.new)
@@ -89,8 +95,9 @@ pub(crate) fn streams_answer<'a, I: Inputs, O: Sink, D: Disk>(
         (map string_bytes words.now))
         (λ files. Wrote (O.taken out.old) (O.taken out.new)
         (λ written. Answers (OfStreams (streams_meant (map string_bytes words.now) request))
-        (map string_bytes words.now) (D.seen disk.old) files (answer_of result) written
-        (D.seen disk.new)))) }
+        (map string_bytes words.now) (D.seen disk.old) (named_files (OfStore (OfStreams
+        (streams_meant (map string_bytes words.now) request))) (map string_bytes words.now) files)
+        (answer_of result) written (D.seen disk.new)))) }
     ensures off_disk { reads_store (map string_bytes words.now)
         (store_of (streams_meant (map string_bytes words.now) request)) ≡ false
         → disk.new ≡ disk.old }
@@ -98,10 +105,35 @@ pub(crate) fn streams_answer<'a, I: Inputs, O: Sink, D: Disk>(
     ensures any_moment { D.tells →
         LeavesOnly D.moment D.left_since disk.old disk.new (IsImage (D.pending disk.old)) }
 {
+    let Ok(given) = given_of(alloc, words, request) else {
+        return Answer::Ended(Outcome::NoMemory);
+    };
     if reads_store(words, request) {
-        return streams_over_store(alloc, words, request, guards, inputs, out, disk);
+        return streams_over_store(alloc, words, request, &given, guards, inputs, out, disk);
     }
-    Answer::Ended(streams_end(alloc, words, request, guards, inputs, out))
+    Answer::Ended(streams_end(alloc, words, request, &given, guards, inputs, out))
+}
+
+// The files that a request names and the names that it gives with them, where names may be given.
+fn given_of(
+    alloc: Global,
+    words: &[String],
+    request: StreamsRequest,
+) -> Result<GivenFiles, AllocError>
+    requires within { AreWithin (length words.now) request }
+    requires named { names_stand (streams_named_at (streams_meant
+        (map string_bytes words.now) request)) (map string_bytes words.now) ≡ true }
+    ensures given { IfOk result (HasGiven (streams_meant (map string_bytes words.now) request)
+        (map string_bytes words.now)) }
+{
+    match request {
+        StreamsRequest::Compose { files, .. } => GivenFiles::of(alloc, names_from(words, files)),
+        StreamsRequest::Audit { files, .. } => GivenFiles::of(alloc, names_from(words, files)),
+        StreamsRequest::Dump { .. } => GivenFiles::of(alloc, &[]),
+        StreamsRequest::Export { .. } => GivenFiles::of(alloc, &[]),
+        StreamsRequest::Gen { .. } => GivenFiles::of(alloc, &[]),
+        StreamsRequest::Trial { .. } => GivenFiles::of(alloc, &[]),
+    }
 }
 
 // What one answers that reads a store.
@@ -109,6 +141,7 @@ fn streams_over_store<'a, I: Inputs, O: Sink, D: Disk>(
     alloc: Global,
     words: &'a [String],
     request: StreamsRequest,
+    given: &GivenFiles,
     guards: &mut [Box<dyn Guard>],
     inputs: &mut I,
     out: &mut O,
@@ -119,6 +152,8 @@ fn streams_over_store<'a, I: Inputs, O: Sink, D: Disk>(
         (store_of (streams_meant (map string_bytes words.now) request)) ≡ true }
     requires fits { map (λ g. kept g) guards.old ≡ new_guards
         (streams_specs (streams_meant (map string_bytes words.now) request)) }
+    requires given { HasGiven (streams_meant (map string_bytes words.now) request)
+        (map string_bytes words.now) given.now }
     ensures same { I.told inputs.new ≡ I.told inputs.old }
     ensures caused { IsCaused (AreSteady (I.faults inputs.old) (I.faults inputs.new)
         (I.ends inputs.old) (I.ends inputs.new) (O.faults out.old) (O.faults out.new)
@@ -137,10 +172,10 @@ fn streams_over_store<'a, I: Inputs, O: Sink, D: Disk>(
         (map string_bytes words.now)) (I.last_end inputs.new) (answer_of result) }
     ensures composed { D.tells → answer_of result ≡ OfAnyWord Done → (store at : ℕ)
         → streams_meant (map string_bytes words.now) request ≡ Compose store at
-        → IfAllTold (I.told inputs.old) (drop at (map string_bytes words.now))
+        → IfAllTold (I.told inputs.old) (files_in (drop at (map string_bytes words.now)))
         (λ files. Wrote (O.taken out.old) (O.taken out.new)
         (λ written. (s : Store ℕ) → StandsFor (D.seen disk.old) s
-        → IsComposed (base s files) files written)) }
+        → IsComposedFor s (names_in (drop at (map string_bytes words.now))) files written)) }
     ensures exported { D.tells → answer_of result ≡ OfAnyWord Done → (store at : ℕ)
         → streams_meant (map string_bytes words.now) request ≡ Export store at
         → IfAllTold (I.told inputs.old) (drop at (map string_bytes words.now))
@@ -152,21 +187,25 @@ fn streams_over_store<'a, I: Inputs, O: Sink, D: Disk>(
         (map string_bytes words.now))
         (λ files. Wrote (O.taken out.old) (O.taken out.new)
         (λ written. Answers (OfStreams (streams_meant (map string_bytes words.now) request))
-        (map string_bytes words.now) (D.seen disk.old) files (answer_of result) written
-        (D.seen disk.new))) }
+        (map string_bytes words.now) (D.seen disk.old) (named_files (OfStore (OfStreams
+        (streams_meant (map string_bytes words.now) request))) (map string_bytes words.now) files)
+        (answer_of result) written (D.seen disk.new))) }
     ensures unharmed { D.tells → D.seen disk.new ≡ D.seen disk.old }
     ensures any_moment { D.tells →
         LeavesOnly D.moment D.left_since disk.old disk.new (IsImage (D.pending disk.old)) }
 {
     match request {
-        StreamsRequest::Compose { files, .. } => {
-            let names = names_from(words, files);
-            answer_by(compose_store(alloc, disk, inputs, names, out), &[], &[])
-        }
-        StreamsRequest::Audit { files, .. } => {
-            let names = names_from(words, files);
+        StreamsRequest::Compose { .. } => {
             answer_by(
-                audit_store(alloc, disk, inputs, names, guards, out),
+                compose_store(alloc, disk, inputs, given.files(), given.names(), out),
+                &[],
+                &[],
+            )
+        }
+        StreamsRequest::Audit { .. } => {
+            let names = given.names();
+            answer_by(
+                audit_store(alloc, disk, inputs, given.files(), names, guards, out),
                 &[],
                 &[],
             )
@@ -181,11 +220,12 @@ fn streams_over_store<'a, I: Inputs, O: Sink, D: Disk>(
     }
 }
 
-/// How a request on streams ends that reads no store.
-pub(crate) fn streams_end<I: Inputs, O: Sink>(
+// How a request on streams ends that reads no store.
+fn streams_end<I: Inputs, O: Sink>(
     alloc: Global,
     words: &[String],
     request: StreamsRequest,
+    given: &GivenFiles,
     guards: &mut [Box<dyn Guard>],
     inputs: &mut I,
     out: &mut O,
@@ -193,6 +233,8 @@ pub(crate) fn streams_end<I: Inputs, O: Sink>(
     requires within { AreWithin (length words.now) request }
     requires fits { map (λ g. kept g) guards.old ≡ new_guards
         (streams_specs (streams_meant (map string_bytes words.now) request)) }
+    requires given { HasGiven (streams_meant (map string_bytes words.now) request)
+        (map string_bytes words.now) given.now }
     ensures same { I.told inputs.new ≡ I.told inputs.old }
     ensures steady { SteadyIfDone (I.faults inputs.old) (I.faults inputs.new) result }
     ensures ends_steady { SteadyIfDone (I.ends inputs.old) (I.ends inputs.new) result }
@@ -205,9 +247,10 @@ pub(crate) fn streams_end<I: Inputs, O: Sink>(
         (map string_bytes words.now)) (I.last_end inputs.new) result }
     ensures composed { result ≡ ended.Done → (store at : ℕ)
         → streams_meant (map string_bytes words.now) request ≡ Compose store at
-        → IfAllTold (I.told inputs.old) (drop at (map string_bytes words.now))
+        → IfAllTold (I.told inputs.old) (files_in (drop at (map string_bytes words.now)))
         (λ files. Wrote (O.taken out.old) (O.taken out.new)
-        (λ written. IsComposed [] files written)) }
+        (λ written. IsComposedOf [] (renamed (names_in (drop at (map string_bytes words.now)))
+        (input files)) written)) }
     ensures exported { result ≡ ended.Done → (store at : ℕ)
         → streams_meant (map string_bytes words.now) request ≡ Export store at
         → IfAllTold (I.told inputs.old) (drop at (map string_bytes words.now))
@@ -217,16 +260,27 @@ pub(crate) fn streams_end<I: Inputs, O: Sink>(
         (streams_names (streams_meant (map string_bytes words.now) request)
         (map string_bytes words.now))
         (λ files. Wrote (O.taken out.old) (O.taken out.new)
-        (Ends (streams_meant (map string_bytes words.now) request) [] files result)) }
+        (EndsOf (streams_meant (map string_bytes words.now) request) [] (sources_named
+        (streams_part_names (streams_meant (map string_bytes words.now) request)
+        (map string_bytes words.now)) files) result)) }
 {
     match request {
-        StreamsRequest::Compose { files, .. } => {
-            compose(alloc, inputs, names_from(words, files), out)
+        StreamsRequest::Compose { .. } => {
+            compose(alloc, inputs, given.files(), given.names(), out)
         }
-        StreamsRequest::Audit { files, .. } => {
+        StreamsRequest::Audit { .. } => {
             let core = EditCore::new(alloc);
-            let names = names_from(words, files);
-            audit(alloc, core, Nowhere, inputs, names, guards, out)
+            let names = given.names();
+            audit(
+                alloc,
+                core,
+                Nowhere,
+                inputs,
+                given.files(),
+                names,
+                guards,
+                out,
+            )
         }
         StreamsRequest::Dump { file } => dump(alloc, inputs, name_at(words, file), out),
         StreamsRequest::Export { files, .. } => {

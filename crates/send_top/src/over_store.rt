@@ -1,5 +1,5 @@
 // What words over a store do.
-ghost use Rattle.std.specs.Prelude.{◌≡◌, ◌≢◌, ◌<◌, ℕ, List, drop, map, length};
+ghost use Rattle.std.specs.Prelude.{◌≡◌, ◌≢◌, ◌<◌, ℕ, List, true, drop, map, length};
 ghost use Rattle.std.specs.List.{AllByRecursion};
 ghost use Rattle.std.specs.String.{string_bytes};
 ghost use Rattle.send_model.specs.Answer.{Done, Usage};
@@ -8,7 +8,8 @@ ghost use Rattle.send_model.specs.Guards.{GuardSpec};
 ghost use Rattle.send_model.specs.Words.{new_guards};
 ghost use Rattle.store_model.specs.Requests.{ReceiveFiles, word_at};
 ghost use Rattle.store_model.specs.Answers.{OfAnyWord};
-ghost use Rattle.word_model.specs.AllRequests.{OfStore, TakeTurns, TurnFiles};
+ghost use Rattle.word_model.specs.NameWords.{files_in, names_stand};
+ghost use Rattle.word_model.specs.AllRequests.{OfStore, TakeTurns, TurnFiles, request_named_at};
 ghost use Rattle.word_model.specs.AllAnswers.{Answers, ReadsFiles, ReadsOnly};
 ghost use Rattle.store_words.specs.Ending as ending;
 ghost use Rattle.store_words.specs.Receiving.{LeftByReceive};
@@ -18,7 +19,7 @@ ghost use Rattle.sx_base.specs.Causes.{Rose};
 ghost use Rattle.sx_base.specs.Crash.{LeavesOnly};
 ghost use Rattle.sx_base.specs.Disk.{IsImage, settled};
 ghost use Rattle.send_top.specs.Answered.{answer_of};
-ghost use Rattle.send_top.specs.Requests.{IsOverWithin, StoreFits, names_asked, store_meant};
+ghost use Rattle.send_top.specs.Requests.{IsOverWithin, StoreFits, names_asked, named_files, store_meant, with_names};
 ghost use Rattle.send_top.specs.Run.{AreSteady, AtAnyMoment, IfAllRead, IfBytes, IfMadeOrDropped, IfOfCompose, IsCaused, MayGet, Prints, SendsInPart};
 
 use crate::interleaving::interleave_answer;
@@ -43,6 +44,8 @@ pub(crate) fn store_answer<'a, I: Inputs, O: Sink, D: Disk>(
 ) -> Answer<'a>
     requires within { IsOverWithin (length words.now) request }
     requires fit { StoreFits (map string_bytes words.now) request }
+    requires named { names_stand (request_named_at (store_meant (map string_bytes words.now) request))
+        (map string_bytes words.now) ≡ true }
     ensures same { I.told inputs.new ≡ I.told inputs.old }
     ensures caused { IsCaused (AreSteady (I.faults inputs.old) (I.faults inputs.new)
         (I.ends inputs.old) (I.ends inputs.new) (O.faults out.old) (O.faults out.new)
@@ -61,8 +64,9 @@ pub(crate) fn store_answer<'a, I: Inputs, O: Sink, D: Disk>(
         (λ files. Wrote (O.taken out.old) (O.taken out.new)
         (λ written. IfBytes (store_meant (map string_bytes words.now) request) files
         (Answers (store_meant (map string_bytes words.now) request)
-        (map string_bytes words.now) (D.seen disk.old) files (answer_of result) written
-        (D.seen disk.new)))) }
+        (map string_bytes words.now) (D.seen disk.old)
+        (named_files (store_meant (map string_bytes words.now) request)
+        (map string_bytes words.now) files) (answer_of result) written (D.seen disk.new)))) }
     ensures in_part { answer_of result ≢ OfAnyWord Done → D.tells
         → SendsInPart (store_meant (map string_bytes words.now) request)
         (map string_bytes words.now) (D.seen disk.old) (O.taken out.old) (O.taken out.new) }
@@ -81,12 +85,12 @@ pub(crate) fn store_answer<'a, I: Inputs, O: Sink, D: Disk>(
         (D.pending disk.new ≡ settled (D.seen disk.new)) }
     ensures acknowledged { D.tells → (specs : List GuardSpec) (store at : ℕ)
         → store_meant (map string_bytes words.now) request ≡ OfStore (ReceiveFiles specs store at)
-        → IfAllTold (I.told inputs.old) (drop at (map string_bytes words.now))
+        → IfAllTold (I.told inputs.old) (files_in (drop at (map string_bytes words.now)))
         (λ files. Wrote (O.taken out.old) (O.taken out.new)
         (λ written. AllByRecursion IsBytes files → (image : List ℕ)
         → IsImage (D.pending disk.new) image
-        → LeftByReceive (D.pending disk.old) (D.seen disk.old) (new_guards specs) files
-        written image)) }
+        → LeftByReceive (D.pending disk.old) (D.seen disk.old) (new_guards specs)
+        (with_names (drop at (map string_bytes words.now)) files) written image)) }
     ensures acknowledged_in_turn { D.tells → (store : ℕ) (schedule : List ℕ) (turns : TurnFiles)
         → store_meant (map string_bytes words.now) request ≡ TakeTurns store schedule turns
         → IfAllTold (I.told inputs.old) turns.files

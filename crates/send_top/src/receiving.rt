@@ -1,5 +1,5 @@
 // Receiving files into a store.
-ghost use Rattle.std.specs.Prelude.{◌≡◌, ◌≢◌, ◌<◌, ◌≤◌, ◌+◌, ℕ, List, [], map, length, drop, IfOk, ⊤};
+ghost use Rattle.std.specs.Prelude.{◌≡◌, ◌≢◌, ◌<◌, ◌≤◌, ◌+◌, ℕ, List, [], None, true, is_some, map, length, drop, IfOk, ⊤};
 ghost use Rattle.std.specs.List.{AllByRecursion};
 ghost use Rattle.std.specs.String.{string_bytes};
 ghost use Rattle.send_model.specs.Answer.{Usage};
@@ -7,6 +7,7 @@ ghost use Rattle.send_model.specs.Attribute.{IsBytes};
 ghost use Rattle.send_model.specs.Words.{new_guards};
 ghost use Rattle.store_model.specs.Requests.{ReceiveFiles};
 ghost use Rattle.store_model.specs.Answers.{Answers, OfAnyWord};
+ghost use Rattle.word_model.specs.NameWords.{given_from, files_in};
 ghost use Rattle.guard_rules.specs.AnyKind.{any_kept};
 ghost use Rattle.sx_base.specs.Calls.{IfAllTold, Wrote};
 ghost use Rattle.sx_base.specs.Causes.{Rose};
@@ -15,13 +16,14 @@ ghost use Rattle.sx_base.specs.Disk.{IsImage};
 ghost use Rattle.store_words.specs.Ending.{receive_ways};
 ghost use Rattle.store_words.specs.Receiving.{LeftByReceive};
 ghost use Rattle.send_top.specs.Answered.{answer_of};
-ghost use Rattle.send_top.specs.Requests.{AreGuardWords, before_store, guards_in};
+ghost use Rattle.send_top.specs.Requests.{AreGuardWords, before_store, guards_in, with_names};
 ghost use Rattle.send_top.specs.Run.{AreSteady, IfAllRead, IfOfCompose, IsCaused, IsGivenFor};
 
 use crate::fitting::words_before;
 use crate::noting::Answer;
 use crate::on_streams::names_from;
 use crate::over_store::answer_by;
+use file_words::GivenFiles;
 use guard_rules::{AnyGuard, parse_guard};
 use receiver::GuardList;
 use std::alloc::{AllocError, Global};
@@ -40,6 +42,7 @@ pub(crate) fn receive_answer<'a, I: Inputs, O: Sink, D: Disk>(
 ) -> Answer<'a>
     requires within { (1 ≤ store) × (store + 1 ≡ files) × (files < length words.now) }
     requires given { AreGuardWords (before_store (map string_bytes words.now) store) }
+    requires named { is_some (given_from None (drop files (map string_bytes words.now))) ≡ true }
     ensures same { I.told inputs.new ≡ I.told inputs.old }
     ensures caused { IsCaused (AreSteady (I.faults inputs.old) (I.faults inputs.new)
         (I.ends inputs.old) (I.ends inputs.new) (O.faults out.old) (O.faults out.new)
@@ -52,33 +55,45 @@ pub(crate) fn receive_answer<'a, I: Inputs, O: Sink, D: Disk>(
     ensures not_composed { IfOfCompose (answer_of result) ⊥ }
     ensures allowed { IsGivenFor receive_ways ⊤ ⊥ ⊤ (answer_of result) }
     ensures answered { D.tells → IfAllRead (I.told inputs.old)
-        (drop files (map string_bytes words.now))
+        (files_in (drop files (map string_bytes words.now)))
         (λ bytes. Wrote (O.taken out.old) (O.taken out.new)
         (λ written. AllByRecursion IsBytes bytes → Answers (ReceiveFiles (guards_in (before_store
         (map string_bytes words.now) store)) store files) (map string_bytes words.now)
-        (D.seen disk.old) bytes (answer_of result) written (D.seen disk.new))) }
+        (D.seen disk.old) (with_names (drop files (map string_bytes words.now)) bytes)
+        (answer_of result) written (D.seen disk.new))) }
     ensures any_moment { D.tells → IfAllTold (I.told inputs.old)
-        (drop files (map string_bytes words.now))
+        (files_in (drop files (map string_bytes words.now)))
         (λ bytes. AllByRecursion IsBytes bytes
         → LeavesOnly D.moment D.left_since disk.old disk.new
         (LeftByReceive (D.pending disk.old) (D.seen disk.old)
-        (new_guards (guards_in (before_store (map string_bytes words.now) store))) bytes [])) }
+        (new_guards (guards_in (before_store (map string_bytes words.now) store)))
+        (with_names (drop files (map string_bytes words.now)) bytes) [])) }
     ensures acknowledged { D.tells → IfAllTold (I.told inputs.old)
-        (drop files (map string_bytes words.now))
+        (files_in (drop files (map string_bytes words.now)))
         (λ bytes. Wrote (O.taken out.old) (O.taken out.new)
         (λ written. AllByRecursion IsBytes bytes → (image : List ℕ)
         → IsImage (D.pending disk.new) image
         → LeftByReceive (D.pending disk.old) (D.seen disk.old)
-        (new_guards (guards_in (before_store (map string_bytes words.now) store))) bytes
-        written image)) }
+        (new_guards (guards_in (before_store (map string_bytes words.now) store)))
+        (with_names (drop files (map string_bytes words.now)) bytes) written image)) }
 {
     let Ok(guards) = guards_of(alloc, words_before(words, store)) else {
         return Answer::Ended(Outcome::NoMemory);
     };
+    let Ok(given) = GivenFiles::of(alloc, names_from(words, files)) else {
+        return Answer::Ended(Outcome::NoMemory);
+    };
     let mut guards = GuardList::new(guards);
-    let names = names_from(words, files);
     answer_by(
-        receive_store(alloc, disk, inputs, names, &mut guards, out),
+        receive_store(
+            alloc,
+            disk,
+            inputs,
+            given.files(),
+            given.names(),
+            &mut guards,
+            out,
+        ),
         b"",
         b"",
     )

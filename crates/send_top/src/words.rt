@@ -1,15 +1,17 @@
 // What the words of a call ask for.
-ghost use Rattle.std.specs.Prelude.{◌≡◌, ◌≤◌, length, drop, map, option_map, IfSome, None};
+ghost use Rattle.std.specs.Prelude.{◌≡◌, ◌≤◌, ◌<◌, ℕ, List, true, length, drop, map, option_map, is_some, IfSome, None};
 ghost use Rattle.std.specs.Option.{IfNone};
 ghost use Rattle.std.specs.String.{string_bytes};
 ghost use Rattle.send_model.specs.Guards.{is_guard_word};
 ghost use Rattle.send_model.specs.Words.{Compose, Dump, Export, Gen, Trial, store_and_files, one_file, guards_and_files, count_and_seed};
 ghost use Rattle.store_model.specs.Requests.{InitStore, DropEntry, ListStore, ShowEntry, CatFile, ScrubStore, of_one, of_two, of_three, as_receive};
-ghost use Rattle.word_model.specs.AllRequests.{request_of, SendEntry, RestoreEntry, store_and_name};
+ghost use Rattle.word_model.specs.NameWords.{given_from, names_stand};
+ghost use Rattle.word_model.specs.AllRequests.{request_of, request_read, request_named_at, SendEntry, RestoreEntry, store_and_name};
 ghost use Rattle.send_top.specs.Requests.{request_meant, of_stored, of_streams, IsWithin, WordsFit};
 ghost use Rattle.send_top.specs.AuditWords.{HasStore};
 
 use crate::turn_words::read_interleave;
+use file_words::are_given;
 use guard_rules::{number_of, parse_guard};
 
 /// What the words ask for. Places among the words are counted from 0.
@@ -28,14 +30,14 @@ pub enum StreamsRequest {
     Compose {
         /// The place of the store.
         store: usize,
-        /// The place of the first file. All words from there on are files.
+        /// The place of the first word behind the store. All words from there on are files and their names.
         files: usize,
     },
     /// The streams of some files are to be checked over a store. Guard words stand between the first word and the store.
     Audit {
         /// The place of the store.
         store: usize,
-        /// The place of the first file. All words from there on are files.
+        /// The place of the first word behind the store. All words from there on are files and their names.
         files: usize,
     },
     /// The commands of a file are to be printed.
@@ -85,7 +87,7 @@ pub enum StoreRequest {
     Receive {
         /// The place of the store.
         store: usize,
-        /// The place of the first file. All words from there on are files.
+        /// The place of the first word behind the store. All words from there on are files and their names.
         files: usize,
     },
     /// The entries of a store are to be listed.
@@ -146,10 +148,73 @@ pub(crate) const NO_STORE: &str = "none";
 const MOST_PARTS: u64 = 4_096;
 
 /// What the words after the program's name ask for; `None` exactly where they mean nothing. Takes no memory.
-#[tactic(auto, unfolding(send_model::specs::Words::request_of, store_model::specs::Requests::request_of, store_model::specs::Requests::over_store, word_model::specs::AllRequests::request_of, word_model::specs::AllRequests::of_subvolumes))]
+#[tactic(auto, unfolding(word_model::specs::AllRequests::request_of))]
 pub fn read_words(words: &[String]) -> Option<Request>
     ensures meaning { option_map (request_meant (map string_bytes words.now)) result
         ≡ request_of (map string_bytes words.now) }
+    ensures within { IfSome result (IsWithin (length words.now)) }
+    ensures fit { IfSome result (WordsFit (map string_bytes words.now)) }
+    ensures named { IfSome result (λ request. names_stand (request_named_at (request_meant
+        (map string_bytes words.now) request)) (map string_bytes words.now) ≡ true) }
+{
+    let request = read_request(words)?;
+    if !names_stand(words, request) {
+        return None;
+    }
+    Some(request)
+}
+
+// Whether the words of a request that may give names are files with their names.
+fn names_stand(words: &[String], request: Request) -> bool
+    requires within { IsWithin (length words.now) request }
+    ensures { result ≡ names_stand (request_named_at (request_meant
+        (map string_bytes words.now) request)) (map string_bytes words.now) }
+{
+    match named_at(request) {
+        Some(place) => stand_from(words, place),
+        None => true,
+    }
+}
+
+// Whether the words from a place on are files with their names.
+fn stand_from(words: &[String], place: usize) -> bool
+    requires within { place < length words.now }
+    ensures { result ≡ is_some (given_from None (drop place (map string_bytes words.now))) }
+{
+    are_given(&words[place..])
+}
+
+// The place of the first word that may give a name.
+fn named_at(request: Request) -> Option<usize>
+    ensures place { (words : List (List ℕ))
+        → result ≡ request_named_at (request_meant words request) }
+    ensures within { (count : ℕ) → IsWithin count request → IfSome result (λ place. place < count) }
+{
+    match request {
+        Request::Streams(StreamsRequest::Compose { files, .. }) => Some(files),
+        Request::Streams(StreamsRequest::Audit { files, .. }) => Some(files),
+        Request::Streams(StreamsRequest::Dump { .. }) => None,
+        Request::Streams(StreamsRequest::Export { .. }) => None,
+        Request::Streams(StreamsRequest::Gen { .. }) => None,
+        Request::Streams(StreamsRequest::Trial { .. }) => None,
+        Request::Store(StoreRequest::Init { .. }) => None,
+        Request::Store(StoreRequest::Drop { .. }) => None,
+        Request::Store(StoreRequest::Receive { files, .. }) => Some(files),
+        Request::Store(StoreRequest::List { .. }) => None,
+        Request::Store(StoreRequest::Show { .. }) => None,
+        Request::Store(StoreRequest::Cat { .. }) => None,
+        Request::Store(StoreRequest::Scrub { .. }) => None,
+        Request::Store(StoreRequest::Send { .. }) => None,
+        Request::Store(StoreRequest::Restore { .. }) => None,
+        Request::Store(StoreRequest::Interleave { .. }) => None,
+    }
+}
+
+// What the words ask for, whether or not the names among them stand with files.
+#[tactic(auto, unfolding(send_model::specs::Words::request_of, store_model::specs::Requests::request_of, store_model::specs::Requests::over_store, word_model::specs::AllRequests::request_read, word_model::specs::AllRequests::of_subvolumes))]
+fn read_request(words: &[String]) -> Option<Request>
+    ensures meaning { option_map (request_meant (map string_bytes words.now)) result
+        ≡ request_read (map string_bytes words.now) }
     ensures within { IfSome result (IsWithin (length words.now)) }
     ensures fit { IfSome result (WordsFit (map string_bytes words.now)) }
 {

@@ -11,21 +11,23 @@ use Rattle.send_model.specs.Receive.{start_of}
 use Rattle.send_model.specs.Provenance.{inode_with, traced_store}
 use Rattle.send_model.specs.Cells.{recelled, recelled_entry, recelled_store, AllCells}
 use Rattle.send_model.specs.Order.{commands_of}
-use Rattle.send_model.specs.Outside.{part_uuids, is_among, all_keys_named, store_without, base, AllSayable}
+use Rattle.send_model.specs.Outside.{part_uuids, is_among, all_keys_named, store_without, AllSayable}
 use Rattle.send_model.specs.Lawful.{IsLawfulStore}
 use Rattle.send_model.specs.Thinned.{thinned, KeepsNamed, KeepsOutside}
-use Rattle.send_model.specs.Due.{Due, DoneWhole, RefusedAt, TooLong, TooMuch}
-use Rattle.send_model.specs.Words.{Compose, due, EndSays, StandsBefore, StandsCut}
-use Rattle.send_model.specs.Sources.{sources, SaysOfFiles, EndsAlike}
+use Rattle.send_model.specs.Due.{DoneWhole, RefusedAt, TooLong, TooMuch}
+use Rattle.send_model.specs.Words.{Compose}
+use Rattle.send_model.specs.Renamed.{Names, renamed}
+use Rattle.send_model.specs.Sources.{due_of, EndsAlike}
 use Rattle.send_model.proofs.Keeping.{all_filtered}
-use Rattle.send_model.proofs.SourceLaws.{says_of_files, thinned_ends}
+use Rattle.send_model.proofs.SourceLaws.{thinned_ends}
 use Rattle.store_model.specs.Stored.{byte_of}
-use Rattle.sx_base.specs.Calls.{Ends, contents, IfAllTold, Wrote}
+use Rattle.sx_base.specs.Calls.{contents, IfAllTold, Wrote}
 use Rattle.sx_base.specs.Refusals.{verdict_meant}
 use Rattle.sx_base.specs.declared.outcome.Outcome.{Outcome}
 use Rattle.sx_base.specs.declared.outcome.Outcome.TheVariants as ended
 use Rattle.provenance.specs.declared.trace.Trace.{Trace}
 use Rattle.provenance.specs.Traces.{place_of}
+use Rattle.part_names.specs.Naming.{sources_named, EndsOf}
 use Rattle.file_survey.specs.Findings.{Surveyed, AllRead, SurveyStop, SurveyEnd}
 use Rattle.file_survey.proofs.Named.{named_keeps}
 use Rattle.clone_pieces.specs.Origins.{outside_cells, IsHad, byte_of_trace}
@@ -39,7 +41,7 @@ use Rattle.store_journal.specs.Standing.{place_byte, with_bytes}
 use Rattle.store_words.specs.declared.ends.StoreEnd.{StoreEnd}
 use Rattle.store_words.specs.declared.ends.StoreEnd.TheVariants as made
 use Rattle.store_base.specs.Standing.{keeps, standing, bytes_in, AreLawful, traced_to_itself, IsPartOf}
-use Rattle.store_base.specs.Ending.{EndsOver}
+use Rattle.store_base.specs.Ending.{beside, EndsOver}
 use Rattle.store_base.proofs.StandingEntries.{distinct_standing, lawful_standing, cells_standing, apart_still, apart_once, finds_standing, sayable_standing}
 use Rattle.store_base.proofs.TracedEntries.{store_traced, store_had}
 
@@ -83,39 +85,24 @@ same_bytes image core = store_twice (byte_of image) number core
 
 -- ---- two bases over which composing is the same
 
-module _ (thin whole : Store ℕ) (files : List (List ℕ)) (alike : EndsAlike whole thin (sources files)) where
-  over_thin : SaysOfFiles (Compose 1 2) thin files
-  over_thin = says_of_files (Compose 1 2) thin files
+module _ (thin whole : Store ℕ) (given : Names) (files : List (List ℕ)) (alike : EndsAlike whole thin (sources_named given files)) where
+  same_due : due_of (Compose 1 2) whole (sources_named given files) ≡ due_of (Compose 1 2) thin (sources_named given files)
+  same_due = sym (alike.due 1 2)
 
-  over_whole : SaysOfFiles (Compose 1 2) whole files
-  over_whole = says_of_files (Compose 1 2) whole files
+  same_ends : (outcome : Outcome) (written : List ℕ) → EndsOf (Compose 1 2) thin (sources_named given files) outcome written → EndsOf (Compose 1 2) whole (sources_named given files) outcome written
+  same_ends ended.Done written e = (same_due ∙ e.0, (alike.says 1 2 DoneWhole written).0 e.1)
+  same_ends (ended.Refused verdict) written e = (same_due ∙ e.0, (alike.says 1 2 (RefusedAt (verdict_meant verdict)) written).0 e.1)
+  same_ends (ended.InputTooLong file) written e = (same_due ∙ e.0, (alike.says 1 2 (TooLong file) written).0 e.1)
+  same_ends (ended.TooMuch sum) written e = (same_due ∙ e.0, (alike.says 1 2 (TooMuch sum) written).0 e.1)
+  same_ends ended.InputFault written e = (alike.before 1 2 written).0 e
+  same_ends (ended.InputChanged file place) written e = (alike.before 1 2 written).0 e
+  same_ends ended.OutputFault written e = (alike.cut 1 2 written).0 e
+  same_ends ended.NoMemory written e = (alike.before 1 2 written).0 e
 
-  same_due : due (Compose 1 2) whole files ≡ due (Compose 1 2) thin files
-  same_due = sym over_whole.due ∙ sym (alike.due 1 2) ∙ over_thin.due
-
-  says : (answer : Due) (written : List ℕ) → EndSays (Compose 1 2) thin files answer written → EndSays (Compose 1 2) whole files answer written
-  says answer written s = (over_whole.says answer written).0 ((alike.says 1 2 answer written).0 ((over_thin.says answer written).1 s))
-
-  before : (written : List ℕ) → StandsBefore (Compose 1 2) thin files written → StandsBefore (Compose 1 2) whole files written
-  before written s = (over_whole.before written).0 ((alike.before 1 2 written).0 ((over_thin.before written).1 s))
-
-  cut : (written : List ℕ) → StandsCut (Compose 1 2) thin files written → StandsCut (Compose 1 2) whole files written
-  cut written s = (over_whole.cut written).0 ((alike.cut 1 2 written).0 ((over_thin.cut written).1 s))
-
-  same_ends : (outcome : Outcome) (written : List ℕ) → Ends (Compose 1 2) thin files outcome written → Ends (Compose 1 2) whole files outcome written
-  same_ends ended.Done written e = (same_due ∙ e.0, says DoneWhole written e.1)
-  same_ends (ended.Refused verdict) written e = (same_due ∙ e.0, says (RefusedAt (verdict_meant verdict)) written e.1)
-  same_ends (ended.InputTooLong file) written e = (same_due ∙ e.0, says (TooLong file) written e.1)
-  same_ends (ended.TooMuch sum) written e = (same_due ∙ e.0, says (TooMuch sum) written e.1)
-  same_ends ended.InputFault written e = before written e
-  same_ends (ended.InputChanged file place) written e = before written e
-  same_ends ended.OutputFault written e = cut written e
-  same_ends ended.NoMemory written e = before written e
-
-  same_composing : (outcome : Outcome) (written : List ℕ) → ComposeEnds thin files outcome written → ComposeEnds whole files outcome written
+  same_composing : (outcome : Outcome) (written : List ℕ) → ComposeEnds thin given files outcome written → ComposeEnds whole given files outcome written
   same_composing outcome written e = record { ends = same_ends outcome written e.ends; composed = λ done. (alike.composed written).0 (e.composed done) }
 
-  ends_over : (end : StoreEnd) (written : List ℕ) → EndsOver thin files end written → EndsOver whole files end written
+  ends_over : (end : StoreEnd) (written : List ℕ) → EndsOver thin given files end written → EndsOver whole given files end written
   ends_over (made.Ends outcome) written e = same_composing outcome written e
   ends_over made.StoreFault written e = same_composing ended.InputFault written e
   ends_over (made.NotStore group) written e = e
@@ -128,9 +115,9 @@ module _ (thin whole : Store ℕ) (files : List (List ℕ)) (alike : EndsAlike w
 -- ---- what stands beside the files
 
 -- Each entry whose key the files name keeps its contents.
-each_kept : (survey : Surveyed) (files : List (List ℕ)) → AllRead survey files → KeepsOutside (keeps survey) (input files).items
-each_kept survey files read =
-    let items : List Item = (input files).items in
+each_kept : (survey : Surveyed) (given : Names) (files : List (List ℕ)) → AllRead given survey files → KeepsOutside (keeps survey) (renamed given (input files)).items
+each_kept survey given files read =
+    let items : List Item = (renamed given (input files)).items in
     all_filtered (λ key. keeps survey key ≡ true) (λ key. not (is_among (part_uuids items) key.uuid)) (all_keys_named (commands_of items))
     (subst (λ (named : List (List ℕ)). KeepsNamed (λ key. is_among named key.uuid) items) (sym read.named) (named_keeps items))
 
@@ -169,27 +156,29 @@ module _ (image : List ℕ) (catalog indexes : Store (Option Place)) (survey : S
       subst (λ (s : Store ℕ). AllSayable s) (sym base_is)
       (sayable_standing (keeps survey) survey.parts (bytes_in image catalog) (subst (λ (s : Store ℕ). IsLawfulStore s) (same_bytes image catalog) h))
 
-  ends_of_files : (files : List (List ℕ)) (old new : Option (List ℕ)) (end : StoreEnd) → AllRead survey files → Wrote old new (EndsOver (bytes_in image indexes) files end) → Wrote old new (EndsOver (base (with_bytes image catalog) files) files end)
-  ends_of_files files old new end read wrote =
+  ends_of_files : (given : Names) (files : List (List ℕ)) (old new : Option (List ℕ)) (end : StoreEnd) → AllRead given survey files → Wrote old new (EndsOver (bytes_in image indexes) given files end)
+      → Wrote old new (EndsOver (beside (with_bytes image catalog) given files) given files end)
+  ends_of_files given files old new end read wrote =
       let rest : Store ℕ = store_without survey.parts (bytes_in image catalog) in
-      let here : rest ≡ base (with_bytes image catalog) files = ap₂ (λ (uuids : List (List ℕ)) (s : Store ℕ). store_without uuids s) read.parts (sym (same_bytes image catalog)) in
-      let alone : store_without (part_uuids (input files).items) rest ≡ rest = subst (λ (uuids : List (List ℕ)). store_without uuids rest ≡ rest) read.parts (apart_once (keeps survey) survey.parts (bytes_in image catalog)) in
-      let alike : EndsAlike rest (thinned (keeps survey) rest) (sources files) = thinned_ends (keeps survey) rest (sources files) alone (each_kept survey files read) in (
+      let here : rest ≡ beside (with_bytes image catalog) given files = ap₂ (λ (uuids : List (List ℕ)) (s : Store ℕ). store_without uuids s) read.parts (sym (same_bytes image catalog)) in
+      let alone : store_without (part_uuids (renamed given (input files)).items) rest ≡ rest = subst (λ (uuids : List (List ℕ)). store_without uuids rest ≡ rest) read.parts (apart_once (keeps survey) survey.parts (bytes_in image catalog)) in
+      let alike : EndsAlike rest (thinned (keeps survey) rest) (sources_named given files) = thinned_ends (keeps survey) rest (sources_named given files) alone (each_kept survey given files read) in (
         wrote.0,
         wrote.1,
-        subst (λ (s : Store ℕ). EndsOver s files end wrote.0) here (ends_over (thinned (keeps survey) rest) rest files alike end wrote.0 (subst (λ (s : Store ℕ). EndsOver s files end wrote.0) base_is wrote.2)),
+        subst (λ (s : Store ℕ). EndsOver s given files end wrote.0) here (ends_over (thinned (keeps survey) rest) rest given files alike end wrote.0 (subst (λ (s : Store ℕ). EndsOver s given files end wrote.0) base_is wrote.2)),
       )
 
-  pub ends : (told : Option (List (List ℕ × List ℕ))) (names : List (List ℕ)) (old new : Option (List ℕ)) (end : StoreEnd) → IfAllTold told names (SurveyEnd (Ok survey))
-      → IfAllTold told names (λ files. Wrote old new (EndsOver (bytes_in image indexes) files end)) → IfAllTold told names (λ files. Wrote old new (EndsOver (base (with_bytes image catalog) files) files end))
-  ends told names old new end read done =
-      all_two told names (SurveyEnd (Ok survey)) (λ files. Wrote old new (EndsOver (bytes_in image indexes) files end)) (λ files. Wrote old new (EndsOver (base (with_bytes image catalog) files) files end))
-      (λ files r d. ends_of_files files old new end r d) read done
+  pub ends : (given : Names) (told : Option (List (List ℕ × List ℕ))) (names : List (List ℕ)) (old new : Option (List ℕ)) (end : StoreEnd) → IfAllTold told names (SurveyEnd given (Ok survey))
+      → IfAllTold told names (λ files. Wrote old new (EndsOver (bytes_in image indexes) given files end)) → IfAllTold told names (λ files. Wrote old new (EndsOver (beside (with_bytes image catalog) given files) given files end))
+  ends given told names old new end read done =
+      all_two told names (SurveyEnd given (Ok survey)) (λ files. Wrote old new (EndsOver (bytes_in image indexes) given files end)) (λ files. Wrote old new (EndsOver (beside (with_bytes image catalog) given files) given files end))
+      (λ files r d. ends_of_files given files old new end r d) read done
 
 -- Where the files can not be surveyed, or there is no memory.
-pub stopped : (told : Option (List (List ℕ × List ℕ))) (names : List (List ℕ)) (store : Store ℕ) (out : Option (List ℕ)) (outcome : Outcome) → IfAllTold told names (SurveyStop outcome) → IfAllTold told names (λ files. Wrote out out (EndsOver (base store files) files (made.Ends outcome)))
-stopped None names store out outcome h = tt
-stopped (Some table) names store out outcome h = survey_stopped (Some table) names (base store (contents table names)) out outcome h
+pub stopped : (given : Names) (told : Option (List (List ℕ × List ℕ))) (names : List (List ℕ)) (store : Store ℕ) (out : Option (List ℕ)) (outcome : Outcome) → IfAllTold told names (SurveyStop outcome)
+    → IfAllTold told names (λ files. Wrote out out (EndsOver (beside store given files) given files (made.Ends outcome)))
+stopped given None names store out outcome h = tt
+stopped given (Some table) names store out outcome h = survey_stopped (Some table) names (beside store given (contents table names)) given out outcome h
 
-pub no_memory : (told : Option (List (List ℕ × List ℕ))) (names : List (List ℕ)) (store : Store ℕ) (out : Option (List ℕ)) → IfAllTold told names (λ files. Wrote out out (EndsOver (base store files) files (made.Ends ended.NoMemory)))
-no_memory told names store out = stopped told names store out ended.NoMemory (all_always told names (SurveyStop ended.NoMemory) (λ files. tt))
+pub no_memory : (given : Names) (told : Option (List (List ℕ × List ℕ))) (names : List (List ℕ)) (store : Store ℕ) (out : Option (List ℕ)) → IfAllTold told names (λ files. Wrote out out (EndsOver (beside store given files) given files (made.Ends ended.NoMemory)))
+no_memory given told names store out = stopped given told names store out ended.NoMemory (all_always told names (SurveyStop ended.NoMemory) (λ files. tt))

@@ -3,13 +3,15 @@ use Rattle.std.specs.Prelude.{◌≡◌, ℕ, true, List, [], Option, Some, Err}
 use Rattle.std.proofs.Common.{sym, subst, ◌∙◌}
 use Rattle.std.proofs.KnownBytes.{Appends-nil}
 use Rattle.send_model.specs.Store.{Store}
-use Rattle.send_model.specs.Outside.{base}
-use Rattle.send_model.specs.Headline.{IsComposed}
+use Rattle.send_model.specs.Headline.{IsComposedOf}
+use Rattle.send_model.specs.Reading.{input}
+use Rattle.send_model.specs.Renamed.{Names, renamed}
 use Rattle.send_model.specs.Words.{Compose}
 use Rattle.sx_base.specs.Again.{EarlyEnd}
 use Rattle.sx_base.specs.Calls.{IfAllTold, Wrote}
 use Rattle.sx_base.specs.declared.outcome.Outcome.TheVariants as ended
 use Rattle.store_model.specs.Stored.{as_bytes, StandsFor}
+use Rattle.store_model.specs.NamedFiles.{NamedFiles}
 use Rattle.store_model.specs.Requests.{OfStreams, reads_store}
 use Rattle.store_model.specs.Answers.{Answers}
 use Rattle.store_model.proofs.OneStore.{one_store}
@@ -26,14 +28,18 @@ use Rattle.store_words.specs.declared.ends.StoreEnd.TheVariants as made
 use Rattle.store_words.specs.Ending.{answer_of, end_by}
 use Rattle.store_words.proofs.Opened.{no_end}
 use Rattle.store_words.proofs.StreamAnswers.{compose_ends, at_fault, stopped_answers, stood, ends_answer}
-use Rattle.store_base.specs.Ending.{EndsOver, ComposeCaused, ChangeFound}
+use Rattle.part_names.specs.Naming.{sources_named}
+use Rattle.store_base.specs.Ending.{beside, EndsOver, ComposeCaused, ChangeFound}
 
 -- ---- one request
 
-module _ (words : List (List ℕ)) (store at : ℕ) (image : List ℕ) (files : List (List ℕ)) (reads : reads_store words (Some store) ≡ true) (s : Store ℕ) (stands : StandsFor image s) (written : List ℕ) where
-  compose_answers : (end : StoreEnd) → EndsOver (base s files) files end written → Answers (OfStreams (Compose store at)) words image files (answer_of [] [] end) written image
-  compose_answers (made.Ends outcome) p = ends_answer (Compose store at) words image files reads s stands written outcome (compose_ends (base s files) files written store at outcome p.ends)
-  compose_answers made.StoreFault p = at_fault (Compose store at) words image files reads written (stood (Compose store at) words image files reads s stands written p.ends)
+abbrev with_names : Names → List (List ℕ) → NamedFiles
+with_names given files = record { bytes = files; names = given }
+
+module _ (words : List (List ℕ)) (store at : ℕ) (image : List ℕ) (given : Names) (files : List (List ℕ)) (reads : reads_store words (Some store) ≡ true) (s : Store ℕ) (stands : StandsFor image s) (written : List ℕ) where
+  compose_answers : (end : StoreEnd) → EndsOver (beside s given files) given files end written → Answers (OfStreams (Compose store at)) words image (record { bytes = files; names = given }) (answer_of [] [] end) written image
+  compose_answers (made.Ends outcome) p = ends_answer (Compose store at) words image (with_names given files) reads s stands written outcome (compose_ends (beside s given files) written store at (sources_named given files) outcome p.ends)
+  compose_answers made.StoreFault p = at_fault (Compose store at) words image (with_names given files) reads written (stood (Compose store at) words image (with_names given files) reads s stands written p.ends)
   compose_answers (made.NotStore group) p = absurd p
   compose_answers made.NoName p = absurd p
   compose_answers made.NoFile p = absurd p
@@ -44,54 +50,54 @@ module _ (words : List (List ℕ)) (store at : ℕ) (image : List ℕ) (files : 
 -- ---- files that are told
 
 -- What was written is what an answer says, of all words that ask for it.
-abbrev ComposeSays : (seen left : List ℕ) → StoreEnd → List (List ℕ) → List ℕ → Type 0
-ComposeSays seen left end files written = (words : List (List ℕ)) (store at : ℕ) → reads_store words (Some store) ≡ true → Answers (OfStreams (Compose store at)) words seen files (answer_of [] [] end) written left
+abbrev ComposeSays : (seen left : List ℕ) (given : Names) → StoreEnd → List (List ℕ) → List ℕ → Type 0
+ComposeSays seen left given end files written = (words : List (List ℕ)) (store at : ℕ) → reads_store words (Some store) ≡ true → Answers (OfStreams (Compose store at)) words seen (with_names given files) (answer_of [] [] end) written left
 
 -- Where all was done it is the composed stream, over each store that the image stands for.
-abbrev IsHeadline : (seen : List ℕ) → StoreEnd → List (List ℕ) → List ℕ → Type 0
-IsHeadline seen end files written = end ≡ made.Ends ended.Done → (store : Store ℕ) → StandsFor seen store → IsComposed (base store files) files written
+abbrev IsHeadline : (seen : List ℕ) (given : Names) → StoreEnd → List (List ℕ) → List ℕ → Type 0
+IsHeadline seen given end files written = end ≡ made.Ends ended.Done → (store : Store ℕ) → StandsFor seen store → IsComposedOf (beside store given files) (renamed given (input files)) written
 
-module _ (told : Option (List (List ℕ × List ℕ))) (names : List (List ℕ)) (seen left : List ℕ) (same : left ≡ seen) where
+module _ (told : Option (List (List ℕ × List ℕ))) (names : List (List ℕ)) (seen left : List ℕ) (given : Names) (same : left ≡ seen) where
   -- The store does not open.
   pub not_composed : (taken : Option (List ℕ)) (cause : Type 0) (why : StoreStop) (end : StoreEnd) → end ≡ end_by why → IsNoRefusal why → IfLog {T = StoreState} (Err why) (IsOpenStop cause) → OpenSays seen (Err why)
-      → IfAllTold told names (λ files. Wrote taken taken (ComposeSays seen left end files))
-  not_composed taken cause why end is kind stops opened = all_always told names (λ files. Wrote taken taken (ComposeSays seen left end files)) (λ files. by_files files)
+      → IfAllTold told names (λ files. Wrote taken taken (ComposeSays seen left given end files))
+  not_composed taken cause why end is kind stops opened = all_always told names (λ files. Wrote taken taken (ComposeSays seen left given end files)) (λ files. by_files files)
     where
-      by_files : (files : List (List ℕ)) → Wrote taken taken (ComposeSays seen left end files)
+      by_files : (files : List (List ℕ)) → Wrote taken taken (ComposeSays seen left given end files)
       by_files files = (
         [],
         Appends-nil taken,
         (λ words store at reads.
-            subst (λ (l : List ℕ). Answers (OfStreams (Compose store at)) words seen files (answer_of [] [] end) [] l) (sym same)
-            (stopped_answers (Compose store at) words seen files reads (λ s. nothing_stopped (base s files) files) cause why end is kind stops opened)),
+            subst (λ (l : List ℕ). Answers (OfStreams (Compose store at)) words seen (with_names given files) (answer_of [] [] end) [] l) (sym same)
+            (stopped_answers (Compose store at) words seen (with_names given files) reads (λ s. nothing_stopped (beside s given files) (renamed given (input files))) cause why end is kind stops opened)),
       )
 
   -- It opens, and is composed over.
-  pub is_composed : (old new : Option (List ℕ)) (s : Store ℕ) (end : StoreEnd) → StandsFor seen s → IfAllTold told names (λ files. Wrote old new (EndsOver (base s files) files end))
-      → IfAllTold told names (λ files. Wrote old new (ComposeSays seen left end files))
-  is_composed old new s end stands composed = all_map told names (λ files. Wrote old new (EndsOver (base s files) files end)) (λ files. Wrote old new (ComposeSays seen left end files)) (λ files wrote. by_files files wrote) composed
+  pub is_composed : (old new : Option (List ℕ)) (s : Store ℕ) (end : StoreEnd) → StandsFor seen s → IfAllTold told names (λ files. Wrote old new (EndsOver (beside s given files) given files end))
+      → IfAllTold told names (λ files. Wrote old new (ComposeSays seen left given end files))
+  is_composed old new s end stands composed = all_map told names (λ files. Wrote old new (EndsOver (beside s given files) given files end)) (λ files. Wrote old new (ComposeSays seen left given end files)) (λ files wrote. by_files files wrote) composed
     where
-      by_files : (files : List (List ℕ)) → Wrote old new (EndsOver (base s files) files end) → Wrote old new (ComposeSays seen left end files)
+      by_files : (files : List (List ℕ)) → Wrote old new (EndsOver (beside s given files) given files end) → Wrote old new (ComposeSays seen left given end files)
       by_files files wrote = (
         wrote.0,
         wrote.1,
         (λ words store at reads.
-            subst (λ (l : List ℕ). Answers (OfStreams (Compose store at)) words seen files (answer_of [] [] end) wrote.0 l) (sym same)
-            (compose_answers words store at seen files reads s stands wrote.0 end wrote.2)),
+            subst (λ (l : List ℕ). Answers (OfStreams (Compose store at)) words seen (with_names given files) (answer_of [] [] end) wrote.0 l) (sym same)
+            (compose_answers words store at seen given files reads s stands wrote.0 end wrote.2)),
       )
 
 -- The headline, where the store did not open and where it did.
-module _ (told : Option (List (List ℕ × List ℕ))) (names : List (List ℕ)) (seen : List ℕ) where
-  pub no_headline : (taken : Option (List ℕ)) (why : StoreStop) (end : StoreEnd) → end ≡ end_by why → IsNoRefusal why → IfAllTold told names (λ files. Wrote taken taken (IsHeadline seen end files))
-  no_headline taken why end is kind = all_always told names (λ files. Wrote taken taken (IsHeadline seen end files)) (λ files. ([], Appends-nil taken, λ done store stands. absurd (no_end why kind (sym is ∙ done))))
+module _ (told : Option (List (List ℕ × List ℕ))) (names : List (List ℕ)) (seen : List ℕ) (given : Names) where
+  pub no_headline : (taken : Option (List ℕ)) (why : StoreStop) (end : StoreEnd) → end ≡ end_by why → IsNoRefusal why → IfAllTold told names (λ files. Wrote taken taken (IsHeadline seen given end files))
+  no_headline taken why end is kind = all_always told names (λ files. Wrote taken taken (IsHeadline seen given end files)) (λ files. ([], Appends-nil taken, λ done store stands. absurd (no_end why kind (sym is ∙ done))))
 
-  pub is_headline : (old new : Option (List ℕ)) (s : Store ℕ) (end : StoreEnd) → StandsFor seen s → IfAllTold told names (λ files. Wrote old new (EndsOver (base s files) files end))
-      → IfAllTold told names (λ files. Wrote old new (IsHeadline seen end files))
+  pub is_headline : (old new : Option (List ℕ)) (s : Store ℕ) (end : StoreEnd) → StandsFor seen s → IfAllTold told names (λ files. Wrote old new (EndsOver (beside s given files) given files end))
+      → IfAllTold told names (λ files. Wrote old new (IsHeadline seen given end files))
   is_headline old new s end stands composed =
-      all_map told names (λ files. Wrote old new (EndsOver (base s files) files end)) (λ files. Wrote old new (IsHeadline seen end files))
-      (λ files wrote. (wrote.0, wrote.1, λ done store other. subst (λ (t : Store ℕ). IsComposed (base t files) files wrote.0) (one_store 0 as_bytes seen s store stands other) (by_end files wrote.0 end wrote.2 done))) composed
+      all_map told names (λ files. Wrote old new (EndsOver (beside s given files) given files end)) (λ files. Wrote old new (IsHeadline seen given end files))
+      (λ files wrote. (wrote.0, wrote.1, λ done store other. subst (λ (t : Store ℕ). IsComposedOf (beside t given files) (renamed given (input files)) wrote.0) (one_store 0 as_bytes seen s store stands other) (by_end files wrote.0 end wrote.2 done))) composed
     where
-      by_end : (files : List (List ℕ)) (written : List ℕ) (e : StoreEnd) → EndsOver (base s files) files e written → e ≡ made.Ends ended.Done → IsComposed (base s files) files written
+      by_end : (files : List (List ℕ)) (written : List ℕ) (e : StoreEnd) → EndsOver (beside s given files) given files e written → e ≡ made.Ends ended.Done → IsComposedOf (beside s given files) (renamed given (input files)) written
       by_end files written (made.Ends outcome) p is = let same : outcome ≡ ended.Done = cc in p.composed same
       by_end files written made.StoreFault p is = cc
       by_end files written (made.NotStore group) p is = absurd p

@@ -1,6 +1,9 @@
 -- How composing over a store ends, and what is said of each end whether or not anything tells. This program's own.
 use Rattle.std.specs.Prelude.{⊤, ℕ, ◌==◌, Bool, true, false, List, if◌then◌else◌}
+use Rattle.send_model.specs.Reading.{input}
 use Rattle.send_model.specs.Store.{Store}
+use Rattle.send_model.specs.Outside.{base_of}
+use Rattle.send_model.specs.Renamed.{Names, renamed}
 use Rattle.sx_base.specs.Again.{EarlyEnd}
 use Rattle.sx_base.specs.Calls.{FoundChanged}
 use Rattle.sx_base.specs.declared.outcome.Outcome.{Outcome}
@@ -23,16 +26,20 @@ is_input_fault (ended.InputChanged file place) = false
 abbrev pub end_over : Outcome → ℕ → StoreEnd
 end_over outcome failures = if failures == 0 then made.Ends outcome else (if is_input_fault outcome then made.StoreFault else made.Ends outcome)
 
--- What stands where composing over a base ends so. Where the device failed, that is what stands where an input fails.
-abbrev pub EndsOver : Store ℕ → List (List ℕ) → StoreEnd → List ℕ → Type 0
-EndsOver base files (made.Ends outcome) written = ComposeEnds base files outcome written
-EndsOver base files made.StoreFault written = ComposeEnds base files ended.InputFault written
-EndsOver base files (made.NotStore group) written = ⊥
-EndsOver base files made.NoName written = ⊥
-EndsOver base files made.NoFile written = ⊥
-EndsOver base files (made.LogFull end wanted limit) written = ⊥
-EndsOver base files (made.StoreThere size) written = ⊥
-EndsOver base files (made.Damaged group stored computed) written = ⊥
+-- What of a store is no part of files, whatever names are given for their parts.
+abbrev pub beside : Store ℕ → Names → List (List ℕ) → Store ℕ
+beside store given files = base_of store (renamed given (input files)).items
+
+-- What stands where composing over a base ends so, with the names that are given. Where the device failed, that is what stands where an input fails.
+abbrev pub EndsOver : Store ℕ → Names → List (List ℕ) → StoreEnd → List ℕ → Type 0
+EndsOver base given files (made.Ends outcome) written = ComposeEnds base given files outcome written
+EndsOver base given files made.StoreFault written = ComposeEnds base given files ended.InputFault written
+EndsOver base given files (made.NotStore group) written = ⊥
+EndsOver base given files made.NoName written = ⊥
+EndsOver base given files made.NoFile written = ⊥
+EndsOver base given files (made.LogFull end wanted limit) written = ⊥
+EndsOver base given files (made.StoreThere size) written = ⊥
+EndsOver base given files (made.Damaged group stored computed) written = ⊥
 
 -- All was done, of which this is said; or the device, the inputs or the output failed, or an input was found changed, which is the
 -- answer only for this cause.

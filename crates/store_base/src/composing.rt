@@ -2,12 +2,14 @@
 ghost use Rattle.std.specs.Prelude.{◌≡◌, ◌≢◌, ◌≤◌, ℕ, List, [], Some, Ok, true, map};
 ghost use Rattle.std.specs.String.{string_bytes};
 ghost use Rattle.send_model.specs.Store as meant;
-ghost use Rattle.send_model.specs.Outside.{base, store_without, AllSayable};
+ghost use Rattle.send_model.specs.Reading.{input};
+ghost use Rattle.send_model.specs.Outside.{store_without, AllSayable};
 ghost use Rattle.send_model.specs.Lawful.{IsLawfulStore};
 ghost use Rattle.send_model.specs.Provenance.{traced_store};
 ghost use Rattle.send_model.specs.Receive.{start_of};
 ghost use Rattle.send_model.specs.Cells.{recelled_store, AllCells};
-ghost use Rattle.send_model.specs.Headline.{IsComposed};
+ghost use Rattle.send_model.specs.Headline.{IsComposedOf};
+ghost use Rattle.send_model.specs.Renamed.{renamed};
 ghost use Rattle.send_model.specs.Words.{Compose};
 ghost use Rattle.store_model.specs.Stored.{StandsFor};
 ghost use Rattle.store_model.specs.Requests.{OfStreams, reads_store};
@@ -27,7 +29,7 @@ ghost use Rattle.store_words.specs.Ending.{answer_of};
 ghost use Rattle.store_words.specs.declared.ends.StoreEnd.TheVariants.{Ends};
 ghost use Rattle.store_base.specs.Standing.{bytes_in, IsPartOf};
 ghost use Rattle.store_base.specs.Reading.{IsRead};
-ghost use Rattle.store_base.specs.Ending.{EndsOver, ComposeCaused, ChangeFound};
+ghost use Rattle.store_base.specs.Ending.{beside, EndsOver, ComposeCaused, ChangeFound};
 
 use crate::anchor::Anchor;
 use crate::ending::{ended_by, ended_over};
@@ -37,6 +39,7 @@ use crate::standing::{Standing, index_all, trace_all};
 use clone_resolve::EditCore;
 use composer::compose_over;
 use file_survey::{Survey, survey};
+use part_names::PartNames;
 use path_index::PathIndex;
 use provenance::Trace;
 use std::alloc::Global;
@@ -58,6 +61,7 @@ pub fn compose_store<D: Disk, I: Inputs, O: Sink>(
     disk: &mut D,
     inputs: &mut I,
     files: &[String],
+    names: &PartNames,
     out: &mut O,
 ) -> StoreEnd
     requires some { files.now ≢ [] }
@@ -66,12 +70,13 @@ pub fn compose_store<D: Disk, I: Inputs, O: Sink>(
         (λ files. Wrote (O.taken out.old) (O.taken out.new)
         (λ written. (words : List (List ℕ)) (store at : ℕ)
         → reads_store words (Some store) ≡ true
-        → Answers (OfStreams (Compose store at)) words (D.seen disk.old) files
-        (answer_of [] [] result) written (D.seen disk.new))) }
+        → Answers (OfStreams (Compose store at)) words (D.seen disk.old)
+        (record { bytes = files; names = names.now }) (answer_of [] [] result)
+        written (D.seen disk.new))) }
     ensures composed { D.tells → IfAllTold (I.told inputs.old) (map string_bytes files.now)
         (λ files. Wrote (O.taken out.old) (O.taken out.new)
         (λ written. result ≡ Ends Done → (store : meant.Store ℕ) → StandsFor (D.seen disk.old) store
-        → IsComposed (base store files) files written)) }
+        → IsComposedOf (beside store names.now files) (renamed names.now (input files)) written)) }
     ensures cause { ComposeCaused
         ((D.faults disk.new ≡ D.faults disk.old) × (I.faults inputs.new ≡ I.faults inputs.old)
         × (I.ends inputs.new ≡ I.ends inputs.old) × (O.faults out.new ≡ O.faults out.old))
@@ -90,7 +95,7 @@ pub fn compose_store<D: Disk, I: Inputs, O: Sink>(
         Ok(store) => store,
         Err(stop) => return ended_by(stop),
     };
-    compose_opened(alloc, &store, disk, inputs, files, out)
+    compose_opened(alloc, &store, disk, inputs, files, names, out)
 }
 
 // The same over a store that is open.
@@ -100,6 +105,7 @@ fn compose_opened<D: Disk, I: Inputs, O: Sink>(
     disk: &mut D,
     inputs: &mut I,
     files: &[String],
+    names: &PartNames,
     out: &mut O,
 ) -> StoreEnd
     requires some { files.now ≢ [] }
@@ -108,7 +114,8 @@ fn compose_opened<D: Disk, I: Inputs, O: Sink>(
     ensures same { I.told inputs.new ≡ I.told inputs.old }
     ensures ends { D.tells → IfAllTold (I.told inputs.old) (map string_bytes files.now)
         (λ told. Wrote (O.taken out.old) (O.taken out.new)
-        (EndsOver (base (with_bytes (D.seen disk.old) store.now.core) told) told result)) }
+        (EndsOver (beside (with_bytes (D.seen disk.old) store.now.core) names.now told)
+        names.now told result)) }
     ensures cause { ComposeCaused
         ((D.faults disk.new ≡ D.faults disk.old) × (I.faults inputs.new ≡ I.faults inputs.old)
         × (I.ends inputs.new ≡ I.ends inputs.old) × (O.faults out.new ≡ O.faults out.old))
@@ -120,7 +127,7 @@ fn compose_opened<D: Disk, I: Inputs, O: Sink>(
     ensures read { IsRead D.tells D.len D.faults D.moment D.seen D.pending D.left_since
         disk.old disk.new }
 {
-    let known = match survey(alloc, inputs, files) {
+    let known = match survey(alloc, inputs, files, names) {
         Ok(known) => known,
         Err(outcome) => return StoreEnd::Ends(outcome),
     };
@@ -131,7 +138,7 @@ fn compose_opened<D: Disk, I: Inputs, O: Sink>(
         return StoreEnd::Ends(Outcome::NoMemory);
     };
     let over = compose_read(
-        alloc, store, disk, &known, indexes, core, inputs, files, out,
+        alloc, store, disk, &known, indexes, core, inputs, files, names, out,
     );
     over.end
 }
@@ -153,6 +160,7 @@ fn compose_read<'a, D: Disk, I: Inputs, O: Sink>(
     core: EditCore<Trace>,
     inputs: &mut I,
     files: &[String],
+    names: &PartNames,
     out: &mut O,
 ) -> OverDisk<'a, D>
     requires some { files.now ≢ [] }
@@ -160,7 +168,7 @@ fn compose_read<'a, D: Disk, I: Inputs, O: Sink>(
     requires part { IsPartOf (bytes_in (D.seen disk.old) indexes)
         (file_cells (with_bytes (D.seen disk.old) store.now.core)) }
     requires surveyed { IfAllTold (I.told inputs.old) (map string_bytes files.now)
-        (SurveyEnd (Ok known.now)) }
+        (SurveyEnd names.now (Ok known.now)) }
     requires traced { D.tells → IfAllTold (I.told inputs.old) (map string_bytes files.now)
         (λ told. recelled_store
         (seen (byte_of_trace told (bytes_in (D.seen disk.old) indexes)) place_of) core
@@ -172,7 +180,7 @@ fn compose_read<'a, D: Disk, I: Inputs, O: Sink>(
     ensures same { I.told inputs.new ≡ I.told inputs.old }
     ensures ends { D.tells → IfAllTold (I.told inputs.old) (map string_bytes files.now)
         (λ told. Wrote (O.taken out.old) (O.taken out.new)
-        (EndsOver (bytes_in (D.seen disk.old) indexes) told result.end)) }
+        (EndsOver (bytes_in (D.seen disk.old) indexes) names.now told result.end)) }
     ensures cause { ComposeCaused
         ((D.faults result.disk.now ≡ D.faults disk.old)
         × (I.faults inputs.new ≡ I.faults inputs.old) × (I.ends inputs.new ≡ I.ends inputs.old)
@@ -188,7 +196,7 @@ fn compose_read<'a, D: Disk, I: Inputs, O: Sink>(
 {
     let reader = StoreReader { store, disk };
     let (end, reader) = compose_beside::<Brand, StoreReader<'a, D>, I, O>(
-        alloc, reader, known, indexes, core, inputs, files, out,
+        alloc, reader, known, indexes, core, inputs, files, names, out,
     );
     let StoreReader { store: _, disk } = reader;
     OverDisk { disk, end }
@@ -203,6 +211,7 @@ fn compose_beside<K: Anchor<H>, H: Fetch, I: Inputs, O: Sink>(
     core: EditCore<Trace>,
     inputs: &mut I,
     files: &[String],
+    names: &PartNames,
     out: &mut O,
 ) -> (StoreEnd, H)
     requires some { files.now ≢ [] }
@@ -211,7 +220,7 @@ fn compose_beside<K: Anchor<H>, H: Fetch, I: Inputs, O: Sink>(
     requires ready { H.ready reader }
     requires part { IsPartOf (bytes_in K.image indexes) (H.held reader) }
     requires surveyed { IfAllTold (I.told inputs.old) (map string_bytes files.now)
-        (SurveyEnd (Ok known.now)) }
+        (SurveyEnd names.now (Ok known.now)) }
     requires traced { H.tells → IfAllTold (I.told inputs.old) (map string_bytes files.now)
         (λ told. recelled_store (seen (byte_of_trace told (bytes_in K.image indexes)) place_of) core
         ≡ traced_store (bytes_in K.image indexes)) }
@@ -222,7 +231,7 @@ fn compose_beside<K: Anchor<H>, H: Fetch, I: Inputs, O: Sink>(
     ensures same { I.told inputs.new ≡ I.told inputs.old }
     ensures ends { H.tells → IfAllTold (I.told inputs.old) (map string_bytes files.now)
         (λ told. Wrote (O.taken out.old) (O.taken out.new)
-        (EndsOver (bytes_in K.image indexes) told result.0)) }
+        (EndsOver (bytes_in K.image indexes) names.now told result.0)) }
     ensures cause { ComposeCaused
         ((H.faults result.1 ≡ H.faults reader) × (I.faults inputs.new ≡ I.faults inputs.old)
         × (I.ends inputs.new ≡ I.ends inputs.old) × (O.faults out.new ≡ O.faults out.old))
@@ -244,7 +253,7 @@ fn compose_beside<K: Anchor<H>, H: Fetch, I: Inputs, O: Sink>(
         of: PhantomData,
     };
     let outcome = compose_over(
-        alloc, known, core, &standing, &mut bytes, inputs, files, out,
+        alloc, known, core, &standing, &mut bytes, inputs, files, names, out,
     );
     let BaseBytes {
         reader,

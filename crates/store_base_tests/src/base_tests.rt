@@ -7,6 +7,7 @@ use crate::pieces::{
 };
 use disk_model::{FuseDisk, MemDisk};
 use guard_rules::AnyGuard;
+use part_names::PartNames;
 use receiver::GuardList;
 use std::alloc::{AllocError, Global};
 use std::process::Abort;
@@ -43,7 +44,16 @@ fn received(alloc: Global, files: &[&[Piece]]) -> Result<(MemDisk, StoreEnd), Al
     let Files { mut inputs, names } = input_files(alloc, files)?;
     let mut guards: GuardList<AnyGuard> = GuardList::new(Vec::new(alloc));
     let mut out = MemSink::new(alloc);
-    let end = receive_store(alloc, &mut disk, &mut inputs, &names, &mut guards, &mut out);
+    let own = PartNames::none(alloc);
+    let end = receive_store(
+        alloc,
+        &mut disk,
+        &mut inputs,
+        &names,
+        &own,
+        &mut guards,
+        &mut out,
+    );
     Ok((disk, end))
 }
 
@@ -57,7 +67,8 @@ fn composed<D: Disk>(
     let Files { mut inputs, names } = input_files(alloc, files)?;
     assert!(rt; !names.is_empty());
     let mut out = MemSink::new(alloc);
-    let end = compose_store(alloc, disk, &mut inputs, &names, &mut out);
+    let own = PartNames::none(alloc);
+    let end = compose_store(alloc, disk, &mut inputs, &names, &own, &mut out);
     Ok((end, Vec::from_slice(alloc, out.bytes())?))
 }
 

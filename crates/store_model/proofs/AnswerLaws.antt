@@ -3,12 +3,14 @@ use Rattle.std.specs.Prelude.{◌≡◌, ℕ, Bool, true, false, List, [], ◌�
 use Rattle.std.proofs.Common.{inl, inr, refl, sym, subst}
 use Rattle.send_model.specs.Store.{Store}
 use Rattle.send_model.specs.Headline.{IsFrontOf, IsProperFrontOf}
+use Rattle.send_model.specs.Sources.{Sources, StandsBeforeOf}
 use Rattle.send_model.specs.Words as streams
 use Rattle.send_model.specs.Words.{Compose, Audit, Dump, Export, Gen, Trial, new_guards}
 use Rattle.send_model.specs.Due as stream_dues
 use Rattle.send_model.specs.Due.{DoneWhole, RefusedAt, TooLong}
 use Rattle.send_model.specs.Answer as answers
 use Rattle.send_model.specs.Answer.{Done, Refused, Usage, InputFault, OutputFault, NoMemory, InputTooLong, TooMuch, InputChanged}
+use Rattle.store_model.specs.NamedFiles.{NamedFiles, read_of}
 use Rattle.store_model.specs.Dues as dues
 use Rattle.store_model.specs.Dues.{Due, Ends}
 use Rattle.store_model.specs.Requests.{Request, OfStreams, InitStore, DropEntry, ReceiveFiles, ListStore, ShowEntry, CatFile, ScrubStore, store_of, reads_store, base_over, Says}
@@ -30,7 +32,7 @@ due_is_answered request words image files (dues.StoreThere size) written left h 
 due_is_answered request words image files (dues.Damaged group stored computed) written left h = h
 
 -- and what is answered so is due
-answered_is_due : (request : Request) (words : List (List ℕ)) (image : List ℕ) (files : List (List ℕ)) (due : Due) (written left : List ℕ)
+answered_is_due : (request : Request) (words : List (List ℕ)) (image : List ℕ) (files : NamedFiles) (due : Due) (written left : List ℕ)
     → Answers request words image files (answer_of due) written left → DueSays request words image files due written left
 answered_is_due request words image files (Ends DoneWhole) written left h = h
 answered_is_due request words image files (Ends (RefusedAt verdict)) written left h = h
@@ -67,23 +69,23 @@ done_alone (Damaged group stored computed) e = cc
 
 -- ---- where nothing was done
 
-streams_nothing : (request : streams.Request) (base : Store ℕ) (files : List (List ℕ)) → streams.StandsBefore request base files []
-streams_nothing (Compose store at) base files = record { unfinished = nothing_unfinished 0; front = nothing_front _ 0 }
-streams_nothing (Audit guards store at) base files = refl
-streams_nothing (Dump at) base files = nothing_front _ 0
-streams_nothing (Export store at) base files = nothing_front _ 0
-streams_nothing (Gen count seed) base files = nothing_front _ 0
-streams_nothing (Trial count seed) base files = nothing_front _ 0
+streams_nothing : (request : streams.Request) (base : Store ℕ) (read : Sources) → StandsBeforeOf request base read []
+streams_nothing (Compose store at) base read = record { unfinished = nothing_unfinished 0; front = nothing_front _ 0 }
+streams_nothing (Audit guards store at) base read = refl
+streams_nothing (Dump at) base read = nothing_front _ 0
+streams_nothing (Export store at) base read = nothing_front _ 0
+streams_nothing (Gen count seed) base read = nothing_front _ 0
+streams_nothing (Trial count seed) base read = nothing_front _ 0
 
-over_nothing : (reads : Bool) (request : streams.Request) (image : List ℕ) (files : List (List ℕ)) → StreamsBefore reads request image files []
-over_nothing true request image files = (λ s stands. streams_nothing request (base_over request files s) files, λ group none. refl)
-over_nothing false request image files = streams_nothing request [] files
+over_nothing : (reads : Bool) (request : streams.Request) (image : List ℕ) (read : Sources) → StreamsBefore reads request image read []
+over_nothing true request image read = (λ s stands. streams_nothing request (base_over request read s) read, λ group none. refl)
+over_nothing false request image read = streams_nothing request [] read
 
 prints_nothing : (image : List ℕ) (whole : Store ℕ → List ℕ) → PrintsBefore image whole [] image
 prints_nothing image whole = (refl, (λ s stands. nothing_front (whole s) 0, λ group none. refl))
 
 pub nothing_stands_before : NothingStandsBefore
-nothing_stands_before (OfStreams request) words image files = inr (refl, over_nothing (reads_store words (store_of request)) request image files)
+nothing_stands_before (OfStreams request) words image files = inr (refl, over_nothing (reads_store words (store_of request)) request image (read_of files))
 nothing_stands_before (InitStore store) words image files = inl (store, refl)
 nothing_stands_before (DropEntry store name) words image files = inr (refl, (λ s stands. stands, λ group none. refl))
 nothing_stands_before (ReceiveFiles guards store at) words image files =
@@ -110,7 +112,7 @@ nothing_stands_at_fault (ScrubStore store) words image files = inr (refl, refl)
 
 -- ---- words that read
 
-said_keeps : (request : Request) (words : List (List ℕ)) (image : List ℕ) (files : List (List ℕ)) (due : Due) (written left : List ℕ)
+said_keeps : (request : Request) (words : List (List ℕ)) (image : List ℕ) (files : NamedFiles) (due : Due) (written left : List ℕ)
     → ReadsOnly request → Says request words image files due written left → left ≡ image
 said_keeps (OfStreams request) words image files due written left reads h = h.0
 said_keeps (ListStore store) words image files due written left reads h = h.0
@@ -121,7 +123,7 @@ said_keeps (InitStore store) words image files due written left reads h = absurd
 said_keeps (DropEntry store name) words image files due written left reads h = absurd reads
 said_keeps (ReceiveFiles guards store at) words image files due written left reads h = absurd reads
 
-before_keeps : (request : Request) (words : List (List ℕ)) (image : List ℕ) (files : List (List ℕ)) (written left : List ℕ)
+before_keeps : (request : Request) (words : List (List ℕ)) (image : List ℕ) (files : NamedFiles) (written left : List ℕ)
     → ReadsOnly request → StandsBefore request words image files written left → left ≡ image
 before_keeps (OfStreams request) words image files written left reads h = h.0
 before_keeps (ListStore store) words image files written left reads h = h.0
@@ -132,7 +134,7 @@ before_keeps (InitStore store) words image files written left reads h = absurd r
 before_keeps (DropEntry store name) words image files written left reads h = absurd reads
 before_keeps (ReceiveFiles guards store at) words image files written left reads h = absurd reads
 
-cut_keeps : (request : Request) (words : List (List ℕ)) (image : List ℕ) (files : List (List ℕ)) (written left : List ℕ)
+cut_keeps : (request : Request) (words : List (List ℕ)) (image : List ℕ) (files : NamedFiles) (written left : List ℕ)
     → ReadsOnly request → StandsCut request words image files written left → left ≡ image
 cut_keeps (OfStreams request) words image files written left reads h = h.0
 cut_keeps (ListStore store) words image files written left reads h = h.0
@@ -143,7 +145,7 @@ cut_keeps (InitStore store) words image files written left reads h = absurd read
 cut_keeps (DropEntry store name) words image files written left reads h = absurd reads
 cut_keeps (ReceiveFiles guards store at) words image files written left reads h = absurd reads
 
-fault_keeps : (request : Request) (words : List (List ℕ)) (image : List ℕ) (files : List (List ℕ)) (written left : List ℕ)
+fault_keeps : (request : Request) (words : List (List ℕ)) (image : List ℕ) (files : NamedFiles) (written left : List ℕ)
     → ReadsOnly request → StandsFault request words image files written left → left ≡ image
 fault_keeps (OfStreams request) words image files written left reads h = h.0
 fault_keeps (ListStore store) words image files written left reads h = h.0

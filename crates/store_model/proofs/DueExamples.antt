@@ -5,13 +5,14 @@ use Rattle.std.specs.Fmt.{digits}
 use Rattle.std.proofs.Common.{inl, inr, arith, lit<}
 use Rattle.send_model.specs.Command.{row, Command, Subvol, MkFile, MkDir, MkNod, MkFifo, MkSock, Symlink, SetXattr, Rename, Write, Chown, Chmod, Utimes, End}
 use Rattle.send_model.specs.Printed.{is_plain, hex_digit, escaped_byte, escaped, uuid_text, time_text}
-use Rattle.send_model.specs.Refusal.{NameThere}
+use Rattle.send_model.specs.Refusal.{NameThere, UuidThere}
 use Rattle.send_model.specs.Store.{Entry}
 use Rattle.send_model.specs.Subvolume.{Subvolume}
 use Rattle.send_model.specs.Receive.{byte_cells, run_by, run_items, start_of}
-use Rattle.send_model.specs.Guards.{guard_refuses, guard_after, refused_from, looked, receive_watched, receive_under}
+use Rattle.send_model.specs.Guards.{guard_refuses, guard_after, refused_from, looked, receive_watched}
 use Rattle.send_model.specs.Lengths.{is_too_long, too_long, too_long_from}
-use Rattle.send_model.specs.Due.{DoneWhole, RefusedAt, due_from, limited_from, audit_due, accepted_line, file_due}
+use Rattle.send_model.specs.Due.{DoneWhole, RefusedAt, due_from, limited_from, audit_due, file_due}
+use Rattle.store_model.specs.NamedFiles.{unnamed}
 use Rattle.store_model.specs.Image.{usual_header}
 use Rattle.store_model.specs.States.{complete_line, lines_behind, received_lines, left_by}
 use Rattle.store_model.specs.StoreLines.{entry_line, listed, inode_line, xattr_line, name_line, shown}
@@ -27,7 +28,7 @@ use Rattle.send_model.proofs.ReadingExamples.{second_stream, first_stream}
 use Rattle.store_model.proofs.StoredExamples.{old_image, stored_words, new_image, mark_bytes, body_part, a_with, a_stands, b_complete, empty_fails, usual}
 
 unfoldable due_words : Unit {0}
-unfolding digits stored_words escaped escaped_byte is_plain hex_digit uuid_text time_text complete_line lines_behind entry_line listed inode_line xattr_line name_line shown scrub_line complete_named file_at first_full receive_from receive_due left_from receive_left drop_due init_due run_by guard_refuses guard_after refused_from looked receive_watched receive_under is_too_long limited_from
+unfolding digits stored_words escaped escaped_byte is_plain hex_digit uuid_text time_text complete_line lines_behind entry_line listed inode_line xattr_line name_line shown scrub_line complete_named file_at first_full receive_from receive_due left_from receive_left drop_due init_due run_by guard_refuses guard_after refused_from looked receive_watched is_too_long limited_from
 due_words = tt
 
 abbrev a_complete : Entry (Subvolume ℕ)
@@ -50,25 +51,34 @@ one_listed = refl
 -- ---- receive
 
 -- what a file leaves, and the line for its part
-first_left : left_by [] [] (first_stream ∷ []) ≡ a_complete ∷ []
+first_left : left_by [] [] (unnamed (first_stream ∷ [])) ≡ a_complete ∷ []
 unfolding due_words first_stream a_with
 first_left = refl
 
-first_lines : received_lines [] [] (first_stream ∷ []) ≡ codes "complete a 11111111-1111-1111-1111-111111111111 1" ++ 10 ∷ []
+first_lines : received_lines [] [] (unnamed (first_stream ∷ [])) ≡ codes "complete a 11111111-1111-1111-1111-111111111111 1" ++ 10 ∷ []
 unfolding due_words first_stream
 first_lines = refl
 
+-- and the same under another name
+first_renamed : left_by [] [] (record { bytes = first_stream ∷ []; names = Some (codes "copy") ∷ [] }) ≡ record a_complete { name = codes "copy" } ∷ []
+unfolding due_words first_stream a_with
+first_renamed = refl
+
+renamed_lines : received_lines [] [] (record { bytes = first_stream ∷ []; names = Some (codes "copy") ∷ [] }) ≡ codes "complete copy 11111111-1111-1111-1111-111111111111 1" ++ 10 ∷ []
+unfolding due_words first_stream
+renamed_lines = refl
+
 -- a header with the limit 0 leaves no room for a gate
-no_room : receive_due 0 20 [] [] (first_stream ∷ []) ≡ LogFull 20 9 0
+no_room : receive_due 0 20 [] [] (unnamed (first_stream ∷ [])) ≡ LogFull 20 9 0
 unfolding due_words first_stream
 no_room = refl
 
 -- the image has 161 bytes: with one byte less there is no room for the WRITE
-just_room : receive_due 161 20 [] [] (first_stream ∷ []) ≡ Ends DoneWhole
+just_room : receive_due 161 20 [] [] (unnamed (first_stream ∷ [])) ≡ Ends DoneWhole
 unfolding due_words first_stream
 just_room = refl
 
-one_byte_less : receive_due 160 20 [] [] (first_stream ∷ []) ≡ LogFull 123 33 160
+one_byte_less : receive_due 160 20 [] [] (unnamed (first_stream ∷ [])) ≡ LogFull 123 33 160
 unfolding due_words first_stream
 one_byte_less = refl
 
@@ -90,27 +100,27 @@ unfolding length_words long_write
 one_more_byte = refl
 
 -- a second part: its groups begin behind the checksum of the first one's Body
-second_room : receive_due 317 20 [] [] (first_stream ∷ second_stream ∷ []) ≡ Ends DoneWhole
+second_room : receive_due 317 20 [] [] (unnamed (first_stream ∷ second_stream ∷ [])) ≡ Ends DoneWhole
 unfolding due_words first_stream second_stream
 second_room = refl
 
-second_less : receive_due 316 20 [] [] (first_stream ∷ second_stream ∷ []) ≡ LogFull 280 32 316
+second_less : receive_due 316 20 [] [] (unnamed (first_stream ∷ second_stream ∷ [])) ≡ LogFull 280 32 316
 unfolding due_words first_stream second_stream
 second_less = refl
 
-second_lines : received_lines [] [] (first_stream ∷ second_stream ∷ [])
+second_lines : received_lines [] [] (unnamed (first_stream ∷ second_stream ∷ []))
     ≡ codes "complete a 11111111-1111-1111-1111-111111111111 1" ++ 10 ∷ [] ++ codes "complete b 22222222-2222-2222-2222-222222222222 2" ++ 10 ∷ []
 unfolding due_words first_stream second_stream
 second_lines = refl
 
 -- where there is no room for the second Mark, the first part is complete; where there is none for the start of its Body, the second one has
 -- begun
-no_second_mark : (receive_due 173 20 [] [] (first_stream ∷ second_stream ∷ []) ≡ LogFull 160 9 173) × (receive_left 173 20 [] [] (first_stream ∷ second_stream ∷ []) ≡ a_complete ∷ [])
+no_second_mark : (receive_due 173 20 [] [] (unnamed (first_stream ∷ second_stream ∷ [])) ≡ LogFull 160 9 173) × (receive_left 173 20 [] [] (unnamed (first_stream ∷ second_stream ∷ [])) ≡ a_complete ∷ [])
 unfolding due_words first_stream second_stream a_with
 no_second_mark = (refl, refl)
 
-no_second_body : (receive_due 266 20 [] [] (first_stream ∷ second_stream ∷ []) ≡ LogFull 253 9 266)
-    × (receive_left 266 20 [] [] (first_stream ∷ second_stream ∷ []) ≡ a_complete ∷ record { name = codes "b"; key = key 0x22 2; parent = Some (key 0x11 1); contents = None } ∷ [])
+no_second_body : (receive_due 266 20 [] [] (unnamed (first_stream ∷ second_stream ∷ [])) ≡ LogFull 253 9 266)
+    × (receive_left 266 20 [] [] (unnamed (first_stream ∷ second_stream ∷ [])) ≡ a_complete ∷ record { name = codes "b"; key = key 0x22 2; parent = Some (key 0x11 1); contents = None } ∷ [])
 unfolding due_words first_stream second_stream a_with
 no_second_body = (refl, refl)
 
@@ -120,9 +130,14 @@ unfolding due_words a_with
 drop_room = (refl, refl)
 
 -- over a store that has the part, its head is refused
-there : (receive_due (2 ^ 40) 160 (a_complete ∷ []) [] (first_stream ∷ []) ≡ Ends (RefusedAt (record { file = 1; command = 1; offset = 17; refusal = NameThere })))
+there : (receive_due (2 ^ 40) 160 (a_complete ∷ []) [] (unnamed (first_stream ∷ [])) ≡ Ends (RefusedAt (record { file = 1; command = 1; offset = 17; refusal = NameThere })))
 unfolding due_words first_stream a_with
 there = refl
+
+-- under another name it is refused for its uuid
+there_renamed : (receive_due (2 ^ 40) 160 (a_complete ∷ []) [] (record { bytes = first_stream ∷ []; names = Some (codes "copy") ∷ [] }) ≡ Ends (RefusedAt (record { file = 1; command = 1; offset = 17; refusal = UuidThere })))
+unfolding due_words first_stream a_with
+there_renamed = refl
 
 -- ---- names and paths
 
@@ -150,7 +165,7 @@ second_shown = (refl, refl)
 -- ---- lines
 
 -- a part that is not complete has no line
-no_line : received_lines [] (new_guard (MostCommands 3) ∷ []) (first_stream ∷ []) ≡ []
+no_line : received_lines [] (new_guard (MostCommands 3) ∷ []) (unnamed (first_stream ∷ [])) ≡ []
 unfolding due_words first_stream
 no_line = refl
 
@@ -197,45 +212,52 @@ stream_words = tt
 abbrev image_of_a : List ℕ
 image_of_a = mark_bytes ++ body_part ++ 0 ∷ []
 
-over_none : (image : List ℕ) → IsDue (OfStreams (Audit [] 1 2)) (codes "audit" ∷ codes "none" ∷ codes "f" ∷ []) image (first_stream ∷ []) (Ends DoneWhole)
+over_none : (image : List ℕ) → IsDue (OfStreams (Audit [] 1 2)) (codes "audit" ∷ codes "none" ∷ codes "f" ∷ []) image (unnamed (first_stream ∷ [])) (Ends DoneWhole)
 unfolding stream_words
 over_none image = refl
 
-twice_over_none : (image : List ℕ) → IsDue (OfStreams (Audit [] 1 2)) (codes "audit" ∷ codes "none" ∷ codes "f" ∷ codes "f" ∷ []) image (first_stream ∷ first_stream ∷ [])
+twice_over_none : (image : List ℕ) → IsDue (OfStreams (Audit [] 1 2)) (codes "audit" ∷ codes "none" ∷ codes "f" ∷ codes "f" ∷ []) image (unnamed (first_stream ∷ first_stream ∷ []))
     (Ends (RefusedAt (record { file = 2; command = 1; offset = 17; refusal = NameThere })))
 unfolding stream_words
 twice_over_none image = refl
 
+-- under another name the second file begins anew, and its uuid is there already
+twice_with_a_name : (image : List ℕ) → IsDue (OfStreams (Audit [] 1 2)) (codes "audit" ∷ codes "none" ∷ codes "f" ∷ codes "f" ∷ []) image
+    (record { bytes = first_stream ∷ first_stream ∷ []; names = None ∷ Some (codes "b") ∷ [] })
+    (Ends (RefusedAt (record { file = 2; command = 1; offset = 17; refusal = UuidThere })))
+unfolding stream_words
+twice_with_a_name image = refl
+
 -- a word without a store does not look at one
-dumped : (image : List ℕ) → IsDue (OfStreams (Dump 1)) (codes "dump" ∷ codes "f" ∷ []) image (first_stream ∷ []) (Ends DoneWhole)
+dumped : (image : List ℕ) → IsDue (OfStreams (Dump 1)) (codes "dump" ∷ codes "f" ∷ []) image (unnamed (first_stream ∷ [])) (Ends DoneWhole)
 unfolding stream_words file_due
 dumped image = refl
 
-over_a : IsDue (OfStreams (Audit [] 1 2)) (codes "audit" ∷ codes "st" ∷ codes "f" ∷ []) image_of_a (first_stream ∷ [])
+over_a : IsDue (OfStreams (Audit [] 1 2)) (codes "audit" ∷ codes "st" ∷ codes "f" ∷ []) image_of_a (unnamed (first_stream ∷ []))
     (Ends (RefusedAt (record { file = 1; command = 1; offset = 17; refusal = NameThere })))
 unfolding stream_words
 over_a = (a_complete ∷ [], a_stands, refl)
 
-composed_over_a : IsDue (OfStreams (Compose 1 2)) (codes "compose" ∷ codes "st" ∷ codes "f" ∷ []) image_of_a (first_stream ∷ []) (Ends DoneWhole)
+composed_over_a : IsDue (OfStreams (Compose 1 2)) (codes "compose" ∷ codes "st" ∷ codes "f" ∷ []) image_of_a (unnamed (first_stream ∷ [])) (Ends DoneWhole)
 unfolding stream_words
 composed_over_a = (a_complete ∷ [], a_stands, refl)
 
-exported_over_a : IsDue (OfStreams (Export 1 2)) (codes "export" ∷ codes "st" ∷ codes "f" ∷ []) image_of_a (first_stream ∷ [])
+exported_over_a : IsDue (OfStreams (Export 1 2)) (codes "export" ∷ codes "st" ∷ codes "f" ∷ []) image_of_a (unnamed (first_stream ∷ []))
     (Ends (RefusedAt (record { file = 1; command = 1; offset = 17; refusal = NameThere })))
 unfolding stream_words
 exported_over_a = (a_complete ∷ [], a_stands, refl)
 
 -- and what is written then; nothing where there is no store
-accepted_over_none : (image : List ℕ) → Says (OfStreams (Audit [] 1 2)) (codes "audit" ∷ codes "none" ∷ codes "f" ∷ []) image (first_stream ∷ []) (Ends DoneWhole)
+accepted_over_none : (image : List ℕ) → Says (OfStreams (Audit [] 1 2)) (codes "audit" ∷ codes "none" ∷ codes "f" ∷ []) image (unnamed (first_stream ∷ [])) (Ends DoneWhole)
     (codes "accepted 1 4" ++ 10 ∷ []) image
-unfolding stream_words streams.whole_of accepted_line
+unfolding stream_words
 accepted_over_none image = (refl, refl)
 
-refused_over_a : Says (OfStreams (Audit [] 1 2)) (codes "audit" ∷ codes "st" ∷ codes "f" ∷ []) image_of_a (first_stream ∷ [])
+refused_over_a : Says (OfStreams (Audit [] 1 2)) (codes "audit" ∷ codes "st" ∷ codes "f" ∷ []) image_of_a (unnamed (first_stream ∷ []))
     (Ends (RefusedAt (record { file = 1; command = 1; offset = 17; refusal = NameThere }))) [] image_of_a
 refused_over_a = (refl, (λ s stands. refl, λ group none. refl))
 
-over_no_image : IsDue (OfStreams (Audit [] 1 2)) (codes "audit" ∷ codes "st" ∷ codes "f" ∷ []) [] (first_stream ∷ []) (NotStore 0)
+over_no_image : IsDue (OfStreams (Audit [] 1 2)) (codes "audit" ∷ codes "st" ∷ codes "f" ∷ []) [] (unnamed (first_stream ∷ [])) (NotStore 0)
 over_no_image = empty_fails
 
 -- ---- init

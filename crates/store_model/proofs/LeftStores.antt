@@ -6,8 +6,9 @@ use Rattle.send_model.specs.Spelling.{canonical}
 use Rattle.send_model.specs.Reading.{Item}
 use Rattle.send_model.specs.Store.{Head, Store, State, After, head_of, completed}
 use Rattle.send_model.specs.Receive.{run_by, then_run, verdict_of, byte_cells, start_of}
-use Rattle.send_model.specs.Guards.{Watched, guarded, looked, watched_step, receive_watched, receive_under}
-use Rattle.send_model.specs.Due.{RefusedAt, limited_from, stop_due}
+use Rattle.send_model.specs.Guards.{Watched, guarded, looked, watched_step, receive_watched}
+use Rattle.send_model.specs.Due.{RefusedAt, stop_due}
+use Rattle.store_model.specs.NamedFiles.{read_of}
 use Rattle.store_model.specs.States.{IsBetween, complete_behind, received}
 use Rattle.store_model.specs.Dues.{Due, Ends, LogFull, first_full, pieces_from, end_behind, item_pieces, place_after, left_full, left_from, receive_from, or_due, receive_due, receive_left}
 use Rattle.store_model.specs.Requests.{LeftIsPassed, LeftIsState, LeftIsReceived}
@@ -92,7 +93,7 @@ module _ (limit : ℕ) (start : Store ℕ) where
 pub left_is_passed : LeftIsPassed
 unfolding receive_left received
 left_is_passed limit gate store guards files =
-    left_passed limit store gate (record { guards = guards; state = start_of store }) (limited_from 1 files).items (start_closed 0 byte_cells store)
+    left_passed limit store gate (record { guards = guards; state = start_of store }) (read_of files).limited.items (start_closed 0 byte_cells store)
 
 -- ---- where there was room
 
@@ -133,9 +134,9 @@ pub left_is_received : LeftIsReceived
 unfolding receive_left received receive_due
 left_is_received limit gate store guards files due is =
     let w : Watched (State ℕ) = record { guards = guards; state = start_of store } in
-    left_received limit gate w (limited_from 1 files).items (one (receive_from limit gate w (limited_from 1 files).items) is)
+    left_received limit gate w (read_of files).limited.items (one (receive_from limit gate w (read_of files).limited.items) is)
   where
-    one : (ended : Option Due) → or_due ended (Ends (stop_due (limited_from 1 files).stop)) ≡ Ends due → HasRoom limit ended
+    one : (ended : Option Due) → or_due ended (Ends (stop_due (read_of files).limited.stop)) ≡ Ends due → HasRoom limit ended
     one None q end wanted e = cc
     one (Some d) q end wanted e = not_both (sym (same_inside e) ∙ q)
       where
@@ -144,10 +145,10 @@ left_is_received limit gate store guards files due is =
 
 -- What is read up to the limit of lengths stands in front of all, so receiving all passes through what it leaves.
 pub left_is_state : LeftIsState
-unfolding receive_under receive_watched received
+unfolding receive_watched received
 left_is_state limit gate store guards files are =
     let left : Store ℕ = receive_left limit gate store guards files in
     let front = limited_is_front files are in
-    let read : List Item = (limited_from 1 files).items in
+    let read : List Item = (read_of files).limited.items in
     subst (λ (l : List Item). IsBetween (complete_behind store left) store (received 0 byte_cells store guards l).state.state.store left) (sym front.1)
     (more_states 0 byte_cells (complete_behind store left) store guards read front.0 left (left_is_passed limit gate store guards files))

@@ -8,15 +8,16 @@ use Rattle.std.proofs.Common.{refl, sym, ap, subst, ◌∙◌}
 use Rattle.send_model.specs.Refusal.{Refusal}
 use Rattle.send_model.specs.Command.{Command, Subvol, Snapshot, row}
 use Rattle.send_model.specs.Spelling.{attributes_of, canonical, IsSpellable}
-use Rattle.send_model.specs.Reading.{data_place, input}
+use Rattle.send_model.specs.Reading.{data_place}
 use Rattle.send_model.specs.Subvolume.{Subvolume}
 use Rattle.send_model.specs.Store.{Head, Entry, Store, Part, State, Stepped, has_name, with_contents, start_from, completed, head_of, begun, unfinished, entered, edited, edit_part, step_head, step_edit}
 use Rattle.send_model.specs.Receive.{bytes_of, start_of}
-use Rattle.send_model.specs.Guards.{receive_under, receive_watched}
+use Rattle.send_model.specs.Guards.{receive_watched}
 use Rattle.send_model.proofs.Sorts.{same_inside}
 use Rattle.send_model.proofs.Keeping.{all_filtered}
 use Rattle.send_model.proofs.ElementLaws.{all_both, all_drop}
 use Rattle.store_model.specs.Stored.{Content, Mark, Body, Drop, Group, body_bytes, IsContent, IsGroup, Putting, as_bytes, taken, marked, unfinished_at, started, resumed, edits_made, dropped, frames_at, made, body_at, made_all, first_gate}
+use Rattle.store_model.specs.NamedFiles.{read_of}
 use Rattle.store_model.specs.States.{is_complete, received, left_by, HasNumbers, lines_behind}
 use Rattle.store_model.specs.Written.{groups_of}
 use Rattle.store_model.specs.StoreLaws.{StoredHasNumbers}
@@ -153,9 +154,9 @@ pub stored_has_numbers : {C : Type 0} → StoredHasNumbers C
 stored_has_numbers zero_cell put image store stands = all_keep zero_cell put stands.header.format first_gate [] store stands.groups stands.makes.lawful tt stands.makes.made
 
 pub received_has_numbers : ReceivedHasNumbers
-unfolding receive_under receive_watched received
+unfolding receive_watched received
 received_has_numbers store guards files h are =
-    all_keep 0 as_bytes 2 0 store (left_by store guards files) (groups_of store guards (input files).items) (written_is_lawful 2 store guards files are) h (written_is_received 0 store guards (input files).items)
+    all_keep 0 as_bytes 2 0 store (left_by store guards files) (groups_of store guards (read_of files).reading.items) (written_is_lawful 2 store guards files are) h (written_is_received 0 store guards (read_of files).reading.items)
 
 pub printed_are_parts : PrintedAreParts
 unfolding lines_behind

@@ -5,7 +5,7 @@ use Rattle.std.specs.Str.{bytes_eq}
 use Rattle.std.specs.Int.{w32, from_le_bytes}
 use Rattle.std.proofs.Common.{refl, sym, ap, subst, ◌∙◌, append_assoc, append-nil, arith, length-append, length-drop, le-leb}
 use Rattle.std.proofs.lemmas.Bool.{true≢false}
-use Rattle.std.proofs.lemmas.List.{take-append-le, drop-append-le, take-append-drop}
+use Rattle.std.proofs.lemmas.List.{map-append, take-append-le, drop-append-le, take-append-drop}
 use Rattle.send_model.specs.Refusal.{Refusal, Truncated, BadMagic, BadVersion}
 use Rattle.send_model.specs.Chain.{require, ◌>>◌}
 use Rattle.send_model.specs.Attribute.{IsBytes}
@@ -13,6 +13,7 @@ use Rattle.send_model.specs.Spelling.{magic}
 use Rattle.send_model.specs.Reading.{Item, Front, Ending, Whole, Faulty, Reading, Due, HeaderDue, CommandDue, header_len, is_version, number32, stream_version, front_of, due_after, with_item, may_end, ended, faulty, go_on, reads_from, reads, joined, input_from, input}
 use Rattle.send_model.specs.Lengths.{limit, is_too_long}
 use Rattle.send_model.specs.Due.{AtLimit, then_limited, limited_from}
+use Rattle.send_model.specs.Renamed.{renamed_item, renamed_items}
 use Rattle.send_model.proofs.Fuel.{header_there, front_shorter}
 use Rattle.send_model.proofs.Canonical.{spelled_front}
 use Rattle.send_model.proofs.ReadSpelled.{read_was_spelled}
@@ -144,4 +145,7 @@ limited_front number (bytes ∷ files) are = one (is_too_long number bytes) (rea
 
 pub limited_is_front : LimitedIsFront
 unfolding input
-limited_is_front files are = limited_front 1 files are
+limited_is_front files are =
+    let front = limited_front 1 files.bytes are.bytes in
+    let named : List Item → List Item = renamed_items files.names in
+    (named front.0, ap named front.1 ∙ map-append (renamed_item files.names) (limited_from 1 files.bytes).items front.0)

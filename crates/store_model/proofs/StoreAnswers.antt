@@ -7,9 +7,11 @@ use Rattle.send_model.specs.Reading.{Item, Verdict}
 use Rattle.send_model.specs.Store.{Store, State, After, step}
 use Rattle.send_model.specs.Receive.{run_by, then_run, verdict_of, byte_cells, start_of}
 use Rattle.send_model.specs.Guards.{Guard, Watched, watched_step}
+use Rattle.send_model.specs.Sources.{Sources, due_of}
 use Rattle.send_model.specs.Words as streams
 use Rattle.send_model.specs.Due as dues
-use Rattle.send_model.specs.Due.{RefusedAt, Limited, limited_from, stop_due, audit_due}
+use Rattle.send_model.specs.Due.{RefusedAt, Limited, stop_due}
+use Rattle.store_model.specs.NamedFiles.{NamedFiles, read_of}
 use Rattle.store_model.specs.Image.{limit_of, front_of, reserve}
 use Rattle.store_model.specs.Stored.{body_bytes, StandsFor, StandsForNone}
 use Rattle.store_model.specs.Dues.{Due, Ends, NotStore, Missing, LogFull, StoreThere, Damaged, OverStore, first_full, end_behind, item_pieces, place_after, or_due, receive_from, receive_due, list_due, show_due, cat_due, drop_due, IsReceiveDue, IsDropDue}
@@ -51,7 +53,7 @@ gate_one image store a b =
     let bodies : map body_bytes a.groups ≡ map body_bytes b.groups = one_journal image a.header b.header (map body_bytes a.groups) (map body_bytes b.groups) a.has b.has in
     (ap limit_of header, λ i. length (front_of (header i) (bodies i)))
 
-receive_one : (image : List ℕ) (guards : List Guard) (files : List (List ℕ)) (store : Store ℕ) (d e : Due) → IsReceiveDue image guards files store d → IsReceiveDue image guards files store e → d ≡ e
+receive_one : (image : List ℕ) (guards : List Guard) (files : NamedFiles) (store : Store ℕ) (d e : Due) → IsReceiveDue image guards files store d → IsReceiveDue image guards files store e → d ≡ e
 receive_one image guards files store d e x y =
     let same = gate_one image store x.0 y.0 in
     x.1 ∙ (λ i. receive_due (same.0 i) (same.1 i) store guards files) ∙ sym y.1
@@ -64,12 +66,12 @@ drop_one image name store d e x y =
 by_answer : (image : List ℕ) (answer : Store ℕ → Due) (d e : Due) → OverStore image (λ s due. due ≡ answer s) d → OverStore image (λ s due. due ≡ answer s) e → d ≡ e
 by_answer image answer d e x y = over_one image (λ s due. due ≡ answer s) (λ s a b p q. p ∙ sym q) d e x y
 
-streams_one : (reads : Bool) (request : streams.Request) (image : List ℕ) (files : List (List ℕ)) (d e : Due) → IsStreamsDue reads request image files d → IsStreamsDue reads request image files e → d ≡ e
-streams_one true request image files d e x y = by_answer image (λ s. Ends (streams.due request (base_over request files s) files)) d e x y
-streams_one false request image files d e x y = x ∙ sym y
+streams_one : (reads : Bool) (request : streams.Request) (image : List ℕ) (read : Sources) (d e : Due) → IsStreamsDue reads request image read d → IsStreamsDue reads request image read e → d ≡ e
+streams_one true request image read d e x y = by_answer image (λ s. Ends (due_of request (base_over request read s) read)) d e x y
+streams_one false request image read d e x y = x ∙ sym y
 
 pub one_due : OneDue
-one_due (OfStreams request) words image files d e are x y = streams_one (reads_store words (store_of request)) request image files d e x y
+one_due (OfStreams request) words image files d e are x y = streams_one (reads_store words (store_of request)) request image (read_of files) d e x y
 one_due (InitStore store) words image files d e are x y = x ∙ sym y
 one_due (DropEntry store name) words image files d e are x y = over_one image (IsDropDue image _) (drop_one image _) d e x y
 one_due (ReceiveFiles guards store at) words image files d e are x y = over_one image (IsReceiveDue image _ files) (receive_one image _ files) d e x y
@@ -124,9 +126,9 @@ agree limit place w (item ∷ items) =
         inr (f.0, f.1, ap Some f.2, f.3)
 
 pub receive_is_audit : ReceiveIsAudit
-unfolding receive_due audit_due as_ended
+unfolding receive_due as_ended
 receive_is_audit limit gate store guards files =
-    let read : Limited = limited_from 1 files in
+    let read : Limited = (read_of files).limited in
     let start : Watched (State ℕ) = record { guards = guards; state = start_of store } in
     one read (receive_from limit gate start read.items) (run_by (watched_step does) start read.items).refused (agree limit gate start read.items)
   where

@@ -10,9 +10,11 @@ use Rattle.send_model.specs.Due as stream_dues
 use Rattle.send_model.specs.Due.{DoneWhole, RefusedAt, TooLong}
 use Rattle.send_model.specs.Answer as answers
 use Rattle.send_model.specs.Answer.{Done, Refused, Usage, InputFault, OutputFault, NoMemory, InputTooLong, TooMuch, InputChanged, and_field, and_number, line, eight_digits}
+use Rattle.send_model.specs.Sources.{Sources, StandsBeforeOf, StandsCutOf}
 use Rattle.send_model.specs.Words as streams
 use Rattle.send_model.specs.Words.{new_guards}
 use Rattle.store_model.specs.Stored.{StandsFor}
+use Rattle.store_model.specs.NamedFiles.{NamedFiles, read_of}
 use Rattle.store_model.specs.States.{received_lines}
 use Rattle.store_model.specs.StoreLines.{listed}
 use Rattle.store_model.specs.Scrub.{IsScrubbed, scrub_line}
@@ -74,12 +76,12 @@ answer_of (dues.Damaged group stored computed) = Damaged group stored computed
 -- ---- what stands before an end
 
 -- Words on streams leave what they leave before an end over the store that is read, nothing where the image stands for no store.
-abbrev pub StreamsBefore : Bool → streams.Request → List ℕ → List (List ℕ) → List ℕ → Type 0
-StreamsBefore true request image files written = ByImage image (λ s. streams.StandsBefore request (base_over request files s) files written) (written ≡ [])
-StreamsBefore false request image files written = streams.StandsBefore request [] files written
+abbrev pub StreamsBefore : Bool → streams.Request → List ℕ → Sources → List ℕ → Type 0
+StreamsBefore true request image read written = ByImage image (λ s. StandsBeforeOf request (base_over request read s) read written) (written ≡ [])
+StreamsBefore false request image read written = StandsBeforeOf request [] read written
 
 -- Receiving is on the way; where there is no store, nothing is written or changed.
-abbrev pub ReceiveBefore : List ℕ → List Guard → List (List ℕ) → (written left : List ℕ) → Type 0
+abbrev pub ReceiveBefore : List ℕ → List Guard → NamedFiles → (written left : List ℕ) → Type 0
 ReceiveBefore image guards files written left = ByImage image (λ s. IsOnTheWay image guards files s written left) ((written ≡ []) × (left ≡ image))
 
 -- What a word that reads a store prints stands in part, and the image is as it was.
@@ -88,8 +90,8 @@ PrintsBefore image whole written left = (left ≡ image) × ByImage image (λ s.
 
 -- What stands where the inputs failed or there was no memory. A drop that is not done has changed nothing, scrub writes at its end, and
 -- making a store takes no memory.
-abbrev pub StandsBefore : Request → List (List ℕ) → List ℕ → List (List ℕ) → (written left : List ℕ) → Type 0
-StandsBefore (OfStreams request) words image files written left = (left ≡ image) × StreamsBefore (reads_store words (store_of request)) request image files written
+abbrev pub StandsBefore : Request → List (List ℕ) → List ℕ → NamedFiles → (written left : List ℕ) → Type 0
+StandsBefore (OfStreams request) words image files written left = (left ≡ image) × StreamsBefore (reads_store words (store_of request)) request image (read_of files) written
 StandsBefore (InitStore store) words image files written left = ⊥
 StandsBefore (DropEntry store name) words image files written left = (written ≡ []) × ByImage image (λ s. StandsFor left s) (left ≡ image)
 StandsBefore (ReceiveFiles guards store at) words image files written left = ReceiveBefore image (new_guards guards) files written left
@@ -122,16 +124,16 @@ ReadsAgain (ScrubStore store) = ⊥
 -- ---- what stands where standard output failed
 
 -- It does not fail where there is no store, since nothing is written then.
-abbrev pub StreamsCut : Bool → streams.Request → List ℕ → List (List ℕ) → List ℕ → Type 0
-StreamsCut true request image files written = ByImage image (λ s. streams.StandsCut request (base_over request files s) files written) ⊥
-StreamsCut false request image files written = streams.StandsCut request [] files written
+abbrev pub StreamsCut : Bool → streams.Request → List ℕ → Sources → List ℕ → Type 0
+StreamsCut true request image read written = ByImage image (λ s. StandsCutOf request (base_over request read s) read written) ⊥
+StreamsCut false request image read written = StandsCutOf request [] read written
 
 abbrev pub PrintsCut : List ℕ → (Store ℕ → List ℕ) → (written left : List ℕ) → Type 0
 PrintsCut image whole written left = (left ≡ image) × ByImage image (λ s. IsProperFrontOf (whole s) written) ⊥
 
 -- Some of what was to be written is missing. Words that write nothing never see it fail.
-abbrev pub StandsCut : Request → List (List ℕ) → List ℕ → List (List ℕ) → (written left : List ℕ) → Type 0
-StandsCut (OfStreams request) words image files written left = (left ≡ image) × StreamsCut (reads_store words (store_of request)) request image files written
+abbrev pub StandsCut : Request → List (List ℕ) → List ℕ → NamedFiles → (written left : List ℕ) → Type 0
+StandsCut (OfStreams request) words image files written left = (left ≡ image) × StreamsCut (reads_store words (store_of request)) request image (read_of files) written
 StandsCut (InitStore store) words image files written left = ⊥
 StandsCut (DropEntry store name) words image files written left = ⊥
 StandsCut (ReceiveFiles guards store at) words image files written left =
@@ -154,13 +156,13 @@ abbrev pub DropFault : List ℕ → List ℕ → Store ℕ → List ℕ → Type
 DropFault image name store left = StandsFor left store ⊎ (IsDropDue image name store (Ends DoneWhole) × DropLeaves (Ends DoneWhole) name store left)
 
 -- Words that read no store touch no device.
-abbrev pub StreamsFault : Bool → streams.Request → List ℕ → List (List ℕ) → List ℕ → Type 0
-StreamsFault true request image files written = StreamsBefore true request image files written
-StreamsFault false request image files written = ⊥
+abbrev pub StreamsFault : Bool → streams.Request → List ℕ → Sources → List ℕ → Type 0
+StreamsFault true request image read written = StreamsBefore true request image read written
+StreamsFault false request image read written = ⊥
 
 -- The image is any that a crash may leave then.
-abbrev pub StandsFault : Request → List (List ℕ) → List ℕ → List (List ℕ) → (written left : List ℕ) → Type 0
-StandsFault (OfStreams request) words image files written left = (left ≡ image) × StreamsFault (reads_store words (store_of request)) request image files written
+abbrev pub StandsFault : Request → List (List ℕ) → List ℕ → NamedFiles → (written left : List ℕ) → Type 0
+StandsFault (OfStreams request) words image files written left = (left ≡ image) × StreamsFault (reads_store words (store_of request)) request image (read_of files) written
 StandsFault (InitStore store) words image files written left = (written ≡ []) × InitFault image left
 StandsFault (DropEntry store name) words image files written left = (written ≡ []) × ByImage image (λ s. DropFault image (word_at words name) s left) (left ≡ image)
 StandsFault (ReceiveFiles guards store at) words image files written left = ReceiveBefore image (new_guards guards) files written left
@@ -172,12 +174,12 @@ StandsFault (ScrubStore store) words image files written left = (left ≡ image)
 -- ---- what an answer says
 
 -- This is due, and what stands is what it says.
-abbrev pub DueSays : Request → List (List ℕ) → List ℕ → List (List ℕ) → Due → (written left : List ℕ) → Type 0
+abbrev pub DueSays : Request → List (List ℕ) → List ℕ → NamedFiles → Due → (written left : List ℕ) → Type 0
 DueSays request words image files due written left = IsDue request words image files due × Says request words image files due written left
 
 -- An answer that words, files and image decide is the one that is due. Else an object of the outside failed or was changed, or there was no
 -- memory. A request that is asked for is never answered as one that means nothing.
-abbrev pub Answers : Request → List (List ℕ) → List ℕ → List (List ℕ) → Answer → (written left : List ℕ) → Type 0
+abbrev pub Answers : Request → List (List ℕ) → List ℕ → NamedFiles → Answer → (written left : List ℕ) → Type 0
 Answers request words image files (OfAnyWord Done) written left = DueSays request words image files (Ends DoneWhole) written left
 Answers request words image files (OfAnyWord (Refused verdict)) written left = DueSays request words image files (Ends (RefusedAt verdict)) written left
 Answers request words image files (OfAnyWord (InputTooLong file)) written left = DueSays request words image files (Ends (TooLong file)) written left
@@ -198,12 +200,12 @@ Answers request words image files (OfAnyWord Usage) written left = ⊥
 
 -- What is due is answered as it says.
 abbrev pub DueIsAnswered : Type 0
-DueIsAnswered = (request : Request) (words : List (List ℕ)) (image : List ℕ) (files : List (List ℕ)) (due : Due) (written left : List ℕ)
+DueIsAnswered = (request : Request) (words : List (List ℕ)) (image : List ℕ) (files : NamedFiles) (due : Due) (written left : List ℕ)
     → DueSays request words image files due written left → Answers request words image files (answer_of due) written left
 
 -- Of the answers that are due, one is given, whatever was written. So one status and one note are due.
 abbrev pub OneIsAnswered : Type 0
-OneIsAnswered = (request : Request) (words : List (List ℕ)) (image : List ℕ) (files : List (List ℕ)) (due other : Due) (written left more_written more_left : List ℕ)
+OneIsAnswered = (request : Request) (words : List (List ℕ)) (image : List ℕ) (files : NamedFiles) (due other : Due) (written left more_written more_left : List ℕ)
     → IsBytes image → Answers request words image files (answer_of due) written left → Answers request words image files (answer_of other) more_written more_left
     → due ≡ other
 
@@ -213,12 +215,12 @@ DoneAlone = (answer : Answer) → status_of answer ≡ 0 → answer ≡ OfAnyWor
 
 -- Before anything was done nothing is written, and the image is as it was: each word but the one that makes a store may have no memory then.
 abbrev pub NothingStandsBefore : Type 0
-NothingStandsBefore = (request : Request) (words : List (List ℕ)) (image : List ℕ) (files : List (List ℕ))
+NothingStandsBefore = (request : Request) (words : List (List ℕ)) (image : List ℕ) (files : NamedFiles)
     → ((store : ℕ) × (request ≡ InitStore store)) ⊎ StandsBefore request words image files [] image
 
 -- And so the device of each word over a store may fail.
 abbrev pub NothingStandsAtFault : Type 0
-NothingStandsAtFault = (request : Request) (words : List (List ℕ)) (image : List ℕ) (files : List (List ℕ))
+NothingStandsAtFault = (request : Request) (words : List (List ℕ)) (image : List ℕ) (files : NamedFiles)
     → ((of_streams : streams.Request) × (request ≡ OfStreams of_streams)) ⊎ StandsFault request words image files [] image
 
 -- No answer of a word that reads a store, or none, changes the image.
@@ -233,24 +235,24 @@ ReadsOnly (CatFile store name path) = ⊤
 ReadsOnly (ScrubStore store) = ⊤
 
 abbrev pub ReadersKeepTheImage : Type 0
-ReadersKeepTheImage = (request : Request) (words : List (List ℕ)) (image : List ℕ) (files : List (List ℕ)) (answer : Answer) (written left : List ℕ)
+ReadersKeepTheImage = (request : Request) (words : List (List ℕ)) (image : List ℕ) (files : NamedFiles) (answer : Answer) (written left : List ℕ)
     → ReadsOnly request → Answers request words image files answer written left → left ≡ image
 
 -- Receiving over a store gives an answer that is due, or it is on the way.
 abbrev pub ReceiveIsOnTheWay : Type 0
-ReceiveIsOnTheWay = (guards : List GuardSpec) (place at : ℕ) (words : List (List ℕ)) (image : List ℕ) (files : List (List ℕ)) (store : Store ℕ) (answer : Answer) (written left : List ℕ)
+ReceiveIsOnTheWay = (guards : List GuardSpec) (place at : ℕ) (words : List (List ℕ)) (image : List ℕ) (files : NamedFiles) (store : Store ℕ) (answer : Answer) (written left : List ℕ)
     → StandsFor image store → Answers (ReceiveFiles guards place at) words image files answer written left
     → ((due : Due) × (answer ≡ answer_of due)) ⊎ IsOnTheWay image (new_guards guards) files store written left
 
 -- And where standard output failed, some of the lines is missing.
 abbrev pub ReceiveIsCut : Type 0
-ReceiveIsCut = (guards : List GuardSpec) (place at : ℕ) (words : List (List ℕ)) (image : List ℕ) (files : List (List ℕ)) (store : Store ℕ) (written left : List ℕ)
+ReceiveIsCut = (guards : List GuardSpec) (place at : ℕ) (words : List (List ℕ)) (image : List ℕ) (files : NamedFiles) (store : Store ℕ) (written left : List ℕ)
     → StandsFor image store → Answers (ReceiveFiles guards place at) words image files (OfAnyWord OutputFault) written left
     → IsProperFrontOf (received_lines store (new_guards guards) files) written
 
 -- A drop that lacks memory has left the store as it was, and so has one whose device failed, unless it was due.
 abbrev pub DropKeeps : Type 0
-DropKeeps = (place name : ℕ) (words : List (List ℕ)) (image : List ℕ) (files : List (List ℕ)) (store : Store ℕ) (written left : List ℕ) → StandsFor image store
+DropKeeps = (place name : ℕ) (words : List (List ℕ)) (image : List ℕ) (files : NamedFiles) (store : Store ℕ) (written left : List ℕ) → StandsFor image store
     → (Answers (DropEntry place name) words image files (OfAnyWord NoMemory) written left → StandsFor left store)
     × (Answers (DropEntry place name) words image files StoreFault written left
     → StandsFor left store ⊎ (IsDropDue image (word_at words name) store (Ends DoneWhole) × DropLeaves (Ends DoneWhole) (word_at words name) store left))
@@ -268,7 +270,7 @@ IsPrinted (ScrubStore store) words s whole = ⊥
 
 -- It has printed a front part of that without memory or where the device failed, and not all of it where standard output failed.
 abbrev pub PrintsInFront : Type 0
-PrintsInFront = (request : Request) (words : List (List ℕ)) (image : List ℕ) (files : List (List ℕ)) (store : Store ℕ) (whole written left : List ℕ)
+PrintsInFront = (request : Request) (words : List (List ℕ)) (image : List ℕ) (files : NamedFiles) (store : Store ℕ) (whole written left : List ℕ)
     → StandsFor image store → IsPrinted request words store whole
     → (Answers request words image files (OfAnyWord NoMemory) written left → IsFrontOf whole written)
     × (Answers request words image files StoreFault written left → IsFrontOf whole written)

@@ -11,9 +11,10 @@ use Rattle.send_model.specs.Receive.{verdict_of, byte_cells, start_of}
 use Rattle.send_model.specs.Guards.{Guard, Watched, watched_step}
 use Rattle.send_model.specs.Counts.{is_end}
 use Rattle.send_model.specs.Due as dues
-use Rattle.send_model.specs.Due.{DoneWhole, RefusedAt, limited_from, stop_due}
+use Rattle.send_model.specs.Due.{DoneWhole, RefusedAt, stop_due}
 use Rattle.store_model.specs.Image.{limit_of, reserve, front_of}
 use Rattle.store_model.specs.Stored.{body_bytes, is_edit, StandsFor, StandsForNone}
+use Rattle.store_model.specs.NamedFiles.{NamedFiles, read_of}
 use Rattle.store_model.specs.States.{lines_behind}
 use Rattle.store_model.specs.StoreLines.{shown}
 use Rattle.store_model.specs.Scrub.{IsScrubbed, IsDamagedAt, IsNoStoreAt, scrub_line}
@@ -155,22 +156,22 @@ or_due (Some due) other = due
 
 -- Files, received under guards into a store whose closed gate stands at a place: each command as it is read, and last the end of
 -- reading.
-unfoldable pub receive_due : ℕ → ℕ → Store ℕ → List Guard → List (List ℕ) → Due
-receive_due limit gate store guards files = let read = limited_from 1 files in
+unfoldable pub receive_due : ℕ → ℕ → Store ℕ → List Guard → NamedFiles → Due
+receive_due limit gate store guards files = let read = (read_of files).limited in
     or_due (receive_from limit gate (record { guards = guards; state = start_of store }) read.items) (Ends (stop_due read.stop))
 
 -- The store that it leaves.
-unfoldable pub receive_left : ℕ → ℕ → Store ℕ → List Guard → List (List ℕ) → Store ℕ
-receive_left limit gate store guards files = left_from limit gate (record { guards = guards; state = start_of store }) (limited_from 1 files).items
+unfoldable pub receive_left : ℕ → ℕ → Store ℕ → List Guard → NamedFiles → Store ℕ
+receive_left limit gate store guards files = left_from limit gate (record { guards = guards; state = start_of store }) (read_of files).limited.items
 
 -- The same by the image of the store.
-abbrev pub IsReceiveDue : List ℕ → List Guard → List (List ℕ) → Store ℕ → Due → Type 0
+abbrev pub IsReceiveDue : List ℕ → List Guard → NamedFiles → Store ℕ → Due → Type 0
 IsReceiveDue image guards files store due = (stands : StandsFor image store)
     × (due ≡ receive_due (limit_of stands.header) (length (front_of stands.header (map body_bytes stands.groups))) store guards files)
 
 -- What stands on standard output, and what the image stands for, after any answer of receiving: the lines of the parts that are complete,
 -- and the store that is left.
-abbrev pub ReceiveSays : List ℕ → List Guard → List (List ℕ) → Store ℕ → (written image : List ℕ) → Type 0
+abbrev pub ReceiveSays : List ℕ → List Guard → NamedFiles → Store ℕ → (written image : List ℕ) → Type 0
 ReceiveSays before guards files store written image = (stands : StandsFor before store)
     × (let left = receive_left (limit_of stands.header) (length (front_of stands.header (map body_bytes stands.groups))) store guards files in
     (written ≡ lines_behind store left) × StandsFor image left)

@@ -1,5 +1,6 @@
 pub mod Image
 pub mod Stored
+pub mod NamedFiles
 pub mod States
 pub mod StateLaws
 pub mod StoreLines

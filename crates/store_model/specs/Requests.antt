@@ -1,17 +1,18 @@
 -- What all words ask for, and what is due to them: by the words, the image of the store that they name, and the files. The words are this
 -- program's own.
 use Rattle.std.specs.Prelude.{◌<◌, ◌+◌, ◌⊎◌, ◌≡◌, ℕ, Bool, true, false, not, List, [], ◌∷◌, ◌++◌, Option, None, Some, codes, slice_index_or, if◌then◌else◌}
-use Rattle.std.specs.List.{AllByRecursion}
 use Rattle.send_model.specs.Store.{Store}
 use Rattle.send_model.specs.Attribute.{IsBytes}
 use Rattle.send_model.specs.Receive.{byte_cells}
 use Rattle.store_model.specs.States.{IsBetween, complete_behind, received, IsStateOf}
 use Rattle.send_model.specs.Due as dues
-use Rattle.send_model.specs.Due.{limited_from, audit_due}
+use Rattle.send_model.specs.Due.{audit_due_of}
 use Rattle.send_model.specs.Guards.{Guard, GuardSpec}
-use Rattle.send_model.specs.Outside.{base}
+use Rattle.send_model.specs.Outside.{base_of}
 use Rattle.send_model.specs.Words as streams
-use Rattle.send_model.specs.Words.{Compose, Audit, Dump, Export, Gen, Trial, is_word, guards_and_files, new_guards, EndSays}
+use Rattle.send_model.specs.Words.{Compose, Audit, Dump, Export, Gen, Trial, is_word, guards_and_files, new_guards}
+use Rattle.send_model.specs.Sources.{Sources, due_of, EndSaysOf}
+use Rattle.store_model.specs.NamedFiles.{NamedFiles, read_of, AreGiven}
 use Rattle.store_model.specs.Image.{reserve, header_of, usual_header}
 use Rattle.store_model.specs.Stored.{StandsForNone, StandsFor, dropped}
 use Rattle.store_model.specs.StoreLines.{listed}
@@ -93,34 +94,34 @@ abbrev pub reads_store : List (List ℕ) → Option ℕ → Bool
 reads_store words None = false
 reads_store words (Some place) = not (is_word (codes "none") (word_at words place))
 
--- The base that they have over a store: to compose, the store without the files' own parts.
-abbrev pub base_over : streams.Request → List (List ℕ) → Store ℕ → Store ℕ
-base_over (Compose store at) files s = base s files
-base_over (Audit guards store at) files s = s
-base_over (Export store at) files s = s
-base_over (Dump at) files s = s
-base_over (Gen count seed) files s = s
-base_over (Trial count seed) files s = s
+-- The base that they have over a store: to compose, the store without the parts of what was read.
+abbrev pub base_over : streams.Request → Sources → Store ℕ → Store ℕ
+base_over (Compose store at) read s = base_of s read.reading.items
+base_over (Audit guards store at) read s = s
+base_over (Export store at) read s = s
+base_over (Dump at) read s = s
+base_over (Gen count seed) read s = s
+base_over (Trial count seed) read s = s
 
 -- What is due to them, where a store is read, and where none is.
-abbrev pub IsStreamsDue : Bool → streams.Request → List ℕ → List (List ℕ) → Due → Type 0
-IsStreamsDue true request image files due = OverStore image (λ s d. d ≡ Ends (streams.due request (base_over request files s) files)) due
-IsStreamsDue false request image files due = due ≡ Ends (streams.due request [] files)
+abbrev pub IsStreamsDue : Bool → streams.Request → List ℕ → Sources → Due → Type 0
+IsStreamsDue true request image read due = OverStore image (λ s d. d ≡ Ends (due_of request (base_over request read s) read)) due
+IsStreamsDue false request image read due = due ≡ Ends (due_of request [] read)
 
 -- What is written then. There is no other answer than one that files decide, where there is a store.
-abbrev pub StreamsWrite : streams.Request → Store ℕ → List (List ℕ) → Due → List ℕ → Type 0
-StreamsWrite request base files (Ends due) written = EndSays request base files due written
-StreamsWrite request base files (NotStore group) written = ⊥
-StreamsWrite request base files (Missing what) written = ⊥
-StreamsWrite request base files (LogFull end wanted limit) written = ⊥
-StreamsWrite request base files (StoreThere size) written = ⊥
-StreamsWrite request base files (Damaged group stored computed) written = ⊥
+abbrev pub StreamsWrite : streams.Request → Store ℕ → Sources → Due → List ℕ → Type 0
+StreamsWrite request base read (Ends due) written = EndSaysOf request base read due written
+StreamsWrite request base read (NotStore group) written = ⊥
+StreamsWrite request base read (Missing what) written = ⊥
+StreamsWrite request base read (LogFull end wanted limit) written = ⊥
+StreamsWrite request base read (StoreThere size) written = ⊥
+StreamsWrite request base read (Damaged group stored computed) written = ⊥
 
 -- ---- all words
 
 -- What is due, over the image at entry.
-abbrev pub IsDue : Request → List (List ℕ) → List ℕ → List (List ℕ) → Due → Type 0
-IsDue (OfStreams request) words image files due = IsStreamsDue (reads_store words (store_of request)) request image files due
+abbrev pub IsDue : Request → List (List ℕ) → List ℕ → NamedFiles → Due → Type 0
+IsDue (OfStreams request) words image files due = IsStreamsDue (reads_store words (store_of request)) request image (read_of files) due
 IsDue (InitStore store) words image files due = due ≡ init_due image
 IsDue (DropEntry store name) words image files due = OverStore image (IsDropDue image (word_at words name)) due
 IsDue (ReceiveFiles guards store at) words image files due = OverStore image (IsReceiveDue image (new_guards guards) files) due
@@ -161,13 +162,13 @@ abbrev pub ByImage : List ℕ → (Store ℕ → Type 0) → Type 0 → Type 0
 ByImage image P none = ((store : Store ℕ) → StandsFor image store → P store) × ((group : ℕ) → StandsForNone image group → none)
 
 -- Words on streams write what they say, and nothing where the image that is read stands for no store.
-abbrev pub StreamsSay : Bool → streams.Request → List ℕ → List (List ℕ) → Due → List ℕ → Type 0
-StreamsSay true request image files due written = ByImage image (λ s. StreamsWrite request (base_over request files s) files due written) (written ≡ [])
-StreamsSay false request image files due written = StreamsWrite request [] files due written
+abbrev pub StreamsSay : Bool → streams.Request → List ℕ → Sources → Due → List ℕ → Type 0
+StreamsSay true request image read due written = ByImage image (λ s. StreamsWrite request (base_over request read s) read due written) (written ≡ [])
+StreamsSay false request image read due written = StreamsWrite request [] read due written
 
 -- What was written, and what the image is or stands for afterwards. Where it stands for no store, nothing is written or changed.
-abbrev pub Says : Request → List (List ℕ) → List ℕ → List (List ℕ) → Due → List ℕ → List ℕ → Type 0
-Says (OfStreams request) words image files due written left = (left ≡ image) × StreamsSay (reads_store words (store_of request)) request image files due written
+abbrev pub Says : Request → List (List ℕ) → List ℕ → NamedFiles → Due → List ℕ → List ℕ → Type 0
+Says (OfStreams request) words image files due written left = (left ≡ image) × StreamsSay (reads_store words (store_of request)) request image (read_of files) due written
 Says (InitStore store) words image files due written left = (written ≡ []) × InitLeaves due image left
 Says (DropEntry store name) words image files due written left =
     (written ≡ []) × ByImage image (λ s. DropLeaves due (word_at words name) s left) (left ≡ image)
@@ -184,28 +185,28 @@ Says (ScrubStore store) words image files due written left = (left ≡ image) ×
 
 -- One answer is due.
 abbrev pub OneDue : Type 0
-OneDue = (request : Request) (words : List (List ℕ)) (image : List ℕ) (files : List (List ℕ)) (due other : Due) → IsBytes image
+OneDue = (request : Request) (words : List (List ℕ)) (image : List ℕ) (files : NamedFiles) (due other : Due) → IsBytes image
     → IsDue request words image files due → IsDue request words image files other → due ≡ other
 
 -- What is due to receiving is what is due to an audit over the same store, unless there is no room.
 abbrev pub ReceiveIsAudit : Type 0
-ReceiveIsAudit = (limit gate : ℕ) (store : Store ℕ) (guards : List Guard) (files : List (List ℕ))
-    → (receive_due limit gate store guards files ≡ Ends (audit_due store guards files))
+ReceiveIsAudit = (limit gate : ℕ) (store : Store ℕ) (guards : List Guard) (files : NamedFiles)
+    → (receive_due limit gate store guards files ≡ Ends (audit_due_of store guards (read_of files).limited))
     ⊎ ((end : ℕ) × (wanted : ℕ) × (receive_due limit gate store guards files ≡ LogFull end wanted limit) × (limit < end + wanted + reserve))
 
 -- The store that is left is one that receiving passes through, with all parts complete that are complete in it.
 abbrev pub LeftIsPassed : Type 0
-LeftIsPassed = (limit gate : ℕ) (store : Store ℕ) (guards : List Guard) (files : List (List ℕ))
+LeftIsPassed = (limit gate : ℕ) (store : Store ℕ) (guards : List Guard) (files : NamedFiles)
     → let left = receive_left limit gate store guards files in
-    IsBetween (complete_behind store left) store (received 0 byte_cells store guards (limited_from 1 files).items).state.state.store left
+    IsBetween (complete_behind store left) store (received 0 byte_cells store guards (read_of files).limited.items).state.state.store left
 
--- So it is of files of bytes.
+-- So it is of files of bytes, with names that an attribute has room for.
 abbrev pub LeftIsState : Type 0
-LeftIsState = (limit gate : ℕ) (store : Store ℕ) (guards : List Guard) (files : List (List ℕ)) → AllByRecursion IsBytes files
+LeftIsState = (limit gate : ℕ) (store : Store ℕ) (guards : List Guard) (files : NamedFiles) → AreGiven files
     → let left = receive_left limit gate store guards files in IsStateOf (complete_behind store left) store guards files left
 
 -- Where there was room, it is what receiving leaves.
 abbrev pub LeftIsReceived : Type 0
-LeftIsReceived = (limit gate : ℕ) (store : Store ℕ) (guards : List Guard) (files : List (List ℕ)) (due : dues.Due)
+LeftIsReceived = (limit gate : ℕ) (store : Store ℕ) (guards : List Guard) (files : NamedFiles) (due : dues.Due)
     → receive_due limit gate store guards files ≡ Ends due
-    → receive_left limit gate store guards files ≡ (received 0 byte_cells store guards (limited_from 1 files).items).state.state.store
+    → receive_left limit gate store guards files ≡ (received 0 byte_cells store guards (read_of files).limited.items).state.state.store

@@ -1,13 +1,12 @@
 -- What the states of a receive mean together. This program's own.
 use Rattle.std.specs.Prelude.{◌≡◌, ℕ, ◌≤◌, false, List, [], ◌∷◌, ◌++◌, length, take, drop, None}
-use Rattle.std.specs.List.{AllByRecursion, filter, flat_map}
-use Rattle.send_model.specs.Attribute.{IsBytes}
-use Rattle.send_model.specs.Reading.{Item, input}
+use Rattle.std.specs.List.{filter, flat_map}
+use Rattle.send_model.specs.Reading.{Item}
 use Rattle.send_model.specs.Store.{Store, completed}
 use Rattle.send_model.specs.Receive.{byte_cells}
 use Rattle.send_model.specs.Guards.{Guard, guarded}
-use Rattle.send_model.specs.Due.{limited_from}
 use Rattle.store_model.specs.Stored.{is_edit}
+use Rattle.store_model.specs.NamedFiles.{NamedFiles, read_of, AreGiven}
 use Rattle.store_model.specs.States.{IsBetween, is_complete, complete_behind, received, left_by, complete_line, HasNumbers, received_lines, lines_in}
 
 -- What receiving items passes through, receiving more items does.
@@ -35,12 +34,12 @@ PassesWhatIsCompleted C = (zero_cell : C) (cells : Item → List C) (store : Sto
 
 -- So it is of files.
 abbrev pub FilesAreItems : Type 0
-FilesAreItems = (store : Store ℕ) (guards : List Guard) (files : List (List ℕ))
-    → left_by store guards files ≡ (received 0 byte_cells store guards (input files).items).state.state.store
+FilesAreItems = (store : Store ℕ) (guards : List Guard) (files : NamedFiles)
+    → left_by store guards files ≡ (received 0 byte_cells store guards (read_of files).reading.items).state.state.store
 
 -- What is read of files up to the limit of their lengths are the first items of all that stand in them.
 abbrev pub LimitedIsFront : Type 0
-LimitedIsFront = (files : List (List ℕ)) → AllByRecursion IsBytes files → (rest : List Item) × ((input files).items ≡ (limited_from 1 files).items ++ rest)
+LimitedIsFront = (files : NamedFiles) → AreGiven files → (rest : List Item) × ((read_of files).reading.items ≡ (read_of files).limited.items ++ rest)
 
 -- Of a store on the way: it begins with the entries at the start, as they were; so many of those behind them are complete; and these are
 -- the first of those that are complete at the end, as they are there.
@@ -59,12 +58,12 @@ FirstLinesStandWhole C = (parts : Store C) (written rest : List ℕ) → HasNumb
     → flat_map complete_line parts ≡ written ++ rest
     → (part : List ℕ) × (written ≡ flat_map complete_line (take (lines_in written) parts) ++ part) × (lines_in part ≡ 0)
 
--- What files of bytes leave has numbers of eight bytes, if the store has.
+-- What files of bytes leave, with names that an attribute has room for, has numbers of eight bytes, if the store has.
 abbrev pub ReceivedHasNumbers : Type 0
-ReceivedHasNumbers = (store : Store ℕ) (guards : List Guard) (files : List (List ℕ)) → HasNumbers store → AllByRecursion IsBytes files
+ReceivedHasNumbers = (store : Store ℕ) (guards : List Guard) (files : NamedFiles) → HasNumbers store → AreGiven files
     → HasNumbers (left_by store guards files)
 
 -- So what receiving them prints has one line for each part that is complete.
 abbrev pub PrintedAreParts : Type 0
-PrintedAreParts = (store : Store ℕ) (guards : List Guard) (files : List (List ℕ)) → HasNumbers store → AllByRecursion IsBytes files
+PrintedAreParts = (store : Store ℕ) (guards : List Guard) (files : NamedFiles) → HasNumbers store → AreGiven files
     → lines_in (received_lines store guards files) ≡ complete_behind store (left_by store guards files)

@@ -4,10 +4,11 @@ use Rattle.std.specs.Prelude.{◌≡◌, ◌⊎◌, ℕ, ◌==◌, ◌≤◌, �
 use Rattle.std.specs.List.{AllByRecursion, filter, flat_map, count_by}
 use Rattle.send_model.specs.Reading.{Item}
 use Rattle.send_model.specs.Store.{Entry, Store, State, step}
-use Rattle.send_model.specs.Receive.{Ran, run_by, start_of}
-use Rattle.send_model.specs.Guards.{Guard, Watched, watched_step, receive_under}
+use Rattle.send_model.specs.Receive.{Ran, run_by, byte_cells, start_of}
+use Rattle.send_model.specs.Guards.{Guard, Watched, watched_step, receive_watched}
 use Rattle.send_model.specs.Printed.{escaped, uuid_text}
 use Rattle.send_model.specs.Answer.{and_field, and_number, line}
+use Rattle.store_model.specs.NamedFiles.{NamedFiles, read_of}
 
 -- ---- on the way from one store to another
 
@@ -44,12 +45,12 @@ unfoldable pub received : {C : Type 0} → C → (Item → List C) → Store C �
 received zero_cell cells store guards items =
     run_by (watched_step (λ s item. step zero_cell (cells item) s item.command)) (record { guards = guards; state = start_of store }) items
 
--- The store that receiving files leaves, whether or not they are accepted.
-abbrev pub left_by : Store ℕ → List Guard → List (List ℕ) → Store ℕ
-left_by store guards files = (receive_under store guards files).state.state.store
+-- The store that receiving files leaves, each part under the name that is given for it, whether or not they are accepted.
+abbrev pub left_by : Store ℕ → List Guard → NamedFiles → Store ℕ
+left_by store guards files = (receive_watched 0 byte_cells store guards (read_of files).reading).state.state.store
 
 -- A store that receiving files passes through, with at least so many parts complete.
-abbrev pub IsStateOf : ℕ → Store ℕ → List Guard → List (List ℕ) → Store ℕ → Type 0
+abbrev pub IsStateOf : ℕ → Store ℕ → List Guard → NamedFiles → Store ℕ → Type 0
 IsStateOf least store guards files now = IsBetween least store (left_by store guards files) now
 
 -- ---- the lines
@@ -67,7 +68,7 @@ unfoldable pub lines_behind : {S : Type 0} → List (Entry S) → List (Entry S)
 lines_behind start end = flat_map complete_line (filter is_complete (drop (length start) end))
 
 -- All that receiving files prints.
-abbrev pub received_lines : Store ℕ → List Guard → List (List ℕ) → List ℕ
+abbrev pub received_lines : Store ℕ → List Guard → NamedFiles → List ℕ
 received_lines store guards files = lines_behind store (left_by store guards files)
 
 -- How many whole lines stand in what was written.
@@ -75,5 +76,5 @@ abbrev pub lines_in : List ℕ → ℕ
 lines_in written = count_by (λ byte. byte == 10) written
 
 -- Each part whose line stands whole is complete: so many of them are.
-abbrev pub IsAcknowledged : Store ℕ → List Guard → List (List ℕ) → List ℕ → Store ℕ → Type 0
+abbrev pub IsAcknowledged : Store ℕ → List Guard → NamedFiles → List ℕ → Store ℕ → Type 0
 IsAcknowledged store guards files written now = IsStateOf (lines_in written) store guards files now

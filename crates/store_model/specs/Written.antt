@@ -3,13 +3,13 @@
 use Rattle.std.specs.Prelude.{◌≡◌, ℕ, true, List, [], ◌∷◌, ◌++◌, Option, None, Some, if◌then◌else◌}
 use Rattle.std.specs.List.{AllByRecursion}
 use Rattle.std.specs.Option.{option_map}
-use Rattle.send_model.specs.Attribute.{IsBytes}
 use Rattle.send_model.specs.Command.{Command}
-use Rattle.send_model.specs.Reading.{input, Item}
+use Rattle.send_model.specs.Reading.{Item}
 use Rattle.send_model.specs.Store.{Store, State, After, head_of, step}
 use Rattle.send_model.specs.Receive.{byte_cells, start_of}
 use Rattle.send_model.specs.Guards.{Guard, Watched, watched_step, guarded}
 use Rattle.send_model.specs.Counts.{is_end}
+use Rattle.store_model.specs.NamedFiles.{NamedFiles, read_of, AreGiven}
 use Rattle.store_model.specs.Stored.{IsGroup, Mark, Body, Group, is_edit, made_all, as_bytes}
 use Rattle.store_model.specs.States.{IsBetween, complete_behind, received}
 
@@ -79,7 +79,7 @@ FirstGroupsAreStates = (gate : ℕ) (store : Store ℕ) (guards : List Guard) (i
     → (now : Store ℕ) × (made_all 0 as_bytes gate store first ≡ Some now)
     × IsBetween (complete_behind store now) store (received 0 byte_cells store guards items).state.state.store now
 
--- Those of files of bytes can stand in an image of either format.
+-- Those of files of bytes, with names that an attribute has room for, can stand in an image of either format.
 abbrev pub WrittenIsLawful : Type 0
-WrittenIsLawful = (format : ℕ) (store : Store ℕ) (guards : List Guard) (files : List (List ℕ)) → AllByRecursion IsBytes files
-    → AllByRecursion (IsGroup format) (groups_of store guards (input files).items)
+WrittenIsLawful = (format : ℕ) (store : Store ℕ) (guards : List Guard) (files : NamedFiles) → AreGiven files
+    → AllByRecursion (IsGroup format) (groups_of store guards (read_of files).reading.items)

@@ -83,8 +83,9 @@ pub fn answers_say_what_stands()
 
 /// The groups that receiving writes behind those of a store, one Mark for each part that begins and one Body for each that is complete,
 /// make of it what receiving leaves; and whatever the first of them make is a state on the way, with all parts complete that are complete
-/// in it. Those of files of bytes can stand in an image of either format. The image at entry is on the way, so is the one that has them
-/// all, and so is each that has the first of them, with no more lines written than parts are complete in it.
+/// in it. Those of files of bytes, with names that an attribute has room for, can stand in an image of either format. The image at entry
+/// is on the way, so is the one that has them all, and so is each that has the first of them, with no more lines written than parts are
+/// complete in it.
 pub fn written_groups_make_what_is_received()
     ensures received { WrittenIsReceived }
     ensures states { FirstGroupsAreStates }

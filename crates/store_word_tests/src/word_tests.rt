@@ -1,6 +1,7 @@
 // The words over a store, over images that another program made.
 use crate::images::{BEGUN, BEGUN_LIST, DONE, LIST, STORE};
 use disk_model::{FuseDisk, MemDisk};
+use part_names::PartNames;
 use std::alloc::Global;
 use std::test::Fail;
 use store_words::{
@@ -239,7 +240,16 @@ fn audits(
     let mut inputs = MemInputs::new(alloc);
     inputs.add("1", stream)?;
     let names: [String; 1] = [String::from_str(alloc, "1")?];
-    let ended = audit_store(alloc, &mut disk, &mut inputs, &names, &mut [], &mut out);
+    let own = PartNames::none(alloc);
+    let ended = audit_store(
+        alloc,
+        &mut disk,
+        &mut inputs,
+        &names,
+        &own,
+        &mut [],
+        &mut out,
+    );
     Ok(ended == end && out.bytes() == bytes)
 }
 

@@ -9,10 +9,12 @@ use Rattle.send_model.specs.Subvolume.{Inode, Subvolume}
 use Rattle.send_model.specs.Store.{Store}
 use Rattle.send_model.specs.Provenance.{inode_with}
 use Rattle.send_model.specs.Cells.{recelled, recelled_entry, recelled_store}
+use Rattle.send_model.specs.Renamed.{Names}
 use Rattle.send_model.specs.Words.{Audit, new_guards}
 use Rattle.sx_base.specs.Calls.{IfAllTold, Wrote}
 use Rattle.sx_base.specs.declared.outcome.Outcome.{Outcome}
 use Rattle.store_model.specs.Stored.{byte_of, StandsFor}
+use Rattle.store_model.specs.NamedFiles.{NamedFiles}
 use Rattle.store_model.specs.Requests.{OfStreams, reads_store}
 use Rattle.store_model.specs.Answers.{Answers}
 use Rattle.auditor.specs.Answers.{AuditEnds}
@@ -62,35 +64,39 @@ same_shape image core = sym (blank_twice (byte_of image) (recelled_store (option
 
 -- ---- the answers
 
--- What was written is what an answer says, of all words that ask for it under these guards.
-abbrev AuditSays : (seen left : List ℕ) → List Guard → StoreEnd → List (List ℕ) → List ℕ → Type 0
-AuditSays seen left guards end files written = (words : List (List ℕ)) (specs : List GuardSpec) (store at : ℕ) → reads_store words (Some store) ≡ true → guards ≡ new_guards specs
-    → Answers (OfStreams (Audit specs store at)) words seen files (answer_of [] [] end) written left
+-- Files with the names that are given for their parts.
+abbrev given : Names → List (List ℕ) → NamedFiles
+given names files = record { bytes = files; names = names }
 
-module _ (told : Option (List (List ℕ × List ℕ))) (names : List (List ℕ)) (seen left : List ℕ) (guards : List Guard) (same : left ≡ seen) where
+-- What was written is what an answer says, of all words that ask for it under these guards.
+abbrev AuditSays : (seen left : List ℕ) → Names → List Guard → StoreEnd → List (List ℕ) → List ℕ → Type 0
+AuditSays seen left new_names guards end files written = (words : List (List ℕ)) (specs : List GuardSpec) (store at : ℕ) → reads_store words (Some store) ≡ true → guards ≡ new_guards specs
+    → Answers (OfStreams (Audit specs store at)) words seen (given new_names files) (answer_of [] [] end) written left
+
+module _ (told : Option (List (List ℕ × List ℕ))) (names : List (List ℕ)) (seen left : List ℕ) (new_names : Names) (guards : List Guard) (same : left ≡ seen) where
   -- The store does not open.
   pub not_audited : (taken : Option (List ℕ)) (cause : Type 0) (why : StoreStop) (end : StoreEnd) → end ≡ end_by why → IsNoRefusal why → IfLog {T = StoreState} (Err why) (IsOpenStop cause) → OpenSays seen (Err why)
-      → IfAllTold told names (λ files. Wrote taken taken (AuditSays seen left guards end files))
+      → IfAllTold told names (λ files. Wrote taken taken (AuditSays seen left new_names guards end files))
   not_audited taken cause why end is kind stops opened =
-      always_told told names (λ files. Wrote taken taken (AuditSays seen left guards end files)) (λ files. (
+      always_told told names (λ files. Wrote taken taken (AuditSays seen left new_names guards end files)) (λ files. (
         [],
         Appends-nil taken,
         (λ words specs store at reads fits.
-            subst (λ (l : List ℕ). Answers (OfStreams (Audit specs store at)) words seen files (answer_of [] [] end) [] l) (sym same)
-            (stopped_answers (Audit specs store at) words seen files reads (λ s. refl) cause why end is kind stops opened)),
+            subst (λ (l : List ℕ). Answers (OfStreams (Audit specs store at)) words seen (given new_names files) (answer_of [] [] end) [] l) (sym same)
+            (stopped_answers (Audit specs store at) words seen (given new_names files) reads (λ s. refl) cause why end is kind stops opened)),
       ))
 
   -- It opens, and its subvolumes are audited over.
-  pub is_audited : (old new : Option (List ℕ)) (s : Store ℕ) (outcome : Outcome) → StandsFor seen s → IfAllTold told names (λ files. Wrote old new (AuditEnds s guards files outcome))
-      → IfAllTold told names (λ files. Wrote old new (AuditSays seen left guards (made.Ends outcome) files))
-  is_audited old new s outcome stands audited = then_told told names (λ files. Wrote old new (AuditEnds s guards files outcome)) (λ files. Wrote old new (AuditSays seen left guards (made.Ends outcome) files)) (λ files wrote. by_files files wrote) audited
+  pub is_audited : (old new : Option (List ℕ)) (s : Store ℕ) (outcome : Outcome) → StandsFor seen s → IfAllTold told names (λ files. Wrote old new (AuditEnds s guards new_names files outcome))
+      → IfAllTold told names (λ files. Wrote old new (AuditSays seen left new_names guards (made.Ends outcome) files))
+  is_audited old new s outcome stands audited = then_told told names (λ files. Wrote old new (AuditEnds s guards new_names files outcome)) (λ files. Wrote old new (AuditSays seen left new_names guards (made.Ends outcome) files)) (λ files wrote. by_files files wrote) audited
     where
-      by_files : (files : List (List ℕ)) → Wrote old new (AuditEnds s guards files outcome) → Wrote old new (AuditSays seen left guards (made.Ends outcome) files)
+      by_files : (files : List (List ℕ)) → Wrote old new (AuditEnds s guards new_names files outcome) → Wrote old new (AuditSays seen left new_names guards (made.Ends outcome) files)
       by_files files wrote = (
         wrote.0,
         wrote.1,
         (λ words specs store at reads fits.
-            subst (λ (l : List ℕ). Answers (OfStreams (Audit specs store at)) words seen files (answer_of [] [] (made.Ends outcome)) wrote.0 l) (sym same)
-            (ends_answer (Audit specs store at) words seen files reads s stands wrote.0 outcome
-            (audit_ends s files wrote.0 store at specs outcome (subst (λ (gs : List Guard). AuditEnds s gs files outcome wrote.0) fits wrote.2)))),
+            subst (λ (l : List ℕ). Answers (OfStreams (Audit specs store at)) words seen (given new_names files) (answer_of [] [] (made.Ends outcome)) wrote.0 l) (sym same)
+            (ends_answer (Audit specs store at) words seen (given new_names files) reads s stands wrote.0 outcome
+            (audit_ends s wrote.0 store at new_names files specs outcome (subst (λ (gs : List Guard). AuditEnds s gs new_names files outcome wrote.0) fits wrote.2)))),
       )

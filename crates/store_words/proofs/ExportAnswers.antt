@@ -13,7 +13,7 @@ use Rattle.send_model.specs.Receive.{start_of}
 use Rattle.send_model.specs.Provenance.{inode_with}
 use Rattle.send_model.specs.Cells.{recelled, recelled_store}
 use Rattle.send_model.specs.Exported.{IsMoment, HasTimes, AreSmallBy, byte_step, CanExportOver, IsExported}
-use Rattle.send_model.specs.Words as streams
+use Rattle.send_model.specs.Sources.{StandsBeforeOf}
 use Rattle.send_model.specs.Words.{Export, due, whole_of}
 use Rattle.send_model.proofs.Sorts.{same_inside}
 use Rattle.send_model.proofs.CellSteps.{find-cells}
@@ -23,6 +23,7 @@ use Rattle.sx_base.specs.Calls.{Ends, IfAllTold, Wrote}
 use Rattle.sx_base.specs.declared.outcome.Outcome.{Outcome}
 use Rattle.sx_base.specs.declared.outcome.Outcome.TheVariants as ended
 use Rattle.store_model.specs.Stored.{as_bytes, byte_of, StandsFor}
+use Rattle.store_model.specs.NamedFiles.{read_of, unnamed}
 use Rattle.store_model.specs.Requests.{OfStreams, reads_store}
 use Rattle.store_model.specs.Answers.{Answers}
 use Rattle.store_model.proofs.LawfulGroups.{stands_lawful}
@@ -122,13 +123,12 @@ promised base can (Some table) names old new outcome some done ends small =
 -- ---- the answers
 
 -- Nothing is a front part of what is to be exported.
-nothing_exported : (s : Store ℕ) (files : List (List ℕ)) (store at : ℕ) → streams.StandsBefore (Export store at) s files []
-unfolding whole_of
+nothing_exported : (s : Store ℕ) (files : List (List ℕ)) (store at : ℕ) → StandsBeforeOf (Export store at) s (read_of (unnamed files)) []
 nothing_exported s files store at = nothing_in_front _
 
 -- What was written is what an answer says, of all words that ask for it.
 abbrev ExportSays : (seen left : List ℕ) → StoreEnd → List (List ℕ) → List ℕ → Type 0
-ExportSays seen left end files written = (words : List (List ℕ)) (store at : ℕ) → reads_store words (Some store) ≡ true → Answers (OfStreams (Export store at)) words seen files (answer_of [] [] end) written left
+ExportSays seen left end files written = (words : List (List ℕ)) (store at : ℕ) → reads_store words (Some store) ≡ true → Answers (OfStreams (Export store at)) words seen (unnamed files) (answer_of [] [] end) written left
 
 -- Where all was done it is what is promised, over each store that the image stands for.
 abbrev IsPromised : (seen : List ℕ) → StoreEnd → List (List ℕ) → List ℕ → Type 0
@@ -143,8 +143,8 @@ module _ (told : Option (List (List ℕ × List ℕ))) (names : List (List ℕ))
         [],
         Appends-nil taken,
         (λ words store at reads.
-            subst (λ (l : List ℕ). Answers (OfStreams (Export store at)) words seen files (answer_of [] [] end) [] l) (sym same)
-            (stopped_answers (Export store at) words seen files reads (λ s. nothing_exported s files store at) cause why end is kind stops opened)),
+            subst (λ (l : List ℕ). Answers (OfStreams (Export store at)) words seen (unnamed files) (answer_of [] [] end) [] l) (sym same)
+            (stopped_answers (Export store at) words seen (unnamed files) reads (λ s. nothing_exported s files store at) cause why end is kind stops opened)),
       ))
 
   -- It opens, and is exported over.
@@ -155,8 +155,8 @@ module _ (told : Option (List (List ℕ × List ℕ))) (names : List (List ℕ))
         wrote.0,
         wrote.1,
         (λ words store at reads.
-            subst (λ (l : List ℕ). Answers (OfStreams (Export store at)) words seen files (answer_of [] [] (made.Ends outcome)) wrote.0 l) (sym same)
-            (ends_answer (Export store at) words seen files reads s stands wrote.0 outcome (export_ends s files wrote.0 store at outcome wrote.2))),
+            subst (λ (l : List ℕ). Answers (OfStreams (Export store at)) words seen (unnamed files) (answer_of [] [] (made.Ends outcome)) wrote.0 l) (sym same)
+            (ends_answer (Export store at) words seen (unnamed files) reads s stands wrote.0 outcome (export_ends s wrote.0 store at files outcome wrote.2))),
       )) exported
 
 -- The promise, where the store did not open and where it did.

@@ -5,6 +5,7 @@ use Rattle.send_model.specs.Store.{Store}
 use Rattle.send_model.specs.Headline.{IsFrontOf}
 use Rattle.send_model.proofs.Fronts.{is_front}
 use Rattle.store_model.specs.Stored.{as_bytes, StandsFor, StandsForNone}
+use Rattle.store_model.specs.NamedFiles.{NamedFiles}
 use Rattle.store_model.specs.Requests.{Request, ByImage}
 use Rattle.store_model.specs.Dues as dues
 use Rattle.store_model.specs.Answers.{Answers, PrintsBefore, StandsBefore, StandsFault, DueSays}
@@ -32,7 +33,7 @@ pub nothing_printed : (image : List ℕ) (whole : Store ℕ → List ℕ) → Pr
 nothing_printed image whole = (refl, ((λ s stands. nothing_in_front (whole s)), (λ group fails. refl)))
 
 -- Where opening stops, nothing is written or changed, and the word answers so.
-pub not_opened : (request : Request) (words : List (List ℕ)) (image : List ℕ) (files : List (List ℕ)) (name path : List ℕ) (cause : Type 0) (why : StoreStop)
+pub not_opened : (request : Request) (words : List (List ℕ)) (image : List ℕ) (files : NamedFiles) (name path : List ℕ) (cause : Type 0) (why : StoreStop)
     → StandsBefore request words image files [] image → StandsFault request words image files [] image
     → ((group : ℕ) → StandsForNone image group → DueSays request words image files (dues.NotStore group) [] image)
     → IsNoRefusal why → IfLog {T = StoreState} (Err why) (IsOpenStop cause) → OpenSays image (Err why) → Answers request words image files (answer_of name path (end_by why)) [] image

@@ -16,7 +16,9 @@ use Rattle.send_model.specs.Store.{Store}
 use Rattle.send_model.specs.Guards.{Guard, GuardSpec}
 use Rattle.send_model.specs.Words.{new_guards}
 use Rattle.send_model.specs.Due.{DoneWhole, RefusedAt, TooLong, limited_from}
+use Rattle.send_model.specs.Renamed.{Names, AreNewNames, renamed_limited}
 use Rattle.send_model.specs.Headline.{IsProperFrontOf}
+use Rattle.store_model.specs.NamedFiles.{NamedFiles, read_of, AreGiven}
 use Rattle.store_model.specs.Image.{limit_of, front_of}
 use Rattle.store_model.specs.Stored.{StandsFor, StandsForNone}
 use Rattle.store_model.specs.StateLaws.{LinesAreParts}
@@ -55,11 +57,11 @@ use Rattle.store_words.proofs.ReceivedWays.{limited_lines, stands_made, on_the_w
 
 -- ---- there is no store
 
-pub receive_of_none : (specs : List GuardSpec) (store at : ℕ) (words : List (List ℕ)) (seen : List ℕ) (files : List (List ℕ)) (group : ℕ) → StandsForNone seen group → DueSays (ReceiveFiles specs store at) words seen files (dues.NotStore group) [] seen
+pub receive_of_none : (specs : List GuardSpec) (store at : ℕ) (words : List (List ℕ)) (seen : List ℕ) (files : NamedFiles) (group : ℕ) → StandsForNone seen group → DueSays (ReceiveFiles specs store at) words seen files (dues.NotStore group) [] seen
 receive_of_none specs store at words seen files group fails =
     (fails, by_none seen group (λ s. ReceiveSays seen (new_guards specs) files s [] seen) (([] ≡ []) × (seen ≡ seen)) fails (refl, refl))
 
-pub nothing_received : (specs : List GuardSpec) (store at : ℕ) (words : List (List ℕ)) (seen : List ℕ) (files : List (List ℕ)) → StandsBefore (ReceiveFiles specs store at) words seen files [] seen
+pub nothing_received : (specs : List GuardSpec) (store at : ℕ) (words : List (List ℕ)) (seen : List ℕ) (files : NamedFiles) → StandsBefore (ReceiveFiles specs store at) words seen files [] seen
 nothing_received specs store at words seen files = ((λ s stands. nothing_is_on_the_way seen (new_guards specs) files s stands), (λ group fails. (refl, refl)))
 
 -- ---- a store that opened, with its bytes
@@ -76,7 +78,7 @@ module _ (counts : LinesAreParts ℕ) (seen : List ℕ) (pending : Pending) (ope
     makes = front_makes h.header h.groups opened.core seen (h.holds.rests.gate ∷ h.holds.rests.rest) h.holds.makes h.holds.rests.bytes;
   }
 
-  module _ (guards : List Guard) (files : List (List ℕ)) (are : AllByRecursion IsBytes files) where
+  module _ (guards : List Guard) (files : NamedFiles) (are : AreGiven files) where
     -- What is left has these groups in an image.
     abbrev pub Left : Received → List ℕ → List ℕ → Type 0
     Left why written image = AreLeft opened.log.limit opened.log.gate (with_bytes seen opened.core) guards files why written (λ first. HasThese h.header (h.groups ++ first) image)
@@ -100,7 +102,7 @@ module _ (counts : LinesAreParts ℕ) (seen : List ℕ) (pending : Pending) (ope
       ),
     )
 
-  module _ (specs : List GuardSpec) (files : List (List ℕ)) (are : AllByRecursion IsBytes files) (store at : ℕ) (words : List (List ℕ)) (written left : List ℕ) where
+  module _ (specs : List GuardSpec) (files : NamedFiles) (are : AreGiven files) (store at : ℕ) (words : List (List ℕ)) (written left : List ℕ) where
     abbrev Said : Received → Store (Option Place) → Type 0
     Said why core = ReceiveEnds opened.log.limit opened.log.gate (with_bytes seen opened.core) (new_guards specs) files why core written
 
@@ -118,7 +120,7 @@ module _ (counts : LinesAreParts ℕ) (seen : List ℕ) (pending : Pending) (ope
     goes why l = by_store seen base (λ s. IsOnTheWay seen (new_guards specs) files s written left) ((written ≡ []) × (left ≡ seen)) stands (its_way (new_guards specs) files are why written left l)
 
     -- Some of the lines are missing.
-    cut : (unwritten : List ℕ) → lines_behind base (received 0 byte_cells base (new_guards specs) (limited_from 1 files).items).state.state.store ≡ written ++ unwritten → 0 < length unwritten
+    cut : (unwritten : List ℕ) → lines_behind base (received 0 byte_cells base (new_guards specs) (read_of files).limited.items).state.state.store ≡ written ++ unwritten → 0 < length unwritten
         → IsProperFrontOf (received_lines base (new_guards specs) files) written
     cut unwritten front some =
         let more = limited_lines seen base stands (new_guards specs) files are in
@@ -146,54 +148,58 @@ module _ (counts : LinesAreParts ℕ) (seen : List ℕ) (pending : Pending) (ope
 
 -- ---- of files that are told
 
+-- Files, with the names that are given for the parts in them.
+abbrev pub with_names : Names → List (List ℕ) → NamedFiles
+with_names names files = record { bytes = files; names = names }
+
 -- What is said of all words that ask for it under these guards.
-abbrev pub ReceiveSaid : (seen left : List ℕ) → List Guard → StoreEnd → List (List ℕ) → List ℕ → Type 0
-ReceiveSaid seen left guards end files written = (words : List (List ℕ)) (specs : List GuardSpec) (store at : ℕ) → AllByRecursion IsBytes files → guards ≡ new_guards specs
-    → Answers (ReceiveFiles specs store at) words seen files (answer_of [] [] end) written left
+abbrev pub ReceiveSaid : (seen left : List ℕ) → List Guard → Names → StoreEnd → List (List ℕ) → List ℕ → Type 0
+ReceiveSaid seen left guards given end files written = (words : List (List ℕ)) (specs : List GuardSpec) (store at : ℕ) → AllByRecursion IsBytes files → guards ≡ new_guards specs
+    → Answers (ReceiveFiles specs store at) words seen (with_names given files) (answer_of [] [] end) written left
 
 -- And of each image that a crash may leave then.
-abbrev pub ReceiveLeaves : (early pending : Pending) → List ℕ → List Guard → List (List ℕ) → List ℕ → Type 0
-ReceiveLeaves early pending seen guards files written = (specs : List GuardSpec) → AllByRecursion IsBytes files → guards ≡ new_guards specs
-    → (image : List ℕ) → IsImage pending image → LeftByReceive early seen (new_guards specs) files written image
+abbrev pub ReceiveLeaves : (early pending : Pending) → List ℕ → List Guard → Names → List (List ℕ) → List ℕ → Type 0
+ReceiveLeaves early pending seen guards given files written = (specs : List GuardSpec) → AllByRecursion IsBytes files → guards ≡ new_guards specs
+    → (image : List ℕ) → IsImage pending image → LeftByReceive early seen (new_guards specs) (with_names given files) written image
 
 -- And of each that it may leave meanwhile.
-abbrev pub MomentsLeave : {D : Type 0} → (D → ℕ) → (D → ℕ → List ℕ → Type 0) → (entry now : D) → Pending → List ℕ → List Guard → List (List ℕ) → Type 0
-MomentsLeave moment left_since entry now early seen guards files = (specs : List GuardSpec) → AllByRecursion IsBytes files → guards ≡ new_guards specs
-    → LeavesOnly moment left_since entry now (LeftByReceive early seen (new_guards specs) files [])
+abbrev pub MomentsLeave : {D : Type 0} → (D → ℕ) → (D → ℕ → List ℕ → Type 0) → (entry now : D) → Pending → List ℕ → List Guard → Names → List (List ℕ) → Type 0
+MomentsLeave moment left_since entry now early seen guards given files = (specs : List GuardSpec) → AllByRecursion IsBytes files → guards ≡ new_guards specs
+    → LeavesOnly moment left_since entry now (LeftByReceive early seen (new_guards specs) (with_names given files) [])
 
-module _ (told : Option (List (List ℕ × List ℕ))) (names : List (List ℕ)) (seen left : List ℕ) (guards : List Guard) where
+module _ (told : Option (List (List ℕ × List ℕ))) (names : List (List ℕ)) (seen left : List ℕ) (guards : List Guard) (given : Names) where
   -- The store does not open.
   pub not_received : (taken : Option (List ℕ)) (cause : Type 0) (why : StoreStop) (end : StoreEnd) → left ≡ seen → end ≡ end_by why → IsNoRefusal why → IfLog {T = StoreState} (Err why) (IsOpenStop cause) → OpenSays seen (Err why)
-      → IfAllTold told names (λ files. Wrote taken taken (ReceiveSaid seen left guards end files))
-  not_received taken cause why end same is kind stops opened = always_told told names (λ files. Wrote taken taken (ReceiveSaid seen left guards end files)) (λ files. (
+      → IfAllTold told names (λ files. Wrote taken taken (ReceiveSaid seen left guards given end files))
+  not_received taken cause why end same is kind stops opened = always_told told names (λ files. Wrote taken taken (ReceiveSaid seen left guards given end files)) (λ files. (
     [],
     Appends-nil taken,
     (λ words specs store at are fits.
-        subst (λ (l : List ℕ). Answers (ReceiveFiles specs store at) words seen files (answer_of [] [] end) [] l) (sym same)
-        (subst (λ (e : StoreEnd). Answers (ReceiveFiles specs store at) words seen files (answer_of [] [] e) [] seen) (sym is)
-        (not_opened (ReceiveFiles specs store at) words seen files [] [] cause why (nothing_received specs store at words seen files) (nothing_received specs store at words seen files)
-        (receive_of_none specs store at words seen files) kind stops opened))),
+        subst (λ (l : List ℕ). Answers (ReceiveFiles specs store at) words seen (with_names given files) (answer_of [] [] end) [] l) (sym same)
+        (subst (λ (e : StoreEnd). Answers (ReceiveFiles specs store at) words seen (with_names given files) (answer_of [] [] e) [] seen) (sym is)
+        (not_opened (ReceiveFiles specs store at) words seen (with_names given files) [] [] cause why (nothing_received specs store at words seen (with_names given files)) (nothing_received specs store at words seen (with_names given files))
+        (receive_of_none specs store at words seen (with_names given files)) kind stops opened))),
   ))
 
   pub none_left : (early pending : Pending) (taken : Option (List ℕ)) → ((image : List ℕ) → IsImage pending image → IsImage early image)
-      → IfAllTold told names (λ files. Wrote taken taken (ReceiveLeaves early pending seen guards files))
-  none_left early pending taken only = always_told told names (λ files. Wrote taken taken (ReceiveLeaves early pending seen guards files)) (λ files. ([], Appends-nil taken, (λ specs are fits image is. inl (only image is, refl))))
+      → IfAllTold told names (λ files. Wrote taken taken (ReceiveLeaves early pending seen guards given files))
+  none_left early pending taken only = always_told told names (λ files. Wrote taken taken (ReceiveLeaves early pending seen guards given files)) (λ files. ([], Appends-nil taken, (λ specs are fits image is. inl (only image is, refl))))
 
   pub none_moments : {D : Type 0} {moment : D → ℕ} {left_since : D → ℕ → List ℕ → Type 0} {entry now : D} (early : Pending) → LeavesOnly moment left_since entry now (IsImage early)
-      → IfAllTold told names (MomentsLeave moment left_since entry now early seen guards)
+      → IfAllTold told names (MomentsLeave moment left_since entry now early seen guards given)
   none_moments {D} {moment} {left_since} {entry} {now} early run =
-      always_told told names (MomentsLeave moment left_since entry now early seen guards) (λ files specs are fits. weakens run (λ image is. inl (is, refl)))
+      always_told told names (MomentsLeave moment left_since entry now early seen guards given) (λ files specs are fits. weakens run (λ image is. inl (is, refl)))
 
 -- It opens, and files are received into it.
 module _ (counts : LinesAreParts ℕ) {D : Type 0} (tells : Type 0) (told_it : tells) (seen : D → List ℕ) (pending : D → Pending) (first last : D) (opened after : StoreState) (h : HoldsSome (seen first) (pending first) opened)
-    (told : Option (List (List ℕ × List ℕ))) (names : List (List ℕ)) (guards : List Guard) where
+    (told : Option (List (List ℕ × List ℕ))) (names : List (List ℕ)) (guards : List Guard) (given : Names) (all_new : AreNewNames given) where
   abbrev Received_so : Received → List (List ℕ) → List ℕ → Type 0
-  Received_so why files written = ReceiveEnds opened.log.limit opened.log.gate (with_bytes (seen first) opened.core) guards files why after.core written
-      × LeavesMore tells seen pending first last opened after why (AreLeft opened.log.limit opened.log.gate (with_bytes (seen first) opened.core) guards files why written)
+  Received_so why files written = ReceiveEnds opened.log.limit opened.log.gate (with_bytes (seen first) opened.core) guards (with_names given files) why after.core written
+      × LeavesMore tells seen pending first last opened after why (AreLeft opened.log.limit opened.log.gate (with_bytes (seen first) opened.core) guards (with_names given files) why written)
 
   -- Each image that a crash may leave then has what is left.
   each_left : (why : Received) (files : List (List ℕ)) (are : AllByRecursion IsBytes files) (written : List ℕ) → Received_so why files written → (image : List ℕ) → IsImage (pending last) image
-      → AreLeft opened.log.limit opened.log.gate (with_bytes (seen first) opened.core) guards files why written (λ groups. HasThese h.header (h.groups ++ groups) image)
+      → AreLeft opened.log.limit opened.log.gate (with_bytes (seen first) opened.core) guards (with_names given files) why written (λ groups. HasThese h.header (h.groups ++ groups) image)
   each_left why files are written r image is =
       leaves_either why
       (λ l. record {
@@ -212,41 +218,41 @@ module _ (counts : LinesAreParts ℕ) {D : Type 0} (tells : Type 0) (told_it : t
       (r.1 told_it h.header h.groups h.holds)
 
   pub is_received : (why : Received) (end : StoreEnd) (old new : Option (List ℕ)) → end ≡ end_received why → IsImage (pending last) (seen last) → IfAllTold told names (λ files. Wrote old new (Received_so why files))
-      → IfAllTold told names (λ files. Wrote old new (ReceiveSaid (seen first) (seen last) guards end files))
-  is_received why end old new same is_image received = then_told told names (λ files. Wrote old new (Received_so why files)) (λ files. Wrote old new (ReceiveSaid (seen first) (seen last) guards end files)) (λ files wrote. (
+      → IfAllTold told names (λ files. Wrote old new (ReceiveSaid (seen first) (seen last) guards given end files))
+  is_received why end old new same is_image received = then_told told names (λ files. Wrote old new (Received_so why files)) (λ files. Wrote old new (ReceiveSaid (seen first) (seen last) guards given end files)) (λ files wrote. (
     wrote.0,
     wrote.1,
     (λ words specs store at are fits.
-        subst (λ (e : StoreEnd). Answers (ReceiveFiles specs store at) words (seen first) files (answer_of [] [] e) wrote.0 (seen last)) (sym same)
-        (by_end counts (seen first) (pending first) opened h specs files are store at words wrote.0 (seen last) why after.core
-        (subst (λ (gs : List Guard). ReceiveEnds opened.log.limit opened.log.gate (with_bytes (seen first) opened.core) gs files why after.core wrote.0) fits wrote.2.0)
-        (subst (λ (gs : List Guard). AreLeft opened.log.limit opened.log.gate (with_bytes (seen first) opened.core) gs files why wrote.0 (λ groups. HasThese h.header (h.groups ++ groups) (seen last))) fits
+        subst (λ (e : StoreEnd). Answers (ReceiveFiles specs store at) words (seen first) (with_names given files) (answer_of [] [] e) wrote.0 (seen last)) (sym same)
+        (by_end counts (seen first) (pending first) opened h specs (with_names given files) (record { bytes = are; names = all_new }) store at words wrote.0 (seen last) why after.core
+        (subst (λ (gs : List Guard). ReceiveEnds opened.log.limit opened.log.gate (with_bytes (seen first) opened.core) gs (with_names given files) why after.core wrote.0) fits wrote.2.0)
+        (subst (λ (gs : List Guard). AreLeft opened.log.limit opened.log.gate (with_bytes (seen first) opened.core) gs (with_names given files) why wrote.0 (λ groups. HasThese h.header (h.groups ++ groups) (seen last))) fits
         (each_left why files are wrote.0 wrote.2 (seen last) is_image)))),
   )) received
 
   pub is_left : (early : Pending) (why : Received) (old new : Option (List ℕ)) → IfAllTold told names (λ files. Wrote old new (Received_so why files))
-      → IfAllTold told names (λ files. Wrote old new (ReceiveLeaves early (pending last) (seen first) guards files))
-  is_left early why old new received = then_told told names (λ files. Wrote old new (Received_so why files)) (λ files. Wrote old new (ReceiveLeaves early (pending last) (seen first) guards files)) (λ files wrote. (
+      → IfAllTold told names (λ files. Wrote old new (ReceiveLeaves early (pending last) (seen first) guards given files))
+  is_left early why old new received = then_told told names (λ files. Wrote old new (Received_so why files)) (λ files. Wrote old new (ReceiveLeaves early (pending last) (seen first) guards given files)) (λ files wrote. (
     wrote.0,
     wrote.1,
     (λ specs are fits image is.
-        inr (by_store (seen first) (with_bytes (seen first) opened.core) (λ s. IsOnTheWay (seen first) (new_guards specs) files s wrote.0 image) ⊥ (stands counts (seen first) (pending first) opened h)
-        (its_way counts (seen first) (pending first) opened h (new_guards specs) files are why wrote.0 image
-        (subst (λ (gs : List Guard). AreLeft opened.log.limit opened.log.gate (with_bytes (seen first) opened.core) gs files why wrote.0 (λ groups. HasThese h.header (h.groups ++ groups) image)) fits
+        inr (by_store (seen first) (with_bytes (seen first) opened.core) (λ s. IsOnTheWay (seen first) (new_guards specs) (with_names given files) s wrote.0 image) ⊥ (stands counts (seen first) (pending first) opened h)
+        (its_way counts (seen first) (pending first) opened h (new_guards specs) (with_names given files) (record { bytes = are; names = all_new }) why wrote.0 image
+        (subst (λ (gs : List Guard). AreLeft opened.log.limit opened.log.gate (with_bytes (seen first) opened.core) gs (with_names given files) why wrote.0 (λ groups. HasThese h.header (h.groups ++ groups) image)) fits
         (each_left why files are wrote.0 wrote.2 image is))))),
   )) received
 
   -- At each moment it leaves a store on the way.
   pub its_moments : {moment : D → ℕ} {left_since : D → ℕ → List ℕ → Type 0} {entry : D} (early : Pending) → LeavesOnly moment left_since entry first (IsImage early)
-      → IfAllTold told names (λ files. LeavesOnly moment left_since first last (HasFront h.header h.groups (groups_of (with_bytes (seen first) opened.core) guards (limited_from 1 files).items)))
-      → IfAllTold told names (MomentsLeave moment left_since entry last early (seen first) guards)
-  its_moments {moment} {left_since} {entry} early before run = then_told told names (λ files. LeavesOnly moment left_since first last (HasFront h.header h.groups (groups_of (with_bytes (seen first) opened.core) guards (limited_from 1 files).items)))
-      (MomentsLeave moment left_since entry last early (seen first) guards)
+      → IfAllTold told names (λ files. LeavesOnly moment left_since first last (HasFront h.header h.groups (groups_of (with_bytes (seen first) opened.core) guards (renamed_limited given (limited_from 1 files)).items)))
+      → IfAllTold told names (MomentsLeave moment left_since entry last early (seen first) guards given)
+  its_moments {moment} {left_since} {entry} early before run = then_told told names (λ files. LeavesOnly moment left_since first last (HasFront h.header h.groups (groups_of (with_bytes (seen first) opened.core) guards (renamed_limited given (limited_from 1 files)).items)))
+      (MomentsLeave moment left_since entry last early (seen first) guards given)
       (λ files leaves specs are fits.
       joins (weakens before (λ image is. inl (is, refl)))
-      (weakens (subst (λ (gs : List Guard). LeavesOnly moment left_since first last (HasFront h.header h.groups (groups_of (with_bytes (seen first) opened.core) gs (limited_from 1 files).items))) fits leaves)
-      (λ image f. inr (by_store (seen first) (with_bytes (seen first) opened.core) (λ s. IsOnTheWay (seen first) (new_guards specs) files s [] image) ⊥ (stands counts (seen first) (pending first) opened h)
-      (on_the_way_at_all (seen first) (with_bytes (seen first) opened.core) (stands counts (seen first) (pending first) opened h) (new_guards specs) files are image f.first f.more f.all f.has))))) run
+      (weakens (subst (λ (gs : List Guard). LeavesOnly moment left_since first last (HasFront h.header h.groups (groups_of (with_bytes (seen first) opened.core) gs (renamed_limited given (limited_from 1 files)).items))) fits leaves)
+      (λ image f. inr (by_store (seen first) (with_bytes (seen first) opened.core) (λ s. IsOnTheWay (seen first) (new_guards specs) (with_names given files) s [] image) ⊥ (stands counts (seen first) (pending first) opened h)
+      (on_the_way_at_all (seen first) (with_bytes (seen first) opened.core) (stands counts (seen first) (pending first) opened h) (new_guards specs) (with_names given files) (record { bytes = are; names = all_new }) image f.first f.more f.all f.has))))) run
 
 -- ---- whether or not anything tells
 

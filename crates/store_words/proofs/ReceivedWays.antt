@@ -4,16 +4,15 @@ use Rattle.std.specs.List.{AllByRecursion, filter, flat_map}
 use Rattle.std.proofs.Common.{refl, sym, ap, subst, ◌∙◌, append_assoc, append-nil, arith}
 use Rattle.std.proofs.lemmas.List.Concat.{flat_map-append}
 use Rattle.std.proofs.lemmas.List.Sums.{sum_by-append}
-use Rattle.send_model.specs.Attribute.{IsBytes}
 use Rattle.send_model.specs.Refusal.{Refusal}
-use Rattle.send_model.specs.Reading.{Item, input}
+use Rattle.send_model.specs.Reading.{Item}
 use Rattle.send_model.specs.Store.{Store, State, After, step}
 use Rattle.send_model.specs.Receive.{byte_cells}
-use Rattle.send_model.specs.Guards.{Guard, Watched, watched_step, receive_under, receive_watched}
-use Rattle.send_model.specs.Due.{limited_from}
+use Rattle.send_model.specs.Guards.{Guard, Watched, watched_step, receive_watched}
 use Rattle.send_model.proofs.ElementLaws.{all_both, all_first, all_drop}
 use Rattle.send_model.proofs.Keeping.{all_filtered}
 use Rattle.send_model.proofs.Sorts.{same_inside}
+use Rattle.store_model.specs.NamedFiles.{NamedFiles, read_of, AreGiven}
 use Rattle.store_model.specs.Image.{HasGroups}
 use Rattle.store_model.specs.Stored.{Group, body_bytes, IsGroup, as_bytes, made_all, first_gate, StandsFor}
 use Rattle.store_model.specs.States.{is_complete, complete_behind, complete_line, received, left_by, received_lines, lines_in, lines_behind, IsBetween, HasNumbers}
@@ -74,31 +73,31 @@ few_lines counts start now written unwritten numbers is =
     let all : lines_in (flat_map complete_line parts) ≡ length parts = counts parts small in
     omega (arith, ap (λ (l : List ℕ). lines_in l) is, sum, all)
 
-module _ (before : List ℕ) (base : Store ℕ) (stands : StandsFor before base) (guards : List Guard) (files : List (List ℕ)) (are : AllByRecursion IsBytes files) where
+module _ (before : List ℕ) (base : Store ℕ) (stands : StandsFor before base) (guards : List Guard) (files : NamedFiles) (are : AreGiven files) where
   -- What is read up to the limits is read first of all.
-  limited_groups : (first more : List Group) → groups_of base guards (limited_from 1 files).items ≡ first ++ more → (others : List Group) × (groups_of base guards (input files).items ≡ first ++ others)
+  limited_groups : (first more : List Group) → groups_of base guards (read_of files).limited.items ≡ first ++ more → (others : List Group) × (groups_of base guards (read_of files).reading.items ≡ first ++ others)
   limited_groups first more is =
       let front = limited_is_front files are in
-      let all = groups_more (record { guards = guards; state = record { store = base; part = None } }) None (limited_from 1 files).items front.0 in (
+      let all = groups_more (record { guards = guards; state = record { store = base; part = None } }) None (read_of files).limited.items front.0 in (
         more ++ all.0,
         ap (groups_of base guards) front.1 ∙ all.1 ∙ ap (λ (l : List Group). l ++ all.0) is ∙ append_assoc first more all.0,
       )
 
   -- So is what is printed.
-  pub limited_lines : (rest : List ℕ) × (received_lines base guards files ≡ lines_behind base (received 0 byte_cells base guards (limited_from 1 files).items).state.state.store ++ rest)
-  unfolding receive_under receive_watched received
+  pub limited_lines : (rest : List ℕ) × (received_lines base guards files ≡ lines_behind base (received 0 byte_cells base guards (read_of files).limited.items).state.state.store ++ rest)
+  unfolding receive_watched received
   limited_lines =
       let front = limited_is_front files are in
-      let own = own_state 0 byte_cells base guards (limited_from 1 files).items in
-      let more = more_states 0 byte_cells _ base guards (limited_from 1 files).items front.0 _ own in
-      let lines = between_lines _ base (received 0 byte_cells base guards ((limited_from 1 files).items ++ front.0)).state.state.store _ more in
+      let own = own_state 0 byte_cells base guards (read_of files).limited.items in
+      let more = more_states 0 byte_cells _ base guards (read_of files).limited.items front.0 _ own in
+      let lines = between_lines _ base (received 0 byte_cells base guards ((read_of files).limited.items ++ front.0)).state.state.store _ more in
       (lines.0, ap (λ (is : List Item). lines_behind base (received 0 byte_cells base guards is).state.state.store) front.1 ∙ lines.1)
 
-  module _ (image : List ℕ) (first more : List Group) (all : groups_of base guards (limited_from 1 files).items ≡ first ++ more) (has : HasGroups stands.header (map body_bytes (stands.groups ++ first)) image) where
+  module _ (image : List ℕ) (first more : List Group) (all : groups_of base guards (read_of files).limited.items ≡ first ++ more) (has : HasGroups stands.header (map body_bytes (stands.groups ++ first)) image) where
     -- The image stands for what the groups make.
     pub stands_made : (now : Store ℕ) → ((place : ℕ) → made_all 0 as_bytes place base first ≡ Some now) → StandsFor image now
     stands_made now made =
-        let written : AllByRecursion (IsGroup stands.header.format) (groups_of base guards (input files).items) = written_is_lawful stands.header.format base guards files are in
+        let written : AllByRecursion (IsGroup stands.header.format) (groups_of base guards (read_of files).reading.items) = written_is_lawful stands.header.format base guards files are in
         let others = limited_groups first more all in
         record {
           header = stands.header;
@@ -113,13 +112,13 @@ module _ (before : List ℕ) (base : Store ℕ) (stands : StandsFor before base)
 
     -- It is on the way, with the first of the lines of its parts.
     pub on_the_way : LinesAreParts ℕ → (now : Store ℕ) (written unwritten : List ℕ) → ((place : ℕ) → made_all 0 as_bytes place base first ≡ Some now) → lines_behind base now ≡ written ++ unwritten → IsOnTheWay before guards files base written image
-    unfolding receive_under receive_watched received
+    unfolding receive_watched received
     on_the_way counts now written unwritten made printed =
         let others = limited_groups first more all in
         let there = first_is_on_the_way before image guards files base stands first others.0 are others.1 has in
         let mine = stands_made now made in
         let same : there.0 ≡ now = one_store 0 as_bytes image there.0 now there.1 mine in
-        let between = first_groups_are_states 0 base guards (input files).items first others.0 others.1 in
+        let between = first_groups_are_states 0 base guards (read_of files).reading.items first others.0 others.1 in
         let its_own : between.0 ≡ now = same_inside (sym between.1 ∙ made 0) in
         let lines = between_lines _ base (left_by base guards files) between.0 between.2 in
         there.2 written (unwritten ++ lines.0)

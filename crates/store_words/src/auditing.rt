@@ -14,18 +14,21 @@ ghost use Rattle.store_words.specs.Ending.{answer_of, audit_ways, EndCaused};
 use crate::ends::{StoreEnd, ended_by};
 use auditor::audit;
 use guard_rules::Guard;
+use part_names::PartNames;
 use std::alloc::Global;
 use store_groups::Place;
 use store_journal::Store;
 use sx_base::{Disk, Inputs, Sink};
 
-/// Checks the streams in the files as if they were received into a store, under guards; nothing is received. Where all is accepted,
-/// `out` gets the line that says how many subvolumes and commands there are. What the disk gives stays as it is.
+/// Checks the streams in the files, with the names that are given for their parts, as if they were received into a store, under guards;
+/// nothing is received. Where all is accepted, `out` gets the line that says how many subvolumes and commands there are. What the disk
+/// gives stays as it is.
 pub fn audit_store<D: Disk, I: Inputs, O: Sink>(
     alloc: Global,
     disk: &mut D,
     inputs: &mut I,
     files: &[String],
+    names: &PartNames,
     guards: &mut [Box<dyn Guard>],
     out: &mut O,
 ) -> StoreEnd
@@ -35,7 +38,8 @@ pub fn audit_store<D: Disk, I: Inputs, O: Sink>(
         (λ written. (words : List (List ℕ)) (specs : List GuardSpec) (store at : ℕ)
         → reads_store words (Some store) ≡ true
         → map (λ g. kept g) guards.old ≡ new_guards specs
-        → Answers (OfStreams (Audit specs store at)) words (D.seen disk.old) files
+        → Answers (OfStreams (Audit specs store at)) words (D.seen disk.old)
+        (record { bytes = files; names = names.now })
         (answer_of [] [] result) written (D.seen disk.new))) }
     ensures cause { EndCaused audit_ways
         ((D.faults disk.new ≡ D.faults disk.old) × (I.faults inputs.new ≡ I.faults inputs.old)
@@ -54,5 +58,14 @@ pub fn audit_store<D: Disk, I: Inputs, O: Sink>(
         Err(stop) => return ended_by(stop),
     };
     let core = store.into_core();
-    StoreEnd::Ends(audit(alloc, core, Place { at: 0 }, inputs, files, guards, out))
+    StoreEnd::Ends(audit(
+        alloc,
+        core,
+        Place { at: 0 },
+        inputs,
+        files,
+        names,
+        guards,
+        out,
+    ))
 }

@@ -1,5 +1,6 @@
 // Printing a file of a store.
 ghost use Rattle.std.specs.Prelude.{◌≡◌, ◌≤◌, ◌+◌, ℕ, List, [], length, drop, take, IfErr, OnOk};
+ghost use Rattle.store_model.specs.NamedFiles.{unnamed};
 ghost use Rattle.store_model.specs.Requests.{CatFile, word_at};
 ghost use Rattle.store_model.specs.Answers.{Answers};
 ghost use Rattle.subvol_catalog.specs.Entries.{key_of};
@@ -36,7 +37,7 @@ pub fn cat_file<D: Disk, O: Sink>(
     ensures answered { D.tells → Wrote (O.taken out.old) (O.taken out.new)
         (λ written. (words : List (List ℕ)) (store at to : ℕ) → word_at words at ≡ name.now
         → word_at words to ≡ path.now
-        → Answers (CatFile store at to) words (D.seen disk.old) []
+        → Answers (CatFile store at to) words (D.seen disk.old) (unnamed [])
         (answer_of name.now path.now result) written (D.seen disk.new)) }
     ensures cause { PrintingCaused cat_ways
         (D.faults disk.old) (D.faults disk.new) (O.faults out.old) (O.faults out.new) result }

@@ -1,5 +1,6 @@
 // Dropping an entry of a store.
 ghost use Rattle.std.specs.Prelude.{◌≡◌, ◌≤◌, ℕ, List, []};
+ghost use Rattle.store_model.specs.NamedFiles.{unnamed};
 ghost use Rattle.store_model.specs.Requests.{DropEntry, word_at};
 ghost use Rattle.store_model.specs.Answers.{Answers};
 ghost use Rattle.sx_base.specs.Causes.{Rose};
@@ -20,8 +21,8 @@ use sx_base::{Disk, Outcome};
 pub fn drop_entry<D: Disk>(alloc: Global, disk: &mut D, name: &[u8]) -> StoreEnd
     ensures answered { D.tells → (words : List (List ℕ)) (store at : ℕ)
         → word_at words at ≡ name.now
-        → Answers (DropEntry store at) words (D.seen disk.old) [] (answer_of name.now [] result) []
-        (D.seen disk.new) }
+        → Answers (DropEntry store at) words (D.seen disk.old) (unnamed [])
+        (answer_of name.now [] result) [] (D.seen disk.new) }
     ensures durable { D.tells → result ≡ made.Ends ended.Done
         → D.pending disk.new ≡ settled (D.seen disk.new) }
     ensures cause { EndCaused drop_ways (D.faults disk.new ≡ D.faults disk.old)

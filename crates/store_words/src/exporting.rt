@@ -7,6 +7,7 @@ ghost use Rattle.send_model.specs.Exported.{IsExported};
 ghost use Rattle.send_model.specs.Store as meant;
 ghost use Rattle.send_model.specs.Words.{Export};
 ghost use Rattle.store_model.specs.Stored.{StandsFor};
+ghost use Rattle.store_model.specs.NamedFiles.{unnamed};
 ghost use Rattle.store_model.specs.Requests.{OfStreams, reads_store};
 ghost use Rattle.store_model.specs.Answers.{Answers};
 ghost use Rattle.sx_base.specs.Calls.{IfAllTold, Wrote};
@@ -39,7 +40,7 @@ pub fn export_store<D: Disk, I: Inputs, O: Sink>(
         (λ files. Wrote (O.taken out.old) (O.taken out.new)
         (λ written. (words : List (List ℕ)) (store at : ℕ)
         → reads_store words (Some store) ≡ true
-        → Answers (OfStreams (Export store at)) words (D.seen disk.old) files
+        → Answers (OfStreams (Export store at)) words (D.seen disk.old) (unnamed files)
         (answer_of [] [] result) written (D.seen disk.new))) }
     ensures exported { D.tells → IfAllTold (I.told inputs.old) (map string_bytes files.now)
         (λ files. Wrote (O.taken out.old) (O.taken out.new)

@@ -1,5 +1,6 @@
 // Listing what a store has.
 ghost use Rattle.std.specs.Prelude.{◌≡◌, ◌≤◌, ℕ, List, []};
+ghost use Rattle.store_model.specs.NamedFiles.{unnamed};
 ghost use Rattle.store_model.specs.Requests.{ListStore};
 ghost use Rattle.store_model.specs.Answers.{Answers};
 ghost use Rattle.sx_base.specs.Calls.{Wrote};
@@ -17,8 +18,8 @@ use tree_view::list;
 pub fn list_store<D: Disk, O: Sink>(alloc: Global, disk: &mut D, out: &mut O) -> StoreEnd
     ensures answered { D.tells → Wrote (O.taken out.old) (O.taken out.new)
         (λ written. (words : List (List ℕ)) (store : ℕ)
-        → Answers (ListStore store) words (D.seen disk.old) [] (answer_of [] [] result) written
-        (D.seen disk.new)) }
+        → Answers (ListStore store) words (D.seen disk.old) (unnamed [])
+        (answer_of [] [] result) written (D.seen disk.new)) }
     ensures cause { PrintingCaused list_ways
         (D.faults disk.old) (D.faults disk.new) (O.faults out.old) (O.faults out.new) result }
     ensures len { D.len disk.new ≡ D.len disk.old }

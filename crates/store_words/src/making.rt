@@ -1,5 +1,6 @@
 // Making a store.
 ghost use Rattle.std.specs.Prelude.{◌≡◌, ◌≤◌, ◌<◌, ℕ, List, []};
+ghost use Rattle.store_model.specs.NamedFiles.{unnamed};
 ghost use Rattle.store_model.specs.Requests.{InitStore};
 ghost use Rattle.store_model.specs.Answers.{Answers};
 ghost use Rattle.sx_base.specs.Causes.{Rose};
@@ -16,8 +17,8 @@ use sx_base::{Disk, Outcome};
 /// Makes a store on an empty disk. On any other the image at entry stays, at every moment. Takes no memory.
 pub fn init_store<D: Disk>(disk: &mut D) -> StoreEnd
     ensures answered { D.tells → (words : List (List ℕ)) (store : ℕ)
-        → Answers (InitStore store) words (D.seen disk.old) [] (answer_of [] [] result) []
-        (D.seen disk.new) }
+        → Answers (InitStore store) words (D.seen disk.old) (unnamed [])
+        (answer_of [] [] result) [] (D.seen disk.new) }
     ensures durable { D.tells → result ≡ made.Ends ended.Done
         → D.pending disk.new ≡ settled (D.seen disk.new) }
     ensures cause { EndCaused init_ways (D.faults disk.new ≡ D.faults disk.old)

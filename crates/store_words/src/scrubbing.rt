@@ -2,6 +2,7 @@
 ghost use Rattle.std.specs.Prelude.{◌≡◌, ◌≤◌, ◌++◌, OnOk, IfOk, ℕ, List, []};
 ghost use Rattle.send_model.specs.Answer.{and_number};
 ghost use Rattle.store_model.specs.Scrub.{scrub_line};
+ghost use Rattle.store_model.specs.NamedFiles.{unnamed};
 ghost use Rattle.store_model.specs.Requests.{ScrubStore};
 ghost use Rattle.store_model.specs.Answers.{Answers};
 ghost use Rattle.sx_base.specs.Calls.{Wrote};
@@ -20,8 +21,8 @@ use sx_base::{Blob, Disk, Outcome, Sink, write_whole};
 pub fn scrub_store<D: Disk, O: Sink>(alloc: Global, disk: &mut D, out: &mut O) -> StoreEnd
     ensures answered { D.tells → Wrote (O.taken out.old) (O.taken out.new)
         (λ written. (words : List (List ℕ)) (store : ℕ)
-        → Answers (ScrubStore store) words (D.seen disk.old) [] (answer_of [] [] result) written
-        (D.seen disk.new)) }
+        → Answers (ScrubStore store) words (D.seen disk.old) (unnamed [])
+        (answer_of [] [] result) written (D.seen disk.new)) }
     ensures cause { PrintingCaused scrub_ways
         (D.faults disk.old) (D.faults disk.new) (O.faults out.old) (O.faults out.new) result }
     ensures len { D.len disk.new ≡ D.len disk.old }

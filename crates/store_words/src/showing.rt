@@ -1,5 +1,6 @@
 // Showing one subvolume of a store.
 ghost use Rattle.std.specs.Prelude.{◌≡◌, ◌≤◌, ℕ, List, []};
+ghost use Rattle.store_model.specs.NamedFiles.{unnamed};
 ghost use Rattle.store_model.specs.Requests.{ShowEntry, word_at};
 ghost use Rattle.store_model.specs.Answers.{Answers};
 ghost use Rattle.sx_base.specs.Calls.{Wrote};
@@ -24,8 +25,8 @@ pub fn show_entry<D: Disk, O: Sink>(
 ) -> StoreEnd
     ensures answered { D.tells → Wrote (O.taken out.old) (O.taken out.new)
         (λ written. (words : List (List ℕ)) (store at : ℕ) → word_at words at ≡ name.now
-        → Answers (ShowEntry store at) words (D.seen disk.old) [] (answer_of name.now [] result)
-        written (D.seen disk.new)) }
+        → Answers (ShowEntry store at) words (D.seen disk.old) (unnamed [])
+        (answer_of name.now [] result) written (D.seen disk.new)) }
     ensures cause { PrintingCaused show_ways
         (D.faults disk.old) (D.faults disk.new) (O.faults out.old) (O.faults out.new) result }
     ensures len { D.len disk.new ≡ D.len disk.old }

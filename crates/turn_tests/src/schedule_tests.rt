@@ -4,6 +4,7 @@ use crate::turn_tests::{
     interleaved, new_store, refusal,
 };
 use disk_model::MemDisk;
+use part_names::PartNames;
 use std::alloc::Global;
 use std::test::Fail;
 use store_words::{StoreEnd, receive_store, show_entry};
@@ -59,7 +60,16 @@ fn is_one_by_one(
     let Some(mut own) = guards.pop() else {
         return Ok(false);
     };
-    let end = receive_store(alloc, &mut other, &mut inputs, &files, &mut own, &mut out);
+    let names_of_parts = PartNames::none(alloc);
+    let end = receive_store(
+        alloc,
+        &mut other,
+        &mut inputs,
+        &files,
+        &names_of_parts,
+        &mut own,
+        &mut out,
+    );
     let mut is_same = end == DONE && out.bytes() == lines;
     for name in names.iter() {
         is_same = is_same && shows_same(alloc, disk, &mut other, name);

@@ -2,3 +2,4 @@ pub mod Anew
 pub mod RequestExamples
 pub mod TurnWords
 pub mod TurnGuards
+pub mod GivenWords

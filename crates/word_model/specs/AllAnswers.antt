@@ -4,6 +4,7 @@ use Rattle.std.specs.Prelude.{◌≡◌, ⊤, ℕ, List}
 use Rattle.send_model.specs.Answer.{Done}
 use Rattle.send_model.specs.Words.{new_guards}
 use Rattle.store_model.specs.Requests.{word_at}
+use Rattle.store_model.specs.NamedFiles.{NamedFiles}
 use Rattle.store_model.specs.Answers as stored
 use Rattle.store_model.specs.Answers.{Answer, OfAnyWord}
 use Rattle.sent_model.specs.Sent.{sent_stream}
@@ -15,12 +16,12 @@ use Rattle.word_model.specs.AllRequests.{Request, OfStore, SendEntry, RestoreEnt
 
 -- An answer that words, files and image decide is the one that is due; else an object of the outside failed or was changed, or there was no
 -- memory.
-abbrev pub Answers : Request → List (List ℕ) → List ℕ → List (List ℕ) → Answer → (written left : List ℕ) → Type 0
+abbrev pub Answers : Request → List (List ℕ) → List ℕ → NamedFiles → Answer → (written left : List ℕ) → Type 0
 Answers (OfStore request) words image files answer written left = stored.Answers request words image files answer written left
 Answers (SendEntry store name) words image files answer written left = SendAnswers sent_stream image (word_at words name) answer written left
 Answers (RestoreEntry store name) words image files answer written left = SendAnswers restored_stream image (word_at words name) answer written left
 Answers (TakeTurns store schedule turns) words image files answer written left =
-    TurnsAnswer schedule files (new_guards turns.guards) turns.shares image answer written left
+    TurnsAnswer schedule files.bytes (new_guards turns.guards) turns.shares image answer written left
 
 -- The words that read files, and those of which no answer changes the image.
 abbrev pub ReadsFiles : Request → Type 0
@@ -39,14 +40,14 @@ ReadsOnly (TakeTurns store schedule turns) = ⊥
 
 -- No answer of a word that only reads changes the image.
 abbrev pub ReadersKeepTheImage : Type 0
-ReadersKeepTheImage = (request : Request) (words : List (List ℕ)) (image : List ℕ) (files : List (List ℕ)) (answer : Answer) (written left : List ℕ)
+ReadersKeepTheImage = (request : Request) (words : List (List ℕ)) (image : List ℕ) (files : NamedFiles) (answer : Answer) (written left : List ℕ)
     → ReadsOnly request → Answers request words image files answer written left → left ≡ image
 
 -- What is sent, and what is restored, is one stream that makes the subvolume anew.
 abbrev pub SentIsReceivedAnew : Type 0
-SentIsReceivedAnew = (store name : ℕ) (words : List (List ℕ)) (image : List ℕ) (files : List (List ℕ)) (written left : List ℕ)
+SentIsReceivedAnew = (store name : ℕ) (words : List (List ℕ)) (image : List ℕ) (files : NamedFiles) (written left : List ℕ)
     → Answers (SendEntry store name) words image files (OfAnyWord Done) written left → IsReceivedAnew image (word_at words name) written
 
 abbrev pub RestoredIsReceivedAnew : Type 0
-RestoredIsReceivedAnew = (store name : ℕ) (words : List (List ℕ)) (image : List ℕ) (files : List (List ℕ)) (written left : List ℕ)
+RestoredIsReceivedAnew = (store name : ℕ) (words : List (List ℕ)) (image : List ℕ) (files : NamedFiles) (written left : List ℕ)
     → Answers (RestoreEntry store name) words image files (OfAnyWord Done) written left → IsReceivedAnew image (word_at words name) written

@@ -5,6 +5,7 @@ use Rattle.send_model.specs.Guards.{GuardSpec, guard_of, is_guard_word}
 use Rattle.send_model.specs.Words.{is_word}
 use Rattle.store_model.specs.Requests as stored
 use Rattle.store_model.specs.Turns.{schedule_of}
+use Rattle.word_model.specs.NameWords.{named_at, names_stand}
 
 -- Files that take turns: all their guards in order, how many of these each file has, and the files' names.
 pub record TurnFiles : Type 0 where
@@ -76,5 +77,19 @@ abbrev pub or_of_subvolumes : Option stored.Request → Option Request → Optio
 or_of_subvolumes (Some request) other = Some (OfStore request)
 or_of_subvolumes None other = other
 
+unfoldable pub request_read : List (List ℕ) → Option Request
+request_read words = or_of_subvolumes (stored.request_of words) (of_subvolumes words)
+
+-- Where names may be given with files, words that are no files with their names mean nothing.
+abbrev pub request_named_at : Request → Option ℕ
+request_named_at (OfStore request) = named_at request
+request_named_at (SendEntry store name) = None
+request_named_at (RestoreEntry store name) = None
+request_named_at (TakeTurns store schedule turns) = None
+
+abbrev pub if_names_stand : List (List ℕ) → Option Request → Option Request
+if_names_stand words None = None
+if_names_stand words (Some request) = if names_stand (request_named_at request) words then Some request else None
+
 unfoldable pub request_of : List (List ℕ) → Option Request
-request_of words = or_of_subvolumes (stored.request_of words) (of_subvolumes words)
+request_of words = if_names_stand words (request_read words)

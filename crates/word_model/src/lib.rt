@@ -4,4 +4,4 @@
 
 mod laws;
 
-pub use laws::words_are_answered;
+pub use laws::{words_are_answered, words_give_names};

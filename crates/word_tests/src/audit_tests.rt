@@ -9,6 +9,7 @@ use auditor::audit;
 use clone_resolve::EditCore;
 use extent_map::Nowhere;
 use guard_rules::{ByteGuard, CommandGuard, DeviceGuard, Guard};
+use part_names::PartNames;
 use std::alloc::{AllocError, Global};
 use std::process::Abort;
 use std::test::Fail;
@@ -88,7 +89,17 @@ fn expect(
     let mut out = MemSink::new(alloc);
     out.fail_call(failing[1])?;
     let core = EditCore::new(alloc);
-    let answer = audit(alloc, core, Nowhere, &mut inputs, &names, guards, &mut out);
+    let own = PartNames::none(alloc);
+    let answer = audit(
+        alloc,
+        core,
+        Nowhere,
+        &mut inputs,
+        &names,
+        &own,
+        guards,
+        &mut out,
+    );
     assert_eq!(rt; answer, outcome);
     assert_eq!(rt; out.bytes(), written);
     Ok(())

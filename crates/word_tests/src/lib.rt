@@ -15,6 +15,8 @@ mod fault_tests;
 #[cfg(test)]
 mod host_tests;
 #[cfg(test)]
+mod name_tests;
+#[cfg(test)]
 mod note_tests;
 #[cfg(test)]
 mod reading_tests;

@@ -1,4 +1,5 @@
 use Rattle.std.proofs.Common.{◌≡◌, ◌≤◌, ◌-◌, ◌+◌, map}
+use Rattle.std.specs.Option.{option_copied}
 use Rattle.send_model.specs.Lengths.{limit}
 use Rattle.cmd_reader.specs.Places.{IfTold}
 use Rattle.cmd_reader.specs.Left.{HasAhead}
@@ -18,7 +19,7 @@ invariant-loop-reader g l = record {
   near : l.reader.number ≤ l.reader.offset + 1;
   within : l.reader.offset ≤ limit;
   fewer : l.counts.parts ≤ l.counts.commands;
-  stands : IfTold (g.I.Inputs.told l.fn.inputs) l.fn.name (Stands l.fn.file
+  stands : IfTold (g.I.Inputs.told l.fn.inputs) l.fn.name (Stands (option_copied l.fn.new_name) l.fn.file
       (beside (map (λ b. (goal.Guard-dyn g (b.vtable, b.value)).kept b.value) l.fn.guards) l.fn.follower) l.reader
       (beside (map (λ b. (goal.Guard-dyn g (b.vtable, b.value)).kept b.value) l.guards) l.follower) l.counts.parts l.counts.commands);
   ahead : IfTold (g.I.Inputs.told l.inputs) l.reader.name (HasAhead l.reader);

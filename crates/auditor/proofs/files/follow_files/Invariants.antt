@@ -15,7 +15,7 @@ invariant-loop-file g l = record {
   ends_steady : g.I.Inputs.ends l.inputs ≡ g.I.Inputs.ends l.fn.inputs;
   parts : l.totals.parts ≤ l.file * 18446744073709551616;
   commands : l.totals.commands ≤ l.file * 18446744073709551616;
-  stand : IfAllTold (g.I.Inputs.told l.fn.inputs) (map string_bytes l.fn.files) (AllStand
+  stand : IfAllTold (g.I.Inputs.told l.fn.inputs) (map string_bytes l.fn.files) (AllStand l.fn.names
       (beside (map (λ b. (goal.Guard-dyn g (b.vtable, b.value)).kept b.value) l.fn.guards) l.fn.follower) l.file
       (beside (map (λ b. (goal.Guard-dyn g (b.vtable, b.value)).kept b.value) l.guards) l.follower) l.totals.parts l.totals.commands);
 }

@@ -17,7 +17,7 @@ counted c =
     let stream = c.compose.new.out.bytes in
     let table = c.in_ok-inputs.ensures.file ∙ ap alone c.bytes.ensures.bytes in (
       chain_written c.args.seed c.args.count c.new-chain.result.bytes chain c.write_chain.result (ap (λ (t : Taken). t.bytes) c.new-chain.ensures.empty) c.in-Done.is c.write_chain.ensures.written,
-      composed_written c.in_ok-inputs.inputs (map string_bytes c.deref.result.now) chain c.new-composed.result.bytes stream c.compose.result table (ap (map string_bytes) c.deref.ensures.value ∙ c.in_ok-names.ensures.names) (ap (λ (t : Taken). t.bytes) c.new-composed.ensures.empty) c.in-Done-compose.is c.compose.ensures.ends,
+      composed_written c.in_ok-inputs.inputs (map string_bytes c.deref.result.now) c.none-kept.result chain c.new-composed.result.bytes stream c.compose.result table (ap (map string_bytes) c.deref.ensures.value ∙ c.in_ok-names.ensures.names) c.none-kept.ensures.none (ap (λ (t : Taken). t.bytes) c.new-composed.ensures.empty) c.in-Done-compose.is c.compose.ensures.ends,
       file_counted c.compose.new.inputs chain c.count_file.result c.in_ok-read.read (same_table c.in_ok-inputs.inputs c.compose.new.inputs chain c.compose.ensures.same table) c.in_ok-read.was c.count_file.ensures.counted,
       file_counted c.in_ok-outputs.outputs stream c.count_file-2.result c.in_ok-written.written (c.in_ok-outputs.ensures.file ∙ ap alone c.bytes-2.ensures.bytes) c.in_ok-written.was c.count_file-2.ensures.counted,
     )

@@ -1,23 +1,26 @@
-use Rattle.std.specs.Prelude.{map}
+use Rattle.std.specs.Prelude.{◌≡◌, ◌⊎◌, ℕ, map}
 use Rattle.std.specs.String.{string_bytes}
-use Rattle.std.proofs.Common.{refl, sym, ap, ◌∙◌, ◌+◌, ◌<◌, arith}
+use Rattle.std.proofs.Common.{refl, sym, ap, subst, ◌∙◌, ◌+◌, ◌<◌, arith}
 use Rattle.cmd_reader.specs.Left.{Reader, HasAhead}
 use Rattle.cmd_reader.specs.Next.{item_of}
 use Rattle.cmd_reader.proofs.Aheads.{start_ahead, next_ahead}
 use Rattle.cmd_reader.proofs.Told.{told_moved}
 use Rattle.clone_pieces.specs.Origins.{IsInInput}
 use Rattle.send_model.specs.Cells.{AllCells}
+use Rattle.send_model.specs.Renamed.{name_for}
+use Rattle.send_model.proofs.Streams.{read_version}
 use Rattle.composer.specs.Taking.{DataStand}
 use Rattle.composer.specs.Files.{plan_with}
 use Rattle.clone_pieces.proofs.Lengths.{long_then}
 use Rattle.clone_pieces.proofs.Told as all
 use Rattle.clone_pieces.proofs.Told.{name_at, count_names}
-use Rattle.composer.proofs.FileWriting.{EndsAlike, in_files_at_start, in_files_after, cells_in_files, stands_at_start, alike_at_start, alike_after, next_of_all, data_there, stands_after, file_unopened, file_ends, file_stops, file_above, item_stops}
+use Rattle.composer.proofs.NamedItem.{item_fits, same_version, still_within, still_said, still_spelled, named_for}
+use Rattle.composer.proofs.FileWriting.{EndsAlike, in_files_at_start, in_files_after, cells_in_files, stands_at_start, alike_at_start, alike_after, next_of_all, data_there, stands_after, file_unopened, file_unnamed, file_ends, file_stops, file_above, item_stops}
 use Rattle.composer.proofs.whole.write_file.Goals as goal
 
 pub returns-in_default-clause-wrote : goal.returns-in_default-clause-wrote
 returns-in_default-clause-wrote g c tells =
-    file_unopened (g.I.Inputs.told c.args.inputs.now) (map string_bytes c.args.files.now) (plan_with (g.E.Known.base c.args.known.now) c.args.survey.now) c.args.number (c.args.number + 1) c.args.composer.now (g.O.Sink.taken c.args.out.now)
+    file_unopened (g.I.Inputs.told c.args.inputs.now) (map string_bytes c.args.files.now) (plan_with (g.E.Known.base c.args.known.now) c.args.survey.now) c.args.number (c.args.number + 1) (name_for c.args.names.now (c.args.number + 1)) c.args.composer.now (g.O.Sink.taken c.args.out.now)
 
 pub loop-reader-init : goal.loop-reader-init
 loop-reader-init g c =
@@ -34,7 +37,7 @@ loop-reader-init g c =
       name = ap (λ (r : Reader). r.name) fresh ∙ name_at c.args.files.now c.args.number c.index-files-number.result c.as_str.result.now c.requires.numbered c.index-files-number.is c.as_str.ensures.value;
       had = c.requires.had;
       there = in_files_at_start (g.I.Inputs.told c.args.inputs.now) (map string_bytes c.args.files.now) c.args.number (c.args.number + 1) c.as_str.result.now c.in-Ok.reader c.args.composer.now fresh c.requires.there;
-      stands = λ tells. stands_at_start (g.I.Inputs.told c.args.inputs.now) (map string_bytes c.args.files.now) (plan_with (g.E.Known.base c.args.known.now) c.args.survey.now) c.args.number (c.args.number + 1) c.as_str.result.now c.in-Ok.reader c.args.composer.now (g.O.Sink.taken c.args.out.now) c.args.before fresh;
+      stands = λ tells. stands_at_start (g.I.Inputs.told c.args.inputs.now) (map string_bytes c.args.files.now) (plan_with (g.E.Known.base c.args.known.now) c.args.survey.now) c.args.number (c.args.number + 1) (name_for c.args.names.now (c.args.number + 1)) c.as_str.result.now c.in-Ok.reader c.args.composer.now (g.O.Sink.taken c.args.out.now) c.args.before fresh;
       alike = alike_at_start _ (c.args.number + 1) _ c.as_str.result.now c.in-Ok.reader fresh;
       ahead = start_ahead _ (c.args.number + 1) c.as_str.result.now c.in-Ok.reader fresh;
     }
@@ -42,11 +45,36 @@ loop-reader-init g c =
 pub returns-in-Ok-None-clause-wrote : goal.returns-in-Ok-None-clause-wrote
 returns-in-Ok-None-clause-wrote g c tells =
     let i = c.loop-reader.invariant in
-    file_ends _ _ (map string_bytes c.args.files.now) (plan_with (g.E.Known.base c.args.known.now) c.args.survey.now) c.args.number (c.args.number + 1) c.args.composer.now _ c.loop-reader.reader c.next.new.self c.loop-reader.composer _ c.args.before c.loop-reader.place 0 0 c.in-Ok-None.field-0 c.in-Ok-None.field-0-is i.same
+    file_ends _ _ (map string_bytes c.args.files.now) (plan_with (g.E.Known.base c.args.known.now) c.args.survey.now) c.args.number (c.args.number + 1) (name_for c.args.names.now (c.args.number + 1)) c.args.composer.now _ c.loop-reader.reader c.next.new.self c.loop-reader.composer _ c.args.before c.loop-reader.place 0 0 c.in-Ok-None.field-0 c.in-Ok-None.field-0-is i.same
     (count_names c.args.files.now c.args.number c.requires.numbered) i.name c.in-Ok-None.ensures.read (i.stands tells)
 
 pub returns-in-Ok-None-clause-there : goal.returns-in-Ok-None-clause-there
 returns-in-Ok-None-clause-there g c = cells_in_files (g.I.Inputs.told c.args.inputs.now) (map string_bytes c.args.files.now) c.args.number c.loop-reader.reader c.loop-reader.composer c.loop-reader.invariant.there
+
+pub take-taken-requires-clause-frame : goal.take-taken-requires-clause-frame
+take-taken-requires-clause-frame g c =
+    let f = item_fits c.in-Ok-Some.field-0 c.in-Ok-Some.item c.loop-reader.reader c.next.new.self c.in-Ok-Some.field-0-is c.in-Ok-Some.ensures.fits in
+    still_spelled _ c.in-Ok-Some.item c.in-Ok-rename.named c.in-Ok-rename.ensures.named c.last_frame-frame.result.now c.next.new.self.fed.last c.last_frame-frame.ensures.bytes c.in-Ok-rename.ensures.frame f.spelled
+
+pub take-taken-requires-clause-version : goal.take-taken-requires-clause-version
+take-taken-requires-clause-version g c =
+    let f = item_fits c.in-Ok-Some.field-0 c.in-Ok-Some.item c.loop-reader.reader c.next.new.self c.in-Ok-Some.field-0-is c.in-Ok-Some.ensures.fits in
+    subst (λ (v : ℕ). (v ≡ 1) ⊎ (v ≡ 2)) (sym (same_version _ c.in-Ok-Some.item c.in-Ok-rename.named c.in-Ok-rename.ensures.named)) (read_version c.in-Ok-Some.item.version f.version)
+
+pub take-taken-requires-clause-fits : goal.take-taken-requires-clause-fits
+take-taken-requires-clause-fits g c =
+    let same = same_version _ c.in-Ok-Some.item c.in-Ok-rename.named c.in-Ok-rename.ensures.named in
+    omega (arith, same, c.if-item-version.false, c.version.ensures.version)
+
+pub take-taken-requires-clause-can_write : goal.take-taken-requires-clause-can_write
+take-taken-requires-clause-can_write g c =
+    let f = item_fits c.in-Ok-Some.field-0 c.in-Ok-Some.item c.loop-reader.reader c.next.new.self c.in-Ok-Some.field-0-is c.in-Ok-Some.ensures.fits in
+    still_said _ c.in-Ok-Some.item c.in-Ok-rename.named c.in-Ok-rename.ensures.named f.version f.can_write c.in-Ok-rename.ensures.can_write
+
+pub take-taken-requires-clause-payload : goal.take-taken-requires-clause-payload
+take-taken-requires-clause-payload g c =
+    let f = item_fits c.in-Ok-Some.field-0 c.in-Ok-Some.item c.loop-reader.reader c.next.new.self c.in-Ok-Some.field-0-is c.in-Ok-Some.ensures.fits in
+    still_within _ c.in-Ok-Some.item c.in-Ok-rename.named c.in-Ok-rename.ensures.named f.payload
 
 pub take-taken-requires-clause-there : goal.take-taken-requires-clause-there
 take-taken-requires-clause-there g c =
@@ -54,15 +82,21 @@ take-taken-requires-clause-there g c =
     let e = c.in-Ok-Some.ensures in
     let next = next_of_all (g.I.Inputs.told c.args.inputs.now) _ (map string_bytes c.args.files.now) c.args.number c.loop-reader.reader c.next.new.self 0 0 c.in-Ok-Some.field-0 c.in-Ok-Some.item c.in-Ok-Some.field-0-is i.same (count_names c.args.files.now c.args.number c.requires.numbered) i.name e.read in
     all.told_moved (g.I.Inputs.told c.next.new.inputs) (g.I.Inputs.told c.args.inputs.now) (map string_bytes c.args.files.now)
-    (λ files. AllCells (IsInInput files) c.loop-reader.composer.state × DataStand files (item_of (c.args.number + 1) c.in-Ok-Some.item)) (sym (e.same ∙ i.same))
-    (data_there (g.I.Inputs.told c.args.inputs.now) (map string_bytes c.args.files.now) c.args.number (c.args.number + 1) c.loop-reader.reader c.next.new.self c.loop-reader.composer c.in-Ok-Some.item refl i.file next i.there)
+    (λ files. AllCells (IsInInput files) c.loop-reader.composer.state × DataStand files (item_of (c.args.number + 1) c.in-Ok-rename.named)) (sym (e.same ∙ i.same))
+    (data_there (g.I.Inputs.told c.args.inputs.now) (map string_bytes c.args.files.now) c.args.number (c.args.number + 1) _ c.loop-reader.reader c.next.new.self c.loop-reader.composer c.in-Ok-Some.item c.in-Ok-rename.named refl i.file
+    (c.in-Ok-rename.ensures.named (c.args.number + 1)) next i.there)
+
+pub returns-in_default-rename-clause-wrote : goal.returns-in_default-rename-clause-wrote
+returns-in_default-rename-clause-wrote g c tells =
+    let i = c.loop-reader.invariant in
+    file_unnamed (g.I.Inputs.told c.args.inputs.now) (map string_bytes c.args.files.now) (plan_with (g.E.Known.base c.args.known.now) c.args.survey.now) c.args.number (c.args.number + 1) (name_for c.args.names.now (c.args.number + 1)) c.args.composer.now _ c.loop-reader.reader c.loop-reader.composer _ c.args.before c.loop-reader.place (i.stands tells)
 
 pub returns-then-item-version-clause-wrote : goal.returns-then-item-version-clause-wrote
 returns-then-item-version-clause-wrote g c tells =
     let i = c.loop-reader.invariant in
     let above : c.args.survey.now.version < c.in-Ok-Some.item.version = omega (arith, c.if-item-version.true, c.version.ensures.version) in
     let next = next_of_all (g.I.Inputs.told c.args.inputs.now) _ (map string_bytes c.args.files.now) c.args.number c.loop-reader.reader c.next.new.self 0 0 c.in-Ok-Some.field-0 c.in-Ok-Some.item c.in-Ok-Some.field-0-is i.same (count_names c.args.files.now c.args.number c.requires.numbered) i.name c.in-Ok-Some.ensures.read in
-    file_above (g.I.Inputs.told c.args.inputs.now) (map string_bytes c.args.files.now) (plan_with (g.E.Known.base c.args.known.now) c.args.survey.now) c.args.number (c.args.number + 1) c.args.composer.now _ c.loop-reader.reader c.next.new.self c.loop-reader.composer _ _ c.args.before c.loop-reader.place _ _ c.in-Ok-Some.item c.refused-refused.result c.stopped.result
+    file_above (g.I.Inputs.told c.args.inputs.now) (map string_bytes c.args.files.now) (plan_with (g.E.Known.base c.args.known.now) c.args.survey.now) c.args.number (c.args.number + 1) (name_for c.args.names.now (c.args.number + 1)) c.args.composer.now _ c.loop-reader.reader c.next.new.self c.loop-reader.composer _ _ c.args.before c.loop-reader.place _ _ c.in-Ok-Some.item c.refused-refused.result c.stopped.result
     above i.file c.stopped.ensures.stopped next (i.stands tells)
 
 pub returns-in-Err-taken-clause-wrote : goal.returns-in-Err-taken-clause-wrote
@@ -70,8 +104,8 @@ returns-in-Err-taken-clause-wrote g c tells =
     let i = c.loop-reader.invariant in
     let e = c.in-Ok-Some.ensures in
     let next = next_of_all (g.I.Inputs.told c.args.inputs.now) _ (map string_bytes c.args.files.now) c.args.number c.loop-reader.reader c.next.new.self 0 0 c.in-Ok-Some.field-0 c.in-Ok-Some.item c.in-Ok-Some.field-0-is i.same (count_names c.args.files.now c.args.number c.requires.numbered) i.name e.read in
-    item_stops _ _ (map string_bytes c.args.files.now) (plan_with (g.E.Known.base c.args.known.now) c.args.survey.now) c.args.number (c.args.number + 1) c.args.composer.now _ c.loop-reader.reader c.next.new.self c.loop-reader.composer c.take-taken.new.self _ _ c.args.before c.loop-reader.place c.in-Ok-Some.item c.in-Err-taken.outcome
-    i.file (e.same ∙ i.same) next (c.in-Err-taken.ensures.taken tells) (i.stands tells)
+    item_stops _ _ (map string_bytes c.args.files.now) (plan_with (g.E.Known.base c.args.known.now) c.args.survey.now) c.args.number (c.args.number + 1) (name_for c.args.names.now (c.args.number + 1)) c.args.composer.now _ c.loop-reader.reader c.next.new.self c.loop-reader.composer c.take-taken.new.self _ _ c.args.before c.loop-reader.place c.in-Ok-Some.item c.in-Ok-rename.named c.in-Err-taken.outcome
+    i.file (named_for _ (name_for c.args.names.now (c.args.number + 1)) (c.args.number + 1) c.in-Ok-Some.item c.in-Ok-rename.named c.of_file-name.ensures.name c.in-Ok-rename.ensures.named) (e.same ∙ i.same) next (c.in-Err-taken.ensures.taken tells) (i.stands tells)
 
 pub loop-reader-preserved : goal.loop-reader-preserved
 loop-reader-preserved g c =
@@ -91,8 +125,8 @@ loop-reader-preserved g c =
       name = e.name ∙ i.name;
       had = t.had;
       there = in_files_after (g.I.Inputs.told c.args.inputs.now) (g.I.Inputs.told c.next.new.inputs) (map string_bytes c.args.files.now) c.args.number c.loop-reader.reader c.next.new.self c.loop-reader.composer c.take-taken.new.self c.in-Ok-Some.item (e.same ∙ i.same) next t.there i.there;
-      stands = λ tells. stands_after _ _ (map string_bytes c.args.files.now) (plan_with (g.E.Known.base c.args.known.now) c.args.survey.now) c.args.number (c.args.number + 1) c.args.composer.now _ c.loop-reader.reader c.next.new.self c.loop-reader.composer c.take-taken.new.self _ _ c.args.before c.loop-reader.place (record { file = c.args.number + 1; command = c.in-Ok-Some.item.number; offset = c.in-Ok-Some.item.offset }) c.in-Ok-Some.item
-          i.file refl (e.same ∙ i.same) next (t.taken tells) (i.stands tells);
+      stands = λ tells. stands_after _ _ (map string_bytes c.args.files.now) (plan_with (g.E.Known.base c.args.known.now) c.args.survey.now) c.args.number (c.args.number + 1) (name_for c.args.names.now (c.args.number + 1)) c.args.composer.now _ c.loop-reader.reader c.next.new.self c.loop-reader.composer c.take-taken.new.self _ _ c.args.before c.loop-reader.place (record { file = c.args.number + 1; command = c.in-Ok-Some.item.number; offset = c.in-Ok-Some.item.offset }) c.in-Ok-Some.item c.in-Ok-rename.named
+          i.file refl (named_for _ (name_for c.args.names.now (c.args.number + 1)) (c.args.number + 1) c.in-Ok-Some.item c.in-Ok-rename.named c.of_file-name.ensures.name c.in-Ok-rename.ensures.named) (e.same ∙ i.same) next (t.taken tells) (i.stands tells);
       alike = told_moved (g.I.Inputs.told c.take-taken.new.inputs) (g.I.Inputs.told c.loop-reader.inputs) c.next.new.self.name c.loop-reader.reader.name (EndsAlike (c.args.number + 1) c.next.new.self) (sym (t.same ∙ e.same)) (sym e.name)
           (alike_after (g.I.Inputs.told c.loop-reader.inputs) _ (c.args.number + 1) c.loop-reader.reader.name c.loop-reader.reader c.next.new.self 0 0 c.in-Ok-Some.field-0 c.in-Ok-Some.item c.in-Ok-Some.field-0-is refl refl e.read i.alike);
       ahead = told_moved (g.I.Inputs.told c.take-taken.new.inputs) (g.I.Inputs.told c.next.new.inputs) c.next.new.self.name c.next.new.self.name (HasAhead c.next.new.self) (sym t.same) refl
@@ -102,5 +136,5 @@ loop-reader-preserved g c =
 pub returns-in-Err-clause-wrote : goal.returns-in-Err-clause-wrote
 returns-in-Err-clause-wrote g c tells =
     let i = c.loop-reader.invariant in
-    file_stops _ _ (map string_bytes c.args.files.now) (plan_with (g.E.Known.base c.args.known.now) c.args.survey.now) c.args.number (c.args.number + 1) c.args.composer.now _ c.loop-reader.reader c.next.new.self c.loop-reader.composer _ _ c.args.before c.loop-reader.place _ _ _ _ c.in-Err.stop c.outcome_of.result c.stopped-in-Err.result
+    file_stops _ _ (map string_bytes c.args.files.now) (plan_with (g.E.Known.base c.args.known.now) c.args.survey.now) c.args.number (c.args.number + 1) (name_for c.args.names.now (c.args.number + 1)) c.args.composer.now _ c.loop-reader.reader c.next.new.self c.loop-reader.composer _ _ c.args.before c.loop-reader.place _ _ _ _ c.in-Err.stop c.outcome_of.result c.stopped-in-Err.result
     i.same (count_names c.args.files.now c.args.number c.requires.numbered) i.name c.in-Err.ensures.read c.outcome_of.ensures.outcome c.stopped-in-Err.ensures.stopped i.alike (i.stands tells)

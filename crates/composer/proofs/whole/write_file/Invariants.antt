@@ -2,6 +2,7 @@ use Rattle.std.specs.Prelude.{[], map, get_or}
 use Rattle.std.specs.String.{string_bytes}
 use Rattle.std.proofs.Common.{◌≡◌, ◌-◌, ◌+◌, length}
 use Rattle.send_model.specs.Lengths.{limit}
+use Rattle.send_model.specs.Renamed.{name_for}
 use Rattle.sx_base.specs.Calls.{IfAllTold}
 use Rattle.cmd_reader.specs.Places.{IfTold}
 use Rattle.cmd_reader.specs.Left.{HasAhead}
@@ -25,7 +26,7 @@ invariant-loop-reader g l = record {
   name : l.reader.name ≡ get_or (map string_bytes l.fn.files) l.fn.number [];
   had : AllCells (IsHad (length l.fn.files) (g.E.Known.base l.fn.known)) l.composer.state;
   there : IfAllTold (g.I.Inputs.told l.fn.inputs) (map string_bytes l.fn.files) (InFiles l.fn.number l.reader l.composer);
-  stands : g.B.OutsideBytes.tells → IfAllTold (g.I.Inputs.told l.fn.inputs) (map string_bytes l.fn.files) (λ files. Stands files (plan_with (g.E.Known.base l.fn.known) l.fn.survey) (l.fn.number + 1) l.fn.composer (g.O.Sink.taken l.fn.out) l.reader l.composer (g.O.Sink.taken l.out) l.fn.before l.place (get_or files l.fn.number []));
+  stands : g.B.OutsideBytes.tells → IfAllTold (g.I.Inputs.told l.fn.inputs) (map string_bytes l.fn.files) (λ files. Stands files (plan_with (g.E.Known.base l.fn.known) l.fn.survey) (l.fn.number + 1) (name_for l.fn.names (l.fn.number + 1)) l.fn.composer (g.O.Sink.taken l.fn.out) l.reader l.composer (g.O.Sink.taken l.out) l.fn.before l.place (get_or files l.fn.number []));
   alike : IfTold (g.I.Inputs.told l.inputs) l.reader.name (EndsAlike (l.fn.number + 1) l.reader);
   ahead : IfTold (g.I.Inputs.told l.inputs) l.reader.name (HasAhead l.reader);
 }

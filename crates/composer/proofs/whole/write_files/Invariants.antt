@@ -21,7 +21,7 @@ invariant-loop-file g l = record {
   out_steady : g.O.Sink.faults l.out ≡ g.O.Sink.faults l.fn.out;
   had : AllCells (IsHad (length l.fn.files) (g.E.Known.base l.fn.known)) l.composer.state;
   there : IfAllTold (g.I.Inputs.told l.fn.inputs) (map string_bytes l.fn.files) (λ files. AllCells (IsInInput files) l.composer.state);
-  stand : g.B.OutsideBytes.tells → IfAllTold (g.I.Inputs.told l.fn.inputs) (map string_bytes l.fn.files) (FilesStand (plan_with (g.E.Known.base l.fn.known) l.fn.survey) l.fn.composer (g.O.Sink.taken l.fn.out) l.file l.composer (g.O.Sink.taken l.out) l.initial.place l.place);
+  stand : g.B.OutsideBytes.tells → IfAllTold (g.I.Inputs.told l.fn.inputs) (map string_bytes l.fn.files) (FilesStand (plan_with (g.E.Known.base l.fn.known) l.fn.survey) l.fn.names l.fn.composer (g.O.Sink.taken l.fn.out) l.file l.composer (g.O.Sink.taken l.out) l.initial.place l.place);
 }
 
 abbrev pub decreases-loop-file : goal.decreases-loop-file

@@ -8,7 +8,7 @@ loop-file-init g c = record {
   same = refl;
   steady = refl;
   ends_steady = refl;
-  seen = files_start _ (map string_bytes c.args.files.now) c.new-seen.result c.new-seen.ensures.empty;
+  seen = files_start c.args.names.now _ (map string_bytes c.args.files.now) c.new-seen.result c.new-seen.ensures.empty;
 }
 
 pub loop-file-preserved : goal.loop-file-preserved
@@ -19,7 +19,7 @@ loop-file-preserved g c =
       same = c.survey_file.ensures.same ∙ kept.same;
       steady = c.in-Ok-true.ensures.steady ∙ kept.steady;
       ends_steady = c.in-Ok-true.ensures.ends_steady ∙ kept.ends_steady;
-      seen = files_next _ _ c.args.files.now c.loop-file.file c.index-files-file.result c.as_str-name.result.now c.loop-file.seen c.survey_file.new.seen c.survey_file.result
+      seen = files_next c.args.names.now _ _ c.args.files.now c.loop-file.file c.index-files-file.result c.as_str-name.result.now c.loop-file.seen c.survey_file.new.seen c.survey_file.result
           (record { same = kept.same; less = c.loop-file-test.true; is = c.index-files-file.is; spelling = c.as_str-name.ensures.value }) whole kept.seen c.survey_file.ensures.seen;
     }
 
@@ -27,14 +27,14 @@ pub returns-in-Ok-false-clause-surveyed : goal.returns-in-Ok-false-clause-survey
 returns-in-Ok-false-clause-surveyed g c =
     let kept = c.loop-file.invariant in
     let faulty : c.survey_file.result ≡ Ok false = cc in
-    files_fault _ _ c.args.files.now c.loop-file.file c.index-files-file.result c.as_str-name.result.now c.loop-file.seen c.survey_file.new.seen c.survey_file.result
+    files_fault c.args.names.now _ _ c.args.files.now c.loop-file.file c.index-files-file.result c.as_str-name.result.now c.loop-file.seen c.survey_file.new.seen c.survey_file.result
     (record { same = kept.same; less = c.loop-file-test.true; is = c.index-files-file.is; spelling = c.as_str-name.ensures.value }) faulty kept.seen c.survey_file.ensures.seen
 
 pub returns-in-Err-clause-surveyed : goal.returns-in-Err-clause-surveyed
 returns-in-Err-clause-surveyed g c =
     let kept = c.loop-file.invariant in
-    files_stop _ _ c.args.files.now c.loop-file.file c.index-files-file.result c.as_str-name.result.now c.loop-file.seen c.survey_file.new.seen c.survey_file.result c.in-Err.outcome
+    files_stop c.args.names.now _ _ c.args.files.now c.loop-file.file c.index-files-file.result c.as_str-name.result.now c.loop-file.seen c.survey_file.new.seen c.survey_file.result c.in-Err.outcome
     (record { same = kept.same; less = c.loop-file-test.true; is = c.index-files-file.is; spelling = c.as_str-name.ensures.value }) c.in-Err.is kept.seen c.survey_file.ensures.seen
 
 pub returns-clause-surveyed : goal.returns-clause-surveyed
-returns-clause-surveyed g c = files_end _ c.args.files.now c.loop-file.file c.loop-file.seen c.loop-file-test.false c.loop-file.invariant.seen
+returns-clause-surveyed g c = files_end c.args.names.now _ c.args.files.now c.loop-file.file c.loop-file.seen c.loop-file-test.false c.loop-file.invariant.seen

@@ -13,5 +13,5 @@ invariant-loop-file g l = record {
   same : g.I.Inputs.told l.inputs ≡ g.I.Inputs.told l.fn.inputs;
   steady : g.I.Inputs.faults l.inputs ≡ g.I.Inputs.faults l.fn.inputs;
   ends_steady : g.I.Inputs.ends l.inputs ≡ g.I.Inputs.ends l.fn.inputs;
-  seen : IfAllTold (g.I.Inputs.told l.fn.inputs) (map string_bytes l.files) (FilesSoFar l.file l.seen);
+  seen : IfAllTold (g.I.Inputs.told l.fn.inputs) (map string_bytes l.files) (FilesSoFar l.fn.names l.file l.seen);
 }

@@ -1,6 +1,9 @@
-use Rattle.std.proofs.Common.{refl, ap, ◌∙◌}
+use Rattle.std.specs.Prelude.{ℕ, List, Option}
+use Rattle.std.proofs.Common.{refl, ap, subst, ◌∙◌}
+use Rattle.send_model.specs.Renamed.{name_for}
 use Rattle.cmd_reader.specs.Left.{Reader}
 use Rattle.cmd_reader.proofs.Aheads.{start_ahead, glance_ahead}
+use Rattle.file_survey.specs.NamedGlances.{HasName}
 use Rattle.file_survey.proofs.Surveys.{file_start, file_next, file_whole, file_fault, file_stop}
 use Rattle.file_survey.proofs.Surveys.{glance_writable}
 use Rattle.file_survey.proofs.surveying.survey_file.Goals as goal
@@ -11,7 +14,7 @@ loop-glance-init g c = record {
   steady = refl;
   ends_steady = refl;
   name = ap (λ (r : Reader). r.name) c.in-Ok.ensures.start;
-  seen = file_start _ c.args.file c.args.name.now c.in-Ok.reader c.args.seen.now c.in-Ok.ensures.start;
+  seen = file_start _ c.args.file (name_for c.args.names.now c.args.file) c.args.name.now c.in-Ok.reader c.args.seen.now c.in-Ok.ensures.start;
   ahead = start_ahead _ c.args.file c.args.name.now c.in-Ok.reader c.in-Ok.ensures.start;
 }
 
@@ -23,25 +26,25 @@ loop-glance-preserved g c =
       steady = c.in-Ok-Some.ensures.steady ∙ kept.steady;
       ends_steady = c.in-Ok-Some.ensures.ends_steady ∙ kept.ends_steady;
       name = c.glance.ensures.name ∙ kept.name;
-      seen = file_next _ _ c.args.file c.args.name.now c.loop-glance.reader c.glance.new.self c.in-Ok-Some.field-0 c.in-Ok-Some.glance c.args.seen.now c.loop-glance.seen c.keep.new.self 0 0
-          kept.same kept.name c.in-Ok-Some.field-0-is c.in-Ok-keep.ensures.kept kept.seen c.in-Ok-Some.ensures.read;
+      seen = file_next _ _ c.args.file (name_for c.args.names.now c.args.file) c.args.name.now c.loop-glance.reader c.glance.new.self c.in-Ok-Some.field-0 c.in-Ok-Some.glance c.in-Ok-glance_as.named c.args.seen.now c.loop-glance.seen c.keep.new.self 0 0
+          kept.same kept.name c.in-Ok-Some.field-0-is (subst (λ (o : Option (List ℕ)). HasName o c.in-Ok-Some.glance c.in-Ok-glance_as.named) c.of_file-new_name.ensures.name c.in-Ok-glance_as.ensures.named) c.in-Ok-keep.ensures.kept kept.seen c.in-Ok-Some.ensures.read;
       ahead = glance_ahead _ _ c.loop-glance.reader c.glance.new.self 0 0 c.in-Ok-Some.field-0 c.in-Ok-Some.glance c.in-Ok-Some.field-0-is c.glance.ensures.same c.glance.ensures.name c.in-Ok-Some.ensures.read;
     }
 
 pub returns-in-Ok-None-clause-seen : goal.returns-in-Ok-None-clause-seen
 returns-in-Ok-None-clause-seen g c =
     let kept = c.loop-glance.invariant in
-    file_whole _ _ c.args.file c.args.name.now c.loop-glance.reader c.glance.new.self c.in-Ok-None.field-0 c.args.seen.now c.loop-glance.seen 0 0 kept.same kept.name c.in-Ok-None.field-0-is kept.seen c.in-Ok-None.ensures.read
+    file_whole _ _ c.args.file (name_for c.args.names.now c.args.file) c.args.name.now c.loop-glance.reader c.glance.new.self c.in-Ok-None.field-0 c.args.seen.now c.loop-glance.seen 0 0 kept.same kept.name c.in-Ok-None.field-0-is kept.seen c.in-Ok-None.ensures.read
 
 pub returns-in-Refused-clause-seen : goal.returns-in-Refused-clause-seen
 returns-in-Refused-clause-seen g c =
     let kept = c.loop-glance.invariant in
-    file_fault _ _ c.args.file c.args.name.now c.loop-glance.reader c.glance.new.self c.in-Refused.field-0 c.in-Err.stop c.args.seen.now c.loop-glance.seen _ _ kept.same kept.name c.in-Refused.is kept.seen c.in-Err.ensures.read
+    file_fault _ _ c.args.file (name_for c.args.names.now c.args.file) c.args.name.now c.loop-glance.reader c.glance.new.self c.in-Refused.field-0 c.in-Err.stop c.args.seen.now c.loop-glance.seen _ _ kept.same kept.name c.in-Refused.is kept.seen c.in-Err.ensures.read
 
 pub returns-in_default-stop-clause-seen : goal.returns-in_default-stop-clause-seen
 returns-in_default-stop-clause-seen g c =
     let kept = c.loop-glance.invariant in
-    file_stop _ _ c.args.file c.args.name.now c.loop-glance.reader c.glance.new.self c.in-Err.stop c.outcome_of.result c.args.seen.now c.loop-glance.seen _ _ kept.same kept.name c.in_default-stop.not-Refused c.outcome_of.ensures.outcome kept.seen c.in-Err.ensures.read
+    file_stop _ _ c.args.file (name_for c.args.names.now c.args.file) c.args.name.now c.loop-glance.reader c.glance.new.self c.in-Err.stop c.outcome_of.result c.args.seen.now c.loop-glance.seen _ _ kept.same kept.name c.in_default-stop.not-Refused c.outcome_of.ensures.outcome kept.seen c.in-Err.ensures.read
 
 pub keep-requires : goal.keep-requires
-keep-requires g c = record { writable = glance_writable c.in-Ok-Some.field-0 c.in-Ok-Some.glance _ _ c.in-Ok-Some.field-0-is c.in-Ok-Some.ensures.fits }
+keep-requires g c = record { writable = glance_writable _ c.in-Ok-Some.field-0 c.in-Ok-Some.glance _ _ _ c.in-Ok-Some.field-0-is c.in-Ok-glance_as.ensures.named c.in-Ok-Some.ensures.fits }

@@ -1,5 +1,6 @@
 use Rattle.std.proofs.Common.{◌≡◌, ◌-◌}
 use Rattle.send_model.specs.Lengths.{limit}
+use Rattle.send_model.specs.Renamed.{name_for}
 use Rattle.cmd_reader.specs.Places.{IfTold}
 use Rattle.cmd_reader.specs.Left.{HasAhead}
 use Rattle.file_survey.proofs.Surveys.{FileSoFar}
@@ -16,6 +17,6 @@ invariant-loop-glance g l = record {
   steady : g.I.Inputs.faults l.inputs ≡ g.I.Inputs.faults l.fn.inputs;
   ends_steady : g.I.Inputs.ends l.inputs ≡ g.I.Inputs.ends l.fn.inputs;
   name : l.reader.name ≡ l.name;
-  seen : IfTold (g.I.Inputs.told l.fn.inputs) l.name (FileSoFar l.file l.reader l.fn.seen l.seen);
+  seen : IfTold (g.I.Inputs.told l.fn.inputs) l.name (FileSoFar l.file (name_for l.fn.names l.file) l.reader l.fn.seen l.seen);
   ahead : IfTold (g.I.Inputs.told l.inputs) l.reader.name (HasAhead l.reader);
 }

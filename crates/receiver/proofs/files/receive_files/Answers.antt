@@ -1,4 +1,5 @@
 use Rattle.std.specs.Prelude.{ℕ, None, map, ◌+◌}
+use Rattle.std.specs.Option.{option_copied}
 use Rattle.std.specs.String.{string_bytes}
 use Rattle.std.proofs.Common.{refl, subst, ◌∙◌, arith}
 use Rattle.cmd_reader.specs.Places.{IfTold}
@@ -19,7 +20,7 @@ loop-file-init g c = record {
   most = refl;
   idle = c.requires.idle;
   stand = λ base spot at on none.
-      all_start _ (map string_bytes c.args.files.now) c.args.store.now.log.limit base spot (g.G.Guarding.kept c.args.guards.now) c.args.store.now _
+      all_start _ c.args.names.now (map string_bytes c.args.files.now) c.args.store.now.log.limit base spot (g.G.Guarding.kept c.args.guards.now) c.args.store.now _
       (RunsOn g.D.Disk.tells g.D.Disk.moment g.D.Disk.left_since g.D.Disk.seen g.D.Disk.pending c.args.disk.now c.args.disk.now None None None c.args.store.now c.args.store.now) at on none
       (run_starts g.D.Disk.tells g.D.Disk.moment g.D.Disk.left_since g.D.Disk.seen g.D.Disk.pending c.args.disk.now c.args.store.now None refl (λ tells image. g.met.D.Disk.only_now c.args.disk.now image tells));
 }
@@ -39,14 +40,14 @@ loop-file-preserved g c =
       most = e.limit ∙ i.most;
       idle = e.ready;
       stand = λ base spot at on none.
-          all_next _ _ c.args.files.now c.loop-file.file c.args.store.now.log.limit base spot (g.G.Guarding.kept c.loop-file.guards) (g.G.Guarding.kept c.receive_file.new.guards) c.loop-file.store c.receive_file.new.store _ (g.O.Sink.taken c.loop-file.out) (g.O.Sink.taken c.receive_file.new.out)
+          all_next _ _ c.args.names.now c.args.files.now c.loop-file.file c.args.store.now.log.limit base spot (g.G.Guarding.kept c.loop-file.guards) (g.G.Guarding.kept c.receive_file.new.guards) c.loop-file.store c.receive_file.new.store _ (g.O.Sink.taken c.loop-file.out) (g.O.Sink.taken c.receive_file.new.out)
           (RunsOn g.D.Disk.tells g.D.Disk.moment g.D.Disk.left_since g.D.Disk.seen g.D.Disk.pending c.args.disk.now c.loop-file.disk None None None c.args.store.now c.loop-file.store)
           (RunsOn g.D.Disk.tells g.D.Disk.moment g.D.Disk.left_since g.D.Disk.seen g.D.Disk.pending c.loop-file.disk c.receive_file.new.disk None None None c.loop-file.store c.receive_file.new.store)
           (RunsOn g.D.Disk.tells g.D.Disk.moment g.D.Disk.left_since g.D.Disk.seen g.D.Disk.pending c.args.disk.now c.receive_file.new.disk None None None c.args.store.now c.receive_file.new.store)
           (λ now. LeavesOn g.D.Disk.tells g.D.Disk.moment g.D.Disk.left_since g.D.Disk.seen g.D.Disk.pending c.loop-file.disk c.receive_file.new.disk None None c.loop-file.store)
           (StopsOn g.D.Disk.tells g.D.Disk.seen g.D.Disk.pending c.loop-file.disk c.receive_file.new.disk None None c.loop-file.store c.receive_file.new.store)
-          c.index-files-file.result c.as_str-name.result.now c.receive_file.result c.in-Ok.field-0 i.same c.loop-file-test.true c.index-files-file.is c.as_str-name.ensures.value c.in-Ok.is
-          (λ now here onward open_none. subst (λ (n : ℕ). IfTold (g.I.Inputs.told c.loop-file.inputs) c.as_str-name.result.now (FileEnds (c.loop-file.file + 1) n base now (g.G.Guarding.kept c.receive_file.new.guards) c.receive_file.new.store (g.O.Sink.taken c.loop-file.out) (g.O.Sink.taken c.receive_file.new.out)
+          c.index-files-file.result c.as_str-name.result.now (option_copied c.of_file-new_name.result) c.receive_file.result c.in-Ok.field-0 i.same c.loop-file-test.true c.index-files-file.is c.as_str-name.ensures.value c.of_file-new_name.ensures.name c.in-Ok.is
+          (λ now here onward open_none. subst (λ (n : ℕ). IfTold (g.I.Inputs.told c.loop-file.inputs) c.as_str-name.result.now (FileEnds (option_copied c.of_file-new_name.result) (c.loop-file.file + 1) n base now (g.G.Guarding.kept c.receive_file.new.guards) c.receive_file.new.store (g.O.Sink.taken c.loop-file.out) (g.O.Sink.taken c.receive_file.new.out)
           (RunsOn g.D.Disk.tells g.D.Disk.moment g.D.Disk.left_since g.D.Disk.seen g.D.Disk.pending c.loop-file.disk c.receive_file.new.disk None None None c.loop-file.store c.receive_file.new.store)
           (LeavesOn g.D.Disk.tells g.D.Disk.moment g.D.Disk.left_since g.D.Disk.seen g.D.Disk.pending c.loop-file.disk c.receive_file.new.disk None None c.loop-file.store)
           (StopsOn g.D.Disk.tells g.D.Disk.seen g.D.Disk.pending c.loop-file.disk c.receive_file.new.disk None None c.loop-file.store c.receive_file.new.store) c.receive_file.result)) i.most
@@ -58,7 +59,7 @@ loop-file-preserved g c =
 pub returns-in-Err-clause-received : goal.returns-in-Err-clause-received
 returns-in-Err-clause-received g c base spot at on none =
     let i = c.loop-file.invariant in
-    all_stop _ _ c.args.files.now c.loop-file.file c.args.store.now.log.limit base spot (g.G.Guarding.kept c.loop-file.guards) (g.G.Guarding.kept c.receive_file.new.guards) c.loop-file.store c.receive_file.new.store _ (g.O.Sink.taken c.loop-file.out) (g.O.Sink.taken c.receive_file.new.out)
+    all_stop _ _ c.args.names.now c.args.files.now c.loop-file.file c.args.store.now.log.limit base spot (g.G.Guarding.kept c.loop-file.guards) (g.G.Guarding.kept c.receive_file.new.guards) c.loop-file.store c.receive_file.new.store _ (g.O.Sink.taken c.loop-file.out) (g.O.Sink.taken c.receive_file.new.out)
     (RunsOn g.D.Disk.tells g.D.Disk.moment g.D.Disk.left_since g.D.Disk.seen g.D.Disk.pending c.args.disk.now c.loop-file.disk None None None c.args.store.now c.loop-file.store)
     (RunsOn g.D.Disk.tells g.D.Disk.moment g.D.Disk.left_since g.D.Disk.seen g.D.Disk.pending c.loop-file.disk c.receive_file.new.disk None None None c.loop-file.store c.receive_file.new.store)
     (RunsOn g.D.Disk.tells g.D.Disk.moment g.D.Disk.left_since g.D.Disk.seen g.D.Disk.pending c.args.disk.now c.receive_file.new.disk None None None c.args.store.now c.receive_file.new.store)
@@ -66,8 +67,8 @@ returns-in-Err-clause-received g c base spot at on none =
     (LeavesOn g.D.Disk.tells g.D.Disk.moment g.D.Disk.left_since g.D.Disk.seen g.D.Disk.pending c.args.disk.now c.receive_file.new.disk None None c.args.store.now)
     (StopsOn g.D.Disk.tells g.D.Disk.seen g.D.Disk.pending c.loop-file.disk c.receive_file.new.disk None None c.loop-file.store c.receive_file.new.store)
     (StopsOn g.D.Disk.tells g.D.Disk.seen g.D.Disk.pending c.args.disk.now c.receive_file.new.disk None None c.args.store.now c.receive_file.new.store)
-    c.index-files-file.result c.as_str-name.result.now c.receive_file.result c.in-Err.ended i.same c.loop-file-test.true c.index-files-file.is c.as_str-name.ensures.value c.in-Err.is
-    (λ now here onward open_none. subst (λ (n : ℕ). IfTold (g.I.Inputs.told c.loop-file.inputs) c.as_str-name.result.now (FileEnds (c.loop-file.file + 1) n base now (g.G.Guarding.kept c.receive_file.new.guards) c.receive_file.new.store (g.O.Sink.taken c.loop-file.out) (g.O.Sink.taken c.receive_file.new.out)
+    c.index-files-file.result c.as_str-name.result.now (option_copied c.of_file-new_name.result) c.receive_file.result c.in-Err.ended i.same c.loop-file-test.true c.index-files-file.is c.as_str-name.ensures.value c.of_file-new_name.ensures.name c.in-Err.is
+    (λ now here onward open_none. subst (λ (n : ℕ). IfTold (g.I.Inputs.told c.loop-file.inputs) c.as_str-name.result.now (FileEnds (option_copied c.of_file-new_name.result) (c.loop-file.file + 1) n base now (g.G.Guarding.kept c.receive_file.new.guards) c.receive_file.new.store (g.O.Sink.taken c.loop-file.out) (g.O.Sink.taken c.receive_file.new.out)
     (RunsOn g.D.Disk.tells g.D.Disk.moment g.D.Disk.left_since g.D.Disk.seen g.D.Disk.pending c.loop-file.disk c.receive_file.new.disk None None None c.loop-file.store c.receive_file.new.store)
     (LeavesOn g.D.Disk.tells g.D.Disk.moment g.D.Disk.left_since g.D.Disk.seen g.D.Disk.pending c.loop-file.disk c.receive_file.new.disk None None c.loop-file.store)
     (StopsOn g.D.Disk.tells g.D.Disk.seen g.D.Disk.pending c.loop-file.disk c.receive_file.new.disk None None c.loop-file.store c.receive_file.new.store) c.receive_file.result)) i.most
@@ -78,7 +79,7 @@ returns-in-Err-clause-received g c base spot at on none =
 
 pub returns-clause-received : goal.returns-clause-received
 returns-clause-received g c base spot at on none =
-    all_end _ c.args.files.now c.loop-file.file c.args.store.now.log.limit base spot (g.G.Guarding.kept c.loop-file.guards) c.loop-file.store _ (g.O.Sink.taken c.loop-file.out)
+    all_end _ c.args.names.now c.args.files.now c.loop-file.file c.args.store.now.log.limit base spot (g.G.Guarding.kept c.loop-file.guards) c.loop-file.store _ (g.O.Sink.taken c.loop-file.out)
     (RunsOn g.D.Disk.tells g.D.Disk.moment g.D.Disk.left_since g.D.Disk.seen g.D.Disk.pending c.args.disk.now c.loop-file.disk None None None c.args.store.now c.loop-file.store)
     (LeavesOn g.D.Disk.tells g.D.Disk.moment g.D.Disk.left_since g.D.Disk.seen g.D.Disk.pending c.args.disk.now c.loop-file.disk None None c.args.store.now)
     (StopsOn g.D.Disk.tells g.D.Disk.seen g.D.Disk.pending c.args.disk.now c.loop-file.disk None None c.args.store.now c.loop-file.store)

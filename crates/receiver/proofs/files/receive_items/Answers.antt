@@ -1,10 +1,12 @@
 use Rattle.std.specs.Prelude.{ℕ, [], Option, None, Ok, Err, ◌++◌}
+use Rattle.std.specs.Option.{option_copied}
 use Rattle.sx_base.specs.declared.outcome.Outcome.TheVariants as ended
 use Rattle.std.proofs.Common.{rules, refl, sym, ap, subst, ◌∙◌, arith}
 use Rattle.std.proofs.lemmas.Bool.{false≢true}
 use Rattle.send_commands.specs.Meaning.{meaning_of}
 use Rattle.cmd_reader.specs.Left.{Reader}
 use Rattle.cmd_reader.specs.Next.{item_of}
+use Rattle.cmd_reader.specs.declared.item.ReadStop.TheVariants as stop
 use Rattle.cmd_reader.proofs.Aheads.{start_ahead, next_ahead}
 use Rattle.auditor.specs.Following.{beside, follow}
 use Rattle.auditor.proofs.Short.{item_moves}
@@ -15,6 +17,7 @@ use Rattle.receiver.specs.Steps.{blank_of, begun_if}
 use Rattle.receiver.specs.Answers.{PiecesSay}
 use Rattle.receiver.specs.Disks.{HasNow, RunsOn, LeavesOn, StopsOn}
 use Rattle.receiver.specs.Running.{IsAt}
+use Rattle.receiver.proofs.NamedReads.{given_fits}
 use Rattle.receiver.proofs.FileSteps.{stands_at_start, stands_after}
 use Rattle.receiver.proofs.FileStops.{file_done, file_unopened, file_item, file_read_stops, ended_at_end}
 use Rattle.receiver.proofs.DiskRuns.{run_starts, none_leaves, run_leaves, run_item, run_goes, run_rests, taken_due, at_stream_end}
@@ -23,7 +26,7 @@ use Rattle.receiver.proofs.files.receive_items.Goals as goal
 
 pub returns-in_default-clause-received : goal.returns-in_default-clause-received
 returns-in_default-clause-received g c base spot at on none =
-    file_unopened (g.I.Inputs.told c.args.inputs.now) c.args.file c.args.store.now.log.limit c.args.name.now base spot (g.G.Guarding.kept c.args.guards.now) c.args.store.now (g.O.Sink.taken c.args.out.now)
+    file_unopened (g.I.Inputs.told c.args.inputs.now) (option_copied c.args.new_name) c.args.file c.args.store.now.log.limit c.args.name.now base spot (g.G.Guarding.kept c.args.guards.now) c.args.store.now (g.O.Sink.taken c.args.out.now)
     (RunsOn g.D.Disk.tells g.D.Disk.moment g.D.Disk.left_since g.D.Disk.seen g.D.Disk.pending c.args.disk.now c.args.disk.now None None c.args.current.now c.args.store.now c.args.store.now)
     (LeavesOn g.D.Disk.tells g.D.Disk.moment g.D.Disk.left_since g.D.Disk.seen g.D.Disk.pending c.args.disk.now c.args.disk.now None None c.args.store.now)
     (StopsOn g.D.Disk.tells g.D.Disk.seen g.D.Disk.pending c.args.disk.now c.args.disk.now None c.args.current.now c.args.store.now c.args.store.now) on
@@ -47,7 +50,7 @@ loop-reader-init g c =
       ready = search rules;
       at_end = λ e. absurd (false≢true (sym (ap (λ (r : Reader). r.fed.ended) fresh) ∙ e));
       stands = λ base spot at on none.
-          stands_at_start (g.I.Inputs.told c.args.inputs.now) c.args.file c.args.store.now.log.limit c.args.name.now base spot c.in-Ok.reader (g.G.Guarding.kept c.args.guards.now) c.args.store.now c.args.current.now (g.O.Sink.taken c.args.out.now) _ fresh
+          stands_at_start (g.I.Inputs.told c.args.inputs.now) (option_copied c.args.new_name) c.args.file c.args.store.now.log.limit c.args.name.now base spot c.in-Ok.reader (g.G.Guarding.kept c.args.guards.now) c.args.store.now c.args.current.now (g.O.Sink.taken c.args.out.now) _ fresh
           (subst (λ (o : Option Opened). IsAt spot (g.G.Guarding.kept c.args.guards.now) c.args.store.now o) (sym c.requires.none) at) on none
           (run_starts g.D.Disk.tells g.D.Disk.moment g.D.Disk.left_since g.D.Disk.seen g.D.Disk.pending c.args.disk.now c.args.store.now c.args.current.now c.requires.none (λ tells image. g.met.D.Disk.only_now c.args.disk.now image tells));
       ahead = start_ahead _ c.args.file c.args.name.now c.in-Ok.reader fresh;
@@ -57,7 +60,7 @@ pub returns-in-Ok-None-clause-received : goal.returns-in-Ok-None-clause-received
 returns-in-Ok-None-clause-received g c base spot at on none =
     let i = c.loop-reader.invariant in
     let ends = i.at_end (ended_at_end c.in-Ok-None.field-0 c.loop-reader.reader c.in-Ok-None.field-0-is c.in-Ok-None.ensures.end) in
-    file_done _ _ c.args.file c.args.store.now.log.limit c.args.name.now base spot c.loop-reader.reader c.next.new.self (g.G.Guarding.kept c.loop-reader.guards) c.loop-reader.store c.loop-reader.current _ _
+    file_done _ _ (option_copied c.args.new_name) c.args.file c.args.store.now.log.limit c.args.name.now base spot c.loop-reader.reader c.next.new.self (g.G.Guarding.kept c.loop-reader.guards) c.loop-reader.store c.loop-reader.current _ _
     (RunsOn g.D.Disk.tells g.D.Disk.moment g.D.Disk.left_since g.D.Disk.seen g.D.Disk.pending c.args.disk.now c.loop-reader.disk None None c.loop-reader.current c.args.store.now c.loop-reader.store)
     (LeavesOn g.D.Disk.tells g.D.Disk.moment g.D.Disk.left_since g.D.Disk.seen g.D.Disk.pending c.args.disk.now c.loop-reader.disk None None c.args.store.now)
     (StopsOn g.D.Disk.tells g.D.Disk.seen g.D.Disk.pending c.args.disk.now c.loop-reader.disk None c.loop-reader.current c.args.store.now c.loop-reader.store) 0 0
@@ -68,8 +71,10 @@ loop-reader-preserved g c =
     let i = c.loop-reader.invariant in
     let e = c.in-Ok-Some.ensures in
     let m = item_moves c.in-Ok-Some.field-0 c.in-Ok-Some.item _ _ c.in-Ok-Some.field-0-is e.fits in
+    let given = c.in-Ok-rename.ensures in
+    let fits = given_fits (option_copied c.args.new_name) c.args.file c.loop-reader.reader c.next.new.self c.in-Ok-Some.item c.in-Ok-rename.item m (given.named c.args.file) given.can_write in
     let r = c.in-Ok-received.ensures in
-    let item = item_of c.args.file c.in-Ok-Some.item in
+    let item = item_of c.args.file c.in-Ok-rename.item in
     let guards = g.G.Guarding.kept c.loop-reader.guards in
     record {
       same = e.same ∙ i.same;
@@ -82,13 +87,13 @@ loop-reader-preserved g c =
       name = e.name ∙ i.name;
       within = m.within;
       ready = r.ready;
-      at_end = at_stream_end c.next.new.self.fed.ended c.next.new.self.fed.due c.in-Ok-Some.item.version (meaning_of c.in-Ok-Some.item.command) c.receive_item-received.new.current m.at_end m.due r.at_end;
+      at_end = at_stream_end c.next.new.self.fed.ended c.next.new.self.fed.due c.in-Ok-rename.item.version (meaning_of c.in-Ok-rename.item.command) c.receive_item-received.new.current fits.at_end fits.due r.at_end;
       stands = λ base spot at on none.
-          stands_after _ _ c.args.file c.args.store.now.log.limit _ c.args.name.now base spot c.loop-reader.reader c.next.new.self guards (g.G.Guarding.kept c.receive_item-received.new.guards) c.loop-reader.store c.receive_item-received.new.store
+          stands_after _ _ (option_copied c.args.new_name) c.args.file c.args.store.now.log.limit _ c.args.name.now base spot c.loop-reader.reader c.next.new.self guards (g.G.Guarding.kept c.receive_item-received.new.guards) c.loop-reader.store c.receive_item-received.new.store
           c.loop-reader.current c.receive_item-received.new.current _ (g.O.Sink.taken c.loop-reader.out) (g.O.Sink.taken c.receive_item-received.new.out)
           (RunsOn g.D.Disk.tells g.D.Disk.moment g.D.Disk.left_since g.D.Disk.seen g.D.Disk.pending c.args.disk.now c.loop-reader.disk None None c.loop-reader.current c.args.store.now c.loop-reader.store)
           (RunsOn g.D.Disk.tells g.D.Disk.moment g.D.Disk.left_since g.D.Disk.seen g.D.Disk.pending c.args.disk.now c.receive_item-received.new.disk None None c.receive_item-received.new.current c.args.store.now c.receive_item-received.new.store)
-          0 0 c.in-Ok-Some.field-0 c.in-Ok-Some.item c.in-Ok-Some.field-0-is i.same i.name i.file e.read m i.ready r.followed
+          0 0 c.in-Ok-Some.field-0 c.in-Ok-Some.item c.in-Ok-rename.item c.in-Ok-Some.field-0-is i.same i.name i.file e.read (given.named c.args.file) fits i.ready r.followed
           (subst (λ (n : ℕ). PiecesSay (Ok tt) n (behind_close c.loop-reader.current item.command (place_of c.loop-reader.store c.loop-reader.current)) (place_of c.receive_item-received.new.store c.receive_item-received.new.current) item) i.most r.pieces)
           r.written
           (λ groups begun version run.
@@ -105,18 +110,20 @@ returns-in-Err-received-clause-received g c base spot at on none =
     let i = c.loop-reader.invariant in
     let e = c.in-Ok-Some.ensures in
     let m = item_moves c.in-Ok-Some.field-0 c.in-Ok-Some.item _ _ c.in-Ok-Some.field-0-is e.fits in
+    let given = c.in-Ok-rename.ensures in
+    let fits = given_fits (option_copied c.args.new_name) c.args.file c.loop-reader.reader c.next.new.self c.in-Ok-Some.item c.in-Ok-rename.item m (given.named c.args.file) given.can_write in
     let r = c.in-Err-received.ensures in
-    let item = item_of c.args.file c.in-Ok-Some.item in
+    let item = item_of c.args.file c.in-Ok-rename.item in
     let guards = g.G.Guarding.kept c.loop-reader.guards in
-    file_item _ _ c.args.file c.args.store.now.log.limit _ c.args.name.now base spot c.loop-reader.reader c.next.new.self guards (g.G.Guarding.kept c.receive_item-received.new.guards) c.loop-reader.store c.receive_item-received.new.store
+    file_item _ _ (option_copied c.args.new_name) c.args.file c.args.store.now.log.limit _ c.args.name.now base spot c.loop-reader.reader c.next.new.self guards (g.G.Guarding.kept c.receive_item-received.new.guards) c.loop-reader.store c.receive_item-received.new.store
     c.loop-reader.current c.receive_item-received.new.current _ (g.O.Sink.taken c.loop-reader.out) (g.O.Sink.taken c.receive_item-received.new.out)
     (RunsOn g.D.Disk.tells g.D.Disk.moment g.D.Disk.left_since g.D.Disk.seen g.D.Disk.pending c.args.disk.now c.loop-reader.disk None None c.loop-reader.current c.args.store.now c.loop-reader.store)
     (RunsOn g.D.Disk.tells g.D.Disk.moment g.D.Disk.left_since g.D.Disk.seen g.D.Disk.pending c.args.disk.now c.receive_item-received.new.disk None None c.receive_item-received.new.current c.args.store.now c.receive_item-received.new.store)
     (LeavesOn g.D.Disk.tells g.D.Disk.moment g.D.Disk.left_since g.D.Disk.seen g.D.Disk.pending c.args.disk.now c.receive_item-received.new.disk None None c.args.store.now)
     (StopsOn g.D.Disk.tells g.D.Disk.seen g.D.Disk.pending c.args.disk.now c.receive_item-received.new.disk None c.receive_item-received.new.current c.args.store.now c.receive_item-received.new.store)
-    (HasNow g.D.Disk.tells g.D.Disk.seen g.D.Disk.pending c.loop-reader.disk c.receive_item-received.new.disk c.in-Ok-Some.item.version c.loop-reader.current c.loop-reader.store (closed_by guards item.command)
+    (HasNow g.D.Disk.tells g.D.Disk.seen g.D.Disk.pending c.loop-reader.disk c.receive_item-received.new.disk c.in-Ok-rename.item.version c.loop-reader.current c.loop-reader.store (closed_by guards item.command)
     (begun_if (follow (beside guards (blank_of c.loop-reader.store c.loop-reader.current)) item) item.command))
-    0 0 c.in-Ok-Some.field-0 c.in-Ok-Some.item c.in-Err-received.ended c.in-Ok-Some.field-0-is i.same i.name i.file e.read m i.ready r.followed
+    0 0 c.in-Ok-Some.field-0 c.in-Ok-Some.item c.in-Ok-rename.item c.in-Err-received.ended c.in-Ok-Some.field-0-is i.same i.name i.file e.read (given.named c.args.file) fits i.ready r.followed
     (subst (λ (n : ℕ). PiecesSay (Err c.in-Err-received.ended) n (behind_close c.loop-reader.current item.command (place_of c.loop-reader.store c.loop-reader.current)) (place_of c.receive_item-received.new.store c.receive_item-received.new.current) item) i.most r.pieces)
     r.written
     (λ groups more begun version run.
@@ -134,7 +141,7 @@ returns-in-Err-received-clause-received g c base spot at on none =
 pub returns-in-Err-clause-received : goal.returns-in-Err-clause-received
 returns-in-Err-clause-received g c base spot at on none =
     let i = c.loop-reader.invariant in
-    file_read_stops _ _ c.args.file c.args.store.now.log.limit c.args.name.now base spot c.loop-reader.reader c.next.new.self (g.G.Guarding.kept c.loop-reader.guards) c.loop-reader.store c.loop-reader.current _ (g.O.Sink.taken c.loop-reader.out)
+    file_read_stops _ _ (option_copied c.args.new_name) c.args.file c.args.store.now.log.limit c.args.name.now base spot c.loop-reader.reader c.next.new.self (g.G.Guarding.kept c.loop-reader.guards) c.loop-reader.store c.loop-reader.current _ (g.O.Sink.taken c.loop-reader.out)
     (RunsOn g.D.Disk.tells g.D.Disk.moment g.D.Disk.left_since g.D.Disk.seen g.D.Disk.pending c.args.disk.now c.loop-reader.disk None None c.loop-reader.current c.args.store.now c.loop-reader.store)
     (RunsOn g.D.Disk.tells g.D.Disk.moment g.D.Disk.left_since g.D.Disk.seen g.D.Disk.pending c.args.disk.now c.loop-reader.disk None None c.loop-reader.current c.args.store.now c.loop-reader.store)
     (LeavesOn g.D.Disk.tells g.D.Disk.moment g.D.Disk.left_since g.D.Disk.seen g.D.Disk.pending c.args.disk.now c.loop-reader.disk None None c.args.store.now)
@@ -143,3 +150,29 @@ returns-in-Err-clause-received g c base spot at on none =
     (λ groups more begun run. run_leaves g.D.Disk.tells g.D.Disk.moment g.D.Disk.left_since g.D.Disk.seen g.D.Disk.pending c.args.disk.now c.loop-reader.disk c.args.store.now c.loop-reader.store c.loop-reader.current groups more begun run)
     (λ groups begun x V run is. run_rests g.D.Disk.tells g.D.Disk.moment g.D.Disk.left_since g.D.Disk.seen g.D.Disk.pending c.args.disk.now c.loop-reader.disk c.args.store.now c.loop-reader.store c.loop-reader.current groups begun x V run is)
     (i.stands base spot at on none)
+
+-- There was no memory for the name.
+pub returns-in_default-rename-clause-received : goal.returns-in_default-rename-clause-received
+returns-in_default-rename-clause-received g c base spot at on none =
+    let i = c.loop-reader.invariant in
+    file_read_stops _ _ (option_copied c.args.new_name) c.args.file c.args.store.now.log.limit c.args.name.now base spot c.loop-reader.reader c.next.new.self (g.G.Guarding.kept c.loop-reader.guards) c.loop-reader.store c.loop-reader.current _ (g.O.Sink.taken c.loop-reader.out)
+    (RunsOn g.D.Disk.tells g.D.Disk.moment g.D.Disk.left_since g.D.Disk.seen g.D.Disk.pending c.args.disk.now c.loop-reader.disk None None c.loop-reader.current c.args.store.now c.loop-reader.store)
+    (RunsOn g.D.Disk.tells g.D.Disk.moment g.D.Disk.left_since g.D.Disk.seen g.D.Disk.pending c.args.disk.now c.loop-reader.disk None None c.loop-reader.current c.args.store.now c.loop-reader.store)
+    (LeavesOn g.D.Disk.tells g.D.Disk.moment g.D.Disk.left_since g.D.Disk.seen g.D.Disk.pending c.args.disk.now c.loop-reader.disk None None c.args.store.now)
+    (StopsOn g.D.Disk.tells g.D.Disk.seen g.D.Disk.pending c.args.disk.now c.loop-reader.disk None c.loop-reader.current c.args.store.now c.loop-reader.store)
+    0 0 stop.NoMemory ended.NoMemory i.same i.name tt refl
+    (λ groups more begun run. run_leaves g.D.Disk.tells g.D.Disk.moment g.D.Disk.left_since g.D.Disk.seen g.D.Disk.pending c.args.disk.now c.loop-reader.disk c.args.store.now c.loop-reader.store c.loop-reader.current groups more begun run)
+    (λ groups begun x V run is. run_rests g.D.Disk.tells g.D.Disk.moment g.D.Disk.left_since g.D.Disk.seen g.D.Disk.pending c.args.disk.now c.loop-reader.disk c.args.store.now c.loop-reader.store c.loop-reader.current groups begun x V run is)
+    (i.stands base spot at on none)
+
+pub receive_item-received-requires-clause-spellable : goal.receive_item-received-requires-clause-spellable
+receive_item-received-requires-clause-spellable g c =
+    let m = item_moves c.in-Ok-Some.field-0 c.in-Ok-Some.item _ _ c.in-Ok-Some.field-0-is c.in-Ok-Some.ensures.fits in
+    let given = c.in-Ok-rename.ensures in
+    (given_fits (option_copied c.args.new_name) c.args.file c.loop-reader.reader c.next.new.self c.in-Ok-Some.item c.in-Ok-rename.item m (given.named c.args.file) given.can_write).can_write.spellable
+
+pub receive_item-received-requires-clause-version : goal.receive_item-received-requires-clause-version
+receive_item-received-requires-clause-version g c =
+    let m = item_moves c.in-Ok-Some.field-0 c.in-Ok-Some.item _ _ c.in-Ok-Some.field-0-is c.in-Ok-Some.ensures.fits in
+    let given = c.in-Ok-rename.ensures in
+    (given_fits (option_copied c.args.new_name) c.args.file c.loop-reader.reader c.next.new.self c.in-Ok-Some.item c.in-Ok-rename.item m (given.named c.args.file) given.can_write).version

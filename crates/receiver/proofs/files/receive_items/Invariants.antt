@@ -1,4 +1,5 @@
 use Rattle.std.specs.Prelude.{true, None, ℕ}
+use Rattle.std.specs.Option.{option_copied}
 use Rattle.std.proofs.Common.{◌≡◌, ◌≤◌, ◌-◌}
 use Rattle.send_model.specs.Reading.{HeaderDue}
 use Rattle.send_model.specs.Store.{Store}
@@ -27,7 +28,7 @@ invariant-loop-reader g l = record {
   ready : IsReady (g.D.Disk.len l.disk) l.current l.store;
   at_end : l.reader.fed.ended ≡ true → (l.current ≡ None) × (l.reader.fed.due ≡ HeaderDue);
   stands : (base : Store ℕ) (spot : Spot) → IsAt spot (g.G.Guarding.kept l.fn.guards) l.fn.store None → IsOn base spot.watched.state.store spot.watched.state.part → spot.begun ≡ None
-      → IfTold (g.I.Inputs.told l.fn.inputs) l.fn.name (Stands l.fn.file l.fn.store.log.limit base spot l.reader (g.G.Guarding.kept l.guards) l.store l.current (g.O.Sink.taken l.fn.out) (g.O.Sink.taken l.out)
+      → IfTold (g.I.Inputs.told l.fn.inputs) l.fn.name (Stands (option_copied l.fn.new_name) l.fn.file l.fn.store.log.limit base spot l.reader (g.G.Guarding.kept l.guards) l.store l.current (g.O.Sink.taken l.fn.out) (g.O.Sink.taken l.out)
       (RunsOn g.D.Disk.tells g.D.Disk.moment g.D.Disk.left_since g.D.Disk.seen g.D.Disk.pending l.fn.disk l.disk None None l.current l.fn.store l.store));
   ahead : IfTold (g.I.Inputs.told l.inputs) l.reader.name (HasAhead l.reader);
 }

@@ -3,8 +3,15 @@ use Rattle.std.specs.String.{string_bytes}
 use Rattle.std.proofs.Common.{sym, subst, ◌∙◌}
 use Rattle.store_model.specs.Requests.{store_of, reads_store}
 use Rattle.send_top.specs.Requests.{streams_meant}
-use Rattle.send_top.proofs.StreamsAnswers.{unread_store, outcome_done, composed_over, composed_alone, exported_over, exported_alone}
+use Rattle.send_top.proofs.StreamsAnswers.{unread_store, nothing_read, outcome_done, composed_over, composed_alone, exported_over, exported_alone}
 use Rattle.send_top.proofs.on_streams.streams_answer.Goals as goal
+
+-- ---- there is no memory for the files
+
+pub returns-in_default-clause-answered : goal.returns-in_default-clause-answered
+returns-in_default-clause-answered g c =
+    let words : List (List ℕ) = map string_bytes c.args.words.now in
+    nothing_read g.D.Disk.tells (g.I.Inputs.told c.args.inputs.now) words (streams_meant words c.args.request) (g.O.Sink.taken c.args.out.now) (g.D.Disk.seen c.args.disk.now)
 
 -- ---- a store is read
 

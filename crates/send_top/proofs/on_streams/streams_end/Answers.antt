@@ -7,19 +7,37 @@ use Rattle.sx_base.specs.Calls.{FoundChanged, IfAllTold, Wrote, Ends}
 use Rattle.sx_base.proofs.Ended.{steady_anyway}
 use Rattle.send_model.specs.Attribute.{IsBytes}
 use Rattle.send_model.specs.Exported.{IsExported}
-use Rattle.send_model.specs.Headline.{IsComposed}
+use Rattle.send_model.specs.Headline.{IsComposedOf}
+use Rattle.send_model.specs.Reading.{input}
+use Rattle.send_model.specs.Renamed.{Names, renamed}
+use Rattle.word_model.specs.NameWords.{files_in, names_in}
+use Rattle.part_names.specs.Naming.{sources_named, EndsOf}
 use Rattle.send_model.specs.Store.{Store}
 use Rattle.send_model.specs.Guards.{GuardSpec}
-use Rattle.send_model.specs.Words.{Compose, Audit, Dump, Export, new_guards}
+use Rattle.send_model.specs.Words.{Compose, Audit, Dump, Export, Gen, Trial, new_guards}
 use Rattle.extent_map.specs.declared.nowhere.Nowhere.{Nowhere}
 use Rattle.composer.specs.Files as composing
 use Rattle.auditor.specs.Following.{blank}
 use Rattle.auditor.specs.Answers.{AuditEnds}
-use Rattle.send_top.specs.Requests.{guards_in, before_store, streams_specs, streams_meant}
-use Rattle.send_top.proofs.StreamsEnds.{following, read_of, of_one_file, composed_ends, headline, audits, dumps, exports, caused_unread, of_names, files_of_compose, files_of_export}
+use Rattle.send_top.specs.Requests.{guards_in, before_store, streams_specs, streams_meant, HasGiven, IsGivenAt}
+use Rattle.send_top.proofs.StreamsEnds.{following, read_of, of_one_file, composed_ends, headline, audits, dumps, exports, unnamed_ends, caused_unread, of_names, given_files, given_names, files_of_compose, files_of_export}
 use Rattle.send_model.proofs.ExportedStreams.{none_can}
 use Rattle.store_words.proofs.ExportAnswers.{map_some, promised}
+use Rattle.send_top.proofs.on_streams.streams_end.Given.{Over}
+use Rattle.send_top.proofs.on_streams.streams_end.Goals.{After-compose, After-audit}
 use Rattle.send_top.proofs.on_streams.streams_end.Goals as goal
+
+-- What the words give, of the request that is composed, and of the one that is checked.
+compose_given : (g : Over) (c : After-compose g) → IsGivenAt c.in-Compose.files (map string_bytes c.args.words.now) c.args.given.now
+compose_given g c = subst (λ r. HasGiven (streams_meant (map string_bytes c.args.words.now) r) (map string_bytes c.args.words.now) c.args.given.now) c.in-Compose.is c.requires.given
+
+audit_given : (g : Over) (c : After-audit g) → IsGivenAt c.in-Audit.files (map string_bytes c.args.words.now) c.args.given.now
+audit_given g c = subst (λ r. HasGiven (streams_meant (map string_bytes c.args.words.now) r) (map string_bytes c.args.words.now) c.args.given.now) c.in-Audit.is c.requires.given
+
+pub compose-requires : goal.compose-requires
+compose-requires g c =
+    let is = subst (λ r. HasGiven (streams_meant (map string_bytes c.args.words.now) r) (map string_bytes c.args.words.now) c.args.given.now) c.in-Compose.is c.requires.given in
+    record { some = λ none. is.some (sym c.files.ensures.files ∙ ap (map string_bytes) none) }
 
 pub returns-in-Compose-clause-composed : goal.returns-in-Compose-clause-composed
 returns-in-Compose-clause-composed g c done =
@@ -27,38 +45,57 @@ returns-in-Compose-clause-composed g c done =
     let old = g.O.Sink.taken c.args.out.now in
     let new = g.O.Sink.taken c.compose.new.out in
     let words : List (List ℕ) = map string_bytes c.args.words.now in
-    rw c.in-Compose.is (λ store at is. subst (λ (n : ℕ). IfAllTold told (drop n words) (λ files. Wrote old new (λ written. IsComposed [] files written)))
-    (files_of_compose c.in-Compose.store c.in-Compose.files store at is)
-    (following told (map string_bytes c.names_from.result.now) (drop c.in-Compose.files words)
-    (λ files. Wrote old new (composing.ComposeEnds [] files c.compose.result))
-    (λ files. Wrote old new (λ written. IsComposed [] files written))
-    (ap (map string_bytes) c.names_from.ensures.names ∙ sym (drop-map string_bytes c.in-Compose.files c.args.words.now))
-    (λ files. headline old new files c.compose.result done) c.compose.ensures.ends))
+    let files : List (List ℕ) = map string_bytes c.files.result.now in
+    let is = compose_given g (goal.at.returns-in-Compose-clause-composed g c).After-compose in
+    let names : Names = names_in (drop c.in-Compose.files words) in
+    rw c.in-Compose.is (λ store at same. subst (λ (n : ℕ). IfAllTold told (files_in (drop n words)) (λ bytes. Wrote old new (λ written. IsComposedOf [] (renamed (names_in (drop n words)) (input bytes)) written)))
+    (files_of_compose c.in-Compose.store c.in-Compose.files store at same)
+    (following told files (files_in (drop c.in-Compose.files words))
+    (λ bytes. Wrote old new (composing.ComposeEnds [] names bytes c.compose.result))
+    (λ bytes. Wrote old new (λ written. IsComposedOf [] (renamed names (input bytes)) written))
+    (c.files.ensures.files ∙ given_files c.in-Compose.files words c.args.given.now is)
+    (λ bytes. headline old new names bytes c.compose.result done)
+    (subst (λ (ns : Names). IfAllTold told files (λ bytes. Wrote old new (composing.ComposeEnds [] ns bytes c.compose.result)))
+    (c.names.ensures.names ∙ given_names c.in-Compose.files words c.args.given.now is) c.compose.ensures.ends)))
 
 pub returns-in-Compose-clause-ends : goal.returns-in-Compose-clause-ends
 returns-in-Compose-clause-ends g c =
+    let told = g.I.Inputs.told c.args.inputs.now in
     let old = g.O.Sink.taken c.args.out.now in
     let new = g.O.Sink.taken c.compose.new.out in
-    rw c.in-Compose.is (read_of (g.I.Inputs.told c.args.inputs.now) (map string_bytes c.names_from.result.now) (drop c.in-Compose.files (map string_bytes c.args.words.now))
-    (λ files. Wrote old new (composing.ComposeEnds [] files c.compose.result))
-    (λ files. Wrote old new (λ written. Ends (Compose c.in-Compose.store c.in-Compose.files) [] files c.compose.result written))
-    (ap (map string_bytes) c.names_from.ensures.names ∙ sym (drop-map string_bytes c.in-Compose.files c.args.words.now))
-    (map_some string_bytes c.names_from.result.now c.names_from.ensures.some)
-    (λ files. composed_ends old new files c.in-Compose.store c.in-Compose.files c.compose.result) c.compose.ensures.ends)
+    let words : List (List ℕ) = map string_bytes c.args.words.now in
+    let files : List (List ℕ) = map string_bytes c.files.result.now in
+    let is = compose_given g (goal.at.returns-in-Compose-clause-ends g c).After-compose in
+    let names : Names = names_in (drop c.in-Compose.files words) in
+    rw c.in-Compose.is (read_of told files (files_in (drop c.in-Compose.files words))
+    (λ bytes. Wrote old new (composing.ComposeEnds [] names bytes c.compose.result))
+    (λ bytes. Wrote old new (λ written. EndsOf (Compose c.in-Compose.store c.in-Compose.files) [] (sources_named names bytes) c.compose.result written))
+    (c.files.ensures.files ∙ given_files c.in-Compose.files words c.args.given.now is)
+    (λ none. is.some (sym c.files.ensures.files ∙ none))
+    (λ bytes. composed_ends old new names bytes c.in-Compose.store c.in-Compose.files c.compose.result)
+    (subst (λ (ns : Names). IfAllTold told files (λ bytes. Wrote old new (composing.ComposeEnds [] ns bytes c.compose.result)))
+    (c.names.ensures.names ∙ given_names c.in-Compose.files words c.args.given.now is) c.compose.ensures.ends))
 
 pub returns-in-Audit-clause-ends : goal.returns-in-Audit-clause-ends
 returns-in-Audit-clause-ends g c =
+    let told = g.I.Inputs.told c.args.inputs.now in
     let old = g.O.Sink.taken c.args.out.now in
     let new = g.O.Sink.taken c.audit.new.out in
-    let specs : List GuardSpec = guards_in (before_store (map string_bytes c.args.words.now) c.in-Audit.store) in
+    let words : List (List ℕ) = map string_bytes c.args.words.now in
+    let files : List (List ℕ) = map string_bytes c.files-in-Audit.result.now in
+    let is = audit_given g (goal.at.returns-in-Audit-clause-ends g c).After-audit in
+    let names : Names = names_in (drop c.in-Audit.files words) in
+    let specs : List GuardSpec = guards_in (before_store words c.in-Audit.store) in
     let guards = map (λ b. (goal.Guard-dyn g (b.vtable, b.value)).kept b.value) c.args.guards.now in
-    rw c.in-Audit.is (read_of (g.I.Inputs.told c.args.inputs.now) (map string_bytes c.names_from-names.result.now) (drop c.in-Audit.files (map string_bytes c.args.words.now))
-    (λ files. Wrote old new (AuditEnds [] guards files c.audit.result))
-    (λ files. Wrote old new (λ written. Ends (Audit specs c.in-Audit.store c.in-Audit.files) [] files c.audit.result written))
-    (ap (map string_bytes) c.names_from-names.ensures.names ∙ sym (drop-map string_bytes c.in-Audit.files c.args.words.now))
-    (map_some string_bytes c.names_from-names.result.now c.names_from-names.ensures.some)
-    (λ files. audits old new files guards specs c.in-Audit.store c.in-Audit.files c.audit.result (subst (λ r. guards ≡ new_guards (streams_specs (streams_meant (map string_bytes c.args.words.now) r))) c.in-Audit.is c.requires.fits))
-    (c.audit.ensures.audited [] (ap (λ (s : Store (Option Nowhere)). blank s) c.new-core.ensures)))
+    rw c.in-Audit.is (read_of told files (files_in (drop c.in-Audit.files words))
+    (λ bytes. Wrote old new (AuditEnds [] guards names bytes c.audit.result))
+    (λ bytes. Wrote old new (λ written. EndsOf (Audit specs c.in-Audit.store c.in-Audit.files) [] (sources_named names bytes) c.audit.result written))
+    (c.files-in-Audit.ensures.files ∙ given_files c.in-Audit.files words c.args.given.now is)
+    (λ none. is.some (sym c.files-in-Audit.ensures.files ∙ none))
+    (λ bytes. audits old new names bytes guards specs c.in-Audit.store c.in-Audit.files c.audit.result (subst (λ r. guards ≡ new_guards (streams_specs (streams_meant words r))) c.in-Audit.is c.requires.fits))
+    (subst (λ (ns : Names). IfAllTold told files (λ bytes. Wrote old new (AuditEnds [] guards ns bytes c.audit.result)))
+    (c.names-names.ensures.names ∙ given_names c.in-Audit.files words c.args.given.now is)
+    (c.audit.ensures.audited [] (ap (λ (s : Store (Option Nowhere)). blank s) c.new-core.ensures))))
 
 pub returns-in-Dump-clause-ends : goal.returns-in-Dump-clause-ends
 returns-in-Dump-clause-ends g c =
@@ -70,25 +107,25 @@ returns-in-Export-clause-exported g c done =
     let new = g.O.Sink.taken c.export.new.out in
     let told = g.I.Inputs.told c.args.inputs.now in
     let words : List (List ℕ) = map string_bytes c.args.words.now in
-    let names : List (List ℕ) = map string_bytes c.names_from-in-Export.result.now in
+    let names : List (List ℕ) = map string_bytes c.names_from.result.now in
     let same = ap (λ (s : Store (Option Nowhere)). blank s) c.new-core-in-Export.ensures in
     rw c.in-Export.is (λ store at is. subst (λ (n : ℕ). IfAllTold told (drop n words) (λ files. Wrote old new (λ written. AllByRecursion IsBytes files → IsExported [] files written)))
     (files_of_export c.in-Export.store c.in-Export.files store at is)
     (of_names told names (drop c.in-Export.files words)
     (λ files. Wrote old new (λ written. AllByRecursion IsBytes files → IsExported [] files written))
-    (ap (map string_bytes) c.names_from-in-Export.ensures.names ∙ sym (drop-map string_bytes c.in-Export.files c.args.words.now))
-    (promised [] none_can told names old new c.export.result (map_some string_bytes c.names_from-in-Export.result.now c.names_from-in-Export.ensures.some) done
+    (ap (map string_bytes) c.names_from.ensures.names ∙ sym (drop-map string_bytes c.in-Export.files c.args.words.now))
+    (promised [] none_can told names old new c.export.result (map_some string_bytes c.names_from.result.now c.names_from.ensures.some) done
     (c.export.ensures.exported [] same) (c.export.ensures.small [] same))))
 
 pub returns-in-Export-clause-ends : goal.returns-in-Export-clause-ends
 returns-in-Export-clause-ends g c =
     let old = g.O.Sink.taken c.args.out.now in
     let new = g.O.Sink.taken c.export.new.out in
-    rw c.in-Export.is (read_of (g.I.Inputs.told c.args.inputs.now) (map string_bytes c.names_from-in-Export.result.now) (drop c.in-Export.files (map string_bytes c.args.words.now))
+    rw c.in-Export.is (read_of (g.I.Inputs.told c.args.inputs.now) (map string_bytes c.names_from.result.now) (drop c.in-Export.files (map string_bytes c.args.words.now))
     (λ files. Wrote old new (λ written. Ends (Export 0 0) [] files c.export.result written))
-    (λ files. Wrote old new (λ written. Ends (Export c.in-Export.store c.in-Export.files) [] files c.export.result written))
-    (ap (map string_bytes) c.names_from-in-Export.ensures.names ∙ sym (drop-map string_bytes c.in-Export.files c.args.words.now))
-    (map_some string_bytes c.names_from-in-Export.result.now c.names_from-in-Export.ensures.some)
+    (λ files. Wrote old new (λ written. EndsOf (Export c.in-Export.store c.in-Export.files) [] (sources_named [] files) c.export.result written))
+    (ap (map string_bytes) c.names_from.ensures.names ∙ sym (drop-map string_bytes c.in-Export.files c.args.words.now))
+    (map_some string_bytes c.names_from.result.now c.names_from.ensures.some)
     (λ files. exports old new files c.in-Export.store c.in-Export.files c.export.result)
     (c.export.ensures.exported [] (ap (λ (s : Store (Option Nowhere)). blank s) c.new-core-in-Export.ensures)))
 
@@ -100,8 +137,9 @@ returns-in-Gen-clause-cause g c = rw c.in-Gen.is (caused_unread (g.I.Inputs.faul
 
 pub returns-in-Compose-clause-changed : goal.returns-in-Compose-clause-changed
 returns-in-Compose-clause-changed g c =
+    let is = compose_given g (goal.at.returns-in-Compose-clause-changed g c).After-compose in
     rw c.in-Compose.is (subst (λ (names : List (List ℕ)). FoundChanged names (g.I.Inputs.last_end c.compose.new.inputs) c.compose.result)
-    (ap (map string_bytes) c.names_from.ensures.names ∙ sym (drop-map string_bytes c.in-Compose.files c.args.words.now)) c.compose.ensures.changed)
+    (c.files.ensures.files ∙ given_files c.in-Compose.files (map string_bytes c.args.words.now) c.args.given.now is) c.compose.ensures.changed)
 
 pub returns-in-Gen-clause-steady : goal.returns-in-Gen-clause-steady
 returns-in-Gen-clause-steady g c = steady_anyway _ _ c.write_chain.result refl
@@ -114,3 +152,11 @@ returns-in-Trial-clause-steady g c = steady_anyway _ _ c.write_trial.result refl
 
 pub returns-in-Trial-clause-ends_steady : goal.returns-in-Trial-clause-ends_steady
 returns-in-Trial-clause-ends_steady g c = steady_anyway _ _ c.write_trial.result refl
+
+pub returns-in-Gen-clause-ends : goal.returns-in-Gen-clause-ends
+returns-in-Gen-clause-ends g c =
+    rw c.in-Gen.is (unnamed_ends (g.O.Sink.taken c.args.out.now) (g.O.Sink.taken c.write_chain.new.out) [] (Gen c.in-Gen.count c.in-Gen.seed) c.write_chain.result c.write_chain.ensures.written)
+
+pub returns-in-Trial-clause-ends : goal.returns-in-Trial-clause-ends
+returns-in-Trial-clause-ends g c =
+    rw c.in-Trial.is (unnamed_ends (g.O.Sink.taken c.args.out.now) (g.O.Sink.taken c.write_trial.new.out) [] (Trial c.in-Trial.count c.in-Trial.seed) c.write_trial.result c.write_trial.ensures.written)

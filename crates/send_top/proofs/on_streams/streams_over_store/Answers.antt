@@ -6,11 +6,12 @@ use Rattle.std.proofs.lemmas.List.{drop-map}
 use Rattle.send_model.specs.Attribute.{IsBytes}
 use Rattle.send_model.specs.Exported.{IsExported}
 use Rattle.send_model.specs.Guards.{Guard, GuardSpec}
-use Rattle.send_model.specs.Headline.{IsComposed}
-use Rattle.send_model.specs.Outside.{base}
+use Rattle.send_model.specs.Renamed.{Names}
 use Rattle.send_model.specs.Store.{Store}
 use Rattle.send_model.specs.Words.{Compose, Audit, Export, new_guards}
 use Rattle.store_model.specs.Stored.{StandsFor}
+use Rattle.store_model.specs.NamedFiles.{unnamed}
+use Rattle.word_model.specs.NameWords.{files_in, names_in}
 use Rattle.store_model.specs.Requests.{OfStreams, store_of, reads_store}
 use Rattle.store_model.specs.Answers.{Answer, Answers}
 use Rattle.sx_base.specs.Calls.{IfAllTold, Wrote}
@@ -19,54 +20,82 @@ use Rattle.store_words.specs.declared.ends.StoreEnd.TheVariants.{Ends}
 use Rattle.store_words.proofs.ExportAnswers.{map_some}
 use Rattle.store_base.specs.Ending.{ChangeFound}
 use Rattle.send_top.specs.Answered.{answer_of}
-use Rattle.send_top.specs.Requests.{before_store, guards_in, streams_meant, streams_specs}
-use Rattle.send_top.proofs.StreamsEnds.{following, read_of, files_of_compose, files_of_export}
+use Rattle.send_top.specs.Requests.{before_store, guards_in, streams_meant, streams_specs, HasGiven, IsGivenAt}
+use Rattle.send_top.specs.Run.{IsComposedFor}
+use Rattle.send_top.proofs.StreamsEnds.{following, read_of, given_files, given_names, files_of_compose, files_of_export}
 use Rattle.send_top.proofs.StreamsAnswers.{end_done, change_found}
+use Rattle.send_top.proofs.on_streams.streams_over_store.Given.{Over}
+use Rattle.send_top.proofs.on_streams.streams_over_store.Goals.{After-compose_store, After-audit_store}
 use Rattle.send_top.proofs.on_streams.streams_over_store.Goals as goal
 
 -- ---- composing
+
+-- What the words give, of the request that is composed, and of the one that is checked.
+compose_given : (g : Over) (c : After-compose_store g) → IsGivenAt c.in-Compose.files (map string_bytes c.args.words.now) c.args.given.now
+compose_given g c = subst (λ r. HasGiven (streams_meant (map string_bytes c.args.words.now) r) (map string_bytes c.args.words.now) c.args.given.now) c.in-Compose.is c.requires.given
+
+audit_given : (g : Over) (c : After-audit_store g) → IsGivenAt c.in-Audit.files (map string_bytes c.args.words.now) c.args.given.now
+audit_given g c = subst (λ r. HasGiven (streams_meant (map string_bytes c.args.words.now) r) (map string_bytes c.args.words.now) c.args.given.now) c.in-Audit.is c.requires.given
+
+pub compose_store-requires : goal.compose_store-requires
+compose_store-requires g c =
+    let is = subst (λ r. HasGiven (streams_meant (map string_bytes c.args.words.now) r) (map string_bytes c.args.words.now) c.args.given.now) c.in-Compose.is c.requires.given in
+    record { some = λ none. is.some (sym c.files.ensures.files ∙ ap (map string_bytes) none) }
 
 pub returns-in-Compose-clause-answered : goal.returns-in-Compose-clause-answered
 returns-in-Compose-clause-answered g c =
     let words : List (List ℕ) = map string_bytes c.args.words.now in
     let told = g.I.Inputs.told c.args.inputs.now in
-    let names : List (List ℕ) = map string_bytes c.names_from-names.result.now in
+    let files : List (List ℕ) = map string_bytes c.files.result.now in
     let old = g.O.Sink.taken c.args.out.now in
     let new = g.O.Sink.taken c.compose_store.new.out in
     let image : List ℕ = g.D.Disk.seen c.args.disk.now in
     let left : List ℕ = g.D.Disk.seen c.compose_store.new.disk in
+    let is = compose_given g (goal.at.returns-in-Compose-clause-answered g c).After-compose_store in
+    let names : Names = names_in (drop c.in-Compose.files words) in
     let reads : reads_store words (Some c.in-Compose.store) ≡ true = subst (λ r. reads_store words (store_of (streams_meant words r)) ≡ true) c.in-Compose.is c.requires.reads in
-    rw c.in-Compose.is (λ tells. read_of told names (drop c.in-Compose.files words)
-    (λ files. Wrote old new (λ written. (words : List (List ℕ)) (store at : ℕ) → reads_store words (Some store) ≡ true → Answers (OfStreams (Compose store at)) words image files (answer_of c.answer_by.result) written left))
-    (λ files. Wrote old new (λ written. Answers (OfStreams (Compose c.in-Compose.store c.in-Compose.files)) words image files (answer_of c.answer_by.result) written left))
-    (ap (map string_bytes) c.names_from-names.ensures.names ∙ sym (drop-map string_bytes c.in-Compose.files c.args.words.now))
-    (map_some string_bytes c.names_from-names.result.now c.names_from-names.ensures.some)
-    (λ files w. (w.0, w.1, w.2 words c.in-Compose.store c.in-Compose.files reads))
-    (subst (λ (a : Answer). IfAllTold told names (λ files. Wrote old new (λ written. (words : List (List ℕ)) (store at : ℕ) → reads_store words (Some store) ≡ true → Answers (OfStreams (Compose store at)) words image files a written left)))
-    (sym c.answer_by.ensures.answer) (c.compose_store.ensures.answered tells)))
+    rw c.in-Compose.is (λ tells. read_of told files (files_in (drop c.in-Compose.files words))
+    (λ bytes. Wrote old new (λ written. (words : List (List ℕ)) (store at : ℕ) → reads_store words (Some store) ≡ true
+    → Answers (OfStreams (Compose store at)) words image (record { bytes = bytes; names = names }) (answer_of c.answer_by.result) written left))
+    (λ bytes. Wrote old new (λ written. Answers (OfStreams (Compose c.in-Compose.store c.in-Compose.files)) words image (record { bytes = bytes; names = names }) (answer_of c.answer_by.result) written left))
+    (c.files.ensures.files ∙ given_files c.in-Compose.files words c.args.given.now is)
+    (λ none. is.some (sym c.files.ensures.files ∙ none))
+    (λ bytes w. (w.0, w.1, w.2 words c.in-Compose.store c.in-Compose.files reads))
+    (subst (λ (ns : Names). IfAllTold told files (λ bytes. Wrote old new (λ written. (words : List (List ℕ)) (store at : ℕ) → reads_store words (Some store) ≡ true
+    → Answers (OfStreams (Compose store at)) words image (record { bytes = bytes; names = ns }) (answer_of c.answer_by.result) written left)))
+    (c.names.ensures.names ∙ given_names c.in-Compose.files words c.args.given.now is)
+    (subst (λ (a : Answer). IfAllTold told files (λ bytes. Wrote old new (λ written. (words : List (List ℕ)) (store at : ℕ) → reads_store words (Some store) ≡ true
+    → Answers (OfStreams (Compose store at)) words image (record { bytes = bytes; names = c.names.result.now }) a written left)))
+    (sym c.answer_by.ensures.answer) (c.compose_store.ensures.answered tells))))
 
 pub returns-in-Compose-clause-composed : goal.returns-in-Compose-clause-composed
 returns-in-Compose-clause-composed g c =
     let words : List (List ℕ) = map string_bytes c.args.words.now in
     let told = g.I.Inputs.told c.args.inputs.now in
-    let names : List (List ℕ) = map string_bytes c.names_from-names.result.now in
+    let files : List (List ℕ) = map string_bytes c.files.result.now in
     let old = g.O.Sink.taken c.args.out.now in
     let new = g.O.Sink.taken c.compose_store.new.out in
     let image : List ℕ = g.D.Disk.seen c.args.disk.now in
-    rw c.in-Compose.is (λ tells done store at is. subst (λ (n : ℕ). IfAllTold told (drop n words) (λ files. Wrote old new (λ written. (s : Store ℕ) → StandsFor image s → IsComposed (base s files) files written)))
-    (files_of_compose c.in-Compose.store c.in-Compose.files store at is)
-    (following told names (drop c.in-Compose.files words)
-    (λ files. Wrote old new (λ written. c.compose_store.result ≡ Ends Done → (s : Store ℕ) → StandsFor image s → IsComposed (base s files) files written))
-    (λ files. Wrote old new (λ written. (s : Store ℕ) → StandsFor image s → IsComposed (base s files) files written))
-    (ap (map string_bytes) c.names_from-names.ensures.names ∙ sym (drop-map string_bytes c.in-Compose.files c.args.words.now))
-    (λ files w. (w.0, w.1, w.2 (end_done c.compose_store.result (answer_of c.answer_by.result) c.answer_by.ensures.answer done)))
-    (c.compose_store.ensures.composed tells)))
+    let is = compose_given g (goal.at.returns-in-Compose-clause-composed g c).After-compose_store in
+    let names : Names = names_in (drop c.in-Compose.files words) in
+    rw c.in-Compose.is (λ tells done store at same.
+    subst (λ (n : ℕ). IfAllTold told (files_in (drop n words)) (λ bytes. Wrote old new (λ written. (s : Store ℕ) → StandsFor image s → IsComposedFor s (names_in (drop n words)) bytes written)))
+    (files_of_compose c.in-Compose.store c.in-Compose.files store at same)
+    (following told files (files_in (drop c.in-Compose.files words))
+    (λ bytes. Wrote old new (λ written. c.compose_store.result ≡ Ends Done → (s : Store ℕ) → StandsFor image s → IsComposedFor s names bytes written))
+    (λ bytes. Wrote old new (λ written. (s : Store ℕ) → StandsFor image s → IsComposedFor s names bytes written))
+    (c.files.ensures.files ∙ given_files c.in-Compose.files words c.args.given.now is)
+    (λ bytes w. (w.0, w.1, w.2 (end_done c.compose_store.result (answer_of c.answer_by.result) c.answer_by.ensures.answer done)))
+    (subst (λ (ns : Names). IfAllTold told files (λ bytes. Wrote old new (λ written. c.compose_store.result ≡ Ends Done → (s : Store ℕ) → StandsFor image s → IsComposedFor s ns bytes written)))
+    (c.names.ensures.names ∙ given_names c.in-Compose.files words c.args.given.now is) (c.compose_store.ensures.composed tells))))
 
 pub returns-in-Compose-clause-changed_at : goal.returns-in-Compose-clause-changed_at
 returns-in-Compose-clause-changed_at g c =
-    rw c.in-Compose.is (change_found (drop c.in-Compose.files (map string_bytes c.args.words.now)) (g.I.Inputs.last_end c.compose_store.new.inputs) c.compose_store.result (answer_of c.answer_by.result) c.answer_by.ensures.answer
+    let is = compose_given g (goal.at.returns-in-Compose-clause-changed_at g c).After-compose_store in
+    let words : List (List ℕ) = map string_bytes c.args.words.now in
+    rw c.in-Compose.is (change_found (files_in (drop c.in-Compose.files words)) (g.I.Inputs.last_end c.compose_store.new.inputs) c.compose_store.result (answer_of c.answer_by.result) c.answer_by.ensures.answer
     (subst (λ (names : List (List ℕ)). ChangeFound names (g.I.Inputs.last_end c.compose_store.new.inputs) c.compose_store.result)
-    (ap (map string_bytes) c.names_from-names.ensures.names ∙ sym (drop-map string_bytes c.in-Compose.files c.args.words.now)) c.compose_store.ensures.changed))
+    (c.files.ensures.files ∙ given_files c.in-Compose.files words c.args.given.now is) c.compose_store.ensures.changed))
 
 -- ---- checking
 
@@ -74,24 +103,30 @@ pub returns-in-Audit-clause-answered : goal.returns-in-Audit-clause-answered
 returns-in-Audit-clause-answered g c =
     let words : List (List ℕ) = map string_bytes c.args.words.now in
     let told = g.I.Inputs.told c.args.inputs.now in
-    let names : List (List ℕ) = map string_bytes c.names_from-names-in-Audit.result.now in
+    let files : List (List ℕ) = map string_bytes c.files-in-Audit.result.now in
     let guards : List Guard = map (λ b. (goal.Guard-dyn g (b.vtable, b.value)).kept b.value) c.args.guards.now in
     let specs : List GuardSpec = guards_in (before_store words c.in-Audit.store) in
     let old = g.O.Sink.taken c.args.out.now in
     let new = g.O.Sink.taken c.audit_store.new.out in
     let image : List ℕ = g.D.Disk.seen c.args.disk.now in
     let left : List ℕ = g.D.Disk.seen c.audit_store.new.disk in
+    let is = audit_given g (goal.at.returns-in-Audit-clause-answered g c).After-audit_store in
+    let names : Names = names_in (drop c.in-Audit.files words) in
     let reads : reads_store words (Some c.in-Audit.store) ≡ true = subst (λ r. reads_store words (store_of (streams_meant words r)) ≡ true) c.in-Audit.is c.requires.reads in
     let fits : guards ≡ new_guards specs = subst (λ r. guards ≡ new_guards (streams_specs (streams_meant words r))) c.in-Audit.is c.requires.fits in
-    rw c.in-Audit.is (λ tells. read_of told names (drop c.in-Audit.files words)
-    (λ files. Wrote old new (λ written. (words : List (List ℕ)) (specs : List GuardSpec) (store at : ℕ) → reads_store words (Some store) ≡ true → guards ≡ new_guards specs
-    → Answers (OfStreams (Audit specs store at)) words image files (answer_of c.answer_by-in-Audit.result) written left))
-    (λ files. Wrote old new (λ written. Answers (OfStreams (Audit specs c.in-Audit.store c.in-Audit.files)) words image files (answer_of c.answer_by-in-Audit.result) written left))
-    (ap (map string_bytes) c.names_from-names-in-Audit.ensures.names ∙ sym (drop-map string_bytes c.in-Audit.files c.args.words.now))
-    (map_some string_bytes c.names_from-names-in-Audit.result.now c.names_from-names-in-Audit.ensures.some)
-    (λ files w. (w.0, w.1, w.2 words specs c.in-Audit.store c.in-Audit.files reads fits))
-    (subst (λ (a : Answer). IfAllTold told names (λ files. Wrote old new (λ written. (words : List (List ℕ)) (specs : List GuardSpec) (store at : ℕ) → reads_store words (Some store) ≡ true → guards ≡ new_guards specs
-    → Answers (OfStreams (Audit specs store at)) words image files a written left))) (sym c.answer_by-in-Audit.ensures.answer) (c.audit_store.ensures.answered tells)))
+    rw c.in-Audit.is (λ tells. read_of told files (files_in (drop c.in-Audit.files words))
+    (λ bytes. Wrote old new (λ written. (words : List (List ℕ)) (specs : List GuardSpec) (store at : ℕ) → reads_store words (Some store) ≡ true → guards ≡ new_guards specs
+    → Answers (OfStreams (Audit specs store at)) words image (record { bytes = bytes; names = names }) (answer_of c.answer_by-in-Audit.result) written left))
+    (λ bytes. Wrote old new (λ written. Answers (OfStreams (Audit specs c.in-Audit.store c.in-Audit.files)) words image (record { bytes = bytes; names = names }) (answer_of c.answer_by-in-Audit.result) written left))
+    (c.files-in-Audit.ensures.files ∙ given_files c.in-Audit.files words c.args.given.now is)
+    (λ none. is.some (sym c.files-in-Audit.ensures.files ∙ none))
+    (λ bytes w. (w.0, w.1, w.2 words specs c.in-Audit.store c.in-Audit.files reads fits))
+    (subst (λ (ns : Names). IfAllTold told files (λ bytes. Wrote old new (λ written. (words : List (List ℕ)) (specs : List GuardSpec) (store at : ℕ) → reads_store words (Some store) ≡ true → guards ≡ new_guards specs
+    → Answers (OfStreams (Audit specs store at)) words image (record { bytes = bytes; names = ns }) (answer_of c.answer_by-in-Audit.result) written left)))
+    (c.names-names.ensures.names ∙ given_names c.in-Audit.files words c.args.given.now is)
+    (subst (λ (a : Answer). IfAllTold told files (λ bytes. Wrote old new (λ written. (words : List (List ℕ)) (specs : List GuardSpec) (store at : ℕ) → reads_store words (Some store) ≡ true → guards ≡ new_guards specs
+    → Answers (OfStreams (Audit specs store at)) words image (record { bytes = bytes; names = c.names-names.result.now }) a written left)))
+    (sym c.answer_by-in-Audit.ensures.answer) (c.audit_store.ensures.answered tells))))
 
 -- ---- exporting
 
@@ -99,26 +134,26 @@ pub returns-in-Export-clause-answered : goal.returns-in-Export-clause-answered
 returns-in-Export-clause-answered g c =
     let words : List (List ℕ) = map string_bytes c.args.words.now in
     let told = g.I.Inputs.told c.args.inputs.now in
-    let names : List (List ℕ) = map string_bytes c.names_from-names-in-Export.result.now in
+    let names : List (List ℕ) = map string_bytes c.names_from-names.result.now in
     let old = g.O.Sink.taken c.args.out.now in
     let new = g.O.Sink.taken c.export_store.new.out in
     let image : List ℕ = g.D.Disk.seen c.args.disk.now in
     let left : List ℕ = g.D.Disk.seen c.export_store.new.disk in
     let reads : reads_store words (Some c.in-Export.store) ≡ true = subst (λ r. reads_store words (store_of (streams_meant words r)) ≡ true) c.in-Export.is c.requires.reads in
     rw c.in-Export.is (λ tells. read_of told names (drop c.in-Export.files words)
-    (λ files. Wrote old new (λ written. (words : List (List ℕ)) (store at : ℕ) → reads_store words (Some store) ≡ true → Answers (OfStreams (Export store at)) words image files (answer_of c.answer_by-in-Export.result) written left))
-    (λ files. Wrote old new (λ written. Answers (OfStreams (Export c.in-Export.store c.in-Export.files)) words image files (answer_of c.answer_by-in-Export.result) written left))
-    (ap (map string_bytes) c.names_from-names-in-Export.ensures.names ∙ sym (drop-map string_bytes c.in-Export.files c.args.words.now))
-    (map_some string_bytes c.names_from-names-in-Export.result.now c.names_from-names-in-Export.ensures.some)
+    (λ files. Wrote old new (λ written. (words : List (List ℕ)) (store at : ℕ) → reads_store words (Some store) ≡ true → Answers (OfStreams (Export store at)) words image (unnamed files) (answer_of c.answer_by-in-Export.result) written left))
+    (λ files. Wrote old new (λ written. Answers (OfStreams (Export c.in-Export.store c.in-Export.files)) words image (unnamed files) (answer_of c.answer_by-in-Export.result) written left))
+    (ap (map string_bytes) c.names_from-names.ensures.names ∙ sym (drop-map string_bytes c.in-Export.files c.args.words.now))
+    (map_some string_bytes c.names_from-names.result.now c.names_from-names.ensures.some)
     (λ files w. (w.0, w.1, w.2 words c.in-Export.store c.in-Export.files reads))
-    (subst (λ (a : Answer). IfAllTold told names (λ files. Wrote old new (λ written. (words : List (List ℕ)) (store at : ℕ) → reads_store words (Some store) ≡ true → Answers (OfStreams (Export store at)) words image files a written left)))
+    (subst (λ (a : Answer). IfAllTold told names (λ files. Wrote old new (λ written. (words : List (List ℕ)) (store at : ℕ) → reads_store words (Some store) ≡ true → Answers (OfStreams (Export store at)) words image (unnamed files) a written left)))
     (sym c.answer_by-in-Export.ensures.answer) (c.export_store.ensures.answered tells)))
 
 pub returns-in-Export-clause-exported : goal.returns-in-Export-clause-exported
 returns-in-Export-clause-exported g c =
     let words : List (List ℕ) = map string_bytes c.args.words.now in
     let told = g.I.Inputs.told c.args.inputs.now in
-    let names : List (List ℕ) = map string_bytes c.names_from-names-in-Export.result.now in
+    let names : List (List ℕ) = map string_bytes c.names_from-names.result.now in
     let old = g.O.Sink.taken c.args.out.now in
     let new = g.O.Sink.taken c.export_store.new.out in
     let image : List ℕ = g.D.Disk.seen c.args.disk.now in
@@ -127,6 +162,6 @@ returns-in-Export-clause-exported g c =
     (following told names (drop c.in-Export.files words)
     (λ files. Wrote old new (λ written. c.export_store.result ≡ Ends Done → (s : Store ℕ) → StandsFor image s → AllByRecursion IsBytes files → IsExported s files written))
     (λ files. Wrote old new (λ written. (s : Store ℕ) → StandsFor image s → AllByRecursion IsBytes files → IsExported s files written))
-    (ap (map string_bytes) c.names_from-names-in-Export.ensures.names ∙ sym (drop-map string_bytes c.in-Export.files c.args.words.now))
+    (ap (map string_bytes) c.names_from-names.ensures.names ∙ sym (drop-map string_bytes c.in-Export.files c.args.words.now))
     (λ files w. (w.0, w.1, w.2 (end_done c.export_store.result (answer_of c.answer_by-in-Export.result) c.answer_by-in-Export.ensures.answer done)))
     (c.export_store.ensures.exported tells)))

@@ -5,7 +5,9 @@ use Rattle.std.proofs.Common.{sym, ap, subst, ◌∙◌}
 use Rattle.std.proofs.KnownBytes.{Appends-nil}
 use Rattle.send_model.specs.Attribute.{IsBytes}
 use Rattle.send_model.specs.Words.{new_guards}
+use Rattle.store_model.specs.NamedFiles.{unnamed}
 use Rattle.store_model.specs.Requests.{DropEntry, word_at}
+use Rattle.word_model.specs.NameWords.{files_in}
 use Rattle.store_model.specs.Answers.{Answer, Answers}
 use Rattle.word_model.specs.AllRequests.{TurnFiles}
 use Rattle.sent_model.specs.Sent.{sent_stream}
@@ -18,7 +20,7 @@ use Rattle.turn_sessions.specs.Leaving.{LeftByTurns}
 use Rattle.store_words.specs.Receiving.{LeftByReceive}
 use Rattle.sx_base.specs.Calls.{IfAllTold, Wrote}
 use Rattle.sx_base.specs.Disk.{IsImage}
-use Rattle.send_top.specs.Requests.{before_store, guards_in, places_in, turns_in}
+use Rattle.send_top.specs.Requests.{before_store, guards_in, places_in, turns_in, with_names}
 use Rattle.send_top.proofs.ReceiveAnswers.{of_same, of_same_turns}
 use Rattle.send_top.proofs.over_store.store_answer.Goals as goal
 
@@ -28,7 +30,7 @@ returns-in-Drop-clause-answered g c =
     rw c.in-Drop.is (λ tells. (
       [],
       Appends-nil (g.O.Sink.taken c.args.out.now),
-      subst (λ (a : Answer). Answers (DropEntry c.in-Drop.store c.in-Drop.name) words (g.D.Disk.seen c.args.disk.now) [] a [] (g.D.Disk.seen c.drop_entry.new.disk))
+      subst (λ (a : Answer). Answers (DropEntry c.in-Drop.store c.in-Drop.name) words (g.D.Disk.seen c.args.disk.now) (unnamed []) a [] (g.D.Disk.seen c.drop_entry.new.disk))
           (sym c.answer_by-in-Drop.ensures.answer) (c.drop_entry.ensures.answered tells words c.in-Drop.store c.in-Drop.name c.word_bytes-name.ensures.bytes),
     ))
 
@@ -45,8 +47,8 @@ returns-in-Receive-clause-acknowledged g c =
     let late = g.D.Disk.pending c.receive_answer.new.disk in
     let seen : List ℕ = g.D.Disk.seen c.args.disk.now in
     rw c.in-Receive.is (λ tells specs store at same.
-    of_same words (λ gs names. IfAllTold told names (λ files. Wrote old new (λ written. AllByRecursion IsBytes files
-    → (image : List ℕ) → IsImage late image → LeftByReceive early seen (new_guards gs) files written image)))
+    of_same words (λ gs left. IfAllTold told (files_in left) (λ files. Wrote old new (λ written. AllByRecursion IsBytes files
+    → (image : List ℕ) → IsImage late image → LeftByReceive early seen (new_guards gs) (with_names left files) written image)))
     (guards_in (before_store words c.in-Receive.store)) specs c.in-Receive.store c.in-Receive.files store at same (c.receive_answer.ensures.acknowledged tells))
 
 -- Words that read files, and words that print.

@@ -1,4 +1,4 @@
-use Rattle.std.specs.Prelude.{◌≡◌, ℕ, [], List, map, drop}
+use Rattle.std.specs.Prelude.{◌≡◌, ℕ, [], List, Option, None, true, is_some, map, drop}
 use Rattle.std.specs.String.{string_bytes}
 use Rattle.std.specs.List.{AllByRecursion}
 use Rattle.std.proofs.Common.{inl, refl, sym, ap, subst, ◌∙◌}
@@ -9,35 +9,81 @@ use Rattle.send_model.specs.Attribute.{IsBytes}
 use Rattle.send_model.specs.Guards.{Guard, GuardSpec}
 use Rattle.send_model.specs.Words.{new_guards}
 use Rattle.store_model.specs.Requests.{ReceiveFiles}
+use Rattle.send_model.specs.Renamed.{Names}
+use Rattle.word_model.specs.NameWords.{given_from, files_of, names_of, files_in, names_in}
 use Rattle.store_model.specs.Answers.{Answer, OfAnyWord, Answers}
 use Rattle.guard_rules.specs.AnyKind.{any_kept}
 use Rattle.sx_base.specs.Calls.{IfAllTold, Wrote}
 use Rattle.sx_base.specs.Crash.{LeavesOnly}
-use Rattle.sx_base.specs.Disk.{IsImage}
+use Rattle.sx_base.specs.Disk.{Pending, IsImage}
 use Rattle.store_words.specs.Receiving.{LeftByReceive}
 use Rattle.send_top.specs.Answered.{answer_of}
-use Rattle.send_top.specs.Requests.{before_store, guards_in}
-use Rattle.store_words.proofs.ExportAnswers.{map_some}
+use Rattle.send_top.specs.Requests.{before_store, guards_in, with_names}
+use Rattle.send_top.specs.Run.{IfAllRead}
 use Rattle.send_top.proofs.StreamsEnds.{following, read_of}
 use Rattle.send_top.proofs.ReceiveAnswers.{all_read, all_told, nothing_received}
 use Rattle.send_top.proofs.receiving.receive_answer.Given.{Over}
 use Rattle.send_top.proofs.receiving.receive_answer.Goals.{After-receive_store}
 use Rattle.send_top.proofs.receiving.receive_answer.Goals as goal
 
+-- There is no memory, and nothing was done.
+nothing_yet : (tells : Type 0) (told : Option (List (List ℕ × List ℕ))) (words : List (List ℕ)) (store files : ℕ) (out : Option (List ℕ)) (image : List ℕ)
+    → tells → IfAllRead told (files_in (drop files words))
+    (λ bytes. Wrote out out (λ written. AllByRecursion IsBytes bytes
+    → Answers (ReceiveFiles (guards_in (before_store words store)) store files) words image (with_names (drop files words) bytes) (OfAnyWord NoMemory) written image))
+nothing_yet tells told words store files out image t =
+    all_read told (files_in (drop files words))
+    (λ bytes. Wrote out out (λ written. AllByRecursion IsBytes bytes
+    → Answers (ReceiveFiles (guards_in (before_store words store)) store files) words image (with_names (drop files words) bytes) (OfAnyWord NoMemory) written image))
+    (λ bytes. ([], Appends-nil out, λ are. nothing_received (guards_in (before_store words store)) store files words image (with_names (drop files words) bytes)))
+
+none_acknowledged : (tells : Type 0) (told : Option (List (List ℕ × List ℕ))) (words : List (List ℕ)) (store files : ℕ) (out : Option (List ℕ)) (early : Pending) (seen : List ℕ)
+    → tells → IfAllTold told (files_in (drop files words))
+    (λ bytes. Wrote out out (λ written. AllByRecursion IsBytes bytes → (image : List ℕ) → IsImage early image
+    → LeftByReceive early seen (new_guards (guards_in (before_store words store))) (with_names (drop files words) bytes) written image))
+none_acknowledged tells told words store files out early seen t =
+    all_told told (files_in (drop files words))
+    (λ bytes. Wrote out out (λ written. AllByRecursion IsBytes bytes → (image : List ℕ) → IsImage early image
+    → LeftByReceive early seen (new_guards (guards_in (before_store words store))) (with_names (drop files words) bytes) written image))
+    (λ bytes. ([], Appends-nil out, λ are image is. inl (is, refl)))
+
 pub returns-in_default-clause-answered : goal.returns-in_default-clause-answered
-returns-in_default-clause-answered g c tells =
-    let words : List (List ℕ) = map string_bytes c.args.words.now in
-    let specs : List GuardSpec = guards_in (before_store words c.args.store) in
-    let out = g.O.Sink.taken c.args.out.now in
-    let image : List ℕ = g.D.Disk.seen c.args.disk.now in
-    all_read (g.I.Inputs.told c.args.inputs.now) (drop c.args.files words)
-    (λ bytes. Wrote out out (λ written. AllByRecursion IsBytes bytes → Answers (ReceiveFiles specs c.args.store c.args.files) words image bytes (OfAnyWord NoMemory) written image))
-    (λ bytes. ([], Appends-nil out, λ are. nothing_received specs c.args.store c.args.files words image bytes))
+returns-in_default-clause-answered g c =
+    nothing_yet g.D.Disk.tells (g.I.Inputs.told c.args.inputs.now) (map string_bytes c.args.words.now) c.args.store c.args.files (g.O.Sink.taken c.args.out.now) (g.D.Disk.seen c.args.disk.now)
+
+pub returns-in_default-clause-acknowledged : goal.returns-in_default-clause-acknowledged
+returns-in_default-clause-acknowledged g c =
+    none_acknowledged g.D.Disk.tells (g.I.Inputs.told c.args.inputs.now) (map string_bytes c.args.words.now) c.args.store c.args.files (g.O.Sink.taken c.args.out.now) (g.D.Disk.pending c.args.disk.now) (g.D.Disk.seen c.args.disk.now)
+
+pub returns-in_default-of-clause-answered : goal.returns-in_default-of-clause-answered
+returns-in_default-of-clause-answered g c =
+    nothing_yet g.D.Disk.tells (g.I.Inputs.told c.args.inputs.now) (map string_bytes c.args.words.now) c.args.store c.args.files (g.O.Sink.taken c.args.out.now) (g.D.Disk.seen c.args.disk.now)
+
+pub returns-in_default-of-clause-acknowledged : goal.returns-in_default-of-clause-acknowledged
+returns-in_default-of-clause-acknowledged g c =
+    none_acknowledged g.D.Disk.tells (g.I.Inputs.told c.args.inputs.now) (map string_bytes c.args.words.now) c.args.store c.args.files (g.O.Sink.taken c.args.out.now) (g.D.Disk.pending c.args.disk.now) (g.D.Disk.seen c.args.disk.now)
+
+pub of-requires : goal.of-requires
+of-requires g c = record {
+  given = subst (λ (ws : List (List ℕ)). is_some (given_from None ws) ≡ true)
+      (drop-map string_bytes c.args.files c.args.words.now ∙ sym (ap (map string_bytes) c.names_from.ensures.names)) c.requires.named;
+}
 
 -- The guards are those of the words.
 are_new : (g : Over) (c : After-receive_store g) → map any_kept c.new-guards.result.guards.items ≡ new_guards (guards_in (before_store (map string_bytes c.args.words.now) c.args.store))
 are_new g c =
     ap (map any_kept) c.new-guards.ensures ∙ c.in-Ok.ensures.kept ∙ ap (λ (ws : List (List ℕ)). new_guards (guards_in ws)) c.words_before.ensures
+
+-- The files are those of the words, and so are the names.
+files_are : (g : Over) (c : After-receive_store g) → map string_bytes c.files.result.now ≡ files_in (drop c.args.files (map string_bytes c.args.words.now))
+files_are g c =
+    c.files.ensures.files ∙ sym (ap files_of c.in-Ok-of.ensures.given)
+    ∙ ap files_in (ap (map string_bytes) c.names_from.ensures.names ∙ sym (drop-map string_bytes c.args.files c.args.words.now))
+
+names_are : (g : Over) (c : After-receive_store g) → c.names.result.now ≡ names_in (drop c.args.files (map string_bytes c.args.words.now))
+names_are g c =
+    c.names.ensures.names ∙ sym (ap names_of c.in-Ok-of.ensures.given)
+    ∙ ap names_in (ap (map string_bytes) c.names_from.ensures.names ∙ sym (drop-map string_bytes c.args.files c.args.words.now))
 
 pub returns-clause-answered : goal.returns-clause-answered
 returns-clause-answered g c tells =
@@ -48,63 +94,64 @@ returns-clause-answered g c tells =
     let new = g.O.Sink.taken c.receive_store.new.out in
     let image : List ℕ = g.D.Disk.seen c.args.disk.now in
     let left : List ℕ = g.D.Disk.seen c.receive_store.new.disk in
-    let names : List (List ℕ) = map string_bytes c.names_from-names.result.now in
+    let files : List (List ℕ) = map string_bytes c.files.result.now in
+    let names : Names = names_in (drop c.args.files words) in
     let guards : List Guard = map any_kept c.new-guards.result.guards.items in
-    let new_ones = are_new g (goal.at.returns-clause-answered g c).After-receive_store in
-    read_of told names (drop c.args.files words)
+    let at = (goal.at.returns-clause-answered g c).After-receive_store in
+    read_of told files (files_in (drop c.args.files words))
     (λ bytes. Wrote old new (λ written. (words : List (List ℕ)) (specs : List GuardSpec) (store at : ℕ) → AllByRecursion IsBytes bytes → guards ≡ new_guards specs
-    → Answers (ReceiveFiles specs store at) words image bytes (answer_of c.answer_by.result) written left))
-    (λ bytes. Wrote old new (λ written. AllByRecursion IsBytes bytes → Answers (ReceiveFiles specs c.args.store c.args.files) words image bytes (answer_of c.answer_by.result) written left))
-    (ap (map string_bytes) c.names_from-names.ensures.names ∙ sym (drop-map string_bytes c.args.files c.args.words.now))
-    (map_some string_bytes c.names_from-names.result.now c.names_from-names.ensures.some)
-    (λ bytes w. (w.0, w.1, λ are. w.2 words specs c.args.store c.args.files are new_ones))
-    (subst (λ (a : Answer). IfAllTold told names (λ bytes. Wrote old new (λ written. (words : List (List ℕ)) (specs : List GuardSpec) (store at : ℕ) → AllByRecursion IsBytes bytes → guards ≡ new_guards specs
-    → Answers (ReceiveFiles specs store at) words image bytes a written left))) (sym c.answer_by.ensures.answer) (c.receive_store.ensures.answered tells))
+    → Answers (ReceiveFiles specs store at) words image (record { bytes = bytes; names = names }) (answer_of c.answer_by.result) written left))
+    (λ bytes. Wrote old new (λ written. AllByRecursion IsBytes bytes
+    → Answers (ReceiveFiles specs c.args.store c.args.files) words image (record { bytes = bytes; names = names }) (answer_of c.answer_by.result) written left))
+    (files_are g at)
+    (λ none. c.in-Ok-of.ensures.some c.names_from.ensures.some (sym c.files.ensures.files ∙ none))
+    (λ bytes w. (w.0, w.1, λ are. w.2 words specs c.args.store c.args.files are (are_new g at)))
+    (subst (λ (ns : Names). IfAllTold told files (λ bytes. Wrote old new (λ written. (words : List (List ℕ)) (specs : List GuardSpec) (store at : ℕ) → AllByRecursion IsBytes bytes → guards ≡ new_guards specs
+    → Answers (ReceiveFiles specs store at) words image (record { bytes = bytes; names = ns }) (answer_of c.answer_by.result) written left))) (names_are g at)
+    (subst (λ (a : Answer). IfAllTold told files (λ bytes. Wrote old new (λ written. (words : List (List ℕ)) (specs : List GuardSpec) (store at : ℕ) → AllByRecursion IsBytes bytes → guards ≡ new_guards specs
+    → Answers (ReceiveFiles specs store at) words image (record { bytes = bytes; names = c.names.result.now }) a written left))) (sym c.answer_by.ensures.answer) (c.receive_store.ensures.answered tells)))
 
 pub returns-clause-any_moment : goal.returns-clause-any_moment
 returns-clause-any_moment g c tells =
     let words : List (List ℕ) = map string_bytes c.args.words.now in
-    let specs : List GuardSpec = guards_in (before_store words c.args.store) in
-    let names : List (List ℕ) = map string_bytes c.names_from-names.result.now in
+    let told = g.I.Inputs.told c.args.inputs.now in
+    let files : List (List ℕ) = map string_bytes c.files.result.now in
+    let names : Names = names_in (drop c.args.files words) in
     let guards : List Guard = map any_kept c.new-guards.result.guards.items in
     let early = g.D.Disk.pending c.args.disk.now in
     let image : List ℕ = g.D.Disk.seen c.args.disk.now in
-    let new_ones = are_new g (goal.at.returns-clause-any_moment g c).After-receive_store in
-    following (g.I.Inputs.told c.args.inputs.now) names (drop c.args.files words)
+    let at = (goal.at.returns-clause-any_moment g c).After-receive_store in
+    following told files (files_in (drop c.args.files words))
     (λ bytes. (specs : List GuardSpec) → AllByRecursion IsBytes bytes → guards ≡ new_guards specs
-    → LeavesOnly g.D.Disk.moment g.D.Disk.left_since c.args.disk.now c.receive_store.new.disk (LeftByReceive early image (new_guards specs) bytes []))
-    (λ bytes. AllByRecursion IsBytes bytes → LeavesOnly g.D.Disk.moment g.D.Disk.left_since c.args.disk.now c.receive_store.new.disk (LeftByReceive early image (new_guards specs) bytes []))
-    (ap (map string_bytes) c.names_from-names.ensures.names ∙ sym (drop-map string_bytes c.args.files c.args.words.now))
-    (λ bytes leaves are. leaves specs are new_ones)
-    (c.receive_store.ensures.any_moment tells)
+    → LeavesOnly g.D.Disk.moment g.D.Disk.left_since c.args.disk.now c.receive_store.new.disk (LeftByReceive early image (new_guards specs) (record { bytes = bytes; names = names }) []))
+    (λ bytes. AllByRecursion IsBytes bytes → LeavesOnly g.D.Disk.moment g.D.Disk.left_since c.args.disk.now c.receive_store.new.disk
+    (LeftByReceive early image (new_guards (guards_in (before_store words c.args.store))) (record { bytes = bytes; names = names }) []))
+    (files_are g at)
+    (λ bytes leaves are. leaves (guards_in (before_store words c.args.store)) are (are_new g at))
+    (subst (λ (ns : Names). IfAllTold told files (λ bytes. (specs : List GuardSpec) → AllByRecursion IsBytes bytes → guards ≡ new_guards specs
+    → LeavesOnly g.D.Disk.moment g.D.Disk.left_since c.args.disk.now c.receive_store.new.disk (LeftByReceive early image (new_guards specs) (record { bytes = bytes; names = ns }) []))) (names_are g at)
+    (c.receive_store.ensures.any_moment tells))
 
 pub returns-clause-acknowledged : goal.returns-clause-acknowledged
 returns-clause-acknowledged g c tells =
     let words : List (List ℕ) = map string_bytes c.args.words.now in
-    let specs : List GuardSpec = guards_in (before_store words c.args.store) in
+    let told = g.I.Inputs.told c.args.inputs.now in
     let old = g.O.Sink.taken c.args.out.now in
     let new = g.O.Sink.taken c.receive_store.new.out in
-    let names : List (List ℕ) = map string_bytes c.names_from-names.result.now in
+    let files : List (List ℕ) = map string_bytes c.files.result.now in
+    let names : Names = names_in (drop c.args.files words) in
     let guards : List Guard = map any_kept c.new-guards.result.guards.items in
     let early = g.D.Disk.pending c.args.disk.now in
     let late = g.D.Disk.pending c.receive_store.new.disk in
     let seen : List ℕ = g.D.Disk.seen c.args.disk.now in
-    let new_ones = are_new g (goal.at.returns-clause-acknowledged g c).After-receive_store in
-    following (g.I.Inputs.told c.args.inputs.now) names (drop c.args.files words)
+    let at = (goal.at.returns-clause-acknowledged g c).After-receive_store in
+    following told files (files_in (drop c.args.files words))
     (λ bytes. Wrote old new (λ written. (specs : List GuardSpec) → AllByRecursion IsBytes bytes → guards ≡ new_guards specs
-    → (image : List ℕ) → IsImage late image → LeftByReceive early seen (new_guards specs) bytes written image))
-    (λ bytes. Wrote old new (λ written. AllByRecursion IsBytes bytes → (image : List ℕ) → IsImage late image → LeftByReceive early seen (new_guards specs) bytes written image))
-    (ap (map string_bytes) c.names_from-names.ensures.names ∙ sym (drop-map string_bytes c.args.files c.args.words.now))
-    (λ bytes w. (w.0, w.1, λ are. w.2 specs are new_ones))
-    (c.receive_store.ensures.acknowledged tells)
-
-pub returns-in_default-clause-acknowledged : goal.returns-in_default-clause-acknowledged
-returns-in_default-clause-acknowledged g c tells =
-    let words : List (List ℕ) = map string_bytes c.args.words.now in
-    let out = g.O.Sink.taken c.args.out.now in
-    let early = g.D.Disk.pending c.args.disk.now in
-    let seen : List ℕ = g.D.Disk.seen c.args.disk.now in
-    all_told (g.I.Inputs.told c.args.inputs.now) (drop c.args.files words)
-    (λ bytes. Wrote out out (λ written. AllByRecursion IsBytes bytes → (image : List ℕ) → IsImage early image
-    → LeftByReceive early seen (new_guards (guards_in (before_store words c.args.store))) bytes written image))
-    (λ bytes. ([], Appends-nil out, λ are image is. inl (is, refl)))
+    → (image : List ℕ) → IsImage late image → LeftByReceive early seen (new_guards specs) (record { bytes = bytes; names = names }) written image))
+    (λ bytes. Wrote old new (λ written. AllByRecursion IsBytes bytes → (image : List ℕ) → IsImage late image
+    → LeftByReceive early seen (new_guards (guards_in (before_store words c.args.store))) (record { bytes = bytes; names = names }) written image))
+    (files_are g at)
+    (λ bytes w. (w.0, w.1, λ are. w.2 (guards_in (before_store words c.args.store)) are (are_new g at)))
+    (subst (λ (ns : Names). IfAllTold told files (λ bytes. Wrote old new (λ written. (specs : List GuardSpec) → AllByRecursion IsBytes bytes → guards ≡ new_guards specs
+    → (image : List ℕ) → IsImage late image → LeftByReceive early seen (new_guards specs) (record { bytes = bytes; names = ns }) written image))) (names_are g at)
+    (c.receive_store.ensures.acknowledged tells))

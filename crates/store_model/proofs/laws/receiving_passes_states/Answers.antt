@@ -1,5 +1,5 @@
 use Rattle.std.proofs.Common.{refl}
-use Rattle.send_model.specs.Guards.{receive_under, receive_watched}
+use Rattle.send_model.specs.Guards.{receive_watched}
 use Rattle.store_model.specs.States.{received}
 use Rattle.store_model.specs.StateLaws.{FilesAreItems}
 use Rattle.store_model.proofs.PassedStates.{more_states, first_state, own_state, completed_state}
@@ -10,7 +10,7 @@ use Rattle.store_model.proofs.ReadFronts.{limited_is_front}
 use Rattle.store_model.proofs.laws.receiving_passes_states.Goals as goal
 
 files : FilesAreItems
-unfolding receive_under receive_watched received
+unfolding receive_watched received
 files store guards fs = refl
 
 pub returns : goal.returns

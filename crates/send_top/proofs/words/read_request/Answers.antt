@@ -1,6 +1,6 @@
 use Rattle.std.specs.String.{string_bytes}
 use Rattle.send_top.proofs.OtherWords.{nothing_asked}
-use Rattle.send_top.proofs.words.read_words.Goals as goal
+use Rattle.send_top.proofs.words.read_request.Goals as goal
 
 pub returns-in_default-clause-meaning : goal.returns-in_default-clause-meaning
 returns-in_default-clause-meaning c =

@@ -1,0 +1,7 @@
+use Rattle.std.proofs.Common.{map, drop}
+use Rattle.std.specs.String.{string_bytes}
+use Rattle.file_words.proofs.Standing.{AreRead}
+use Rattle.file_words.proofs.checking.are_given.Given as goal
+
+abbrev pub invariant-loop-place : goal.invariant-loop-place
+invariant-loop-place l = AreRead (map string_bytes l.words) (drop l.place (map string_bytes l.words)) l.named

@@ -1,0 +1,8 @@
+//! Other names for the parts of files, in place of those that their heads have.
+#![tactic(auto)]
+
+mod names;
+mod renaming;
+
+pub use names::PartNames;
+pub use renaming::{name_of, rename, rename_command};
