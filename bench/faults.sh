@@ -16,6 +16,7 @@ cd -- "$folder" || exit 2
 # The streams, and what chains of them are composed into. `first` has about a million bytes, so that the program writes while
 # it still reads; the others are small.
 python3 - <<'PYTHON' || exit 2
+import os
 import struct
 
 TABLE = []
@@ -102,6 +103,12 @@ put('m0', full(b's0', 1, files[0]))
 for number in range(1, 3000):
     put('m%d' % number, later(b's%d' % number, number + 1, files[number]))
 put('many', full(b's2999', 3000, b''.join(files)))
+
+# Twenty thousand small files whose names are long and alike.
+os.mkdir('alike' * 9)
+for number in range(20000):
+    part = later(b't%d' % number, number + 1, b'') if number else full(b't0', 1, b'')
+    put('alike' * 9 + '/%05d' % number, part)
 PYTHON
 
 # Stands between the program and its C library. With SHORT reads and writes move at most so many bytes a call; the call
@@ -347,6 +354,53 @@ cat second | { timeout 20 "$program" compose none small /dev/stdin >/dev/full 2>
 status=$(cat status)
 refused 'standard input, a pipe, and a full device' 3 'input fault'
 
+# A pipe is opened once. Its second opening would wait for ever, since who wrote into it is gone: it is a fault at once, by every name
+# and also where the pipe was closed for 16 other files.
+mkfifo once && ln once linked && ln -s once pointing || exit 2
+
+# WORD..: the last run, while the first stream of the long chain is written into the pipe once.
+fed() {
+    (exec cat m0 >once) &
+    feeder=$!
+    run "$@"
+    kill "$feeder" 2>/dev/null; wait "$feeder" 2>/dev/null
+}
+others=$(seq -f m%g 1 16)
+fed audit none once $others; wrote '17 files, the first of them a pipe' 'accepted 17 68'
+fed audit none once $others once; refused 'the same with the pipe once more behind them' 3 'input fault'
+fed audit none once once; refused 'a pipe given twice' 3 'input fault'
+for name in linked pointing ./once; do
+    fed audit none once $name; refused "a pipe given twice, as $name" 3 'input fault'
+    fed audit none once $others $name; refused "a pipe given twice, as $name behind 16 files" 3 'input fault'
+done
+fed compose none once $others; refused '17 files that are read twice, the first of them a pipe' 3 'input fault'
+
+# ---- many files
+
+run audit none $(seq -f "$(printf 'alike%.0s' 1 2 3 4 5 6 7 8 9)/%05.0f" 0 19999)
+wrote '20,000 files' 'accepted 20000 40000'
+# The least of three times each.
+case_is 'a file of 20,000 takes no longer than one of 2,000' "$(python3 - "$program" <<'PYTHON'
+import subprocess
+import sys
+import time
+
+names = ['alike' * 9 + '/%05d' % number for number in range(20000)]
+
+def least(count):
+    times = []
+    for _ in range(3):
+        began = time.monotonic()
+        subprocess.run([sys.argv[1], 'audit', 'none'] + names[:count], check=True, stdout=subprocess.DEVNULL, timeout=60)
+        times.append(time.monotonic() - began)
+    return min(times)
+
+few, many = least(2000), least(20000)
+if many > 30 * few:
+    print('%.2f seconds for 2,000, and %.2f for 20,000' % (few, many))
+PYTHON
+)"
+
 # ---- files that change between the readings
 
 # CHANGE FILE..: once the program begins to write, and so is in its second reading, and waits for its output to be read,
@@ -574,6 +628,12 @@ printf '%s\n' 'input fault' \
     'btrsend: missing: No such file or directory (os error 2); give it again when it can be read' >wanted
 explain audit none missing; explained 'what to do about a missing file' 3 note
 on_terminal audit none missing; explained 'the same on a terminal' 3 shown
+printf '%s\n' 'input fault' \
+    'btrsend: linked: it can be read only once; give it again when it can be read' >wanted
+(exec cat m0 >once) &
+feeder=$!
+explain audit none once linked; explained 'what to do about a pipe that is given twice' 3 note
+kill "$feeder" 2>/dev/null; wait "$feeder" 2>/dev/null
 printf '%s\n' 'store fault' \
     'btrsend: nostore: No such file or directory (os error 2); see to the disk or to who uses the store, then look at `list`' \
     >wanted

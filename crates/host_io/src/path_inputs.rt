@@ -6,7 +6,10 @@ ghost use Rattle.sx_base.specs.Outside.{GivesAt};
 ghost use Rattle.host_io.specs.Counting.{one_more, CountsFaults, CountsLosses};
 
 use std::alloc::Global;
+use std::collections::BTreeSet;
+use std::fs::Metadata;
 use std::io::{BufReader, ErrorKind, Read, Seek, SeekFrom};
+use std::os::unix::fs::{FileTypeExt, MetadataExt};
 use std::rt::Files;
 use std::{fs, io};
 use sx_base::{Failed, Inputs, Lost};
@@ -17,19 +20,28 @@ const OPEN_FILES: usize = 16;
 // So often a read is made again that a signal interrupts.
 const TRIES: u64 = 1000;
 
+// What is wrong with opening a pipe again.
+const READ_ONCE: &str = "it can be read only once";
+
 /// Files of the system, named by their paths. They tell nothing of their bytes. Each `Failed` raises the count of faults, and
 /// each `Ended` that of ends; both end at the greatest u64. Of the last end the name and the place are kept; where there is no
 /// memory for the name, `Failed` is answered in its place.
 ///
 /// The 16 files that were asked for last stay open, each with its place, and one is moved only where the place that is asked
-/// for is not the one at which it stands. So a pipe can be read in order, and only once: a file that is opened again is
-/// always moved, which a pipe answers with a fault.
+/// for is not the one at which it stands. A file that is opened again is always moved. A pipe, a terminal, or whatever else is
+/// neither a regular file nor a block device can be read in order, and only once: moving it is a fault, and so is opening it
+/// again, also by another name. The second opening is not tried, since it could wait for ever for who writes into the pipe.
+///
+/// Opening a file takes no time that grows with those before but for the steps of a search in an ordered set. Memory grows with
+/// the files that were opened, and with nothing else.
 #[derive(Debug, Drop)]
 pub struct PathInputs<'a, R: Files> {
     files: &'a R,
     alloc: Global,
     // The names of all files that were opened so far.
-    names: Vec<String>,
+    names: BTreeSet<String>,
+    // The device and the inode of each file among them that can be read only once: they are the same under all its names.
+    read_once: BTreeSet<(u64, u64)>,
     // The file that was asked for last stands first.
     open: Vec<OpenInput<R::File>>,
     faults: u64,
@@ -66,7 +78,8 @@ impl<'a, R: Files> PathInputs<'a, R> {
         PathInputs {
             files,
             alloc,
-            names: Vec::new(alloc),
+            names: BTreeSet::new(alloc),
+            read_once: BTreeSet::new(alloc),
             open: Vec::new(alloc),
             faults: 0,
             ends: 0,
@@ -144,19 +157,21 @@ impl<'a, R: Files> PathInputs<'a, R> {
         answer
     }
 
+    // Opens a file, unless it was opened before and can be read only once.
     fn open_file(&mut self, name: &str) -> io::Result<OpenInput<R::File>>
         ensures faults { self.new.faults ≡ self.old.faults }
         ensures ends { self.new.ends ≡ self.old.ends }
         ensures open { self.new.open ≡ self.old.open }
     {
-        let again = self.names.iter().any(|known| known.as_str() == name);
-        if !again {
-            self.names.push(String::from_str(self.alloc, name)?)?;
+        let about = fs::metadata(self.files, name)?;
+        if !can_be_read_again(&about) && !self.read_once.insert((about.dev(), about.ino()))? {
+            return Err(io::Error::new(ErrorKind::NotSeekable, READ_ONCE));
         }
+        let is_first = self.names.insert(String::from_str(self.alloc, name)?)?;
         Ok(OpenInput {
             name: String::from_str(self.alloc, name)?,
             reader: BufReader::new(self.alloc, fs::open(self.files, name)?)?,
-            place: if again { None } else { Some(0) },
+            place: if is_first { Some(0) } else { None },
         })
     }
 
@@ -184,6 +199,11 @@ impl<F: Read + Seek> OpenInput<F> {
         self.place = at.checked_add(count as u64);
         Ok(count)
     }
+}
+
+// Whether a file gives the same bytes when it is opened again.
+fn can_be_read_again(about: &Metadata) -> bool {
+    about.is_file() || about.file_type().is_block_device()
 }
 
 // Reads bytes, once more where a signal interrupts it.

@@ -2,12 +2,12 @@
 use host_io::PathInputs;
 use std::alloc::Allocator;
 use std::fs::{Metadata, OpenFile, OpenOptions};
-use std::io;
 use std::io::{Empty, ErrorKind, Read, Seek, SeekFrom, Write};
 use std::os::fd::AsRawFd;
 use std::process::Abort;
 use std::rt::Files;
 use std::test::Fail;
+use std::{fs, io};
 use sx_base::{Failed, Inputs, Lost};
 
 const BYTES: &[u8] = b"0123456789";
@@ -105,7 +105,7 @@ impl Files for BadFiles {
     }
 
     fn metadata(&self, _path: &str) -> io::Result<Metadata> {
-        Err(unsupported())
+        Ok(Metadata::of_file(BYTES.len() as u64))
     }
 
     fn symlink_metadata(&self, _path: &str) -> io::Result<Metadata> {
@@ -192,5 +192,30 @@ fn a_pipe_is_read_in_order_and_once(rt: HostRuntime) -> Result<(), Fail> {
     assert_eq!(rt; inputs.read_at(&name, 10, &mut buf), Ok(0));
     assert_eq!(rt; inputs.read_at(&name, 0, &mut buf), Err(Failed));
     assert_eq!(rt; inputs.read_again(&name, 2, &mut buf), Err(Lost::Failed));
+    Ok(())
+}
+
+#[test]
+fn a_pipe_is_not_opened_again(rt: HostRuntime) -> Result<(), Fail> {
+    let (reader, mut writer) = io::pipe(&rt)?;
+    writer.write_all(BYTES)?;
+    let name = format!(in rt.alloc(); "/proc/self/fd/{}", reader.as_raw_fd())?;
+    let other = format!(in rt.alloc(); "/proc/self/./fd/{}", reader.as_raw_fd())?;
+    let mut inputs = PathInputs::new(&rt, rt.alloc());
+    let mut buf = [0; 4];
+    assert_eq!(rt; inputs.read_at(&other, 0, &mut buf), Ok(4));
+    // The same pipe by another name, also from where it stands.
+    assert_eq!(rt; inputs.read_at(&name, 0, &mut buf), Err(Failed));
+    assert_eq!(rt; inputs.read_at(&name, 4, &mut buf), Err(Failed));
+    assert_eq!(rt; inputs.read_again(&name, 0, &mut buf), Err(Lost::Failed));
+    assert_eq!(rt; inputs.read_at(&other, 4, &mut buf), Ok(4));
+    // And by its own, once it was closed for sixteen others.
+    for number in 0..16 {
+        let regular = format!(in rt.alloc(); "trouble.{number}")?;
+        fs::write(&rt, &regular, BYTES)?;
+        assert_eq!(rt; inputs.read_at(&regular, 6, &mut buf), Ok(4));
+        fs::remove_file(&rt, &regular)?;
+    }
+    assert_eq!(rt; inputs.read_at(&other, 8, &mut buf), Err(Failed));
     Ok(())
 }
