@@ -1,4 +1,5 @@
-// What a person is told about a note, in one sentence. The manual says the same at greater length.
+// What a person is told about a note, in one sentence. `bench/manual.sh --write` puts these sentences into the manual, which says more
+// beside them. It knows the tables and the arms of `about_words` by their form.
 
 const LIKE_THIS: &str = "it was written like this: send the subvolume again with --proto 1";
 
