@@ -628,12 +628,13 @@ printf '%s\n' 'input fault' \
     'btrsend: missing: No such file or directory (os error 2); give it again when it can be read' >wanted
 explain audit none missing; explained 'what to do about a missing file' 3 note
 on_terminal audit none missing; explained 'the same on a terminal' 3 shown
-printf '%s\n' 'input fault' \
-    'btrsend: linked: it can be read only once; give it again when it can be read' >wanted
-(exec cat m0 >once) &
-feeder=$!
-explain audit none once linked; explained 'what to do about a pipe that is given twice' 3 note
-kill "$feeder" 2>/dev/null; wait "$feeder" 2>/dev/null
+for name in once linked; do
+    printf '%s\n' 'input fault' "btrsend: $name: it can be read only once; give it again when it can be read" >wanted
+    (exec cat m0 >once) &
+    feeder=$!
+    explain audit none once $name; explained "what to do about a pipe that is given twice, as $name" 3 note
+    kill "$feeder" 2>/dev/null; wait "$feeder" 2>/dev/null
+done
 printf '%s\n' 'store fault' \
     'btrsend: nostore: No such file or directory (os error 2); see to the disk or to who uses the store, then look at `list`' \
     >wanted

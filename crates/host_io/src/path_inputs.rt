@@ -20,7 +20,7 @@ const OPEN_FILES: usize = 16;
 // So often a read is made again that a signal interrupts.
 const TRIES: u64 = 1000;
 
-// What is wrong with opening a pipe again.
+// What is wrong with moving a pipe, and with opening it again.
 const READ_ONCE: &str = "it can be read only once";
 
 /// Files of the system, named by their paths. They tell nothing of their bytes. Each `Failed` raises the count of faults, and
@@ -165,7 +165,7 @@ impl<'a, R: Files> PathInputs<'a, R> {
     {
         let about = fs::metadata(self.files, name)?;
         if !can_be_read_again(&about) && !self.read_once.insert((about.dev(), about.ino()))? {
-            return Err(io::Error::new(ErrorKind::NotSeekable, READ_ONCE));
+            return Err(read_once());
         }
         let is_first = self.names.insert(String::from_str(self.alloc, name)?)?;
         Ok(OpenInput {
@@ -193,12 +193,21 @@ impl<F: Read + Seek> OpenInput<F> {
     {
         if self.place != Some(at) {
             self.place = None;
-            self.reader.seek(SeekFrom::Start(at))?;
+            match self.reader.seek(SeekFrom::Start(at)) {
+                Err(error) if error.kind() == ErrorKind::NotSeekable => return Err(read_once()),
+                Err(error) => return Err(error),
+                Ok(_) => {}
+            }
         }
         let count = read_on(&mut self.reader, buf)?;
         self.place = at.checked_add(count as u64);
         Ok(count)
     }
+}
+
+// The reason where a pipe was to be read once more.
+fn read_once() -> io::Error {
+    io::Error::new(ErrorKind::NotSeekable, READ_ONCE)
 }
 
 // Whether a file gives the same bytes when it is opened again.
