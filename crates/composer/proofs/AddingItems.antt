@@ -81,8 +81,8 @@ abbrev pub IsCount : Store ℕ → List (Option Trace) → ℕ → Type 0
 IsCount base cells count = (range : List Traced) → map (λ c. c.place) range ≡ map place_in cells → count ≡ sum_by literal_len (pieces_of base range)
 
 -- There is too much.
-pub range_exceeds : (files : List (List ℕ)) (base : Store ℕ) (version : ℕ) (path : List ℕ) (offset : ℕ) (cells : List (Option Trace)) (count sum : ℕ) (old new : Kept) (out_old out_new : Option (List ℕ)) (before now : ℕ) (result : Outcome)
-    → IsCount base cells count → sum ≡ old.sum + count → most_literal < sum → StopEnd old.pending out_old out_new before now (ended.TooMuch sum) result
+pub range_exceeds : {still : List ℕ} (files : List (List ℕ)) (base : Store ℕ) (version : ℕ) (path : List ℕ) (offset : ℕ) (cells : List (Option Trace)) (count sum : ℕ) (old new : Kept) (out_old out_new : Option (List ℕ)) (before now : ℕ) (result : Outcome)
+    → IsCount base cells count → sum ≡ old.sum + count → most_literal < sum → StopEnd old.pending still out_old out_new before now (ended.TooMuch sum) result
     → AddsRange base version path offset (seen_cells files base cells) old new out_old out_new (Err result)
 range_exceeds files base version path offset cells count sum old new out_old out_new before now result is sum_is high stop =
     let range : List Traced = seen_cells files base cells in
@@ -268,8 +268,8 @@ range_had P before after path offset key clone_path from len contents t found al
     subst (λ (cells : List (Option Trace)). AllByRecursion P (cells_between from len cells)) (sym same) (cells_of_found P t.source t.ino from len (cells_found P after key t.source all there))
 
 -- The same for the cells of the source, whichever they are.
-pub source_exceeds : (files : List (List ℕ)) (base : Store ℕ) (version : ℕ) (path : List ℕ) (offset from len : ℕ) (contents cells : List (Option Trace)) (count sum : ℕ) (old new : Kept) (out_old out_new : Option (List ℕ)) (before now : ℕ) (result : Outcome)
-    → contents ≡ cells → IsCount base (cells_between from len contents) count → sum ≡ old.sum + count → most_literal < sum → StopEnd old.pending out_old out_new before now (ended.TooMuch sum) result
+pub source_exceeds : {still : List ℕ} (files : List (List ℕ)) (base : Store ℕ) (version : ℕ) (path : List ℕ) (offset from len : ℕ) (contents cells : List (Option Trace)) (count sum : ℕ) (old new : Kept) (out_old out_new : Option (List ℕ)) (before now : ℕ) (result : Outcome)
+    → contents ≡ cells → IsCount base (cells_between from len contents) count → sum ≡ old.sum + count → most_literal < sum → StopEnd old.pending still out_old out_new before now (ended.TooMuch sum) result
     → AddsRange base version path offset (seen_cells files base (cells_between from len cells)) old new out_old out_new (Err result)
 source_exceeds files base version path offset from len contents cells count sum old new out_old out_new before now result same is sum_is high stop =
     subst (λ (cs : List (Option Trace)). AddsRange base version path offset (seen_cells files base (cells_between from len cs)) old new out_old out_new (Err result)) same

@@ -283,8 +283,8 @@ unread told plan file given old new f0 f1 why says alike =
     (unread_by told plan file given old new f0 f1 why says) (told_here told old.name (EndsAlike file old) alike)
 
 -- Composing ends before the next command, for some reason: what was kept back is sent, or the output failed.
-ends_here : (files : List (List ℕ)) (plan : Plan) (file : ℕ) (given : Option (List ℕ)) (c0 : Kept) (out0 : Option (List ℕ)) (old : Reader) (now : Kept) (out_now out_next : Option (List ℕ)) (before place : Place) (g0 g1 : ℕ) (outcome result : Outcome) (bytes : List ℕ)
-    → StopEnd now.pending out_now out_next g0 g1 outcome result → (s : Stands files plan file given c0 out0 old now out_now before place bytes)
+ends_here : {still : List ℕ} (files : List (List ℕ)) (plan : Plan) (file : ℕ) (given : Option (List ℕ)) (c0 : Kept) (out0 : Option (List ℕ)) (old : Reader) (now : Kept) (out_now out_next : Option (List ℕ)) (before place : Place) (g0 g1 : ℕ) (outcome result : Outcome) (bytes : List ℕ)
+    → StopEnd now.pending still out_now out_next g0 g1 outcome result → (s : Stands files plan file given c0 out0 old now out_now before place bytes)
     → FileWhy plan file given (unsent s.sent (composing_of files plan.base now)) (left old bytes) outcome bytes → FileStops files plan file given c0 out0 out_next result bytes
 ends_here files plan file given c0 out0 old now out_now out_next before place g0 g1 outcome result bytes stopped s why =
     let next : Composing = unsent s.sent (composing_of files plan.base now) in
@@ -300,9 +300,9 @@ ends_here files plan file given c0 out0 old now out_now out_next before place g0
     }
 
 -- The file can not be read on.
-pub file_stops : (told inputs : Option (List (List ℕ × List ℕ))) (names : List (List ℕ)) (plan : Plan) (number file : ℕ) (given : Option (List ℕ)) (c0 : Kept) (out0 : Option (List ℕ)) (old new : Reader) (now : Kept) (out_now out_next : Option (List ℕ)) (before place : Place)
+pub file_stops : {still : List ℕ} (told inputs : Option (List (List ℕ × List ℕ))) (names : List (List ℕ)) (plan : Plan) (number file : ℕ) (given : Option (List ℕ)) (c0 : Kept) (out0 : Option (List ℕ)) (old new : Reader) (now : Kept) (out_now out_next : Option (List ℕ)) (before place : Place)
     (f0 f1 g0 g1 : ℕ) (why : ReadStop) (outcome result : Outcome) → inputs ≡ told → number < length names → old.name ≡ get_or names number [] → NextSays inputs old new f0 f1 (Err why)
-    → outcome ≡ outcome_at file why → StopEnd now.pending out_now out_next g0 g1 outcome result → IfTold inputs old.name (EndsAlike file old)
+    → outcome ≡ outcome_at file why → StopEnd now.pending still out_now out_next g0 g1 outcome result → IfTold inputs old.name (EndsAlike file old)
     → IfAllTold told names (λ files. Stands files plan file given c0 out0 old now out_now before place (get_or files number []))
     → IfAllTold told names (λ files. FileStops files plan file given c0 out0 out_next result (get_or files number []))
 unfolding Unread
@@ -317,8 +317,8 @@ file_stops told inputs names plan number file given c0 out0 old new now out_now 
         (subst (λ (x : Outcome). FileWhy plan file given (unsent s.sent (composing_of files plan.base now)) (left old bytes) x bytes) (sym outcome_is) (u s.reached (unsent s.sent (composing_of files plan.base now))))
 
 -- The next item has a version above that of the stream that is written.
-pub file_above : (told : Option (List (List ℕ × List ℕ))) (names : List (List ℕ)) (plan : Plan) (number file : ℕ) (given : Option (List ℕ)) (c0 : Kept) (out0 : Option (List ℕ)) (old new : Reader) (now : Kept) (out_now out_next : Option (List ℕ)) (before place : Place)
-    (g0 g1 : ℕ) (item : read.Item) (verdict : Verdict) (result : Outcome) → plan.version < item.version → old.file ≡ file → StopEnd now.pending out_now out_next g0 g1 (over.Refused verdict) result
+pub file_above : {still : List ℕ} (told : Option (List (List ℕ × List ℕ))) (names : List (List ℕ)) (plan : Plan) (number file : ℕ) (given : Option (List ℕ)) (c0 : Kept) (out0 : Option (List ℕ)) (old new : Reader) (now : Kept) (out_now out_next : Option (List ℕ)) (before place : Place)
+    (g0 g1 : ℕ) (item : read.Item) (verdict : Verdict) (result : Outcome) → plan.version < item.version → old.file ≡ file → StopEnd now.pending still out_now out_next g0 g1 (over.Refused verdict) result
     → IfAllTold told names (λ files. IsNext old new item (get_or files number []))
     → IfAllTold told names (λ files. Stands files plan file given c0 out0 old now out_now before place (get_or files number []))
     → IfAllTold told names (λ files. FileStops files plan file given c0 out0 out_next result (get_or files number []))

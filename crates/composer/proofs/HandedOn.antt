@@ -1,7 +1,8 @@
 -- Why a command did not go out, handed on as the outcome of a run.
-use Rattle.std.specs.Prelude.{◌≡◌, ℕ, ◌≤◌, List, Option, Result, Ok, Err, MatchResult, IsErrAnd, IfErr}
+use Rattle.std.specs.Prelude.{◌≡◌, ℕ, ◌≤◌, true, List, [], Option, None, Some, Result, Ok, Err, MatchResult, IsErrAnd, IfErr, OnOk, is_some}
 use Rattle.std.proofs.Common.{refl, sym, ap, subst, ◌∙◌, arith}
 use Rattle.std.proofs.lemmas.Result.{err_from_is_err_and}
+use Rattle.send_model.specs.Store.{Head}
 use Rattle.sx_base.specs.Again.{EarlyEnd}
 use Rattle.sx_base.specs.Calls.{ErrFoundChanged, IsStop}
 use Rattle.sx_base.specs.Causes.{Steady}
@@ -11,7 +12,9 @@ use Rattle.clone_pieces.specs.Sending.{PutEnd}
 use Rattle.clone_pieces.specs.Redirecting.{RedirectCaused, RedirectChanged}
 use Rattle.clone_pieces.specs.declared.stops.SendStop.{SendStop}
 use Rattle.clone_pieces.specs.declared.stops.SendStop.TheVariants as stopped
-use Rattle.composer.specs.Taking.{ErrCausedAgain, EndEnd}
+use Rattle.sx_base.specs.declared.outcome.Outcome.TheVariants as over
+use Rattle.composer.specs.Kept.{Kept}
+use Rattle.composer.specs.Taking.{ErrCausedAgain, EndEnd, is_at_last}
 
 abbrev pub answer_with : Result (Unit {0}) SendStop → Result (Unit {0}) Outcome
 answer_with (Ok done) = Ok done
@@ -88,6 +91,23 @@ end_unchanged names last before now bytes out_old out_new result answer answered
     by_result (Err stopped.NoMemory) p = tt
     by_result (Err stopped.InputFault) p = elim p [ ]
     by_result (Err (stopped.InputChanged file place)) p = elim p [ ]
+
+-- Once END went out, the head that came last is still the last of all.
+pub end_at_last : (result : Result (Unit {0}) SendStop) (answer : Result (Unit {0}) Outcome) (old new : Kept) (last : Option Head) → answer ≡ answer_with result
+    → OnOk result (new ≡ record old { pending = [] }) → is_at_last old.latest last ≡ true → OnOk answer (is_at_last new.latest last ≡ true)
+end_at_last (Ok done) answer old new last answered out at_last =
+    subst (λ (r : Result (Unit {0}) Outcome). OnOk r (is_at_last new.latest last ≡ true)) (sym answered) (ap (λ (k : Kept). is_at_last k.latest last) out ∙ at_last)
+end_at_last (Err why) answer old new last answered out at_last = subst (λ (r : Result (Unit {0}) Outcome). OnOk r (is_at_last new.latest last ≡ true)) (sym answered) tt
+
+-- Where it is, there is a last of all.
+pub last_there : (latest last : Option Head) → is_at_last latest last ≡ true → is_some last ≡ true
+last_there None last e = cc
+last_there (Some head) None e = cc
+last_there (Some head) (Some last) e = refl
+
+-- A stop is no run that is done.
+pub stop_not_done : (outcome : Outcome) (P : Type 0) → IsStop outcome → outcome ≡ over.Done → P
+stop_not_done outcome P stops done = absurd (subst IsStop done stops)
 
 -- What a redirected clone answers.
 pub redirect_caused : (e0 e1 i0 i1 before now : ℕ) (result : Result (Unit {0}) SendStop) (answer : Result (Unit {0}) Outcome) → answer ≡ answer_with result → RedirectCaused e0 e1 i0 i1 before now result → ErrCausedAgain e0 e1 i0 i1 before now answer

@@ -175,9 +175,9 @@ item_exceeds files plan old new item sum g sum_is high =
 -- ---- an item that is refused
 
 -- What is pending is written first, and the output may fail at that.
-pub refused_ends : (files : List (List ℕ)) (plan : Plan) (old new : Kept) (item : Item) (refusal : Refusal) (verdict : Verdict) (result : Outcome) (out_old out_new : Option (List ℕ)) (before now : ℕ)
+pub refused_ends : {still : List ℕ} (files : List (List ℕ)) (plan : Plan) (old new : Kept) (item : Item) (refusal : Refusal) (verdict : Verdict) (result : Outcome) (out_old out_new : Option (List ℕ)) (before now : ℕ)
     → advance plan (composing_of files plan.base old) item ≡ Err (Refuses refusal) → verdict_meant verdict ≡ verdict_of item refusal
-    → StopEnd old.pending out_old out_new before now (ended.Refused verdict) result → ItemEnd files plan old new item out_old out_new (Err result)
+    → StopEnd old.pending still out_old out_new before now (ended.Refused verdict) result → ItemEnd files plan old new item out_old out_new (Err result)
 refused_ends files plan old new item refusal verdict result out_old out_new before now refused verdict_is stop =
     ⊎_elim
     (λ same. subst (λ (o : Outcome). ItemStops plan (composing_of files plan.base old) item o out_old out_new) (sym same)

@@ -73,11 +73,19 @@ ErrCausedAgain ends_before ends_now inputs_before inputs_now out_before out_now 
 
 -- ---- where composing ends
 
+-- All that was pending was written, and nothing is pending any more.
+pub record AllOut (pending left : List ℕ) (out_old out_new : Option (List ℕ)) (before now : ℕ) : Type 0 where
+  pub appends : Appends out_old out_new pending
+  pub none : left ≡ []
+  pub steady : now ≡ before
+
 -- The outcome stays, or what is pending was to be written first and the output failed; but where the inputs have failed, or
--- there is no memory, nothing was. A front part of what is pending was written.
-pub record StopEnd (pending : List ℕ) (out_old out_new : Option (List ℕ)) (before now : ℕ) (outcome result : Outcome) : Type 0 where
+-- there is no memory, nothing was. A front part of what is pending was written: all of it, where the output did not fail then.
+pub record StopEnd (pending left : List ℕ) (out_old out_new : Option (List ℕ)) (before now : ℕ) (outcome result : Outcome) : Type 0 where
   pub outcome_is : (result ≡ outcome) ⊎ ((result ≡ ended.OutputFault) × (outcome ≢ ended.InputFault) × (outcome ≢ ended.NoMemory) × Rose before now)
   pub front : AppendsFront out_old out_new pending
+  pub sent : outcome ≢ ended.InputFault → outcome ≢ ended.NoMemory
+      → ((result ≡ outcome) × AllOut pending left out_old out_new before now) ⊎ ((result ≡ ended.OutputFault) × (left ≡ pending) × Rose before now × AppendsPart out_old out_new pending)
 
 -- All that was pending with END was written, or a proper front part of it, where the output failed.
 abbrev pub EndEnd : List ℕ → Option (List ℕ) → Option (List ℕ) → ℕ → ℕ → Result (Unit {0}) SendStop → Type 0

@@ -1,5 +1,5 @@
 // Composing, item by item.
-ghost use Rattle.std.specs.Prelude.{◌≡◌, ◌⊎◌, ℕ, ◌+◌, ◌≤◌, ◌<◌, ◌^◌, List, ◌++◌, length, map, not, true, Option, None, Some, is_some, Ok, OnOk, IfOk, IfErr};
+ghost use Rattle.std.specs.Prelude.{◌≡◌, ◌⊎◌, ℕ, ◌+◌, ◌≤◌, ◌<◌, ◌^◌, List, [], ◌++◌, length, map, not, true, Option, None, Some, is_some, Ok, OnOk, IfOk, IfErr};
 ghost use Rattle.std.specs.Option.{option_map, option_copied};
 ghost use Rattle.std.specs.String.{string_bytes};
 ghost use Rattle.send_model.specs.Command.{Clone, End};
@@ -485,24 +485,25 @@ impl Composer {
               offset = place.offset;
               refusal = refusal_of refusal;
             })
-            × StopEnd self.old.pending (O.taken out.old) (O.taken out.new)
+            × StopEnd self.old.pending self.new.pending (O.taken out.old) (O.taken out.new)
             (O.faults out.old) (O.faults out.new) (ended.Refused verdict) result }
     {
         self.stopped(Outcome::Refused(place.refused(refusal)), out)
     }
 
     /// The outcome of a run that ends here. What is pending is written first, so a fault of the output is answered in place of a
-    /// refusal; but where the inputs have failed, or there is no memory, nothing more is asked of the output.
+    /// refusal; but where the inputs have failed, or there is no memory, nothing more is asked of the output. Where all went out, nothing
+    /// is pending any more.
     pub fn stopped<O: Sink>(&mut self, outcome: Outcome, out: &mut O) -> Outcome
         ensures later { O.faults out.old ≤ O.faults out.new }
         ensures stops { IsStop outcome → IsStop result }
-        ensures stopped { StopEnd self.old.pending (O.taken out.old) (O.taken out.new)
+        ensures stopped { StopEnd self.old.pending self.new.pending (O.taken out.old) (O.taken out.new)
             (O.faults out.old) (O.faults out.new) outcome result }
     {
         ended(outcome, &mut self.pending, out)
     }
 
-    /// Adds END and writes all that is pending.
+    /// Adds END and writes all that is pending; then nothing is, and all else stays.
     ///
     /// # Errors
     /// The output failed, or there is no memory; then nothing was written.
@@ -513,6 +514,7 @@ impl Composer {
         ensures steady { Steady (O.faults out.old) (O.faults out.new) result }
         ensures ended { EndEnd (self.old.pending ++ canonical version End)
             (O.taken out.old) (O.taken out.new) (O.faults out.old) (O.faults out.new) result }
+        ensures all_out { OnOk result (self.new ≡ record self.old { pending = []; }) }
     {
         if encode(&Command::End, version, &mut self.pending).is_err() {
             return Err(SendStop::NoMemory);
@@ -568,7 +570,7 @@ fn contents_of<'a>(core: &'a EditCore<Trace>, key: Key, path: &[u8]) -> Option<&
 fn ended<O: Sink>(outcome: Outcome, pending: &mut Blob, out: &mut O) -> Outcome
     ensures later { O.faults out.old ≤ O.faults out.new }
     ensures stops { IsStop outcome → IsStop result }
-    ensures stopped { StopEnd pending.old (O.taken out.old) (O.taken out.new)
+    ensures stopped { StopEnd pending.old pending.new (O.taken out.old) (O.taken out.new)
         (O.faults out.old) (O.faults out.new) outcome result }
 {
     if let Outcome::InputFault | Outcome::NoMemory = outcome {

@@ -1,5 +1,5 @@
 // Composing files: once over all of them for their heads, and once more to write.
-ghost use Rattle.std.specs.Prelude.{◌≡◌, ◌≢◌, ℕ, ◌+◌, ◌<◌, ◌≤◌, List, [], map, length, get_or, OnOk, IfErr};
+ghost use Rattle.std.specs.Prelude.{◌≡◌, ◌≢◌, ℕ, ◌+◌, ◌<◌, ◌≤◌, List, [], map, length, true, get_or, is_some, OnOk, IfErr};
 ghost use Rattle.std.specs.String.{string_bytes};
 ghost use Rattle.send_model.specs.Outside.{store_without, AllSayable};
 ghost use Rattle.send_model.specs.Provenance.{traced_store};
@@ -12,9 +12,10 @@ ghost use Rattle.clone_pieces.specs.Seen.{seen};
 ghost use Rattle.file_survey.specs.Findings.{SurveyEnd};
 ghost use Rattle.sx_base.specs.Calls.{IfAllTold, CausedAgain, FoundChanged, ErrFoundChanged, Wrote, SteadyIfDone, IsStop};
 ghost use Rattle.sx_base.specs.Causes.{Steady};
+ghost use Rattle.sx_base.specs.declared.outcome.Outcome.TheVariants as ended;
 ghost use Rattle.composer.specs.OverBase.{at_start};
 ghost use Rattle.composer.specs.Kept.{composing_of};
-ghost use Rattle.composer.specs.Taking.{ErrCausedAgain};
+ghost use Rattle.composer.specs.Taking.{ErrCausedAgain, is_at_last};
 ghost use Rattle.composer.specs.Files.{plan_with, FileEnd, ComposeEnds, outcome_in};
 
 use crate::composing::Composer;
@@ -107,6 +108,7 @@ pub fn compose_over<I: Inputs, E: Known, B: OutsideBytes, O: Sink>(
     ensures ends { B.tells → IfAllTold (I.told inputs.old) (map string_bytes files.now)
         (λ told. Wrote (O.taken out.old) (O.taken out.new)
         (ComposeEnds (E.base known.now) names.now told result)) }
+    ensures begun { result ≡ ended.Done → is_some survey.now.last ≡ true }
 {
     let mut composer = Composer::new(alloc, core);
     match write_files(
@@ -125,7 +127,8 @@ pub fn compose_over<I: Inputs, E: Known, B: OutsideBytes, O: Sink>(
     }
 }
 
-// Composes all files, and writes END.
+// Composes all files, and writes END, which goes out only where the head that came last is that of the survey: files that are read again
+// may have changed since.
 fn write_files<I: Inputs, E: Known, B: OutsideBytes, O: Sink>(
     alloc: Global,
     survey: &Survey,
@@ -163,6 +166,7 @@ fn write_files<I: Inputs, E: Known, B: OutsideBytes, O: Sink>(
     ensures ends { B.tells → IfAllTold (I.told inputs.old) (map string_bytes files.now)
         (λ told. Wrote (O.taken out.old) (O.taken out.new)
         (ComposeEnds (E.base known.now) names.now told (outcome_in result))) }
+    ensures last { OnOk result (is_at_last composer.new.latest survey.now.last ≡ true) }
 {
     let mut place = Place::start();
     let mut file = 0;
@@ -175,7 +179,8 @@ fn write_files<I: Inputs, E: Known, B: OutsideBytes, O: Sink>(
         };
         file += 1;
     }
-    if !composer.is_at_last(survey) {
+    let at_last = composer.is_at_last(survey);
+    if !at_last {
         return Err(Outcome::Refused(place.refused(Refusal::NotConsecutive)));
     }
     composer.end(survey.version(), out).map_err(Outcome::from)

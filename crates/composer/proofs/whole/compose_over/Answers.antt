@@ -1,6 +1,7 @@
-use Rattle.std.specs.Prelude.{map, length}
+use Rattle.std.specs.Prelude.{◌≡◌, true, map, length, is_some}
 use Rattle.std.specs.String.{string_bytes}
 use Rattle.sx_base.proofs.Ended.{stopped_steady}
+use Rattle.composer.proofs.HandedOn.{last_there, stop_not_done}
 use Rattle.composer.proofs.Starting.{starts, starts_had, starts_there}
 use Rattle.composer.proofs.whole.compose_over.Goals as goal
 
@@ -24,3 +25,9 @@ returns-clause-bytes_steady g c = stopped_steady _ _ c.in-Err.outcome c.in-Err.e
 
 pub returns-clause-out_steady : goal.returns-clause-out_steady
 returns-clause-out_steady g c = stopped_steady _ _ c.in-Err.outcome c.in-Err.ensures.stops
+
+pub returns-in-Ok-clause-begun : goal.returns-in-Ok-clause-begun
+returns-in-Ok-clause-begun g c done = last_there c.write_files.new.composer.latest c.args.survey.now.last c.in-Ok.ensures.last
+
+pub returns-clause-begun : goal.returns-clause-begun
+returns-clause-begun g c = stop_not_done c.in-Err.outcome (is_some c.args.survey.now.last ≡ true) c.in-Err.ensures.stops

@@ -7,7 +7,7 @@ use Rattle.composer.specs.Files.{plan_with}
 use Rattle.clone_pieces.proofs.Lengths.{long_then}
 use Rattle.clone_pieces.proofs.Told.{told_moved}
 use Rattle.composer.proofs.FilesWriting.{files_start, files_after, begun, files_stopped, files_empty, files_ended}
-use Rattle.composer.proofs.HandedOn.{answer_is, end_caused, end_unchanged, handed_stops}
+use Rattle.composer.proofs.HandedOn.{answer_is, end_caused, end_unchanged, end_at_last, handed_stops}
 use Rattle.composer.proofs.whole.write_files.Goals as goal
 
 pub loop-file-init : goal.loop-file-init
@@ -56,16 +56,16 @@ loop-file-preserved g c =
           i.same c.loop-file-test.true (e.wrote tells) (i.stand tells);
     }
 
-pub returns-then-not-is_at_last-clause-ends : goal.returns-then-not-is_at_last-clause-ends
-returns-then-not-is_at_last-clause-ends g c tells =
+pub returns-then-not-at_last-clause-ends : goal.returns-then-not-at_last-clause-ends
+returns-then-not-at_last-clause-ends g c tells =
     files_empty _ c.args.files.now (g.E.Known.base c.args.known.now) c.args.names.now c.args.survey.now c.args.composer.now _ c.loop-file.file c.loop-file.composer _ c.start-place.result c.loop-file.place c.refused.result
-    c.requires.some (omega (arith, c.loop-file-test.false)) (sym c.is_at_last.ensures.last ∙ c.if-not-is_at_last.true) c.refused.ensures.verdict
+    c.requires.some (omega (arith, c.loop-file-test.false)) (sym c.is_at_last-at_last.ensures.last ∙ c.if-not-at_last.true) c.refused.ensures.verdict
     (begun _ (map string_bytes c.args.files.now) (g.E.Known.base c.args.known.now) c.args.names.now c.args.survey.now c.args.composer.now c.requires.apart (c.requires.sayable tells) c.requires.surveyed (c.requires.start tells)) (c.loop-file.invariant.stand tells)
 
 pub returns-clause-ends : goal.returns-clause-ends
 returns-clause-ends g c tells =
     files_ended _ c.args.files.now (g.E.Known.base c.args.known.now) c.args.names.now c.args.survey.now c.args.composer.now _ c.loop-file.file c.loop-file.composer _ _ c.start-place.result c.loop-file.place c.version.result _ _ c.end.result c.map_err.result
-    c.requires.some (omega (arith, c.loop-file-test.false)) (sym c.is_at_last.ensures.last ∙ c.if-not-is_at_last.false) c.version.ensures.version c.end.ensures.ended (answer_is c.end.result c.map_err.result c.map_err.ensures.cases)
+    c.requires.some (omega (arith, c.loop-file-test.false)) (sym c.is_at_last-at_last.ensures.last ∙ c.if-not-at_last.false) c.version.ensures.version c.end.ensures.ended (answer_is c.end.result c.map_err.result c.map_err.ensures.cases)
     (begun _ (map string_bytes c.args.files.now) (g.E.Known.base c.args.known.now) c.args.names.now c.args.survey.now c.args.composer.now c.requires.apart (c.requires.sayable tells) c.requires.surveyed (c.requires.start tells)) (c.loop-file.invariant.stand tells)
 
 pub returns-clause-cause : goal.returns-clause-cause
@@ -76,3 +76,7 @@ returns-clause-changed g c = end_unchanged _ _ _ _ _ _ _ c.end.result c.map_err.
 
 pub returns-clause-stops : goal.returns-clause-stops
 returns-clause-stops g c = handed_stops c.end.result c.map_err.result (answer_is c.end.result c.map_err.result c.map_err.ensures.cases)
+
+pub returns-clause-last : goal.returns-clause-last
+returns-clause-last g c =
+    end_at_last c.end.result c.map_err.result c.loop-file.composer c.end.new.self c.args.survey.now.last (answer_is c.end.result c.map_err.result c.map_err.ensures.cases) c.end.ensures.all_out (sym c.is_at_last-at_last.ensures.last ∙ c.if-not-at_last.false)

@@ -24,7 +24,7 @@ returns-then-sum-gt-MOST_LITERAL-clause-added g c tells =
     (source_cells c.in-Some.contents.now cells c.args.self.now.state (key_of c.args.range.now.source) c.args.range.now.source_path.now
     (λ source at f w file. c.in-Some.ensures source at (ap (λ (k : Kept). find k.state.store (key_of c.args.range.now.source)) c.self.view_is ∙ f) w file) s)
     c.uncarried.ensures.count (ap (λ (k : Kept). k.sum + c.uncarried.result) c.self.view_is) c.if-sum-gt-MOST_LITERAL.true
-    (subst (λ (k : Kept). StopEnd k.pending (g.O.Sink.taken c.args.out.now) (g.O.Sink.taken c.ended.new.out) (g.O.Sink.faults c.args.out.now) (g.O.Sink.faults c.ended.new.out) (ended.TooMuch (c.self.inside.sum + c.uncarried.result)) c.ended.result) c.self.view_is c.ended.ensures.stopped))
+    (subst (λ (k : Kept). StopEnd k.pending c.ended.new.pending (g.O.Sink.taken c.args.out.now) (g.O.Sink.taken c.ended.new.out) (g.O.Sink.faults c.args.out.now) (g.O.Sink.faults c.ended.new.out) (ended.TooMuch (c.self.inside.sum + c.uncarried.result)) c.ended.result) c.self.view_is c.ended.ensures.stopped))
 
 pub redirect-requires-clause-had : goal.redirect-requires-clause-had
 redirect-requires-clause-had g c =
