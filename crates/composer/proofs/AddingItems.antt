@@ -88,9 +88,9 @@ range_exceeds files base version path offset cells count sum old new out_old out
     let range : List Traced = seen_cells files base cells in
     let A : Outcome → Type 0 = λ o. AddsRange base version path offset range old new out_old out_new (Err o) in
     ⊎_elim
-    (λ same. subst A (sym same) (sum_is ∙ ap (λ (n : ℕ). old.sum + n) (is range (places_seen files base cells)), (high, stop.front)))
+    (λ sent. subst A (sym sent.0) (sum_is ∙ ap (λ (n : ℕ). old.sum + n) (is range (places_seen files base cells)), (high, sent.1.appends)))
     (λ failed. subst A (sym failed.0) (inl stop.front))
-    stop.outcome_is
+    (stop.sent (λ e. cc) (λ e. cc))
 
 -- It is written, or an object of the outside failed.
 pub range_added : (files : List (List ℕ)) (base : Store ℕ) (version : ℕ) (path : List ℕ) (offset : ℕ) (cells : List (Option Trace)) (count sum : ℕ) (old new : Kept) (out_old out_new : Option (List ℕ)) (result : Result (Unit {0}) SendStop)

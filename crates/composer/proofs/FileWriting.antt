@@ -13,6 +13,8 @@ use Rattle.send_model.specs.Composed.{last_head}
 use Rattle.send_model.specs.Due.{RefusedAt}
 use Rattle.send_model.specs.Lengths.{limit, only_ends}
 use Rattle.send_model.specs.Renamed.{named_as}
+use Rattle.sx_base.specs.Causes.{Rose}
+use Rattle.sx_base.specs.Outside.{AppendsPart}
 use Rattle.sx_base.specs.Refusals.{refusal_of}
 use Rattle.sx_base.specs.Calls.{IfAllTold}
 use Rattle.sx_base.specs.declared.outcome.Verdict.{Verdict}
@@ -37,7 +39,7 @@ use Rattle.clone_pieces.specs.Sending.{AppendsFront}
 use Rattle.composer.specs.OverBase.{Plan, Composing, Halt, Refuses, Exceeds, advance, advance_all, unsent}
 use Rattle.send_model.specs.Cells.{AllCells}
 use Rattle.composer.specs.Kept.{Kept, composing_of}
-use Rattle.composer.specs.Taking.{DataStand, ItemTaken, ItemWhy, ItemStops, ItemKept, ItemEnd, StopEnd}
+use Rattle.composer.specs.Taking.{AllOut, DataStand, ItemTaken, ItemWhy, AllWhereEnded, ItemStops, ItemKept, ItemEnd, StopEnd}
 use Rattle.composer.specs.Files.{IsPlace, IsLastPlace, FileTaken, NextHalts, FileWhy, FileStops}
 use Rattle.clone_pieces.proofs.Told.{all_always, all_map, all_two}
 use Rattle.clone_pieces.proofs.Told as all
@@ -229,6 +231,41 @@ front_after out0 out_now out_next sent pending a f = record {
   appends = subst (λ (bs : List ℕ). Appends out0 out_next bs) (sym (take-append-add sent pending f.count)) (Appends-trans out0 out_now out_next sent (take f.count pending) a f.appends);
 }
 
+-- The same of all of it.
+all_after : (outcome : Outcome) (out0 out_now out_next : Option (List ℕ)) (sent pending : List ℕ) → Appends out0 out_now sent → AllWhereEnded outcome out_now out_next pending → AllWhereEnded outcome out0 out_next (sent ++ pending)
+all_after (over.Refused verdict) out0 out_now out_next sent pending a b = Appends-trans out0 out_now out_next sent pending a b
+all_after (over.TooMuch sum) out0 out_now out_next sent pending a b = Appends-trans out0 out_now out_next sent pending a b
+all_after (over.InputTooLong number) out0 out_now out_next sent pending a b = Appends-trans out0 out_now out_next sent pending a b
+all_after (over.InputChanged number at) out0 out_now out_next sent pending a b = Appends-trans out0 out_now out_next sent pending a b
+all_after over.NoMemory out0 out_now out_next sent pending a b = tt
+all_after over.InputFault out0 out_now out_next sent pending a b = tt
+all_after over.OutputFault out0 out_now out_next sent pending a b = tt
+all_after over.Done out0 out_now out_next sent pending a b = tt
+
+-- What was pending went out where a run stopped.
+module _ (out_now out_next : Option (List ℕ)) (pending still : List ℕ) (g0 g1 : ℕ) (result : Outcome) where
+  sent_or_failed : (outcome : Outcome) → (Appends out_now out_next pending → AllWhereEnded outcome out_now out_next pending)
+      → ((result ≡ outcome) × AllOut pending still out_now out_next g0 g1) ⊎ ((result ≡ over.OutputFault) × (still ≡ pending) × Rose g0 g1 × AppendsPart out_now out_next pending)
+      → AllWhereEnded result out_now out_next pending
+  sent_or_failed outcome whole either =
+      let W : Outcome → Type 0 = λ o. AllWhereEnded o out_now out_next pending in
+      ⊎_elim (λ sent. subst W (sym sent.0) (whole sent.1.appends)) (λ failed. subst W (sym failed.0) tt) either
+
+  silent : (outcome : Outcome) → AllWhereEnded outcome out_now out_next pending → StopEnd pending still out_now out_next g0 g1 outcome result → AllWhereEnded result out_now out_next pending
+  silent outcome whole stop =
+      let W : Outcome → Type 0 = λ o. AllWhereEnded o out_now out_next pending in
+      ⊎_elim (λ same. subst W (sym same) whole) (λ failed. subst W (sym failed.0) tt) stop.outcome_is
+
+  all_stopped : (outcome : Outcome) → StopEnd pending still out_now out_next g0 g1 outcome result → AllWhereEnded result out_now out_next pending
+  all_stopped over.InputFault stop = silent over.InputFault tt stop
+  all_stopped over.NoMemory stop = silent over.NoMemory tt stop
+  all_stopped over.OutputFault stop = silent over.OutputFault tt stop
+  all_stopped over.Done stop = silent over.Done tt stop
+  all_stopped (over.Refused verdict) stop = sent_or_failed (over.Refused verdict) (λ a. a) (stop.sent (λ e. cc) (λ e. cc))
+  all_stopped (over.TooMuch sum) stop = sent_or_failed (over.TooMuch sum) (λ a. a) (stop.sent (λ e. cc) (λ e. cc))
+  all_stopped (over.InputTooLong number) stop = sent_or_failed (over.InputTooLong number) (λ a. a) (stop.sent (λ e. cc) (λ e. cc))
+  all_stopped (over.InputChanged number at) stop = sent_or_failed (over.InputChanged number at) (λ a. a) (stop.sent (λ e. cc) (λ e. cc))
+
 no_front : (out : Option (List ℕ)) (pending : List ℕ) → AppendsFront out out pending
 no_front out pending = record { count = 0; within = omega (arith); appends = Appends-nil out }
 
@@ -241,6 +278,7 @@ file_unopened told names plan number file given now out = all_always told names 
   read = refl;
   all = none_taken plan (composing_of files plan.base now);
   front = no_front out now.pending;
+  whole = tt;
   why = tt;
 })
 
@@ -257,6 +295,7 @@ file_unnamed told names plan number file given c0 out0 old now out_now before pl
       read = s.read;
       all = s.all;
       front = front_after out0 out_now out_now s.sent now.pending s.appends (no_front out_now now.pending);
+      whole = tt;
       why = tt;
     }) stands
 
@@ -286,7 +325,7 @@ unread told plan file given old new f0 f1 why says alike =
 ends_here : {still : List ℕ} (files : List (List ℕ)) (plan : Plan) (file : ℕ) (given : Option (List ℕ)) (c0 : Kept) (out0 : Option (List ℕ)) (old : Reader) (now : Kept) (out_now out_next : Option (List ℕ)) (before place : Place) (g0 g1 : ℕ) (outcome result : Outcome) (bytes : List ℕ)
     → StopEnd now.pending still out_now out_next g0 g1 outcome result → (s : Stands files plan file given c0 out0 old now out_now before place bytes)
     → FileWhy plan file given (unsent s.sent (composing_of files plan.base now)) (left old bytes) outcome bytes → FileStops files plan file given c0 out0 out_next result bytes
-ends_here files plan file given c0 out0 old now out_now out_next before place g0 g1 outcome result bytes stopped s why =
+ends_here {still} files plan file given c0 out0 old now out_now out_next before place g0 g1 outcome result bytes stopped s why =
     let next : Composing = unsent s.sent (composing_of files plan.base now) in
     record {
       items = s.items;
@@ -295,6 +334,7 @@ ends_here files plan file given c0 out0 old now out_now out_next before place g0
       read = s.read;
       all = s.all;
       front = front_after out0 out_now out_next s.sent now.pending s.appends stopped.front;
+      whole = all_after result out0 out_now out_next s.sent now.pending s.appends (all_stopped out_now out_next now.pending still g0 g1 result outcome stopped);
       why = ⊎_elim (λ kept. subst (λ (x : Outcome). FileWhy plan file given next (left old bytes) x bytes) (sym kept) why)
           (λ failed. subst (λ (x : Outcome). FileWhy plan file given next (left old bytes) x bytes) (sym failed.0) tt) stopped.outcome_is;
     }
@@ -338,22 +378,23 @@ module _ (files : List (List ℕ)) (plan : Plan) (file : ℕ) (given : Option (L
   so_far = composing_of files plan.base now
 
   -- Composing stops at the item, which is not taken.
-  stops_at : (outcome : Outcome) → AppendsFront out_now out_next now.pending → FileWhy plan file given (unsent s.sent so_far) (left old bytes) outcome bytes → FileStops files plan file given c0 out0 out_next outcome bytes
+  stops_at : (outcome : Outcome) → AppendsFront out_now out_next now.pending → AllWhereEnded outcome out_now out_next now.pending → FileWhy plan file given (unsent s.sent so_far) (left old bytes) outcome bytes → FileStops files plan file given c0 out0 out_next outcome bytes
   unfolding so_far
-  stops_at outcome front why = record {
+  stops_at outcome front whole why = record {
     items = s.items;
     rest = left old bytes;
     next = unsent s.sent so_far;
     read = s.read;
     all = s.all;
     front = front_after out0 out_now out_next s.sent now.pending s.appends front;
+    whole = all_after outcome out0 out_now out_next s.sent now.pending s.appends whole;
     why = why;
   }
 
   -- Composing stops after the item, which was taken.
-  stops_after : (next : Composing) (outcome : Outcome) → advance plan so_far (named_as given item) ≡ Ok next → AppendsFront out_now out_next next.pending → FileWhy plan file given (unsent s.sent next) (left new bytes) outcome bytes → FileStops files plan file given c0 out0 out_next outcome bytes
+  stops_after : (next : Composing) (outcome : Outcome) → advance plan so_far (named_as given item) ≡ Ok next → AppendsFront out_now out_next next.pending → AllWhereEnded outcome out_now out_next next.pending → FileWhy plan file given (unsent s.sent next) (left new bytes) outcome bytes → FileStops files plan file given c0 out0 out_next outcome bytes
   unfolding so_far
-  stops_after next outcome taken front why = record {
+  stops_after next outcome taken front whole why = record {
     items = s.items ++ item ∷ [];
     rest = left new bytes;
     next = unsent s.sent next;
@@ -362,6 +403,7 @@ module _ (files : List (List ℕ)) (plan : Plan) (file : ℕ) (given : Option (L
         ∙ all_more plan (composing_of files plan.base c0) (unsent s.sent so_far) (unsent s.sent next) (map (named_as given) s.items) (named_as given item ∷ []) s.all
         (all_one plan (unsent s.sent so_far) (unsent s.sent next) (named_as given item) (advance_unsent_ok plan s.sent so_far next (named_as given item) taken));
     front = front_after out0 out_now out_next s.sent next.pending s.appends front;
+    whole = all_after outcome out0 out_now out_next s.sent next.pending s.appends whole;
     why = why;
   }
 
@@ -372,23 +414,27 @@ module _ (files : List (List ℕ)) (plan : Plan) (file : ℕ) (given : Option (L
   unfolding so_far
   same_front next is front = subst (λ (x : Composing). AppendsFront out_now out_next x.pending) is front
 
-  -- Where no reason has to be given.
-  stops_either : (next : Composing) (outcome : Outcome) → ((now : Composing) (rest : Reading) → FileWhy plan file given now rest outcome bytes) → (next ≡ so_far) ⊎ (advance plan so_far (named_as given item) ≡ Ok next) → AppendsFront out_now out_next next.pending
-      → FileStops files plan file given c0 out0 out_next outcome bytes
-  stops_either next outcome why either front =
-      ⊎_elim (λ (is : next ≡ so_far). stops_at outcome (same_front next is front) (why (unsent s.sent so_far) (left old bytes)))
-      (λ (taken : advance plan so_far (named_as given item) ≡ Ok next). stops_after next outcome taken front (why (unsent s.sent next) (left new bytes))) either
+  same_whole : (next : Composing) → next ≡ so_far → Appends out_now out_next next.pending → Appends out_now out_next now.pending
+  unfolding so_far
+  same_whole next is whole = subst (λ (x : Composing). Appends out_now out_next x.pending) is whole
 
-  item_ends : (outcome : Outcome) (next : Composing) → ItemWhy plan so_far next (named_as given item) outcome → AppendsFront out_now out_next next.pending → FileStops files plan file given c0 out0 out_next outcome bytes
-  item_ends over.Done next why front = elim why [ ]
-  item_ends (over.Refused verdict) next (is, r) front =
-      stops_at (over.Refused verdict) (same_front next is front) (inr (inl (item, Refuses r.refusal, halts (Refuses r.refusal) r.refused, ap RefusedAt (sym r.verdict_is))))
-  item_ends (over.TooMuch sum) next (is, e) front = stops_at (over.TooMuch sum) (same_front next is front) (item, halts (Exceeds sum) e)
-  item_ends over.InputFault next why front = stops_either next over.InputFault (λ x rest. tt) why front
-  item_ends over.OutputFault next why front = stops_either next over.OutputFault (λ x rest. tt) why front
-  item_ends over.NoMemory next why front = stops_either next over.NoMemory (λ x rest. tt) why front
-  item_ends (over.InputTooLong number) next why front = elim why [ ]
-  item_ends (over.InputChanged number at) next why front = elim why [ ]
+  -- Where no reason has to be given.
+  stops_either : (next : Composing) (outcome : Outcome) → ((bs : List ℕ) → AllWhereEnded outcome out_now out_next bs) → ((now : Composing) (rest : Reading) → FileWhy plan file given now rest outcome bytes) → (next ≡ so_far) ⊎ (advance plan so_far (named_as given item) ≡ Ok next) → AppendsFront out_now out_next next.pending
+      → FileStops files plan file given c0 out0 out_next outcome bytes
+  stops_either next outcome whole why either front =
+      ⊎_elim (λ (is : next ≡ so_far). stops_at outcome (same_front next is front) (whole now.pending) (why (unsent s.sent so_far) (left old bytes)))
+      (λ (taken : advance plan so_far (named_as given item) ≡ Ok next). stops_after next outcome taken front (whole next.pending) (why (unsent s.sent next) (left new bytes))) either
+
+  item_ends : (outcome : Outcome) (next : Composing) → ItemWhy plan so_far next (named_as given item) outcome → AppendsFront out_now out_next next.pending → AllWhereEnded outcome out_now out_next next.pending → FileStops files plan file given c0 out0 out_next outcome bytes
+  item_ends over.Done next why front whole = elim why [ ]
+  item_ends (over.Refused verdict) next (is, r) front whole =
+      stops_at (over.Refused verdict) (same_front next is front) (same_whole next is whole) (inr (inl (item, Refuses r.refusal, halts (Refuses r.refusal) r.refused, ap RefusedAt (sym r.verdict_is))))
+  item_ends (over.TooMuch sum) next (is, e) front whole = stops_at (over.TooMuch sum) (same_front next is front) (same_whole next is whole) (item, halts (Exceeds sum) e)
+  item_ends over.InputFault next why front whole = stops_either next over.InputFault (λ bs. tt) (λ x rest. tt) why front
+  item_ends over.OutputFault next why front whole = stops_either next over.OutputFault (λ bs. tt) (λ x rest. tt) why front
+  item_ends over.NoMemory next why front whole = stops_either next over.NoMemory (λ bs. tt) (λ x rest. tt) why front
+  item_ends (over.InputTooLong number) next why front whole = elim why [ ]
+  item_ends (over.InputChanged number at) next why front whole = elim why [ ]
 
 pub item_stops : (told inputs : Option (List (List ℕ × List ℕ))) (names : List (List ℕ)) (plan : Plan) (number file : ℕ) (given : Option (List ℕ)) (c0 : Kept) (out0 : Option (List ℕ)) (old new : Reader) (now next : Kept) (out_now out_next : Option (List ℕ)) (before place : Place)
     (item taken_item : read.Item) (outcome : Outcome) → old.file ≡ file → item_of file taken_item ≡ named_as given (item_of file item) → inputs ≡ told
@@ -402,7 +448,7 @@ item_stops told inputs names plan number file given c0 out0 old new now next out
     (λ files. Stands files plan file given c0 out0 old now out_now before place (get_or files number [])) (λ files. FileStops files plan file given c0 out0 out_next outcome (get_or files number []))
     (λ files p s. (let t : ItemStops plan (composing_of files plan.base now) (named_as given (item_of file item)) outcome out_now out_next = subst (λ (x : Item). ItemStops plan (composing_of files plan.base now) x outcome out_now out_next) named p.1 in
     item_ends files plan file given c0 out0 old new now out_now out_next before place (item_of file item) (get_or files number []) s
-    (left_next file old new item (get_or files number []) old_file p.0) outcome t.next t.why t.front))
+    (left_next file old new item (get_or files number []) old_file p.0) outcome t.next t.why t.front t.whole))
     (all_two told names (λ files. IsNext old new item (get_or files number [])) (λ files. ItemStops plan (composing_of files plan.base now) (item_of file taken_item) outcome out_now out_next)
     (λ files. IsNext old new item (get_or files number []) × ItemStops plan (composing_of files plan.base now) (item_of file taken_item) outcome out_now out_next) (λ files a b. (a, b)) next_is
     (all.told_moved told inputs names (λ files. ItemStops plan (composing_of files plan.base now) (item_of file taken_item) outcome out_now out_next) same stops))

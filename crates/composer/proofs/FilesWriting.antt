@@ -4,7 +4,7 @@ use Rattle.std.specs.String.{string_bytes}
 use Rattle.std.specs.Io.KnownBytes.{Appends}
 use Rattle.std.proofs.Common.{refl, sym, ap, ap₂, subst, ◌∙◌, append_assoc, append-nil, arith, inl, inr}
 use Rattle.std.proofs.KnownBytes.{Appends-nil, Appends-trans}
-use Rattle.std.proofs.Math.Seq.{take-append-add, take-append_seam}
+use Rattle.std.proofs.Math.Seq.{take-append-add, take-append_seam, take-length}
 use Rattle.std.proofs.lemmas.Bool.{false≢true}
 use Rattle.std.proofs.lemmas.List.{drop_all, drop_more, length-append, length-map, map-append}
 use Rattle.send_model.specs.Refusal.{NotConsecutive}
@@ -17,7 +17,7 @@ use Rattle.send_model.specs.Outside.{part_uuids, store_without, base_of, keys_ou
 use Rattle.send_model.specs.Composed.{last_head, version_of}
 use Rattle.send_model.specs.Due.{RefusedAt, reading_due}
 use Rattle.send_model.specs.Receive.{first_of}
-use Rattle.send_model.specs.Headline.{IsComposedOf, IsStoppedOf}
+use Rattle.send_model.specs.Headline.{IsComposedOf, IsStoppedOf, whole_output_of}
 use Rattle.send_model.specs.Laws.{CanWrite, IsWhole}
 use Rattle.send_model.specs.Renamed.{Names, name_for, named_as, renamed_item, renamed_items, renamed}
 use Rattle.send_model.proofs.ElementLaws.{all_rest}
@@ -41,9 +41,9 @@ use Rattle.file_survey.proofs.NamedItems.{both_named, next_named, then_nothing, 
 use Rattle.file_survey.proofs.Versions.{item_version, version_is}
 use Rattle.clone_pieces.specs.declared.stops.SendStop.{SendStop}
 use Rattle.clone_pieces.specs.declared.stops.SendStop.TheVariants as stopped
-use Rattle.composer.specs.OverBase.{Plan, plan_for, Composing, at_start, Halt, Exceeds, halt_due, advance, advance_all, unsent, AreReady}
+use Rattle.composer.specs.OverBase.{Plan, plan_for, Composing, at_start, Halt, Refuses, Exceeds, halt_due, advance, advance_all, unsent, AreReady}
 use Rattle.composer.specs.Kept.{Kept, composing_of}
-use Rattle.composer.specs.Taking.{EndEnd, is_at_last}
+use Rattle.composer.specs.Taking.{AllWhereEnded, EndEnd, is_at_last}
 use Rattle.composer.specs.Files.{plan_with, IsLastPlace, FileTaken, NextHalts, NextAbove, FileWhy, FileStops, ComposeEnds, outcome_in}
 use Rattle.clone_pieces.proofs.Told.{all_always, all_map, all_two}
 use Rattle.composer.proofs.HandedOn.{answer_with}
@@ -53,7 +53,7 @@ use Rattle.composer.proofs.FileWriting.{front_after}
 use Rattle.composer.proofs.OverBaseProgress.{Progress, progress_start, progress_all}
 use Rattle.composer.proofs.OverBaseFolds.{advance_unsent_err, all_unsent_ok, unsent_more, all_more, progress_unsent}
 use Rattle.composer.proofs.OverBaseReady.{are_ready}
-use Rattle.composer.proofs.OverBaseAhead.{halted_ahead, fault_ahead, empty_ahead, done_ahead, composed_ahead, stopped_ahead, stopped_end_ahead}
+use Rattle.composer.proofs.OverBaseAhead.{halted_ahead, fault_ahead, refused_ahead, faulty_ahead, empty_ahead, nothing_ahead, done_ahead, composed_ahead, stopped_ahead, stopped_end_ahead}
 use Rattle.composer.proofs.OverBaseAnswers.{ends_done, ends_refused, ends_too_much, ends_too_long, nothing_stopped}
 
 -- ---- what is known before the first item
@@ -241,27 +241,59 @@ module _ (base : Store ℕ) (given : Names) (survey : Surveyed) (files : List (L
     refused_now verdict (inr (inl (item, halt, h, due))) = halted_now item halt h ∙ due
     refused_now verdict (inr (inr above)) = absurd (never_above base given survey files (s.items ++ t.items) t.rest (number + 1) (drop (number + 1) files) k.read ahead_now above)
 
-    by_outcome : (written : List ℕ) → IsStoppedOf base (renamed given (input files)) written → (x : Outcome) → FileWhy (plan_with base survey) (number + 1) (name_for given (number + 1)) t.next t.rest x (get_or files number []) → ComposeEnds base given files x written
-    by_outcome written short over.Done why = elim why [ ]
-    by_outcome written short (over.Refused verdict) why = record { ends = ends_refused 1 2 base given files written verdict k.read.fits (refused_now verdict why) short; composed = λ e. cc }
-    by_outcome written short (over.TooMuch sum) (item, h) = record { ends = ends_too_much 1 2 base given files written sum k.read.fits (halted_now item (Exceeds sum) h) short; composed = λ e. cc }
-    by_outcome written short over.InputFault why = record { ends = short; composed = λ e. cc }
-    by_outcome written short over.OutputFault why = record { ends = short; composed = λ e. cc }
-    by_outcome written short over.NoMemory why = record { ends = short; composed = λ e. cc }
-    by_outcome written short (over.InputTooLong n) (is, long) = record {
+    -- Where a command is refused, or a file is at fault, all is written that is due.
+    refused_whole : (verdict : Verdict) → FileWhy (plan_with base survey) (number + 1) (name_for given (number + 1)) t.next t.rest (over.Refused verdict) (get_or files number []) → s.sent ++ t.next.pending ≡ whole_output_of base (renamed given (input files))
+    refused_whole verdict (inl faulty) = faulty_ahead base given files (s.items ++ t.items) t.rest (verdict_meant verdict) (number + 1) (drop (number + 1) files) (unsent s.sent t.next) [] k.ready ahead_now faulty progress_now
+    refused_whole verdict (inr (inl (item, Exceeds sum, h, due))) = cc
+    refused_whole verdict (inr (inl (item, Refuses refusal, h, due))) =
+        refused_ahead base given files (s.items ++ t.items) item t.rest h.more (number + 1) (drop (number + 1) files) (unsent s.sent t.next) [] refusal k.ready ahead_now h.front progress_now
+        (ap (advance (plan_for base given files) (unsent s.sent t.next)) (this_named item h.more h.front)
+        ∙ subst (λ (p : Plan). advance p (unsent s.sent t.next) (named_as (name_for given (number + 1)) item) ≡ Err (Refuses refusal)) k.plan_is (advance_unsent_err plan s.sent t.next (named_as (name_for given (number + 1)) item) (Refuses refusal) h.halted))
+    refused_whole verdict (inr (inr above)) = absurd (never_above base given survey files (s.items ++ t.items) t.rest (number + 1) (drop (number + 1) files) k.read ahead_now above)
+
+    by_outcome : (written : List ℕ) → IsStoppedOf base (renamed given (input files)) written → (x : Outcome) → ((verdict : Verdict) → x ≡ over.Refused verdict → written ≡ whole_output_of base (renamed given (input files)))
+        → FileWhy (plan_with base survey) (number + 1) (name_for given (number + 1)) t.next t.rest x (get_or files number []) → ComposeEnds base given files x written
+    by_outcome written short over.Done whole why = elim why [ ]
+    by_outcome written short (over.Refused verdict) whole why = record { ends = ends_refused 1 2 base given files written verdict k.read.fits (refused_now verdict why) short; composed = λ e. cc; refused = whole }
+    by_outcome written short (over.TooMuch sum) whole (item, h) = record { ends = ends_too_much 1 2 base given files written sum k.read.fits (halted_now item (Exceeds sum) h) short; composed = λ e. cc; refused = whole }
+    by_outcome written short over.InputFault whole why = record { ends = short; composed = λ e. cc; refused = whole }
+    by_outcome written short over.OutputFault whole why = record { ends = short; composed = λ e. cc; refused = whole }
+    by_outcome written short over.NoMemory whole why = record { ends = short; composed = λ e. cc; refused = whole }
+    by_outcome written short (over.InputTooLong n) whole (is, long) = record {
       ends = ends_too_long 1 2 base given files written n
           (long_here files number (get_or files number []) (drop (number + 1) files) (file_next files number less) s.long long ∙ ap (λ (m : ℕ). Some m) (sym is)) short;
       composed = λ e. cc;
+      refused = whole;
     }
-    by_outcome written short (over.InputChanged n at) why = elim why [ ]
+    by_outcome written short (over.InputChanged n at) whole why = elim why [ ]
+
+    -- A front part of what is due is written, and no whole stream.
+    short_of : (count : ℕ) → count ≤ length (s.sent ++ t.next.pending) → IsStoppedOf base (renamed given (input files)) (take count (s.sent ++ t.next.pending))
+    short_of count within = stopped_ahead base given files (s.items ++ t.items) t.rest (number + 1) (drop (number + 1) files) (unsent s.sent t.next) [] count k.ready ahead_now progress_now within
+
+    -- Where nothing has to be said of all of it.
+    front_stopped : (x : Outcome) → ((verdict : Verdict) → x ≡ over.Refused verdict → ⊥) → FileWhy (plan_with base survey) (number + 1) (name_for given (number + 1)) t.next t.rest x (get_or files number []) → Wrote out0 out_next (ComposeEnds base given files x)
+    front_stopped x other why =
+        let front = front_after out0 out_now out_next s.sent t.next.pending s.appends t.front in
+        let written : List ℕ = take front.count (s.sent ++ t.next.pending) in
+        (written, front.appends, by_outcome written (short_of front.count front.within) x (λ verdict e. absurd (other verdict e)) why)
+
+    by_stop : (x : Outcome) → AllWhereEnded x out_now out_next t.next.pending → FileWhy (plan_with base survey) (number + 1) (name_for given (number + 1)) t.next t.rest x (get_or files number []) → Wrote out0 out_next (ComposeEnds base given files x)
+    by_stop (over.Refused verdict) whole why =
+        let written : List ℕ = s.sent ++ t.next.pending in
+        let short : IsStoppedOf base (renamed given (input files)) written = subst (IsStoppedOf base (renamed given (input files))) (take-length written) (short_of (length written) (omega arith)) in
+        (written, Appends-trans out0 out_now out_next s.sent t.next.pending s.appends whole, by_outcome written short (over.Refused verdict) (λ v e. refused_whole verdict why) why)
+    by_stop over.Done whole why = elim why [ ]
+    by_stop (over.TooMuch sum) whole why = front_stopped (over.TooMuch sum) (λ v e. cc) why
+    by_stop over.InputFault whole why = front_stopped over.InputFault (λ v e. cc) why
+    by_stop over.OutputFault whole why = front_stopped over.OutputFault (λ v e. cc) why
+    by_stop over.NoMemory whole why = front_stopped over.NoMemory (λ v e. cc) why
+    by_stop (over.InputTooLong n) whole why = front_stopped (over.InputTooLong n) (λ v e. cc) why
+    by_stop (over.InputChanged n at) whole why = elim why [ ]
 
     -- Composing stopped in a file.
     file_stopped : Wrote out0 out_next (ComposeEnds base given files outcome)
-    file_stopped =
-        let front = front_after out0 out_now out_next s.sent t.next.pending s.appends t.front in
-        let short : IsStoppedOf base (renamed given (input files)) (take front.count (s.sent ++ t.next.pending)) =
-        stopped_ahead base given files (s.items ++ t.items) t.rest (number + 1) (drop (number + 1) files) (unsent s.sent t.next) [] front.count k.ready ahead_now progress_now front.within in
-        (take front.count (s.sent ++ t.next.pending), front.appends, by_outcome (take front.count (s.sent ++ t.next.pending)) short outcome t.why)
+    file_stopped = by_stop outcome t.whole t.why
 
 -- What holds before the first file.
 pub record HasBegun (base : Store ℕ) (given : Names) (survey : Surveyed) (old : Kept) (files : List (List ℕ)) : Type 0 where
@@ -360,9 +392,14 @@ module _ (base : Store ℕ) (given : Names) (survey : Surveyed) (out0 : Option (
         record {
           ends = ends_refused 1 2 base given files e.sent verdict e.known.read.fits (by_last (last_item e.items) refl (λ none. by_files files some (ap (λ (r : Reading). r.end) whole) (ap (λ (r : Reading). r.items) whole ∙ last_item_none e.items none)) e.last_place) sent_short;
           composed = λ q. cc;
+          refused = λ v q. by_item (last_item e.items) refl (λ none. by_files files some (ap (λ (r : Reading). r.end) whole) (ap (λ (r : Reading). r.items) whole ∙ last_item_none e.items none));
         },
       )
     where
+      by_item : (o : Option Item) → last_item e.items ≡ o → (o ≡ None → ⊥) → e.sent ≡ whole_output_of base (renamed given (input files))
+      by_item None is there = absurd (there refl)
+      by_item (Some item) is there = nothing_ahead base given files e.items item ended e.number (composing_of files base now) e.sent e.known.ready e.ahead refl e.progress (begun_is ∙ not_last) is
+
       by_files : (fs : List (List ℕ)) → fs ≢ [] → (input fs).end ≡ Whole → (input fs).items ≡ [] → ⊥
       by_files [] some w n = some refl
       by_files (bytes ∷ after) some w n = input_some bytes after w n
@@ -411,7 +448,7 @@ module _ (base : Store ℕ) (given : Names) (survey : Surveyed) (out0 : Option (
           e.sent ++ (now.pending ++ last),
           Appends-trans out0 out_now out_next e.sent (now.pending ++ last) e.appends sent,
           subst (ComposeEnds base given files over.Done) (append_assoc e.sent now.pending last)
-              (record { ends = ends_done 1 2 base given files ((e.sent ++ now.pending) ++ last) e.known.read.fits done.0 done.1; composed = λ q. headline }),
+              (record { ends = ends_done 1 2 base given files ((e.sent ++ now.pending) ++ last) e.known.read.fits done.0 done.1; composed = λ q. headline; refused = λ v q. cc }),
         )
 
     -- The output failed before all was written.
@@ -426,6 +463,7 @@ module _ (base : Store ℕ) (given : Names) (survey : Surveyed) (out0 : Option (
           record {
             ends = subst (IsStoppedOf base (renamed given (input files))) same (stopped_end_ahead base given files e.items ended e.number (composing_of files base now) e.sent (length e.sent + count) e.known.ready e.ahead refl e.progress (begun_is ∙ at_last) within);
             composed = λ q. cc;
+            refused = λ v q. cc;
           },
         )
 
@@ -434,7 +472,7 @@ module _ (base : Store ℕ) (given : Names) (survey : Surveyed) (out0 : Option (
   end_unmade out_next sent = (
     e.sent ++ [],
     Appends-trans out0 out_now out_next e.sent [] e.appends sent,
-    record { ends = subst (IsStoppedOf base (renamed given (input files))) (sym (append-nil e.sent)) sent_short; composed = λ q. cc },
+    record { ends = subst (IsStoppedOf base (renamed given (input files))) (sym (append-nil e.sent)) sent_short; composed = λ q. cc; refused = λ v q. cc },
   )
 
   -- END was to be written.
@@ -496,8 +534,8 @@ survey_stopped told names base given out outcome stops = all_map told names (Sur
     by_outcome files over.Done why = elim why [ ]
     by_outcome files (over.Refused verdict) why = elim why [ ]
     by_outcome files (over.TooMuch sum) why = elim why [ ]
-    by_outcome files over.InputFault why = record { ends = nothing_stopped base (renamed given (input files)); composed = λ e. cc }
+    by_outcome files over.InputFault why = record { ends = nothing_stopped base (renamed given (input files)); composed = λ e. cc; refused = λ v e. cc }
     by_outcome files over.OutputFault why = elim why [ ]
-    by_outcome files over.NoMemory why = record { ends = nothing_stopped base (renamed given (input files)); composed = λ e. cc }
-    by_outcome files (over.InputTooLong n) long = record { ends = ends_too_long 1 2 base given files [] n long (nothing_stopped base (renamed given (input files))); composed = λ e. cc }
+    by_outcome files over.NoMemory why = record { ends = nothing_stopped base (renamed given (input files)); composed = λ e. cc; refused = λ v e. cc }
+    by_outcome files (over.InputTooLong n) long = record { ends = ends_too_long 1 2 base given files [] n long (nothing_stopped base (renamed given (input files))); composed = λ e. cc; refused = λ v e. cc }
     by_outcome files (over.InputChanged n at) why = elim why [ ]

@@ -10,6 +10,7 @@ pub mod OverBaseProgress
 pub mod OverBaseEnds
 pub mod PartsSoFar
 pub mod OverBaseStops
+pub mod OverBaseRefused
 pub mod OverBaseFolds
 pub mod OverBaseAhead
 pub mod OverBaseReady

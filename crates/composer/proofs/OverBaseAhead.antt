@@ -8,21 +8,25 @@ use Rattle.send_model.specs.Refusal.{Refusal, NotConsecutive}
 use Rattle.send_model.specs.Command.{End}
 use Rattle.send_model.specs.Spelling.{canonical}
 use Rattle.send_model.specs.Reading.{Item, Verdict, Reading, Whole, Faulty, ended, joined, with_item, input, input_from}
-use Rattle.send_model.specs.Store.{Head, Store}
+use Rattle.send_model.specs.Store.{Head, head_of, Store}
 use Rattle.send_model.specs.Receive.{verdict_of}
+use Rattle.send_model.specs.Cells.{recelled_state}
 use Rattle.send_model.specs.Order.{heads, last_item}
 use Rattle.send_model.specs.Outside.{base_of, keys_outside, FindsSayable}
-use Rattle.send_model.specs.Composed.{first_head, version_of}
+use Rattle.send_model.specs.Composed.{first_head, last_head, version_of}
 use Rattle.send_model.specs.Lengths.{too_long}
 use Rattle.send_model.specs.Due.{DoneWhole, RefusedAt, reading_due, compose_due_of}
-use Rattle.send_model.specs.Headline.{IsComposedOf, IsStoppedOf, whole_output_of}
+use Rattle.send_model.specs.Headline.{IsComposedOf, IsStoppedOf, stream_front, whole_output_of}
 use Rattle.send_model.specs.Renamed.{Names, name_for, named_as, renamed_item, renamed_items, renamed}
 use Rattle.send_model.specs.Laws.{IsWhole, ReadingsHold}
 use Rattle.file_survey.specs.Ahead.{IsAhead}
-use Rattle.composer.specs.OverBase.{Plan, plan_for, Composing, Halt, halt_due, advance, AreReady}
+use Rattle.send_model.proofs.Tracing.{byte_of}
+use Rattle.composer.specs.OverBase.{Plan, plan_for, Composing, Halt, Refuses, halt_due, advance, composed_up_to, written_with, AreReady}
 use Rattle.file_survey.proofs.AheadSteps.{ahead_input, ahead_whole, ahead_fault}
 use Rattle.composer.proofs.OverBaseProgress.{Progress}
 use Rattle.composer.proofs.OverBaseEnds.{due_halted, due_at_fault, due_without_parts, due_done_whole, written_is, composed}
+use Rattle.composer.proofs.LastHeads.{last_known}
+use Rattle.composer.proofs.OverBaseRefused.{none_after, none_from, refused_whole}
 use Rattle.composer.proofs.OverBaseStops.{stopped, stopped_end}
 
 -- The answer that is due to files of which none is too long is that of what is read.
@@ -56,6 +60,32 @@ fault_ahead base given files items left verdict number after now sent is e p =
     let all = ahead_fault files items left verdict number after is e in
     let same : renamed_items given items ≡ (renamed given (input files)).items = ap (λ (r : Reading). renamed_items given r.items) (sym all) in
     due_at_fault base (renamed given (input files)) verdict now sent (subst (λ (xs : List Item). Progress (plan_for base given files) xs now sent) same p) (ap (λ (r : Reading). r.end) all)
+
+-- ---- all that is written where something is refused
+
+-- Where an item is refused, what stands for those before it is all that is due.
+pub refused_ahead : (base : Store ℕ) (given : Names) (files : List (List ℕ)) (items : List Item) (item : Item) (left next : Reading) (number : ℕ) (after : List (List ℕ)) (now : Composing) (sent : List ℕ) (refusal : Refusal) → AreReady base given files
+    → IsAhead files items left number after → left ≡ with_item item next → Progress (plan_for base given files) (renamed_items given items) now sent → advance (plan_for base given files) now (renamed_item given item) ≡ Err (Refuses refusal)
+    → sent ++ now.pending ≡ whole_output_of base (renamed given (input files))
+refused_ahead base given files items item left next number after now sent refusal ready is e p h =
+    let all = ahead_input files items item left next number after is e in
+    let read : Reading = renamed given (input files) in
+    let front : read.items ≡ renamed_items given items ++ renamed_item given item ∷ renamed_items given all.0 = all_named given files items (item ∷ all.0) (ap (λ (r : Reading). r.items) all.2) in
+    let foreseen : (head : Head) → head_of (renamed_item given item).command ≡ Some head → (last : Head) × (last_head (heads read.items) ≡ Some last) =
+    λ head q. (let l = last_known (renamed_items given items) (renamed_item given item) (renamed_items given all.0) head q in (l.0, ap (λ (xs : List Item). last_head (heads xs)) front ∙ l.1)) in
+    refused_whole base read (renamed_items given items) (renamed_item given item ∷ renamed_items given all.0) now sent (verdict_of (renamed_item given item) refusal) ready.none front p
+    (none_from (plan_for base given files) (renamed_item given item) (renamed_items given all.0) now refusal foreseen h)
+    (halted_ahead base given files items item left next number after now sent (Refuses refusal) is e p h)
+
+-- The same where reading ended at a fault.
+pub faulty_ahead : (base : Store ℕ) (given : Names) (files : List (List ℕ)) (items : List Item) (left : Reading) (verdict : Verdict) (number : ℕ) (after : List (List ℕ)) (now : Composing) (sent : List ℕ) → AreReady base given files
+    → IsAhead files items left number after → left ≡ record { items = []; end = Faulty verdict } → Progress (plan_for base given files) (renamed_items given items) now sent → sent ++ now.pending ≡ whole_output_of base (renamed given (input files))
+faulty_ahead base given files items left verdict number after now sent ready is e p =
+    let all = ahead_fault files items left verdict number after is e in
+    let read : Reading = renamed given (input files) in
+    let same : read.items ≡ renamed_items given items ++ [] = ap (λ (r : Reading). renamed_items given r.items) all ∙ sym (append-nil (renamed_items given items)) in
+    refused_whole base read (renamed_items given items) [] now sent verdict ready.none same p (none_after (recelled_state byte_of now.state) now.previous)
+    (fault_ahead base given files items left verdict number after now sent is e p)
 
 -- ---- the end of the last file
 
@@ -101,6 +131,27 @@ empty_ahead base given files items item left number now sent is e p b last =
     due_without_parts base (renamed given (input files)) (renamed_item given item) now sent a.progress a.whole (no_heads (plan_for base given files) (renamed given (input files)).items now sent a.progress b)
     (ap last_item (sym a.same) ∙ last_named given items item last)
     ∙ ap RefusedAt (verdict_named (name_for given item.file) item NotConsecutive)
+
+-- And nothing is due to be written.
+pub nothing_ahead : (base : Store ℕ) (given : Names) (files : List (List ℕ)) (items : List Item) (item : Item) (left : Reading) (number : ℕ) (now : Composing) (sent : List ℕ) → AreReady base given files → IsAhead files items left number [] → left ≡ ended
+    → Progress (plan_for base given files) (renamed_items given items) now sent → now.begun ≡ false → last_item items ≡ Some item → sent ≡ whole_output_of base (renamed given (input files))
+nothing_ahead base given files items item left number now sent ready is e p b last =
+    let read : Reading = renamed given (input files) in
+    let plan : Plan = plan_for base given files in
+    let a = at_end base given files items left number now sent is e p in
+    let none : heads read.items ≡ [] = no_heads plan read.items now sent a.progress b in
+    let nothing : sent ++ now.pending ≡ [] = a.progress.bytes ∙ written_none plan read.items plan.last none in
+    sym (first_empty sent now.pending nothing) ∙ sym nothing
+    ∙ refused_whole base read read.items [] now sent (verdict_of item NotConsecutive) ready.none (sym (append-nil read.items)) a.progress (none_after (recelled_state byte_of now.state) now.previous)
+    (empty_ahead base given files items item left number now sent is e p b last)
+  where
+    written_none : (plan : Plan) (items : List Item) (l : Option Head) → heads items ≡ [] → written_with plan l items ≡ []
+    written_none plan items None none = refl
+    written_none plan items (Some head) none = ap (λ (hs : List Head). stream_front plan.version (composed_up_to plan (first_head hs) head items)) none
+
+    first_empty : (xs ys : List ℕ) → xs ++ ys ≡ [] → [] ≡ xs
+    first_empty [] ys e = refl
+    first_empty (x ∷ xs) ys e = cc
 
 -- Where one has, all is done: what is written with END is all that is due.
 pub done_ahead : (base : Store ℕ) (given : Names) (files : List (List ℕ)) (items : List Item) (left : Reading) (number : ℕ) (now : Composing) (sent : List ℕ) → IsAhead files items left number [] → left ≡ ended

@@ -88,7 +88,7 @@ due_done_whole base reading now sent p e some =
 -- ---- the run without traces
 
 -- A traced step is the plain one.
-plain_step_is : (state : State Traced) (item : Item) → step_of (recelled_state byte_of state) item.command ≡ recelled_step byte_of (traced_step state item)
+pub plain_step_is : (state : State Traced) (item : Item) → step_of (recelled_state byte_of state) item.command ≡ recelled_step byte_of (traced_step state item)
 plain_step_is state item =
     ap (λ (put : List ℕ). step 0 put (recelled_state byte_of state) item.command) (sym (bytes_fresh (bytes_of item.command)))
     ∙ all_steps-cells byte_of item.command (fresh 0) (map fresh (bytes_of item.command)) state

@@ -220,7 +220,7 @@ halted item None false false next halt rest u e = one (nat_lt most_literal next.
     one true q = ap (λ (h : Halt). Some (halt_due item h)) (err_is q)
     one false q = cc
 
-foreseen : (last o : Option Head) → ((head : Head) → o ≡ Some head → (l : Head) × (last ≡ Some l)) → is_unforeseen last o ≡ false
+pub foreseen : (last o : Option Head) → ((head : Head) → o ≡ Some head → (l : Head) × (last ≡ Some l)) → is_unforeseen last o ≡ false
 foreseen last None known = refl
 foreseen (Some last) (Some head) known = refl
 foreseen None (Some head) known = absurd (let k = known head refl in (let e = k.1 in cc))

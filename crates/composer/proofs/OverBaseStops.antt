@@ -64,7 +64,7 @@ among_front (h ∷ hs) more uuid e = one (bytes_eq h.key.uuid uuid) e (among_fro
     one true q on = refl
     one false q on = on q
 
-front_uuids : (items rest all : List Item) → all ≡ items ++ rest → (uuid : List ℕ) → is_among (part_uuids items) uuid ≡ true → is_among (part_uuids all) uuid ≡ true
+pub front_uuids : (items rest all : List Item) → all ≡ items ++ rest → (uuid : List ℕ) → is_among (part_uuids items) uuid ≡ true → is_among (part_uuids all) uuid ≡ true
 front_uuids items rest all is uuid e =
     ap (λ (xs : List Item). is_among (part_uuids xs) uuid) is ∙ ap (λ (hs : List Head). is_among (map (λ (h : Head). h.key.uuid) hs) uuid) (heads_append items rest)
     ∙ among_front (heads items) (heads rest) uuid e
@@ -73,7 +73,7 @@ or_true : (b : Bool) → b || true ≡ true
 or_true true = refl
 or_true false = refl
 
-each_both : (base : Store ℕ) (some others : List (List ℕ)) (hs : List Head) → ((uuid : List ℕ) → is_among (map (λ (h : Head). h.key.uuid) hs) uuid ≡ true → InBoth base some others uuid) → AllByRecursion (λ head. InBoth base some others head.key.uuid) hs
+pub each_both : (base : Store ℕ) (some others : List (List ℕ)) (hs : List Head) → ((uuid : List ℕ) → is_among (map (λ (h : Head). h.key.uuid) hs) uuid ≡ true → InBoth base some others uuid) → AllByRecursion (λ head. InBoth base some others head.key.uuid) hs
 each_both base some others [] all = tt
 each_both base some others (h ∷ hs) all =
     let rest : List (List ℕ) = map (λ (x : Head). x.key.uuid) hs in (

@@ -1,9 +1,11 @@
 -- One item that the composer takes or does not take, from the step of its command, and from what it adds.
-use Rattle.std.specs.Prelude.{◌≡◌, ◌⊎◌, ◌<◌, ◌≤◌, ℕ, zero, suc, ◌+◌, ◌-◌, ◌||◌, ◌&&◌, not, Bool, true, false, map, List, [], ◌++◌, get_or, Option, None, Some, Result, Ok, Err, is_some, nat_lt, if◌then◌else◌}
+use Rattle.std.specs.Prelude.{◌≡◌, ◌⊎◌, ◌<◌, ◌≤◌, ℕ, zero, suc, ◌+◌, ◌-◌, ◌||◌, ◌&&◌, not, Bool, true, false, map, List, [], ◌++◌, length, get_or, Option, None, Some, Result, Ok, Err, is_some, nat_lt, if◌then◌else◌}
 use Rattle.std.specs.Option.{option_map}
 use Rattle.std.specs.List.{AllByRecursion, range_with_len}
 use Rattle.std.proofs.Common.{refl, sym, ap, ap₂, subst, ◌∙◌, arith, inl, inr, ⊎_elim, append-nil}
+use Rattle.std.specs.Io.KnownBytes.{Appends}
 use Rattle.std.proofs.KnownBytes.{Appends-nil}
+use Rattle.std.proofs.Math.Seq.{take-length}
 use Rattle.std.proofs.lemmas.Bool.{ltb-true, ltb-false}
 use Rattle.send_model.specs.Refusal.{Refusal, NotConsecutive}
 use Rattle.send_model.specs.Command.{Command, Subvol, Snapshot, Clone}
@@ -36,7 +38,7 @@ use Rattle.composer.specs.OverBase.{Plan, Composing, Halt, Refuses, Exceeds, beg
 use Rattle.composer.specs.Kept.{Kept, composing_of}
 use Rattle.composer.specs.Files.{plan_with}
 use Rattle.composer.specs.Adding.{Led, stands_out, begun_with, uncarried_by, AddsCommand, AddEnd}
-use Rattle.composer.specs.Taking.{DataStand, ItemTaken, ItemWhy, ItemStops, ItemEnd, StopEnd}
+use Rattle.composer.specs.Taking.{DataStand, ItemTaken, ItemWhy, AllWhereEnded, ItemStops, ItemEnd, StopEnd}
 use Rattle.composer.proofs.OverBaseAdds.{adds_head, sum_same}
 use Rattle.composer.proofs.OverBaseSeen.{IsSeenAs, answers_seen, put_seen, data_there, goes_on, stops_there}
 
@@ -180,11 +182,19 @@ pub refused_ends : {still : List ℕ} (files : List (List ℕ)) (plan : Plan) (o
     → StopEnd old.pending still out_old out_new before now (ended.Refused verdict) result → ItemEnd files plan old new item out_old out_new (Err result)
 refused_ends files plan old new item refusal verdict result out_old out_new before now refused verdict_is stop =
     ⊎_elim
-    (λ same. subst (λ (o : Outcome). ItemStops plan (composing_of files plan.base old) item o out_old out_new) (sym same)
-    (record { next = composing_of files plan.base old; why = (refl, record { refusal = refusal; refused = refused; verdict_is = verdict_is }); front = stop.front }))
+    (λ sent. subst (λ (o : Outcome). ItemStops plan (composing_of files plan.base old) item o out_old out_new) (sym sent.0)
+    (record { next = composing_of files plan.base old; why = (refl, record { refusal = refusal; refused = refused; verdict_is = verdict_is }); front = stop.front; whole = sent.1.appends }))
     (λ failed. subst (λ (o : Outcome). ItemStops plan (composing_of files plan.base old) item o out_old out_new) (sym failed.0)
-    (record { next = composing_of files plan.base old; why = inl refl; front = stop.front }))
-    stop.outcome_is
+    (record { next = composing_of files plan.base old; why = inl refl; front = stop.front; whole = tt }))
+    (stop.sent (λ e. cc) (λ e. cc))
+
+-- All bytes are a front part of them.
+all_front : (out_old out_new : Option (List ℕ)) (bytes : List ℕ) → Appends out_old out_new bytes → AppendsFront out_old out_new bytes
+all_front out_old out_new bytes a = record {
+  count = length bytes;
+  within = omega arith;
+  appends = subst (λ (bs : List ℕ). Appends out_old out_new bs) (sym (take-length bytes)) a;
+}
 
 -- The step is refused.
 pub step_refused : (files : List (List ℕ)) (plan : Plan) (old : Kept) (after : State (Option Trace)) (item : Item) (refusal : Refusal)
@@ -209,6 +219,7 @@ no_memory files plan old new item out = record {
   next = composing_of files plan.base old;
   why = inl refl;
   front = record { count = 0; within = omega arith; appends = Appends-nil out };
+  whole = tt;
 }
 
 -- ---- an edit or END
@@ -254,13 +265,13 @@ edit_ends files base survey last old after put new item out_old out_new result k
         no_head (Some k) None = refl
         no_head (Some k) (Some h) = refl
 
-    cut : (o : Outcome) → ((next : Composing) → ((next ≡ composing_of files base old) ⊎ (advance plan (composing_of files base old) item ≡ Ok next)) → ItemWhy plan (composing_of files base old) next item o)
+    cut : (o : Outcome) → ((bs : List ℕ) → AllWhereEnded o out_old out_new bs) → ((next : Composing) → ((next ≡ composing_of files base old) ⊎ (advance plan (composing_of files base old) item ≡ Ok next)) → ItemWhy plan (composing_of files base old) next item o)
         → AppendsFront out_old out_new old.pending ⊎ ((old.sum + uncarried_by base survey.parts now.state now.current item.command ≤ most_literal) × AppendsFront out_old out_new (old.pending ++ bytes))
         → ItemStops plan (composing_of files base old) item o out_old out_new
-    cut o why ends = ⊎_elim
-        (λ front. record { next = composing_of files base old; why = why (composing_of files base old) (inl refl); front = front })
+    cut o whole why ends = ⊎_elim
+        (λ front. record { next = composing_of files base old; why = why (composing_of files base old) (inl refl); front = front; whole = whole old.pending })
         (λ more. let c = item_cut files plan old new item out_old out_new goes more.0 (subst (λ (bs : List ℕ). AppendsFront out_old out_new (old.pending ++ bs)) (sym is_bytes) more.1) in
-        record { next = c.0; why = why c.0 (inr c.1); front = c.2 })
+        record { next = c.0; why = why c.0 (inr c.1); front = c.2; whole = whole c.0.pending })
         ends
 
     by_result : (r : Result (Unit {0}) Outcome) → AddsCommand base survey last.key now item.command (record old { state = after }) new out_old out_new r → ItemEnd files plan old new item out_old out_new r
@@ -268,10 +279,10 @@ edit_ends files base survey last old after put new item out_old out_new result k
       item_taken files plan old new item out_old out_new goes (sym a.1.0) a.1.1 (subst (GoesOut out_old out_new old.pending new.pending) (sym is_bytes) a.0),
       goes.latest,
     )
-    by_result (Err (ended.TooMuch sum)) a = record { next = composing_of files base old; why = (refl, item_exceeds files plan old new item sum goes a.0 a.1.0); front = a.1.1 }
-    by_result (Err ended.OutputFault) a = cut ended.OutputFault (λ next w. w) a
-    by_result (Err ended.InputFault) a = cut ended.InputFault (λ next w. w) a
-    by_result (Err ended.NoMemory) a = cut ended.NoMemory (λ next w. w) a
+    by_result (Err (ended.TooMuch sum)) a = record { next = composing_of files base old; why = (refl, item_exceeds files plan old new item sum goes a.0 a.1.0); front = all_front out_old out_new old.pending a.1.1; whole = a.1.1 }
+    by_result (Err ended.OutputFault) a = cut ended.OutputFault (λ bs. tt) (λ next w. w) a
+    by_result (Err ended.InputFault) a = cut ended.InputFault (λ bs. tt) (λ next w. w) a
+    by_result (Err ended.NoMemory) a = cut ended.NoMemory (λ bs. tt) (λ next w. w) a
     by_result (Err (ended.InputChanged file place)) a = elim a [ ]
     by_result (Err ended.Done) a = elim a [ ]
     by_result (Err (ended.Refused verdict)) a = elim a [ ]

@@ -10,6 +10,7 @@ use Rattle.send_model.specs.Provenance.{Traced, literal_len, pieces_of, is_redir
 use Rattle.send_model.specs.Composed.{commands_for}
 use Rattle.send_model.specs.Due.{most_literal}
 use Rattle.std.specs.List.{sum_by}
+use Rattle.std.specs.Io.KnownBytes.{Appends}
 use Rattle.sx_base.specs.declared.outcome.Outcome.{Outcome}
 use Rattle.sx_base.specs.declared.outcome.Outcome.TheVariants as ended
 use Rattle.provenance.specs.declared.trace.Trace.{Trace}
@@ -36,11 +37,11 @@ begun_with version begun head (Some last) = begin_bytes version begun last (Some
 abbrev pub uncarried_by : Store ℕ → List (List ℕ) → State Traced → Option (List ℕ) → Command → ℕ
 uncarried_by base parts state current command = if is_redirected parts current command then uncarried_in base (clone_range state command ∷ []) else 0
 
--- Bytes go out of which so many are uncarried, and the sum of these is not too great; or it is, and nothing of them is written; or an
+-- Bytes go out of which so many are uncarried, and the sum of these is not too great; or it is, and only what was pending is written; or an
 -- object of the outside failed or there is no memory, before a byte of them or in their middle.
 abbrev pub Adds : (more : ℕ) (bytes : List ℕ) (old new : Kept) (out_old out_new : Option (List ℕ)) → Result (Unit {0}) Outcome → Type 0
 Adds more bytes old new out_old out_new (Ok done) = GoesOut out_old out_new old.pending new.pending bytes × ((new.sum ≡ old.sum + more) × (new.sum ≤ most_literal))
-Adds more bytes old new out_old out_new (Err (ended.TooMuch sum)) = (sum ≡ old.sum + more) × ((most_literal < sum) × AppendsFront out_old out_new old.pending)
+Adds more bytes old new out_old out_new (Err (ended.TooMuch sum)) = (sum ≡ old.sum + more) × ((most_literal < sum) × Appends out_old out_new old.pending)
 Adds more bytes old new out_old out_new (Err ended.OutputFault) = AppendsFront out_old out_new old.pending ⊎ ((old.sum + more ≤ most_literal) × AppendsFront out_old out_new (old.pending ++ bytes))
 Adds more bytes old new out_old out_new (Err ended.InputFault) = AppendsFront out_old out_new old.pending ⊎ ((old.sum + more ≤ most_literal) × AppendsFront out_old out_new (old.pending ++ bytes))
 Adds more bytes old new out_old out_new (Err ended.NoMemory) = AppendsFront out_old out_new old.pending ⊎ ((old.sum + more ≤ most_literal) × AppendsFront out_old out_new (old.pending ++ bytes))

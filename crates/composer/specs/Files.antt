@@ -8,9 +8,10 @@ use Rattle.send_model.specs.Order.{heads, last_item}
 use Rattle.send_model.specs.Composed.{last_head}
 use Rattle.send_model.specs.Due.{RefusedAt}
 use Rattle.send_model.specs.Lengths.{is_too_long}
-use Rattle.send_model.specs.Headline.{IsComposedOf}
+use Rattle.send_model.specs.Headline.{IsComposedOf, whole_output_of}
 use Rattle.send_model.specs.Renamed.{Names, named_as, renamed}
 use Rattle.sx_base.specs.Refusals.{verdict_meant}
+use Rattle.sx_base.specs.declared.outcome.Verdict.{Verdict}
 use Rattle.sx_base.specs.declared.outcome.Outcome.{Outcome}
 use Rattle.sx_base.specs.declared.outcome.Outcome.TheVariants as ended
 use Rattle.send_model.specs.Words.{Compose}
@@ -21,6 +22,7 @@ use Rattle.file_survey.specs.declared.places.Place.{Place}
 use Rattle.clone_pieces.specs.Sending.{AppendsFront}
 use Rattle.composer.specs.OverBase.{Plan, Composing, Halt, Exceeds, halt_due, advance, advance_all, unsent}
 use Rattle.composer.specs.Kept.{Kept, composing_of}
+use Rattle.composer.specs.Taking.{AllWhereEnded}
 
 -- The plan over a base, as the survey of the files has it.
 abbrev pub plan_with : Store ℕ → Surveyed → Plan
@@ -77,7 +79,8 @@ FileWhy plan file given now rest ended.InputFault bytes = ⊤
 FileWhy plan file given now rest ended.OutputFault bytes = ⊤
 FileWhy plan file given now rest ended.NoMemory bytes = ⊤
 
--- Some items of the file were taken, and a front part of the bytes was written that were then to be written.
+-- Some items of the file were taken, and a front part of the bytes was written that were then to be written; all of them, where an object of
+-- the outside did not fail and there was memory.
 pub record FileStops (files : List (List ℕ)) (plan : Plan) (file : ℕ) (given : Option (List ℕ)) (old : Kept) (out_old out_new : Option (List ℕ)) (outcome : Outcome) (bytes : List ℕ) : Type 0 where
   pub items : List Item
   pub rest : Reading
@@ -85,6 +88,7 @@ pub record FileStops (files : List (List ℕ)) (plan : Plan) (file : ℕ) (given
   pub read : reads file bytes ≡ then_reading items rest
   pub all : advance_all plan (composing_of files plan.base old) (map (named_as given) items) ≡ Ok next
   pub front : AppendsFront out_old out_new next.pending
+  pub whole : AllWhereEnded outcome out_old out_new next.pending
   pub why : FileWhy plan file given next rest outcome bytes
 
 abbrev pub FileEnd : List (List ℕ) → Plan → ℕ → Option (List ℕ) → Kept → Kept → Option (List ℕ) → Option (List ℕ) → Place → Result Place Outcome → List ℕ → Type 0
@@ -94,10 +98,11 @@ FileEnd files plan file given old new out_old out_new before (Err outcome) bytes
 -- ---- all files
 
 -- Composing all files over a base, with the names that are given, ends as is due, and the headline holds of what was written where all
--- was done.
+-- was done. Where a command is refused, all was written that stands for those before it.
 pub record ComposeEnds (base : Store ℕ) (given : Names) (files : List (List ℕ)) (outcome : Outcome) (written : List ℕ) : Type 0 where
   pub ends : EndsOf (Compose 1 2) base (sources_named given files) outcome written
   pub composed : outcome ≡ ended.Done → IsComposedOf base (renamed given (input files)) written
+  pub refused : (verdict : Verdict) → outcome ≡ ended.Refused verdict → written ≡ whole_output_of base (renamed given (input files))
 
 abbrev pub outcome_in : Result (Unit {0}) Outcome → Outcome
 outcome_in (Ok done) = ended.Done

@@ -50,11 +50,24 @@ ItemWhy plan old next item (ended.InputChanged file place) = ⊥
 ItemWhy plan old next item (ended.InputTooLong file) = ⊥
 ItemWhy plan old next item ended.Done = ⊥
 
--- A front part of the bytes was written that were then to be written.
+-- Where a command is refused, or there is too much, or a file is too long or found changed, all bytes were written that were then to be written.
+abbrev pub AllWhereEnded : Outcome → Option (List ℕ) → Option (List ℕ) → List ℕ → Type 0
+AllWhereEnded (ended.Refused verdict) out_old out_new bytes = Appends out_old out_new bytes
+AllWhereEnded (ended.TooMuch sum) out_old out_new bytes = Appends out_old out_new bytes
+AllWhereEnded (ended.InputTooLong file) out_old out_new bytes = Appends out_old out_new bytes
+AllWhereEnded (ended.InputChanged file place) out_old out_new bytes = Appends out_old out_new bytes
+AllWhereEnded ended.NoMemory out_old out_new bytes = ⊤
+AllWhereEnded ended.InputFault out_old out_new bytes = ⊤
+AllWhereEnded ended.OutputFault out_old out_new bytes = ⊤
+AllWhereEnded ended.Done out_old out_new bytes = ⊤
+
+-- A front part of the bytes was written that were then to be written; all of them, where an object of the outside did not fail and there was
+-- memory.
 pub record ItemStops (plan : Plan) (old : Composing) (item : Item) (outcome : Outcome) (out_old out_new : Option (List ℕ)) : Type 0 where
   pub next : Composing
   pub why : ItemWhy plan old next item outcome
   pub front : AppendsFront out_old out_new next.pending
+  pub whole : AllWhereEnded outcome out_old out_new next.pending
 
 -- After an item that is taken the head that came last is the item's, if it is one.
 abbrev pub ItemKept : Kept → Kept → Item → Type 0

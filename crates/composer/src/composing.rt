@@ -497,8 +497,8 @@ impl Composer {
     pub fn stopped<O: Sink>(&mut self, outcome: Outcome, out: &mut O) -> Outcome
         ensures later { O.faults out.old ≤ O.faults out.new }
         ensures stops { IsStop outcome → IsStop result }
-        ensures stopped { StopEnd self.old.pending self.new.pending (O.taken out.old) (O.taken out.new)
-            (O.faults out.old) (O.faults out.new) outcome result }
+        ensures stopped { StopEnd self.old.pending self.new.pending
+            (O.taken out.old) (O.taken out.new) (O.faults out.old) (O.faults out.new) outcome result }
     {
         ended(outcome, &mut self.pending, out)
     }
@@ -514,7 +514,7 @@ impl Composer {
         ensures steady { Steady (O.faults out.old) (O.faults out.new) result }
         ensures ended { EndEnd (self.old.pending ++ canonical version End)
             (O.taken out.old) (O.taken out.new) (O.faults out.old) (O.faults out.new) result }
-        ensures all_out { OnOk result (self.new ≡ record self.old { pending = []; }) }
+        ensures all_out { OnOk result (self.new ≡ record self.old { pending = [] }) }
     {
         if encode(&Command::End, version, &mut self.pending).is_err() {
             return Err(SendStop::NoMemory);

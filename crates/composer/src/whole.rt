@@ -31,7 +31,8 @@ use sx_base::{Inputs, Outcome, Refusal, Sink};
 /// Composes the consecutive parts in the files into one stream and writes it to `out`, over no base. The files are read twice, in
 /// order and one command at a time: first for their heads, then to write. Each head has the name that is given for its file, if one
 /// is, in place of its own. `Done` says that `out` took the composed stream, and
-/// `Refused` gives the verdict on the files; then and with every other outcome what `out` took is no whole stream. `InputTooLong`
+/// `Refused` gives the verdict on the files; then `out` took all that stands for the commands before. With every outcome but `Done`
+/// what `out` took is no whole stream. `InputTooLong`
 /// gives the first file that is too long, and with `Done` and `Refused` there is none. `InputChanged` gives the file and the place
 /// of the end that the inputs answered last.
 pub fn compose<I: Inputs, O: Sink>(
@@ -73,7 +74,8 @@ pub fn compose<I: Inputs, O: Sink>(
 
 /// The same over a base, after the survey of the files. `core` has the base's subvolumes, each cell traced to its own place
 /// there; `known` has their files' ends and paths, and `bytes` their bytes. The base has no part of the files. What is written,
-/// and which outcome comes, is said where `bytes` tells. Where it does not, each failure has its cause all the same.
+/// and which outcome comes, is said where `bytes` tells. Where it does not, each failure has its cause all the same, and `Done` comes
+/// only where the survey has a last head.
 pub fn compose_over<I: Inputs, E: Known, B: OutsideBytes, O: Sink>(
     alloc: Global,
     survey: &Survey,
