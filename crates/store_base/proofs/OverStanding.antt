@@ -100,7 +100,11 @@ module _ (thin whole : Store ℕ) (given : Names) (files : List (List ℕ)) (ali
   same_ends ended.NoMemory written e = (alike.before 1 2 written).0 e
 
   same_composing : (outcome : Outcome) (written : List ℕ) → ComposeEnds thin given files outcome written → ComposeEnds whole given files outcome written
-  same_composing outcome written e = record { ends = same_ends outcome written e.ends; composed = λ done. (alike.composed written).0 (e.composed done) }
+  same_composing outcome written e = record {
+    ends = same_ends outcome written e.ends;
+    composed = λ done. (alike.composed written).0 (e.composed done);
+    refused = λ verdict is. (alike.says 1 2 DoneWhole written).0 (e.refused verdict is);
+  }
 
   ends_over : (end : StoreEnd) (written : List ℕ) → EndsOver thin given files end written → EndsOver whole given files end written
   ends_over (made.Ends outcome) written e = same_composing outcome written e
