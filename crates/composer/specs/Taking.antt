@@ -93,12 +93,14 @@ pub record AllOut (pending left : List ℕ) (out_old out_new : Option (List ℕ)
   pub steady : now ≡ before
 
 -- The outcome stays, or what is pending was to be written first and the output failed; but where the inputs have failed, or
--- there is no memory, nothing was. A front part of what is pending was written: all of it, where the output did not fail then.
+-- there is no memory, nothing was, and nothing is asked of the output. Else a front part of what is pending was written: all of it, where
+-- the output did not fail then.
 pub record StopEnd (pending left : List ℕ) (out_old out_new : Option (List ℕ)) (before now : ℕ) (outcome result : Outcome) : Type 0 where
   pub outcome_is : (result ≡ outcome) ⊎ ((result ≡ ended.OutputFault) × (outcome ≢ ended.InputFault) × (outcome ≢ ended.NoMemory) × Rose before now)
   pub front : AppendsFront out_old out_new pending
   pub sent : outcome ≢ ended.InputFault → outcome ≢ ended.NoMemory
       → ((result ≡ outcome) × AllOut pending left out_old out_new before now) ⊎ ((result ≡ ended.OutputFault) × (left ≡ pending) × Rose before now × AppendsPart out_old out_new pending)
+  pub quiet : (outcome ≡ ended.InputFault) ⊎ (outcome ≡ ended.NoMemory) → (result ≡ outcome) × (left ≡ pending) × (now ≡ before) × Appends out_old out_new []
 
 -- All that was pending with END was written, or a proper front part of it, where the output failed.
 abbrev pub EndEnd : List ℕ → Option (List ℕ) → Option (List ℕ) → ℕ → ℕ → Result (Unit {0}) SendStop → Type 0
