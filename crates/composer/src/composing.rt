@@ -6,7 +6,7 @@ ghost use Rattle.send_model.specs.Command.{Clone, End};
 ghost use Rattle.send_model.specs.Subvolume.{Subvolume, walk, is_file};
 ghost use Rattle.send_model.specs.Clone.{cells_of};
 ghost use Rattle.send_model.specs.Store.{State, Head, Key, find, head_of};
-ghost use Rattle.send_model.specs.Receive.{bytes_of};
+ghost use Rattle.send_model.specs.Receive.{bytes_of, first_of};
 ghost use Rattle.send_model.specs.Provenance.{is_own};
 ghost use Rattle.send_model.specs.Spelling.{canonical};
 ghost use Rattle.send_model.specs.Laws.{CanWrite};
@@ -104,7 +104,7 @@ impl Composer {
     /// One item of the input file with this number, counted from 1, and the bytes of its frame as they came: where they are the
     /// canonical spelling that is due, they go out as they are. What it adds is written where much is pending; of a clone from an
     /// earlier part what stands for it is written piece by piece, and the bytes of other pieces are read again. What is kept and
-    /// written then is said where `bytes` tells.
+    /// written then is said where `bytes` tells; which head came last is said in any case.
     ///
     /// # Errors
     /// The refusal of the item's command, or `NotConsecutive` at a head that does not name the part before it as its parent or
@@ -157,6 +157,8 @@ impl Composer {
         ensures stops { IfErr result IsStop }
         ensures changed { ErrFoundChanged (map string_bytes files.now) (I.last_end inputs.new)
             result }
+        ensures latest { OnOk result (self.new.latest
+            ≡ first_of (head_of (meaning_of item.now.command)) self.old.latest) }
         ensures taken { B.tells → IfAllTold (I.told inputs.old) (map string_bytes files.now)
             (λ told. ItemEnd told (plan_with (E.base known.now) survey.now) self.old self.new
             (item_of file item.now) (O.taken out.old) (O.taken out.new) result) }

@@ -2,7 +2,8 @@ use Rattle.std.specs.Prelude.{◌≡◌, ◌-◌, map, length, Option, None, Ok,
 use Rattle.std.specs.Option.{option_map, option_copied}
 use Rattle.std.specs.String.{string_bytes}
 use Rattle.std.proofs.Common.{refl, sym, ap, subst, ◌∙◌, arith}
-use Rattle.send_model.specs.Store.{Key, State, head_of, step}
+use Rattle.send_model.specs.Store.{Key, Head, State, head_of, step}
+use Rattle.send_model.specs.Receive.{first_of}
 use Rattle.send_commands.specs.Meaning.{meaning_of}
 use Rattle.send_commands.proofs.Writable.{spellable_is_writable}
 use Rattle.sx_base.specs.declared.stop.Stop.{Stop}
@@ -77,6 +78,11 @@ returns-in-Ok-begin_part-clause-taken g c tells =
     (head_taken told (g.E.Known.base c.args.known.now) c.args.survey.now (the_view c.self.inside) c.begin_part.new.self (record { store = c.step.new.self; part = c.step.new.part }) (item_of c.args.file c.args.item.now) (head_meant c.in-Some.head) (g.O.Sink.taken c.args.out.now) (sym c.in-Some.ensures) (not_true _ (sym order ∙ c.if-not-in_order.false)) c.self.invariant.1
     (stepped_seen {A = Done} (Ok c.in-Ok.field-0) told (g.E.Known.base c.args.known.now) (the_view c.self.inside).state (record { store = c.step.new.self; part = c.step.new.part }) (item_of c.args.file c.args.item.now) there.1 c.in-Ok.ensures.stepped)
     (c.in-Ok-begin_part.ensures.begun (head_meant c.in-Some.head) (sym c.in-Some.ensures) refl))) c.requires.there
+
+pub returns-in-Ok-begin_part-clause-latest : goal.returns-in-Ok-begin_part-clause-latest
+returns-in-Ok-begin_part-clause-latest g c =
+    ap (λ (k : Kept). k.latest) (c.in-Ok-begin_part.ensures.begun (head_meant c.in-Some.head) (sym c.in-Some.ensures) refl)
+    ∙ ap (λ (o : Option Head). first_of o c.args.self.now.latest) c.in-Some.ensures
 
 pub returns-in-Err-clause-taken : goal.returns-in-Err-clause-taken
 returns-in-Err-clause-taken g c tells =
