@@ -4,8 +4,8 @@ ghost use Rattle.std.specs.String.{string_bytes};
 ghost use Rattle.send_model.specs.Renamed.{AreNewNames};
 ghost use Rattle.word_model.specs.NameWords.{given_from};
 
-use crate::checking::{is_name_word, is_short};
-use part_names::{PartNames, name_of};
+use crate::checking::{gives_name, is_name_word, name_given};
+use part_names::PartNames;
 use std::alloc::{AllocError, Global};
 use std::marker::Model;
 
@@ -48,10 +48,10 @@ impl GivenFiles {
                 files.push(String::from_str(alloc, word)?)?;
                 name = None;
             } else {
-                if name.is_some() || !is_short(word) {
+                if name.is_some() || !gives_name(word) {
                     unreachable!()
                 }
-                name = Some(name_of(alloc, &word.as_bytes()[5..])?);
+                name = Some(name_given(alloc, word)?);
             }
         }
         Ok(GivenFiles { files, names })

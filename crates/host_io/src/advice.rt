@@ -1,6 +1,8 @@
 // What a person is told about a note, in one sentence. `bench/manual.sh --write` puts these sentences into the manual, which says more
 // beside them. It knows the tables and the arms of `about_words` by their form.
 
+use escaped_words::meant_len;
+
 const LIKE_THIS: &str = "it was written like this: send the subvolume again with --proto 1";
 
 const COPY_AGAIN: &str = "the file is damaged: copy it again, or send the subvolume again";
@@ -152,8 +154,22 @@ pub(crate) fn about_words(words: &[String]) -> &'static str {
         [.., word] if word.as_bytes().starts_with(b"name:") => {
             "a file stands behind the name that is given for it"
         }
+        words if is_no_form(words) => {
+            "behind escaped: stands a name as `list` and `show` print it: a backslash, x and two of 0-9 a-f for each byte that is not visible"
+        }
         _ => "these words mean nothing: --help shows the words that there are",
     }
+}
+
+// Whether one of the words begins as an escaped name and is none.
+fn is_no_form(words: &[String]) -> bool {
+    for word in words {
+        let word = word.as_bytes();
+        if meant_len(word.strip_prefix(b"name:").unwrap_or(word)).is_none() {
+            return true;
+        }
+    }
+    false
 }
 
 /// What is said where standard output, a terminal, would get a stream.

@@ -57,6 +57,7 @@ usage: btrsend init STORE
   NAME      the name of a subvolume, PATH a path in it: `dir/file`
   FILE      a file that `btrfs send` wrote, with one stream or several
   name:NEW  the subvolume in the FILE behind it is called NEW: so are told apart those of a tool that calls each the same
+  escaped:WORD   in place of a NAME, a PATH or a NEW: the one that `list` and `show` print as WORD, text or not
   GUARD     guard:bytes=N, guard:commands=N, guard:nodev or guard:end=N: refuses more bytes of data, more
             commands, device nodes, and a WRITE, CLONE or TRUNCATE that ends above N
 

@@ -326,7 +326,7 @@ fn text_for(words: &[String]) -> Option<&'static str> {
     }
 }
 
-fn answered<N: Sink>(answer: &Answer<'_>, notes: &mut N) -> ExitCode {
+fn answered<N: Sink>(answer: &Answer, notes: &mut N) -> ExitCode {
     let _ = write_note(answer, notes);
     ExitCode::from(status(answer))
 }

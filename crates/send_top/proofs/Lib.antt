@@ -9,5 +9,6 @@ pub mod AskedFor
 pub mod StreamsAnswers
 pub mod MissingNote
 pub mod ReceiveAnswers
+pub mod NothingDone
 pub mod SentAnew
 pub mod TurnsRead

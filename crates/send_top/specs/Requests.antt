@@ -1,5 +1,5 @@
 -- What the words ask for, with the guards that were handed in. The words are this program's own.
-use Rattle.std.specs.Prelude.{◌≡◌, ◌≢◌, ℕ, ◌+◌, ◌-◌, ◌<◌, ◌≤◌, Bool, true, List, [], ◌∷◌, length, map, take, drop, Option, None, Some, is_some, IsTrue, if◌then◌else◌}
+use Rattle.std.specs.Prelude.{◌≡◌, ◌≢◌, ⊤, ℕ, ◌+◌, ◌-◌, ◌<◌, ◌≤◌, Bool, true, List, [], ◌∷◌, length, map, take, drop, Option, None, Some, is_some, IsTrue, if◌then◌else◌}
 use Rattle.std.specs.Option.{option_map, unwrap_or}
 use Rattle.send_model.specs.Guards.{GuardSpec, Guard, guard_of}
 use Rattle.send_model.specs.Renamed.{Names}
@@ -11,7 +11,7 @@ use Rattle.store_model.specs.Requests.{OfStreams, InitStore, DropEntry, ReceiveF
 use Rattle.store_model.specs.Turns.{schedule_of}
 use Rattle.word_model.specs.NameWords.{GivenFiles, given_from, files_in, names_in, streams_named_at}
 use Rattle.word_model.specs.AllRequests as meant
-use Rattle.word_model.specs.AllRequests.{OfStore, SendEntry, RestoreEntry, TakeTurns, TurnFiles, turn_files, request_of, or_of_subvolumes}
+use Rattle.word_model.specs.AllRequests.{OfStore, SendEntry, RestoreEntry, TakeTurns, TurnFiles, turn_files, request_of, or_of_subvolumes, name_at}
 use Rattle.send_top.specs.declared.store_named.StoreUse.{StoreUse}
 use Rattle.send_top.specs.declared.store_named.StoreUse.TheVariants as used
 use Rattle.send_top.specs.declared.words.Request.{Request}
@@ -294,3 +294,41 @@ IsOverWithin count (of_store.Interleave store schedule turns) = (store < count) 
 abbrev pub IsWithin : ℕ → Request → Type 0
 IsWithin count (made.Streams request) = AreWithin count request
 IsWithin count (made.Store request) = IsOverWithin count request
+
+-- The bytes that are meant by the name and by the path of a request over a store; none where it has none.
+abbrev pub entry_name : List (List ℕ) → StoreRequest → List ℕ
+entry_name words (of_store.Init store) = []
+entry_name words (of_store.Drop store name) = name_at words name
+entry_name words (of_store.Receive store files) = []
+entry_name words (of_store.List store) = []
+entry_name words (of_store.Show store name) = name_at words name
+entry_name words (of_store.Cat store name path) = name_at words name
+entry_name words (of_store.Scrub store) = []
+entry_name words (of_store.Send store name) = name_at words name
+entry_name words (of_store.Restore store name) = name_at words name
+entry_name words (of_store.Interleave store schedule turns) = []
+
+abbrev pub entry_path : List (List ℕ) → StoreRequest → List ℕ
+entry_path words (of_store.Init store) = []
+entry_path words (of_store.Drop store name) = []
+entry_path words (of_store.Receive store files) = []
+entry_path words (of_store.List store) = []
+entry_path words (of_store.Show store name) = []
+entry_path words (of_store.Cat store name path) = name_at words path
+entry_path words (of_store.Scrub store) = []
+entry_path words (of_store.Send store name) = []
+entry_path words (of_store.Restore store name) = []
+entry_path words (of_store.Interleave store schedule turns) = []
+
+-- The requests that have a name.
+abbrev pub HasName : StoreRequest → Type 0
+HasName (of_store.Init store) = ⊥
+HasName (of_store.Drop store name) = ⊤
+HasName (of_store.Receive store files) = ⊥
+HasName (of_store.List store) = ⊥
+HasName (of_store.Show store name) = ⊤
+HasName (of_store.Cat store name path) = ⊤
+HasName (of_store.Scrub store) = ⊥
+HasName (of_store.Send store name) = ⊤
+HasName (of_store.Restore store name) = ⊤
+HasName (of_store.Interleave store schedule turns) = ⊥

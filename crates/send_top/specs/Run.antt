@@ -13,10 +13,10 @@ use Rattle.send_model.specs.Answer.{Done, Refused, Usage, InputFault, OutputFaul
 use Rattle.send_model.specs.Words as streams
 use Rattle.send_model.specs.Words.{Compose, Audit, Dump, Export, Gen, Trial, new_guards}
 use Rattle.store_model.specs.Requests as stored
-use Rattle.store_model.specs.Requests.{OfStreams, InitStore, DropEntry, ReceiveFiles, ListStore, ShowEntry, CatFile, ScrubStore, reads_store, word_at}
+use Rattle.store_model.specs.Requests.{OfStreams, InitStore, DropEntry, ReceiveFiles, ListStore, ShowEntry, CatFile, ScrubStore, reads_store}
 use Rattle.store_model.specs.Stored.{StandsFor}
 use Rattle.store_model.specs.Answers.{Answer, OfAnyWord, StoreFault, NotStore, Missing, LogFull, StoreThere, Damaged}
-use Rattle.word_model.specs.AllRequests.{Request, OfStore, SendEntry, RestoreEntry, TakeTurns, TurnFiles}
+use Rattle.word_model.specs.AllRequests.{Request, OfStore, SendEntry, RestoreEntry, TakeTurns, TurnFiles, name_at}
 use Rattle.word_model.specs.AllAnswers.{Answers, ReadsFiles}
 use Rattle.sent_model.specs.Sent.{sent_stream}
 use Rattle.sent_model.specs.Restored.{restored_stream}
@@ -97,7 +97,7 @@ Exports told tells words guards image old new = (store at : ℕ) → Asks words 
 -- What was written of the complete subvolume of the name at a place is one stream that makes it anew: every store that has neither its name
 -- nor its uuid receives it, with an equal listing.
 abbrev pub SendsOver : (tells : Type 0) → List (List ℕ) → (image : List ℕ) → (old new : Option (List ℕ)) → (name : ℕ) → Type 0
-SendsOver tells words image old new name = tells → Wrote old new (λ written. IsReceivedAnew image (word_at words name) written)
+SendsOver tells words image old new name = tells → Wrote old new (λ written. IsReceivedAnew image (name_at words name) written)
 
 -- So it is of a subvolume that is sent, and of one that is restored.
 abbrev pub Sends : (tells : Type 0) → List (List ℕ) → List Guard → (image : List ℕ) → (old new : Option (List ℕ)) → Type 0
@@ -107,8 +107,8 @@ Sends tells words guards image old new = (store name : ℕ) → (Asks words guar
 -- What is written where not all was done: some of the stream is missing.
 abbrev pub SendsInPart : Request → List (List ℕ) → (image : List ℕ) → (old new : Option (List ℕ)) → Type 0
 SendsInPart (OfStore request) words image old new = ⊤
-SendsInPart (SendEntry store name) words image old new = Wrote old new (λ written. IsUnfinished sent_stream image (word_at words name) written)
-SendsInPart (RestoreEntry store name) words image old new = Wrote old new (λ written. IsUnfinished restored_stream image (word_at words name) written)
+SendsInPart (SendEntry store name) words image old new = Wrote old new (λ written. IsUnfinished sent_stream image (name_at words name) written)
+SendsInPart (RestoreEntry store name) words image old new = Wrote old new (λ written. IsUnfinished restored_stream image (name_at words name) written)
 SendsInPart (TakeTurns store schedule turns) words image old new = ⊤
 
 -- ---- causes
@@ -303,7 +303,7 @@ AreSteady inputs_before inputs_now ends_before ends_now out_before out_now = (in
 abbrev pub AtStoredMoment : (told : Option (List (List ℕ × List ℕ))) → stored.Request → List (List ℕ) → Pending → (seen : List ℕ) → (L : (List ℕ → Type 0) → Type 0) → Type 0
 AtStoredMoment told (OfStreams request) words pending seen L = L (IsImage pending)
 AtStoredMoment told (InitStore store) words pending seen L = 0 < length seen → L (IsImage pending)
-AtStoredMoment told (DropEntry store name) words pending seen L = L (LeftByDrop pending seen (word_at words name))
+AtStoredMoment told (DropEntry store name) words pending seen L = L (LeftByDrop pending seen (name_at words name))
 AtStoredMoment told (ReceiveFiles guards store at) words pending seen L =
     IfAllTold told (files_in (drop at words))
     (λ files. AllByRecursion IsBytes files → L (LeftByReceive pending seen (new_guards guards) (with_names (drop at words) files) []))

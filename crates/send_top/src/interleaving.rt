@@ -22,8 +22,8 @@ ghost use Rattle.send_top.specs.Requests.{AreTurns, places_in, turns_in};
 ghost use Rattle.send_top.specs.Run.{AreSteady, IfAllRead, IfOfCompose, IsCaused, IsGivenFor};
 
 use crate::noting::Answer;
-use crate::over_store::{answer_by, word_bytes};
-use crate::words::is_guard_word;
+use crate::over_store::end_answer;
+use crate::words::{is_guard_word, word_bytes};
 use guard_rules::{AnyGuard, parse_guard};
 use receiver::GuardList;
 use std::alloc::{AllocError, Global};
@@ -33,15 +33,15 @@ use turn_sessions::interleave_store;
 
 /// What receiving files that take turns into a store answers: by the schedule at one place of the words, and the files and their guards from
 /// another place on.
-pub(crate) fn interleave_answer<'a, I: Inputs, O: Sink, D: Disk>(
+pub(crate) fn interleave_answer<I: Inputs, O: Sink, D: Disk>(
     alloc: Global,
-    words: &'a [String],
+    words: &[String],
     schedule: usize,
     turns: usize,
     inputs: &mut I,
     out: &mut O,
     disk: &mut D,
-) -> Answer<'a>
+) -> Answer
     requires within { (schedule < length words.now) × (turns < length words.now) }
     requires given { AreTurns (map string_bytes words.now) schedule turns }
     ensures same { I.told inputs.new ≡ I.told inputs.old }
@@ -87,10 +87,9 @@ pub(crate) fn interleave_answer<'a, I: Inputs, O: Sink, D: Disk>(
     let (files, guards) = sessions;
     let schedule = word_bytes(words, schedule);
     let names = files.as_slice();
-    answer_by(
+    end_answer(
+        alloc,
         interleave_store(alloc, disk, inputs, schedule, names, guards, out),
-        b"",
-        b"",
     )
 }
 

@@ -3,6 +3,7 @@
 
 mod fitting;
 mod interleaving;
+mod meant;
 mod noting;
 mod on_streams;
 mod one_line;

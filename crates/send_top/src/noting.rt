@@ -9,11 +9,11 @@ ghost use Rattle.sx_base.specs.Refusals.{refusal_of, verdict_meant};
 ghost use Rattle.send_top.specs.Answered.{answer_of, HandedOn, HasShortNote};
 
 use crate::one_line::Line;
-use sx_base::{Failed, Outcome, Refusal, Sink, Verdict, write_whole};
+use sx_base::{Blob, Failed, Outcome, Refusal, Sink, Verdict, write_whole};
 
 /// What a run answers.
-#[derive(Debug, Clone, Copy, PartialEq, Eq)]
-pub enum Answer<'a> {
+#[derive(Debug, Drop)]
+pub enum Answer {
     /// The words mean nothing.
     Usage,
     /// What the words ask for ended so.
@@ -28,7 +28,7 @@ pub enum Answer<'a> {
     /// The store has nothing of this name or path.
     Missing {
         /// The name or the path.
-        what: &'a [u8],
+        what: Blob,
     },
     /// There is no room in the store.
     LogFull {
@@ -57,7 +57,7 @@ pub enum Answer<'a> {
 
 /// The exit status of an answer.
 #[tactic(auto, unfolding(send_model::specs::Answer::status_of, store_model::specs::Answers::status_of))]
-pub fn status(answer: &Answer<'_>) -> u8
+pub fn status(answer: &Answer) -> u8
     ensures { result ≡ status_of (answer_of answer.now) }
 {
     match answer {
@@ -81,7 +81,7 @@ pub fn status(answer: &Answer<'_>) -> u8
 
 /// Writes the note of an answer, a line with its newline, and nothing where all was done. At `Failed`, which comes
 /// only where the count of the notes rose, they got a proper prefix of it. Takes no memory.
-pub fn write_note<N: Sink>(answer: &Answer<'_>, notes: &mut N) -> Result<(), Failed>
+pub fn write_note<N: Sink>(answer: &Answer, notes: &mut N) -> Result<(), Failed>
     ensures whole { OnOk result
         (Appends (N.taken notes.old) (N.taken notes.new) (note_of (answer_of answer.now))) }
     ensures part { OnErr result
@@ -93,7 +93,7 @@ pub fn write_note<N: Sink>(answer: &Answer<'_>, notes: &mut N) -> Result<(), Fai
         return Ok(());
     }
     if let Answer::Missing { what } = answer {
-        return write_missing(what, notes);
+        return write_missing(what.as_slice(), notes);
     }
     let line = note_line(answer);
     write_whole(notes, line.as_slice())
@@ -135,7 +135,7 @@ fn make_room<N: Sink>(line: &mut Line, notes: &mut N) -> Result<(), Failed>
 
 // The note of an answer that is missing nothing.
 #[tactic(auto, unfolding(send_model::specs::Answer::note_of, store_model::specs::Answers::note_of))]
-fn note_line(answer: &Answer<'_>) -> Line
+fn note_line(answer: &Answer) -> Line
     requires short { HasShortNote (answer_of answer.now) }
     ensures { result ≡ note_of (answer_of answer.now) }
 {

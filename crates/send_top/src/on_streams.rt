@@ -26,7 +26,7 @@ ghost use Rattle.send_top.specs.Requests.{AreWithin, HasGiven, named_files, stre
 ghost use Rattle.send_top.specs.Run.{AreSteady, EndCaused, IfAllRead, IfOfCompose, IfOfStore, IsCaused, IsChangedIn, IsComposedFor, IsComposedOver, IsExportedOver, MayGet, OfDisk};
 
 use crate::noting::Answer;
-use crate::over_store::answer_by;
+use crate::over_store::end_answer;
 use crate::store_named::reads_store;
 use crate::words::StreamsRequest;
 use auditor::audit;
@@ -45,15 +45,15 @@ use stream_gen::write_chain;
 use sx_base::{Disk, Inputs, Outcome, Sink};
 
 /// What a request on streams answers: over the store that it names, or over none.
-pub(crate) fn streams_answer<'a, I: Inputs, O: Sink, D: Disk>(
+pub(crate) fn streams_answer<I: Inputs, O: Sink, D: Disk>(
     alloc: Global,
-    words: &'a [String],
+    words: &[String],
     request: StreamsRequest,
     guards: &mut [Box<dyn Guard>],
     inputs: &mut I,
     out: &mut O,
     disk: &mut D,
-) -> Answer<'a>
+) -> Answer
     requires within { AreWithin (length words.now) request }
     requires fits { map (λ g. kept g) guards.old ≡ new_guards
         (streams_specs (streams_meant (map string_bytes words.now) request)) }
@@ -137,16 +137,16 @@ fn given_of(
 }
 
 // What one answers that reads a store.
-fn streams_over_store<'a, I: Inputs, O: Sink, D: Disk>(
+fn streams_over_store<I: Inputs, O: Sink, D: Disk>(
     alloc: Global,
-    words: &'a [String],
+    words: &[String],
     request: StreamsRequest,
     given: &GivenFiles,
     guards: &mut [Box<dyn Guard>],
     inputs: &mut I,
     out: &mut O,
     disk: &mut D,
-) -> Answer<'a>
+) -> Answer
     requires within { AreWithin (length words.now) request }
     requires reads { reads_store (map string_bytes words.now)
         (store_of (streams_meant (map string_bytes words.now) request)) ≡ true }
@@ -196,23 +196,21 @@ fn streams_over_store<'a, I: Inputs, O: Sink, D: Disk>(
 {
     match request {
         StreamsRequest::Compose { .. } => {
-            answer_by(
+            end_answer(
+                alloc,
                 compose_store(alloc, disk, inputs, given.files(), given.names(), out),
-                &[],
-                &[],
             )
         }
         StreamsRequest::Audit { .. } => {
             let names = given.names();
-            answer_by(
+            end_answer(
+                alloc,
                 audit_store(alloc, disk, inputs, given.files(), names, guards, out),
-                &[],
-                &[],
             )
         }
         StreamsRequest::Export { files, .. } => {
             let names = names_from(words, files);
-            answer_by(export_store(alloc, disk, inputs, names, out), &[], &[])
+            end_answer(alloc, export_store(alloc, disk, inputs, names, out))
         }
         StreamsRequest::Dump { .. } => unreachable!(),
         StreamsRequest::Gen { .. } => unreachable!(),

@@ -1,5 +1,5 @@
 // What words over a store do.
-ghost use Rattle.std.specs.Prelude.{◌≡◌, ◌≢◌, ◌<◌, ℕ, List, true, drop, map, length};
+ghost use Rattle.std.specs.Prelude.{◌≡◌, ◌≢◌, ◌<◌, ℕ, List, [], true, drop, map, length};
 ghost use Rattle.std.specs.List.{AllByRecursion};
 ghost use Rattle.std.specs.String.{string_bytes};
 ghost use Rattle.send_model.specs.Answer.{Done, Usage};
@@ -23,6 +23,7 @@ ghost use Rattle.send_top.specs.Requests.{IsOverWithin, StoreFits, names_asked, 
 ghost use Rattle.send_top.specs.Run.{AreSteady, AtAnyMoment, IfAllRead, IfBytes, IfMadeOrDropped, IfOfCompose, IsCaused, MayGet, Prints, SendsInPart};
 
 use crate::interleaving::interleave_answer;
+use crate::meant::{Meant, meant_in};
 use crate::noting::Answer;
 use crate::receiving::receive_answer;
 use crate::words::StoreRequest;
@@ -31,17 +32,17 @@ use std::alloc::Global;
 use store_words::{
     StoreEnd, cat_file, drop_entry, init_store, list_store, scrub_store, show_entry,
 };
-use sx_base::{Disk, Inputs, Sink};
+use sx_base::{Blob, Disk, Inputs, Outcome, Sink};
 
 /// What a request over a store answers.
-pub(crate) fn store_answer<'a, I: Inputs, O: Sink, D: Disk>(
+pub(crate) fn store_answer<I: Inputs, O: Sink, D: Disk>(
     alloc: Global,
-    words: &'a [String],
+    words: &[String],
     request: StoreRequest,
     inputs: &mut I,
     out: &mut O,
     disk: &mut D,
-) -> Answer<'a>
+) -> Answer
     requires within { IsOverWithin (length words.now) request }
     requires fit { StoreFits (map string_bytes words.now) request }
     requires named { names_stand (request_named_at (store_meant (map string_bytes words.now) request))
@@ -100,33 +101,36 @@ pub(crate) fn store_answer<'a, I: Inputs, O: Sink, D: Disk>(
         → LeftByTurns (D.pending disk.old) (D.seen disk.old) schedule files
         (new_guards turns.guards) turns.shares written image)) }
 {
+    let meant = match meant_in(alloc, words, request) {
+        Ok(meant) => meant,
+        Err(_) => return Answer::Ended(Outcome::NoMemory),
+    };
+    let Meant { name, path } = meant;
     match request {
-        StoreRequest::Init { .. } => answer_by(init_store(disk), b"", b""),
-        StoreRequest::Drop { name, .. } => {
-            let name = word_bytes(words, name);
-            answer_by(drop_entry(alloc, disk, name), name, b"")
+        StoreRequest::Init { .. } => end_answer(alloc, init_store(disk)),
+        StoreRequest::Drop { .. } => {
+            answer_by(drop_entry(alloc, disk, name.as_slice()), name, path)
         }
         StoreRequest::Receive { store, files } => {
             receive_answer(alloc, words, store, files, inputs, out, disk)
         }
-        StoreRequest::List { .. } => answer_by(list_store(alloc, disk, out), b"", b""),
-        StoreRequest::Show { name, .. } => {
-            let name = word_bytes(words, name);
-            answer_by(show_entry(alloc, disk, name, out), name, b"")
+        StoreRequest::List { .. } => end_answer(alloc, list_store(alloc, disk, out)),
+        StoreRequest::Show { .. } => {
+            answer_by(show_entry(alloc, disk, name.as_slice(), out), name, path)
         }
-        StoreRequest::Cat { name, path, .. } => {
-            let name = word_bytes(words, name);
-            let path = word_bytes(words, path);
-            answer_by(cat_file(alloc, disk, name, path, out), name, path)
+        StoreRequest::Cat { .. } => {
+            answer_by(
+                cat_file(alloc, disk, name.as_slice(), path.as_slice(), out),
+                name,
+                path,
+            )
         }
-        StoreRequest::Scrub { .. } => answer_by(scrub_store(alloc, disk, out), b"", b""),
-        StoreRequest::Send { name, .. } => {
-            let name = word_bytes(words, name);
-            answer_by(send_entry(alloc, disk, name, out), name, b"")
+        StoreRequest::Scrub { .. } => end_answer(alloc, scrub_store(alloc, disk, out)),
+        StoreRequest::Send { .. } => {
+            answer_by(send_entry(alloc, disk, name.as_slice(), out), name, path)
         }
-        StoreRequest::Restore { name, .. } => {
-            let name = word_bytes(words, name);
-            answer_by(restore_entry(alloc, disk, name, out), name, b"")
+        StoreRequest::Restore { .. } => {
+            answer_by(restore_entry(alloc, disk, name.as_slice(), out), name, path)
         }
         StoreRequest::Interleave {
             schedule,
@@ -136,9 +140,17 @@ pub(crate) fn store_answer<'a, I: Inputs, O: Sink, D: Disk>(
     }
 }
 
-/// The answer of an end, of a word that asks for this name and this path.
-pub(crate) fn answer_by<'a>(end: StoreEnd, name: &'a [u8], path: &'a [u8]) -> Answer<'a>
-    ensures answer { answer_of result ≡ ending.answer_of name.now path.now end }
+/// The answer of an end, of a word that asks for no name.
+pub(crate) fn end_answer(alloc: Global, end: StoreEnd) -> Answer
+    ensures answer { answer_of result ≡ ending.answer_of [] [] end }
+    ensures asked { answer_of result ≢ OfAnyWord Usage }
+{
+    answer_by(end, Blob::new(alloc), Blob::new(alloc))
+}
+
+// The answer of an end, of a word that asks for this name and this path.
+fn answer_by(end: StoreEnd, name: Blob, path: Blob) -> Answer
+    ensures answer { answer_of result ≡ ending.answer_of name path end }
     ensures asked { answer_of result ≢ OfAnyWord Usage }
 {
     match end {
@@ -159,12 +171,4 @@ pub(crate) fn answer_by<'a>(end: StoreEnd, name: &'a [u8], path: &'a [u8]) -> An
             computed,
         },
     }
-}
-
-// The bytes of the word at a place.
-pub(crate) fn word_bytes(words: &[String], at: usize) -> &[u8]
-    requires within { at < length words.now }
-    ensures bytes { word_at (map string_bytes words.now) at ≡ result.now }
-{
-    words[at].as_bytes()
 }

@@ -22,7 +22,7 @@ ghost use Rattle.send_top.specs.Run.{AreSteady, IfAllRead, IfOfCompose, IsCaused
 use crate::fitting::words_before;
 use crate::noting::Answer;
 use crate::on_streams::names_from;
-use crate::over_store::answer_by;
+use crate::over_store::end_answer;
 use file_words::GivenFiles;
 use guard_rules::{AnyGuard, parse_guard};
 use receiver::GuardList;
@@ -31,15 +31,15 @@ use store_words::receive_store;
 use sx_base::{Disk, Inputs, Outcome, Sink};
 
 /// What receiving files into a store answers, under the guards of the words in front of the store.
-pub(crate) fn receive_answer<'a, I: Inputs, O: Sink, D: Disk>(
+pub(crate) fn receive_answer<I: Inputs, O: Sink, D: Disk>(
     alloc: Global,
-    words: &'a [String],
+    words: &[String],
     store: usize,
     files: usize,
     inputs: &mut I,
     out: &mut O,
     disk: &mut D,
-) -> Answer<'a>
+) -> Answer
     requires within { (1 ≤ store) × (store + 1 ≡ files) × (files < length words.now) }
     requires given { AreGuardWords (before_store (map string_bytes words.now) store) }
     requires named { is_some (given_from None (drop files (map string_bytes words.now))) ≡ true }
@@ -84,7 +84,8 @@ pub(crate) fn receive_answer<'a, I: Inputs, O: Sink, D: Disk>(
         return Answer::Ended(Outcome::NoMemory);
     };
     let mut guards = GuardList::new(guards);
-    answer_by(
+    end_answer(
+        alloc,
         receive_store(
             alloc,
             disk,
@@ -94,8 +95,6 @@ pub(crate) fn receive_answer<'a, I: Inputs, O: Sink, D: Disk>(
             &mut guards,
             out,
         ),
-        b"",
-        b"",
     )
 }
 

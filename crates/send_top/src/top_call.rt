@@ -120,14 +120,14 @@ pub fn run<I: Inputs, O: Sink, N: Sink, D: Disk>(
     status(&answer)
 }
 
-fn answer_to<'a, I: Inputs, O: Sink, D: Disk>(
+fn answer_to<I: Inputs, O: Sink, D: Disk>(
     alloc: Global,
-    words: &'a [String],
+    words: &[String],
     guards: &mut [Box<dyn Guard>],
     inputs: &mut I,
     out: &mut O,
     disk: &mut D,
-) -> Answer<'a>
+) -> Answer
     ensures usage { (answer_of result ≡ OfAnyWord Usage)
         ↔ AskNothing (map string_bytes words.now) (map (λ g. kept g) guards.old) }
     ensures untouched { answer_of result ≡ OfAnyWord Usage →

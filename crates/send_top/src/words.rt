@@ -4,12 +4,13 @@ ghost use Rattle.std.specs.Option.{IfNone};
 ghost use Rattle.std.specs.String.{string_bytes};
 ghost use Rattle.send_model.specs.Guards.{is_guard_word};
 ghost use Rattle.send_model.specs.Words.{Compose, Dump, Export, Gen, Trial, store_and_files, one_file, guards_and_files, count_and_seed};
-ghost use Rattle.store_model.specs.Requests.{InitStore, DropEntry, ListStore, ShowEntry, CatFile, ScrubStore, of_one, of_two, of_three, as_receive};
+ghost use Rattle.store_model.specs.Requests.{InitStore, DropEntry, ListStore, ShowEntry, CatFile, ScrubStore, of_one, of_two, of_three, as_receive, word_at};
 ghost use Rattle.word_model.specs.NameWords.{given_from, names_stand};
 ghost use Rattle.word_model.specs.AllRequests.{request_of, request_read, request_named_at, SendEntry, RestoreEntry, store_and_name};
 ghost use Rattle.send_top.specs.Requests.{request_meant, of_stored, of_streams, IsWithin, WordsFit};
 ghost use Rattle.send_top.specs.AuditWords.{HasStore};
 
+use crate::meant::are_meant;
 use crate::turn_words::read_interleave;
 use file_words::are_given;
 use guard_rules::{number_of, parse_guard};
@@ -158,7 +159,7 @@ pub fn read_words(words: &[String]) -> Option<Request>
         (map string_bytes words.now) request)) (map string_bytes words.now) ≡ true) }
 {
     let request = read_request(words)?;
-    if !names_stand(words, request) {
+    if !names_stand(words, request) || !are_meant(words, request) {
         return None;
     }
     Some(request)
@@ -478,4 +479,12 @@ fn read_restore(words: &[String]) -> Option<Request>
         return None;
     };
     Some(Request::Store(StoreRequest::Restore { store: 1, name: 2 }))
+}
+
+// The bytes of the word at a place.
+pub(crate) fn word_bytes(words: &[String], at: usize) -> &[u8]
+    requires within { at < length words.now }
+    ensures bytes { word_at (map string_bytes words.now) at ≡ result.now }
+{
+    words[at].as_bytes()
 }

@@ -4,10 +4,12 @@ use Rattle.std.specs.List.{AllByRecursion}
 use Rattle.std.proofs.Common.{refl, sym, ap, subst, suc, ◌∙◌, arith, append_assoc, append-nil}
 use Rattle.std.proofs.lemmas.Bool.{lt-ltb, ltb-true}
 use Rattle.send_model.specs.Attribute.{IsBytes}
-use Rattle.send_model.specs.NamedWords.{is_name_word, new_name}
+use Rattle.send_model.specs.NamedWords.{is_name_word}
 use Rattle.send_model.specs.Renamed.{Names, IsNewName, AreNewNames}
 use Rattle.send_model.proofs.ElementLaws.{all_drop}
-use Rattle.word_model.specs.NameWords.{GivenFiles, no_files, with_file, given_from, files_of, names_of, files_in, names_in, PlainWordsAreFiles, WordsGiveFiles, GivenAreAsMany, GivenNamesFit}
+use Rattle.word_model.specs.EscapedWords.{meant_by}
+use Rattle.word_model.proofs.EscapedForms.{bytes_are_meant}
+use Rattle.word_model.specs.NameWords.{GivenFiles, if_short, given_name, no_files, with_file, given_from, files_of, names_of, files_in, names_in, PlainWordsAreFiles, WordsGiveFiles, GivenAreAsMany, GivenNamesFit}
 
 -- ---- one word more
 
@@ -28,32 +30,39 @@ front_of_one files names file name (Some given) = sym (λ i. Some (record {
   names = append_assoc names (name ∷ []) given.names i;
 }))
 
-name_there : (word : List ℕ) (words : List (List ℕ)) → is_name_word word ≡ true → (o : Option (List ℕ)) → new_name word ≡ o
+name_there : (word : List ℕ) (words : List (List ℕ)) → is_name_word word ≡ true → (o : Option (List ℕ)) → given_name word ≡ o
     → given_from None (word ∷ words) ≡ elim o as (λ x. Option GivenFiles) [ None ↦ None | Some name ↦ given_from (Some name) words ]
 unfolding given_from
 name_there word words is o means =
-    ap (λ (b : Bool). if b then elim (new_name word) as (λ x. Option GivenFiles) [ None ↦ None | Some name ↦ given_from (Some name) words ] else with_file word None (given_from None words)) is
+    ap (λ (b : Bool). if b then elim (given_name word) as (λ x. Option GivenFiles) [ None ↦ None | Some name ↦ given_from (Some name) words ] else with_file word None (given_from None words)) is
     ∙ ap (λ (x : Option (List ℕ)). elim x as (λ x. Option GivenFiles) [ None ↦ None | Some name ↦ given_from (Some name) words ]) means
 
 file_there : (name : Option (List ℕ)) (word : List ℕ) (words : List (List ℕ)) → is_name_word word ≡ false → given_from name (word ∷ words) ≡ with_file word name (given_from None words)
 unfolding given_from
 file_there None word words is =
-    ap (λ (b : Bool). if b then elim (new_name word) as (λ x. Option GivenFiles) [ None ↦ None | Some name ↦ given_from (Some name) words ] else with_file word None (given_from None words)) is
+    ap (λ (b : Bool). if b then elim (given_name word) as (λ x. Option GivenFiles) [ None ↦ None | Some name ↦ given_from (Some name) words ] else with_file word None (given_from None words)) is
 file_there (Some name) word words is = ap (λ (b : Bool). if b then None else with_file word (Some name) (given_from None words)) is
 
 second_there : (name word : List ℕ) (words : List (List ℕ)) → is_name_word word ≡ true → given_from (Some name) (word ∷ words) ≡ None
 unfolding given_from
 second_there name word words is = ap (λ (b : Bool). if b then None else with_file word (Some name) (given_from None words)) is
 
-short_name : (word : List ℕ) → length (drop 5 word) < 2 ^ 16 → new_name word ≡ Some (drop 5 word)
-short_name word short = ap (λ (b : Bool). if b then Some (drop 5 word) else None) (lt-ltb (length (drop 5 word)) (2 ^ 16) short)
+-- A word gives a name if an attribute has room for the bytes that are meant, and else none.
+abbrev given_by : Option (List ℕ) → Option (List ℕ)
+given_by o = elim o [ None ↦ None | Some name ↦ if_short name ]
 
-long_name : (word : List ℕ) → 2 ^ 16 ≤ length (drop 5 word) → new_name word ≡ None
-long_name word long = one (nat_lt (length (drop 5 word)) (2 ^ 16)) refl
+pub short_name : (word name : List ℕ) → meant_by (drop 5 word) ≡ Some name → length name < 2 ^ 16 → given_name word ≡ Some name
+short_name word name is short = ap given_by is ∙ ap (λ (b : Bool). if b then Some name else None) (lt-ltb (length name) (2 ^ 16) short)
+
+pub long_name : (word name : List ℕ) → meant_by (drop 5 word) ≡ Some name → 2 ^ 16 ≤ length name → given_name word ≡ None
+long_name word name is long = ap given_by is ∙ one (nat_lt (length name) (2 ^ 16)) refl
   where
-    one : (b : Bool) → nat_lt (length (drop 5 word)) (2 ^ 16) ≡ b → (if b then Some (drop 5 word) else None) ≡ None
-    one true e = absurd (omega (arith, ltb-true (length (drop 5 word)) (2 ^ 16) e, long))
+    one : (b : Bool) → nat_lt (length name) (2 ^ 16) ≡ b → (if b then Some name else None) ≡ None
+    one true e = absurd (omega (arith, ltb-true (length name) (2 ^ 16) e, long))
     one false e = refl
+
+pub no_name : (word : List ℕ) → meant_by (drop 5 word) ≡ None → given_name word ≡ None
+no_name word is = ap given_by is
 
 -- ---- words that are read one after the other
 
@@ -64,10 +73,10 @@ pub record IsRead (all files : List (List ℕ)) (names : Names) (name : Option (
 pub read_none : (all : List (List ℕ)) → IsRead all [] [] None all
 read_none all = record { all_is = front_of_none (given_from None all) }
 
-pub read_name : (all files : List (List ℕ)) (names : Names) (word : List ℕ) (left : List (List ℕ)) → is_name_word word ≡ true → length (drop 5 word) < 2 ^ 16
-    → IsRead all files names None (word ∷ left) → IsRead all files names (Some (drop 5 word)) left
-read_name all files names word left is short r =
-    record { all_is = r.all_is ∙ ap (λ (o : Option GivenFiles). in_front files names o) (name_there word left is (Some (drop 5 word)) (short_name word short)) }
+pub read_name : (all files : List (List ℕ)) (names : Names) (word name : List ℕ) (left : List (List ℕ)) → is_name_word word ≡ true → given_name word ≡ Some name
+    → IsRead all files names None (word ∷ left) → IsRead all files names (Some name) left
+read_name all files names word name left is gives r =
+    record { all_is = r.all_is ∙ ap (λ (o : Option GivenFiles). in_front files names o) (name_there word left is (Some name) gives) }
 
 pub read_file : (all files : List (List ℕ)) (names : Names) (name : Option (List ℕ)) (word : List ℕ) (left : List (List ℕ)) → is_name_word word ≡ false
     → IsRead all files names name (word ∷ left) → IsRead all (files ++ word ∷ []) (names ++ name ∷ []) None left
@@ -78,9 +87,9 @@ pub read_second : (all files : List (List ℕ)) (names : Names) (name word : Lis
     → IsRead all files names (Some name) (word ∷ left) → given_from None all ≡ None
 read_second all files names name word left is r = r.all_is ∙ ap (λ (o : Option GivenFiles). in_front files names o) (second_there name word left is)
 
-pub read_long : (all files : List (List ℕ)) (names : Names) (word : List ℕ) (left : List (List ℕ)) → is_name_word word ≡ true → 2 ^ 16 ≤ length (drop 5 word)
+pub read_nameless : (all files : List (List ℕ)) (names : Names) (word : List ℕ) (left : List (List ℕ)) → is_name_word word ≡ true → given_name word ≡ None
     → IsRead all files names None (word ∷ left) → given_from None all ≡ None
-read_long all files names word left is long r = r.all_is ∙ ap (λ (o : Option GivenFiles). in_front files names o) (name_there word left is None (long_name word long))
+read_nameless all files names word left is gives r = r.all_is ∙ ap (λ (o : Option GivenFiles). in_front files names o) (name_there word left is None gives)
 
 pub read_end : (all files : List (List ℕ)) (names : Names) → IsRead all files names None [] → given_from None all ≡ Some (record { files = files; names = names })
 unfolding given_from
@@ -116,7 +125,7 @@ some_behind name (word ∷ words) = one (is_name_word word)
 
 some_in : (word : List ℕ) (words : List (List ℕ)) → SomeFiles (given_from None (word ∷ words))
 unfolding given_from
-some_in word words = one (is_name_word word) (new_name word)
+some_in word words = one (is_name_word word) (given_name word)
   where
     one : (b : Bool) (o : Option (List ℕ))
         → SomeFiles (if b then elim o as (λ x. Option GivenFiles) [ None ↦ None | Some name ↦ given_from (Some name) words ] else with_file word None (given_from None words))
@@ -140,7 +149,7 @@ as_many_from : (name : Option (List ℕ)) (words : List (List ℕ)) → AsMany (
 unfolding given_from
 as_many_from None [] = refl
 as_many_from (Some name) [] = refl
-as_many_from None (word ∷ words) = one (is_name_word word) (new_name word) (λ name. as_many_from (Some name) words) (as_many_from None words)
+as_many_from None (word ∷ words) = one (is_name_word word) (given_name word) (λ name. as_many_from (Some name) words) (as_many_from None words)
   where
     one : (b : Bool) (o : Option (List ℕ)) → ((name : List ℕ) → AsMany (given_from (Some name) words)) → AsMany (given_from None words)
         → AsMany (if b then elim o as (λ x. Option GivenFiles) [ None ↦ None | Some name ↦ given_from (Some name) words ] else with_file word None (given_from None words))
@@ -167,18 +176,30 @@ fits_more file name (Some given) fits more = (fits, more)
 bytes_behind : (n : ℕ) (bytes : List ℕ) → IsBytes bytes → IsBytes (drop n bytes)
 bytes_behind n bytes are = all_drop (λ b. b < 256) n bytes are
 
+-- A name that is given is of bytes, and an attribute has room for it.
+pub given_fits : (word : List ℕ) → IsBytes (drop 5 word) → IfSome (given_name word) IsNewName
+given_fits word are = one (meant_by (drop 5 word)) refl
+  where
+    short : (name : List ℕ) → IsBytes name → (b : Bool) → nat_lt (length name) (2 ^ 16) ≡ b → IfSome (if b then Some name else None) IsNewName
+    short name bytes true e = record { bytes = bytes; short = ltb-true (length name) (2 ^ 16) e }
+    short name bytes false e = tt
+
+    one : (o : Option (List ℕ)) → meant_by (drop 5 word) ≡ o → IfSome (given_by o) IsNewName
+    one None e = tt
+    one (Some name) e = short name (bytes_are_meant (drop 5 word) name are e) (nat_lt (length name) (2 ^ 16)) refl
+
 fit_from : (name : Option (List ℕ)) (words : List (List ℕ)) → IfSome name IsNewName → AllByRecursion IsBytes words → Fit (given_from name words)
 unfolding given_from
 fit_from None [] fits are = tt
 fit_from (Some name) [] fits are = tt
 fit_from None (word ∷ words) fits are =
-    one (is_name_word word) (nat_lt (length (drop 5 word)) (2 ^ 16)) refl (λ name new. fit_from (Some name) words new are.1) (fit_from None words tt are.1)
+    one (is_name_word word) (given_name word) (given_fits word (bytes_behind 5 word are.0)) (λ name new. fit_from (Some name) words new are.1) (fit_from None words tt are.1)
   where
-    one : (b c : Bool) → nat_lt (length (drop 5 word)) (2 ^ 16) ≡ c → ((name : List ℕ) → IsNewName name → Fit (given_from (Some name) words)) → Fit (given_from None words)
-        → Fit (if b then elim (if c then Some (drop 5 word) else None) as (λ x. Option GivenFiles) [ None ↦ None | Some name ↦ given_from (Some name) words ] else with_file word None (given_from None words))
-    one true true short named more = named (drop 5 word) (record { bytes = bytes_behind 5 word are.0; short = ltb-true (length (drop 5 word)) (2 ^ 16) short })
-    one true false short named more = tt
-    one false c short named more = fits_more word None (given_from None words) tt more
+    one : (b : Bool) (o : Option (List ℕ)) → IfSome o IsNewName → ((name : List ℕ) → IsNewName name → Fit (given_from (Some name) words)) → Fit (given_from None words)
+        → Fit (if b then elim o as (λ x. Option GivenFiles) [ None ↦ None | Some name ↦ given_from (Some name) words ] else with_file word None (given_from None words))
+    one true None fits named more = tt
+    one true (Some name) fits named more = named name fits
+    one false o fits named more = fits_more word None (given_from None words) tt more
 fit_from (Some name) (word ∷ words) fits are = one (is_name_word word) (fit_from None words tt are.1)
   where
     one : (b : Bool) → Fit (given_from None words) → Fit (if b then None else with_file word (Some name) (given_from None words))

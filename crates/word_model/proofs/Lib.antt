@@ -1,3 +1,4 @@
+pub mod EscapedForms
 pub mod Anew
 pub mod RequestExamples
 pub mod TurnWords

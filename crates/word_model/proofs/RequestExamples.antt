@@ -1,16 +1,18 @@
 -- Worked examples of words.
-use Rattle.std.specs.Prelude.{◌≡◌, [], ◌∷◌, None, Some, codes, refl}
+use Rattle.std.specs.Prelude.{◌≡◌, [], ◌∷◌, ◌++◌, map, None, Some, codes, refl}
 use Rattle.send_model.specs.Guards.{MostBytes, NoDevices, guard_of}
 use Rattle.send_model.specs.Words as streams
 use Rattle.send_model.specs.Words.{Compose, Audit, Dump}
 use Rattle.store_model.specs.Requests as stored
-use Rattle.store_model.specs.Requests.{OfStreams, ReceiveFiles, ScrubStore}
+use Rattle.store_model.specs.Requests.{OfStreams, ReceiveFiles, ScrubStore, CatFile, DropEntry}
+use Rattle.send_model.specs.Printed.{is_plain}
+use Rattle.word_model.specs.EscapedWords.{hex_value, unescaped, meant_by}
 use Rattle.store_model.specs.Turns.{schedule_of}
 use Rattle.word_model.specs.AllRequests.{OfStore, SendEntry, RestoreEntry, TakeTurns, turn_files, of_subvolumes, request_read, request_of}
 use Rattle.word_model.specs.NameWords.{given_from}
 
 unfoldable words_read : Unit {0}
-unfolding streams.request_of streams.guards_and_files stored.over_store stored.request_of guard_of schedule_of turn_files of_subvolumes request_read given_from request_of
+unfolding streams.request_of streams.guards_and_files stored.over_store stored.request_of guard_of schedule_of turn_files of_subvolumes request_read given_from request_of unescaped hex_value is_plain
 words_read = tt
 
 -- a subvolume that is sent, and one that is restored
@@ -88,3 +90,59 @@ two_names = refl
 received_words : request_of (codes "receive" ∷ codes "st" ∷ codes "name:two" ∷ codes "a" ∷ []) ≡ Some (OfStore (ReceiveFiles [] 1 2))
 unfolding words_read
 received_words = refl
+
+-- names and paths of bytes that are no text, of a blank and a backslash, and one that begins as an escaped word does
+any_bytes : meant_by (codes "escaped:\\xff\\x0aok") ≡ Some (255 ∷ 10 ∷ codes "ok")
+unfolding words_read
+any_bytes = refl
+
+blank_and_backslash : meant_by (codes "escaped:a\\x20b\\x5cc") ≡ Some (codes "a b\\c")
+unfolding words_read
+blank_and_backslash = refl
+
+so_it_begins : meant_by (codes "escaped:escaped:a") ≡ Some (codes "escaped:a")
+unfolding words_read
+so_it_begins = refl
+
+own_bytes : meant_by (codes "a b\\x20") ≡ Some (codes "a b\\x20")
+unfolding words_read
+own_bytes = refl
+
+nothing_behind : meant_by (codes "escaped:") ≡ Some []
+unfolding words_read
+nothing_behind = refl
+
+-- what is no escaped form: a plain byte that is escaped, capital digits, a blank, a form that is cut
+no_forms : map meant_by (codes "escaped:\\x41" ∷ codes "escaped:\\xFF" ∷ codes "escaped:a b" ∷ codes "escaped:\\xf" ∷ codes "escaped:\\" ∷ [])
+    ≡ None ∷ None ∷ None ∷ None ∷ None ∷ []
+unfolding words_read
+no_forms = refl
+
+escaped_words : request_of (codes "cat" ∷ codes "st" ∷ codes "escaped:\\xff" ∷ codes "a" ∷ []) ≡ Some (OfStore (CatFile 1 2 3))
+unfolding words_read
+escaped_words = refl
+
+no_form : request_of (codes "cat" ∷ codes "st" ∷ codes "a" ∷ codes "escaped:\\xFF" ∷ []) ≡ None
+unfolding words_read
+no_form = refl
+
+not_dropped : request_of (codes "drop" ∷ codes "st" ∷ codes "escaped:\\" ∷ []) ≡ None
+unfolding words_read
+not_dropped = refl
+
+not_sent : request_of (codes "restore" ∷ codes "st" ∷ codes "escaped:a b" ∷ []) ≡ None
+unfolding words_read
+not_sent = refl
+
+-- a store may be called so, and a name may be given so
+so_called : request_of (codes "drop" ∷ codes "escaped:\\" ∷ codes "a" ∷ []) ≡ Some (OfStore (DropEntry 1 2))
+unfolding words_read
+so_called = refl
+
+escaped_name : given_from None (codes "name:escaped:\\xff" ∷ codes "a" ∷ []) ≡ Some (record { files = codes "a" ∷ []; names = Some (255 ∷ []) ∷ [] })
+unfolding words_read
+escaped_name = refl
+
+no_escaped_name : given_from None (codes "name:escaped:\\xFF" ∷ codes "a" ∷ []) ≡ None
+unfolding words_read
+no_escaped_name = refl

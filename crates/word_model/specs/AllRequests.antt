@@ -1,10 +1,12 @@
 -- What all words ask for: those on streams or over a store, those that write a stored subvolume as a stream, and those that receive files
 -- in turns. The words are this program's own.
-use Rattle.std.specs.Prelude.{ℕ, suc, List, [], ◌∷◌, length, Option, None, Some, Bool, ◌&&◌, codes, nat_le, if◌then◌else◌}
+use Rattle.std.specs.Prelude.{ℕ, suc, List, [], ◌∷◌, length, Option, None, Some, is_some, Bool, true, ◌&&◌, codes, nat_le, if◌then◌else◌}
 use Rattle.send_model.specs.Guards.{GuardSpec, guard_of, is_guard_word}
 use Rattle.send_model.specs.Words.{is_word}
 use Rattle.store_model.specs.Requests as stored
+use Rattle.store_model.specs.Requests.{OfStreams, InitStore, DropEntry, ReceiveFiles, ListStore, ShowEntry, CatFile, ScrubStore, word_at}
 use Rattle.store_model.specs.Turns.{schedule_of}
+use Rattle.word_model.specs.EscapedWords.{meant_by, name_meant}
 use Rattle.word_model.specs.NameWords.{named_at, names_stand}
 
 -- Files that take turns: all their guards in order, how many of these each file has, and the files' names.
@@ -80,16 +82,45 @@ or_of_subvolumes None other = other
 unfoldable pub request_read : List (List ℕ) → Option Request
 request_read words = or_of_subvolumes (stored.request_of words) (of_subvolumes words)
 
--- Where names may be given with files, words that are no files with their names mean nothing.
+-- The place of the first word that may give a name, in words in which one may.
 abbrev pub request_named_at : Request → Option ℕ
 request_named_at (OfStore request) = named_at request
 request_named_at (SendEntry store name) = None
 request_named_at (RestoreEntry store name) = None
 request_named_at (TakeTurns store schedule turns) = None
 
-abbrev pub if_names_stand : List (List ℕ) → Option Request → Option Request
-if_names_stand words None = None
-if_names_stand words (Some request) = if names_stand (request_named_at request) words then Some request else None
+-- The places of names of entries and of paths, which words mean by their bytes or by the escaped form of others.
+abbrev pub stored_meant_at : stored.Request → List ℕ
+stored_meant_at (OfStreams request) = []
+stored_meant_at (InitStore store) = []
+stored_meant_at (DropEntry store name) = name ∷ []
+stored_meant_at (ReceiveFiles guards store files) = []
+stored_meant_at (ListStore store) = []
+stored_meant_at (ShowEntry store name) = name ∷ []
+stored_meant_at (CatFile store name path) = name ∷ path ∷ []
+stored_meant_at (ScrubStore store) = []
+
+abbrev pub meant_at : Request → List ℕ
+meant_at (OfStore request) = stored_meant_at request
+meant_at (SendEntry store name) = name ∷ []
+meant_at (RestoreEntry store name) = name ∷ []
+meant_at (TakeTurns store schedule turns) = []
+
+-- Whether each of these words means bytes; and the bytes that one means.
+abbrev pub are_meant : List ℕ → List (List ℕ) → Bool
+are_meant [] words = true
+are_meant (place ∷ places) words = is_some (meant_by (word_at words place)) && are_meant places words
+
+abbrev pub name_at : List (List ℕ) → ℕ → List ℕ
+name_at words place = name_meant (word_at words place)
+
+-- Words that are no files with their names, or that mean no bytes where a name or a path stands, mean nothing.
+abbrev pub words_stand : Request → List (List ℕ) → Bool
+words_stand request words = names_stand (request_named_at request) words && are_meant (meant_at request) words
+
+abbrev pub if_words_stand : List (List ℕ) → Option Request → Option Request
+if_words_stand words None = None
+if_words_stand words (Some request) = if words_stand request words then Some request else None
 
 unfoldable pub request_of : List (List ℕ) → Option Request
-request_of words = if_names_stand words (request_read words)
+request_of words = if_words_stand words (request_read words)

@@ -1,3 +1,4 @@
+pub mod EscapedWords
 pub mod NameWords
 pub mod AllRequests
 pub mod AllAnswers

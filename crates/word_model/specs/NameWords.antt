@@ -1,13 +1,22 @@
--- Words that give names with files: `name:NEW` in front of a file, and NEW is then the name of the part or parts in it. This program's own.
-use Rattle.std.specs.Prelude.{◌≡◌, ◌≢◌, ℕ, Bool, true, false, List, [], ◌∷◌, ◌++◌, length, drop, map, Option, None, Some, is_some, if◌then◌else◌}
+-- Words that give names with files: `name:NEW` in front of a file, and what NEW means is then the name of the part or parts in it. This
+-- program's own.
+use Rattle.std.specs.Prelude.{◌≡◌, ◌≢◌, ℕ, Bool, true, false, List, [], ◌∷◌, ◌++◌, length, drop, map, Option, None, Some, is_some, nat_lt, ◌^◌, if◌then◌else◌}
 use Rattle.std.specs.List.{AllByRecursion}
 use Rattle.send_model.specs.Attribute.{IsBytes}
-use Rattle.send_model.specs.NamedWords.{is_name_word, new_name}
+use Rattle.send_model.specs.NamedWords.{is_name_word}
 use Rattle.send_model.specs.Renamed.{Names, AreNewNames}
 use Rattle.send_model.specs.Words as streams
 use Rattle.send_model.specs.Words.{Compose, Audit, Dump, Export, Gen, Trial}
 use Rattle.store_model.specs.Requests as stored
 use Rattle.store_model.specs.Requests.{OfStreams, InitStore, DropEntry, ReceiveFiles, ListStore, ShowEntry, CatFile, ScrubStore}
+use Rattle.word_model.specs.EscapedWords.{meant_by}
+
+-- The name that a word gives: what is meant behind `name:`, unless that is nothing or an attribute has no room for it.
+abbrev pub if_short : List ℕ → Option (List ℕ)
+if_short name = if nat_lt (length name) (2 ^ 16) then Some name else None
+
+abbrev pub given_name : List ℕ → Option (List ℕ)
+given_name word = elim (meant_by (drop 5 word)) [ None ↦ None | Some name ↦ if_short name ]
 
 -- The names of files, and beside each the name that is given for the parts in it, if one is.
 pub record GivenFiles : Type 0 where
@@ -23,12 +32,12 @@ with_file file name None = None
 with_file file name (Some given) = Some (record { files = file ∷ given.files; names = name ∷ given.names })
 
 -- Words that are files, each with at most one name in front of it; the name that stands in front already is given first. A name in front
--- of no file, in front of another name, or of 65,536 bytes or more means nothing.
+-- of no file, in front of another name, of 65,536 bytes or more, or that is no escaped form means nothing.
 unfoldable pub given_from : Option (List ℕ) → List (List ℕ) → Option GivenFiles
 given_from None [] = Some no_files
 given_from (Some name) [] = None
 given_from None (word ∷ words) = if is_name_word word
-    then (elim (new_name word) [ None ↦ None | Some name ↦ given_from (Some name) words ])
+    then (elim (given_name word) [ None ↦ None | Some name ↦ given_from (Some name) words ])
     else with_file word None (given_from None words)
 given_from (Some name) (word ∷ words) = if is_name_word word then None else with_file word (Some name) (given_from None words)
 

@@ -1,5 +1,6 @@
 // Laws that tie the answers to what they promise. The contract of a function that does nothing.
 ghost use Rattle.word_model.specs.AllAnswers.{ReadersKeepTheImage, SentIsReceivedAnew, RestoredIsReceivedAnew};
+ghost use Rattle.word_model.specs.EscapedWords.{EscapedIsReadBack, ReadIsEscaped, BytesAreMeant};
 ghost use Rattle.word_model.specs.NameWords.{PlainWordsAreFiles, WordsGiveFiles, GivenAreAsMany, GivenNamesFit};
 
 /// No answer of a word that only reads changes the image. What is sent of a stored subvolume, and what is restored of it, is one stream
@@ -17,4 +18,12 @@ pub fn words_give_names()
     ensures some { WordsGiveFiles }
     ensures many { GivenAreAsMany }
     ensures fit { GivenNamesFit }
+{}
+
+/// The escaped form of bytes is read back as them, and no other form is: so each list of bytes can be asked for, in one way. What words
+/// of bytes mean is bytes.
+pub fn escaped_words_are_read_back()
+    ensures back { EscapedIsReadBack }
+    ensures only { ReadIsEscaped }
+    ensures bytes { BytesAreMeant }
 {}

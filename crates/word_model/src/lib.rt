@@ -4,4 +4,4 @@
 
 mod laws;
 
-pub use laws::{words_are_answered, words_give_names};
+pub use laws::{escaped_words_are_read_back, words_are_answered, words_give_names};

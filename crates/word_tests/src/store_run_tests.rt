@@ -102,6 +102,17 @@ inode 257 file 600 0 0 0.000000000 0.000000000 0 2
 name 256 x 257
 ";
 
+// The same of a subvolume whose name is a byte that is no text and a blank.
+const LINE_ESCAPED: &[u8] = b"complete \\xff\\x20 11111111-1111-1111-1111-111111111111 1\n";
+
+const LIST_ESCAPED: &[u8] = b"\\xff\\x20 11111111-1111-1111-1111-111111111111 1 complete -\n";
+
+const SHOW_ESCAPED: &[u8] = b"subvol \\xff\\x20 11111111-1111-1111-1111-111111111111 1 258
+inode 256 dir 700 0 0 0.000000000 0.000000000 0 -
+inode 257 file 600 0 0 0.000000000 0.000000000 0 2
+name 256 x 257
+";
+
 // Words, the status that they give, what they write, and their note.
 type Row = (&'static [&'static str], u8, &'static [u8], &'static [u8]);
 
@@ -692,6 +703,64 @@ fn files_take_turns(rt: HostRuntime) -> Result<(), Fail> {
             &mut disk,
             (&["list", "st"], 0, listed, b""),
         )?;
+    }
+    Ok(())
+}
+
+#[test]
+fn names_that_are_no_text_are_asked_for_as_they_are_printed(rt: HostRuntime) -> Result<(), Fail> {
+    let mut disk = MemDisk::new(rt.alloc(), NEW)?;
+    let table: [Row; 17] = [
+        (
+            &["receive", "st", "name:escaped:\\xff\\x20", "first"],
+            0,
+            LINE_ESCAPED,
+            b"",
+        ),
+        (&["list", "st"], 0, LIST_ESCAPED, b""),
+        (&["show", "st", "escaped:\\xff\\x20"], 0, SHOW_ESCAPED, b""),
+        (&["cat", "st", "escaped:\\xff\\x20", "x"], 0, b"hi", b""),
+        (
+            &["cat", "st", "escaped:\\xff\\x20", "escaped:x"],
+            0,
+            b"hi",
+            b"",
+        ),
+        (
+            &["cat", "st", "escaped:\\xff\\x20", "escaped:\\x0a"],
+            8,
+            b"",
+            b"missing \\x0a\n",
+        ),
+        (
+            &["cat", "st", "escaped:\\xff", "x"],
+            8,
+            b"",
+            b"missing \\xff\n",
+        ),
+        (
+            &["show", "st", "escaped:escaped:a"],
+            8,
+            b"",
+            b"missing escaped:a\n",
+        ),
+        (&["drop", "st", "escaped:"], 8, b"", b"missing \n"),
+        (&["show", "st", "escaped:\\xFF\\x20"], 2, b"", b"usage\n"),
+        (&["show", "st", "escaped:\\x41"], 2, b"", b"usage\n"),
+        (&["send", "st", "escaped:a b"], 2, b"", b"usage\n"),
+        (&["restore", "st", "escaped:\\"], 2, b"", b"usage\n"),
+        (&["cat", "st", "a", "escaped:\\xg0"], 2, b"", b"usage\n"),
+        (
+            &["receive", "st", "name:escaped:\\xFF", "second"],
+            2,
+            b"",
+            b"usage\n",
+        ),
+        (&["drop", "st", "escaped:\\xff\\x20"], 0, b"", b""),
+        (&["list", "st"], 0, b"", b""),
+    ];
+    for row in table {
+        check(&rt, rt.alloc(), &mut disk, row)?;
     }
     Ok(())
 }

@@ -1,9 +1,10 @@
-use Rattle.std.specs.Prelude.{◌≡◌, ◌<◌, ◌≤◌, ◌^◌, ◌+◌, ℕ, Bool, true, false, List, map, drop, length}
+use Rattle.std.specs.Prelude.{◌≡◌, ◌<◌, ◌≤◌, ◌^◌, ◌+◌, ℕ, Bool, true, false, is_some, List, map, drop, length}
 use Rattle.std.specs.String.{string_bytes}
 use Rattle.std.proofs.Common.{sym, ap, subst, ◌∙◌}
 use Rattle.send_model.specs.NamedWords.{is_name_word}
-use Rattle.file_words.proofs.Standing.{AreRead, word_there, none_left, starts, one_file, one_name, second_name, long_name, at_end, not_less}
-use Rattle.file_words.proofs.checking.are_given.Goals.{then-named-via-then-named, then-named-via-else-named+then-not-is_short, then-not-is_name_word, else-not-is_name_word+else-named+else-not-is_short}
+use Rattle.word_model.specs.NameWords.{given_name}
+use Rattle.file_words.proofs.Standing.{AreRead, word_there, none_left, starts, one_file, one_name, second_name, nameless, at_end}
+use Rattle.file_words.proofs.checking.are_given.Goals.{then-named-via-then-named, then-named-via-else-named+then-not-gives_name, then-not-is_name_word, else-not-is_name_word+else-named+else-not-gives_name}
 use Rattle.file_words.proofs.checking.are_given.Goals as goal
 
 pub loop-place-init : goal.loop-place-init
@@ -17,9 +18,8 @@ returns-then-named c =
     let name : is_name_word text ≡ true = ap is_name_word (sym c.as_str-word.ensures.value) ∙ sym c.is_name_word.ensures ∙ c.if-not-is_name_word.false in
     elim c.then-named.branch [
       | then-named-via-then-named w ↦ second_name words _ _ c.loop-place.named text here name w.if-named.true c.loop-place.invariant
-      | then-named-via-else-named+then-not-is_short w ↦ long_name words _ _ c.loop-place.named text here name w.if-named.false
-          (subst (λ (bytes : List ℕ). 2 ^ 16 ≤ length (drop 5 bytes)) c.as_str-word.ensures.value (not_less (length (drop 5 c.as_str-word.result.now)) (2 ^ 16) w.is_short.result w.is_short.ensures.1 w.if-not-is_short.true))
-          c.loop-place.invariant
+      | then-named-via-else-named+then-not-gives_name w ↦ nameless words _ _ c.loop-place.named text here name w.if-named.false
+          (ap (λ (bytes : List ℕ). is_some (given_name bytes)) (sym c.as_str-word.ensures.value) ∙ sym w.gives_name.ensures ∙ w.if-not-gives_name.true) c.loop-place.invariant
     ]
 
 pub loop-place-preserved : goal.loop-place-preserved
@@ -31,9 +31,9 @@ loop-place-preserved c =
     elim c.if-not-is_name_word.branch [
       | then-not-is_name_word w ↦ subst (λ (b : Bool). AreRead words left b) (sym w.named-is)
           (one_file words _ left c.loop-place.named text here (ap is_name_word (sym c.as_str-word.ensures.value) ∙ sym c.is_name_word.ensures ∙ w.if-not-is_name_word.true) c.loop-place.invariant)
-      | else-not-is_name_word+else-named+else-not-is_short w ↦ subst (λ (b : Bool). AreRead words left b) (sym w.named-is)
+      | else-not-is_name_word+else-named+else-not-gives_name w ↦ subst (λ (b : Bool). AreRead words left b) (sym w.named-is)
           (one_name words _ left c.loop-place.named text here (ap is_name_word (sym c.as_str-word.ensures.value) ∙ sym c.is_name_word.ensures ∙ w.if-not-is_name_word.false) w.if-named.false
-          (subst (λ (bytes : List ℕ). length (drop 5 bytes) < 2 ^ 16) c.as_str-word.ensures.value (w.is_short.ensures.0 w.if-not-is_short.false)) c.loop-place.invariant)
+          (ap (λ (bytes : List ℕ). is_some (given_name bytes)) (sym c.as_str-word.ensures.value) ∙ sym w.gives_name.ensures ∙ w.if-not-gives_name.false) c.loop-place.invariant)
     ]
 
 pub returns : goal.returns

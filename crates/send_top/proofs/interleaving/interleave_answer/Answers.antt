@@ -89,12 +89,12 @@ returns-clause-answered g c tells =
     let there = (goal.at.returns-clause-answered g c).After-interleave_store in
     read_of told (map string_bytes c.as_slice-names.result.now) turns.files
     (λ bytes. Wrote old new (λ written. AllByRecursion IsBytes bytes → TurnsAnswer (places_in c.word_bytes-schedule.result.now) bytes (new_guards turns.guards) turns.shares image (ending.answer_of [] [] c.interleave_store.result) written left))
-    (λ bytes. Wrote old new (λ written. AllByRecursion IsBytes bytes → TurnsAnswer (places_in (word_at words c.args.schedule)) bytes (new_guards turns.guards) turns.shares image (answer_of c.answer_by.result) written left))
+    (λ bytes. Wrote old new (λ written. AllByRecursion IsBytes bytes → TurnsAnswer (places_in (word_at words c.args.schedule)) bytes (new_guards turns.guards) turns.shares image (answer_of c.end_answer.result) written left))
     (names_are g there) (some_names g there)
     (λ bytes w. (
       w.0,
       w.1,
-      λ are. subst (λ (a : Answer). TurnsAnswer (places_in (word_at words c.args.schedule)) bytes (new_guards turns.guards) turns.shares image a w.0 left) (sym c.answer_by.ensures.answer)
+      λ are. subst (λ (a : Answer). TurnsAnswer (places_in (word_at words c.args.schedule)) bytes (new_guards turns.guards) turns.shares image a w.0 left) (sym c.end_answer.ensures.answer)
           (subst (λ (word : List ℕ). TurnsAnswer (places_in word) bytes (new_guards turns.guards) turns.shares image (ending.answer_of [] [] c.interleave_store.result) w.0 left) (sym c.word_bytes-schedule.ensures.bytes) (w.2 are)),
     ))
     (c.interleave_store.ensures.answered tells (new_guards turns.guards) turns.shares (guards_are g there))

@@ -56,17 +56,17 @@ returns-in-Compose-clause-answered g c =
     let reads : reads_store words (Some c.in-Compose.store) ≡ true = subst (λ r. reads_store words (store_of (streams_meant words r)) ≡ true) c.in-Compose.is c.requires.reads in
     rw c.in-Compose.is (λ tells. read_of told files (files_in (drop c.in-Compose.files words))
     (λ bytes. Wrote old new (λ written. (words : List (List ℕ)) (store at : ℕ) → reads_store words (Some store) ≡ true
-    → Answers (OfStreams (Compose store at)) words image (record { bytes = bytes; names = names }) (answer_of c.answer_by.result) written left))
-    (λ bytes. Wrote old new (λ written. Answers (OfStreams (Compose c.in-Compose.store c.in-Compose.files)) words image (record { bytes = bytes; names = names }) (answer_of c.answer_by.result) written left))
+    → Answers (OfStreams (Compose store at)) words image (record { bytes = bytes; names = names }) (answer_of c.end_answer.result) written left))
+    (λ bytes. Wrote old new (λ written. Answers (OfStreams (Compose c.in-Compose.store c.in-Compose.files)) words image (record { bytes = bytes; names = names }) (answer_of c.end_answer.result) written left))
     (c.files.ensures.files ∙ given_files c.in-Compose.files words c.args.given.now is)
     (λ none. is.some (sym c.files.ensures.files ∙ none))
     (λ bytes w. (w.0, w.1, w.2 words c.in-Compose.store c.in-Compose.files reads))
     (subst (λ (ns : Names). IfAllTold told files (λ bytes. Wrote old new (λ written. (words : List (List ℕ)) (store at : ℕ) → reads_store words (Some store) ≡ true
-    → Answers (OfStreams (Compose store at)) words image (record { bytes = bytes; names = ns }) (answer_of c.answer_by.result) written left)))
+    → Answers (OfStreams (Compose store at)) words image (record { bytes = bytes; names = ns }) (answer_of c.end_answer.result) written left)))
     (c.names.ensures.names ∙ given_names c.in-Compose.files words c.args.given.now is)
     (subst (λ (a : Answer). IfAllTold told files (λ bytes. Wrote old new (λ written. (words : List (List ℕ)) (store at : ℕ) → reads_store words (Some store) ≡ true
     → Answers (OfStreams (Compose store at)) words image (record { bytes = bytes; names = c.names.result.now }) a written left)))
-    (sym c.answer_by.ensures.answer) (c.compose_store.ensures.answered tells))))
+    (sym c.end_answer.ensures.answer) (c.compose_store.ensures.answered tells))))
 
 pub returns-in-Compose-clause-composed : goal.returns-in-Compose-clause-composed
 returns-in-Compose-clause-composed g c =
@@ -85,7 +85,7 @@ returns-in-Compose-clause-composed g c =
     (λ bytes. Wrote old new (λ written. c.compose_store.result ≡ Ends Done → (s : Store ℕ) → StandsFor image s → IsComposedFor s names bytes written))
     (λ bytes. Wrote old new (λ written. (s : Store ℕ) → StandsFor image s → IsComposedFor s names bytes written))
     (c.files.ensures.files ∙ given_files c.in-Compose.files words c.args.given.now is)
-    (λ bytes w. (w.0, w.1, w.2 (end_done c.compose_store.result (answer_of c.answer_by.result) c.answer_by.ensures.answer done)))
+    (λ bytes w. (w.0, w.1, w.2 (end_done c.compose_store.result (answer_of c.end_answer.result) c.end_answer.ensures.answer done)))
     (subst (λ (ns : Names). IfAllTold told files (λ bytes. Wrote old new (λ written. c.compose_store.result ≡ Ends Done → (s : Store ℕ) → StandsFor image s → IsComposedFor s ns bytes written)))
     (c.names.ensures.names ∙ given_names c.in-Compose.files words c.args.given.now is) (c.compose_store.ensures.composed tells))))
 
@@ -93,7 +93,7 @@ pub returns-in-Compose-clause-changed_at : goal.returns-in-Compose-clause-change
 returns-in-Compose-clause-changed_at g c =
     let is = compose_given g (goal.at.returns-in-Compose-clause-changed_at g c).After-compose_store in
     let words : List (List ℕ) = map string_bytes c.args.words.now in
-    rw c.in-Compose.is (change_found (files_in (drop c.in-Compose.files words)) (g.I.Inputs.last_end c.compose_store.new.inputs) c.compose_store.result (answer_of c.answer_by.result) c.answer_by.ensures.answer
+    rw c.in-Compose.is (change_found (files_in (drop c.in-Compose.files words)) (g.I.Inputs.last_end c.compose_store.new.inputs) c.compose_store.result (answer_of c.end_answer.result) c.end_answer.ensures.answer
     (subst (λ (names : List (List ℕ)). ChangeFound names (g.I.Inputs.last_end c.compose_store.new.inputs) c.compose_store.result)
     (c.files.ensures.files ∙ given_files c.in-Compose.files words c.args.given.now is) c.compose_store.ensures.changed))
 
@@ -116,17 +116,17 @@ returns-in-Audit-clause-answered g c =
     let fits : guards ≡ new_guards specs = subst (λ r. guards ≡ new_guards (streams_specs (streams_meant words r))) c.in-Audit.is c.requires.fits in
     rw c.in-Audit.is (λ tells. read_of told files (files_in (drop c.in-Audit.files words))
     (λ bytes. Wrote old new (λ written. (words : List (List ℕ)) (specs : List GuardSpec) (store at : ℕ) → reads_store words (Some store) ≡ true → guards ≡ new_guards specs
-    → Answers (OfStreams (Audit specs store at)) words image (record { bytes = bytes; names = names }) (answer_of c.answer_by-in-Audit.result) written left))
-    (λ bytes. Wrote old new (λ written. Answers (OfStreams (Audit specs c.in-Audit.store c.in-Audit.files)) words image (record { bytes = bytes; names = names }) (answer_of c.answer_by-in-Audit.result) written left))
+    → Answers (OfStreams (Audit specs store at)) words image (record { bytes = bytes; names = names }) (answer_of c.end_answer-in-Audit.result) written left))
+    (λ bytes. Wrote old new (λ written. Answers (OfStreams (Audit specs c.in-Audit.store c.in-Audit.files)) words image (record { bytes = bytes; names = names }) (answer_of c.end_answer-in-Audit.result) written left))
     (c.files-in-Audit.ensures.files ∙ given_files c.in-Audit.files words c.args.given.now is)
     (λ none. is.some (sym c.files-in-Audit.ensures.files ∙ none))
     (λ bytes w. (w.0, w.1, w.2 words specs c.in-Audit.store c.in-Audit.files reads fits))
     (subst (λ (ns : Names). IfAllTold told files (λ bytes. Wrote old new (λ written. (words : List (List ℕ)) (specs : List GuardSpec) (store at : ℕ) → reads_store words (Some store) ≡ true → guards ≡ new_guards specs
-    → Answers (OfStreams (Audit specs store at)) words image (record { bytes = bytes; names = ns }) (answer_of c.answer_by-in-Audit.result) written left)))
+    → Answers (OfStreams (Audit specs store at)) words image (record { bytes = bytes; names = ns }) (answer_of c.end_answer-in-Audit.result) written left)))
     (c.names-names.ensures.names ∙ given_names c.in-Audit.files words c.args.given.now is)
     (subst (λ (a : Answer). IfAllTold told files (λ bytes. Wrote old new (λ written. (words : List (List ℕ)) (specs : List GuardSpec) (store at : ℕ) → reads_store words (Some store) ≡ true → guards ≡ new_guards specs
     → Answers (OfStreams (Audit specs store at)) words image (record { bytes = bytes; names = c.names-names.result.now }) a written left)))
-    (sym c.answer_by-in-Audit.ensures.answer) (c.audit_store.ensures.answered tells))))
+    (sym c.end_answer-in-Audit.ensures.answer) (c.audit_store.ensures.answered tells))))
 
 -- ---- exporting
 
@@ -141,13 +141,13 @@ returns-in-Export-clause-answered g c =
     let left : List ℕ = g.D.Disk.seen c.export_store.new.disk in
     let reads : reads_store words (Some c.in-Export.store) ≡ true = subst (λ r. reads_store words (store_of (streams_meant words r)) ≡ true) c.in-Export.is c.requires.reads in
     rw c.in-Export.is (λ tells. read_of told names (drop c.in-Export.files words)
-    (λ files. Wrote old new (λ written. (words : List (List ℕ)) (store at : ℕ) → reads_store words (Some store) ≡ true → Answers (OfStreams (Export store at)) words image (unnamed files) (answer_of c.answer_by-in-Export.result) written left))
-    (λ files. Wrote old new (λ written. Answers (OfStreams (Export c.in-Export.store c.in-Export.files)) words image (unnamed files) (answer_of c.answer_by-in-Export.result) written left))
+    (λ files. Wrote old new (λ written. (words : List (List ℕ)) (store at : ℕ) → reads_store words (Some store) ≡ true → Answers (OfStreams (Export store at)) words image (unnamed files) (answer_of c.end_answer-in-Export.result) written left))
+    (λ files. Wrote old new (λ written. Answers (OfStreams (Export c.in-Export.store c.in-Export.files)) words image (unnamed files) (answer_of c.end_answer-in-Export.result) written left))
     (ap (map string_bytes) c.names_from-names.ensures.names ∙ sym (drop-map string_bytes c.in-Export.files c.args.words.now))
     (map_some string_bytes c.names_from-names.result.now c.names_from-names.ensures.some)
     (λ files w. (w.0, w.1, w.2 words c.in-Export.store c.in-Export.files reads))
     (subst (λ (a : Answer). IfAllTold told names (λ files. Wrote old new (λ written. (words : List (List ℕ)) (store at : ℕ) → reads_store words (Some store) ≡ true → Answers (OfStreams (Export store at)) words image (unnamed files) a written left)))
-    (sym c.answer_by-in-Export.ensures.answer) (c.export_store.ensures.answered tells)))
+    (sym c.end_answer-in-Export.ensures.answer) (c.export_store.ensures.answered tells)))
 
 pub returns-in-Export-clause-exported : goal.returns-in-Export-clause-exported
 returns-in-Export-clause-exported g c =
@@ -163,5 +163,5 @@ returns-in-Export-clause-exported g c =
     (λ files. Wrote old new (λ written. c.export_store.result ≡ Ends Done → (s : Store ℕ) → StandsFor image s → AllByRecursion IsBytes files → IsExported s files written))
     (λ files. Wrote old new (λ written. (s : Store ℕ) → StandsFor image s → AllByRecursion IsBytes files → IsExported s files written))
     (ap (map string_bytes) c.names_from-names.ensures.names ∙ sym (drop-map string_bytes c.in-Export.files c.args.words.now))
-    (λ files w. (w.0, w.1, w.2 (end_done c.export_store.result (answer_of c.answer_by-in-Export.result) c.answer_by-in-Export.ensures.answer done)))
+    (λ files w. (w.0, w.1, w.2 (end_done c.export_store.result (answer_of c.end_answer-in-Export.result) c.end_answer-in-Export.ensures.answer done)))
     (c.export_store.ensures.exported tells)))

@@ -1,7 +1,7 @@
-use Rattle.std.specs.Prelude.{ℕ, [], List, map, drop}
+use Rattle.std.specs.Prelude.{◌≡◌, ℕ, [], ◌∷◌, List, map, drop}
 use Rattle.std.specs.List.{AllByRecursion}
 use Rattle.std.specs.String.{string_bytes}
-use Rattle.std.proofs.Common.{sym, ap, subst, ◌∙◌}
+use Rattle.std.proofs.Common.{sym, ap, ap₂, subst, ◌∙◌}
 use Rattle.std.proofs.KnownBytes.{Appends-nil}
 use Rattle.send_model.specs.Attribute.{IsBytes}
 use Rattle.send_model.specs.Words.{new_guards}
@@ -9,7 +9,7 @@ use Rattle.store_model.specs.NamedFiles.{unnamed}
 use Rattle.store_model.specs.Requests.{DropEntry, word_at}
 use Rattle.word_model.specs.NameWords.{files_in}
 use Rattle.store_model.specs.Answers.{Answer, Answers}
-use Rattle.word_model.specs.AllRequests.{TurnFiles}
+use Rattle.word_model.specs.AllRequests.{TurnFiles, name_at}
 use Rattle.sent_model.specs.Sent.{sent_stream}
 use Rattle.sent_model.specs.Restored.{restored_stream}
 use Rattle.sent_model.specs.HeldStores.{SendAnswers}
@@ -20,18 +20,95 @@ use Rattle.turn_sessions.specs.Leaving.{LeftByTurns}
 use Rattle.store_words.specs.Receiving.{LeftByReceive}
 use Rattle.sx_base.specs.Calls.{IfAllTold, Wrote}
 use Rattle.sx_base.specs.Disk.{IsImage}
-use Rattle.send_top.specs.Requests.{before_store, guards_in, places_in, turns_in, with_names}
+use Rattle.send_top.specs.Requests.{before_store, entry_name, entry_path, guards_in, places_in, turns_in, with_names}
+use Rattle.send_top.proofs.NothingDone.{nothing_answered, nothing_in_part}
 use Rattle.send_top.proofs.ReceiveAnswers.{of_same, of_same_turns}
 use Rattle.send_top.proofs.over_store.store_answer.Goals as goal
+
+-- There is no memory for the names, and nothing was done.
+pub returns-in-Err-clause-answered : goal.returns-in-Err-clause-answered
+returns-in-Err-clause-answered g c tells =
+    nothing_answered (g.I.Inputs.told c.args.inputs.now) (map string_bytes c.args.words.now) c.args.request c.in-Err.ensures.named (g.O.Sink.taken c.args.out.now) (g.D.Disk.seen c.args.disk.now)
+
+pub returns-in-Err-clause-in_part : goal.returns-in-Err-clause-in_part
+returns-in-Err-clause-in_part g c other tells =
+    nothing_in_part (map string_bytes c.args.words.now) c.args.request c.in-Err.ensures.named (g.D.Disk.seen c.args.disk.now) (g.O.Sink.taken c.args.out.now)
 
 pub returns-in-Drop-clause-answered : goal.returns-in-Drop-clause-answered
 returns-in-Drop-clause-answered g c =
     let words : List (List ℕ) = map string_bytes c.args.words.now in
+    let seen : List ℕ = g.D.Disk.seen c.args.disk.now in
+    let left : List ℕ = g.D.Disk.seen c.drop_entry.new.disk in
+    let name_is : c.as_slice.result.now ≡ name_at words c.in-Drop.name = c.as_slice.ensures.bytes ∙ c.in-Ok.ensures.name ∙ ap (entry_name words) c.in-Drop.is in
+    let path_is = c.in-Ok.ensures.path ∙ ap (entry_path words) c.in-Drop.is in
+    let same = c.answer_by.ensures.answer ∙ ap₂ (λ (n p : List ℕ). ending.answer_of n p c.drop_entry.result) (sym c.as_slice.ensures.bytes) path_is in
+    let asked : List (List ℕ) = word_at words c.in-Drop.store ∷ name_at words c.in-Drop.name ∷ [] in
     rw c.in-Drop.is (λ tells. (
       [],
       Appends-nil (g.O.Sink.taken c.args.out.now),
-      subst (λ (a : Answer). Answers (DropEntry c.in-Drop.store c.in-Drop.name) words (g.D.Disk.seen c.args.disk.now) (unnamed []) a [] (g.D.Disk.seen c.drop_entry.new.disk))
-          (sym c.answer_by-in-Drop.ensures.answer) (c.drop_entry.ensures.answered tells words c.in-Drop.store c.in-Drop.name c.word_bytes-name.ensures.bytes),
+      subst (λ (a : Answer). Answers (DropEntry 0 1) asked seen (unnamed []) a [] left) (sym same) (c.drop_entry.ensures.answered tells asked 0 1 (sym name_is)),
+    ))
+
+pub returns-in-Send-clause-answered : goal.returns-in-Send-clause-answered
+returns-in-Send-clause-answered g c =
+    let words : List (List ℕ) = map string_bytes c.args.words.now in
+    let image : List ℕ = g.D.Disk.seen c.args.disk.now in
+    let left : List ℕ = g.D.Disk.seen c.send_entry.new.disk in
+    let name_is : c.as_slice-in-Send.result.now ≡ name_at words c.in-Send.name = c.as_slice-in-Send.ensures.bytes ∙ c.in-Ok.ensures.name ∙ ap (entry_name words) c.in-Send.is in
+    let path_is = c.in-Ok.ensures.path ∙ ap (entry_path words) c.in-Send.is in
+    let same = c.answer_by-in-Send.ensures.answer ∙ ap₂ (λ (n p : List ℕ). ending.answer_of n p c.send_entry.result) (sym c.as_slice-in-Send.ensures.bytes) path_is in
+    rw c.in-Send.is (λ tells.
+    let w = c.send_entry.ensures.answered tells in (
+      w.0,
+      w.1,
+      subst (λ (a : Answer). SendAnswers sent_stream image (name_at words c.in-Send.name) a w.0 left) (sym same)
+          (subst (λ (name : List ℕ). SendAnswers sent_stream image name (ending.answer_of c.as_slice-in-Send.result.now [] c.send_entry.result) w.0 left) name_is w.2),
+    ))
+
+pub returns-in-Send-clause-in_part : goal.returns-in-Send-clause-in_part
+returns-in-Send-clause-in_part g c =
+    let words : List (List ℕ) = map string_bytes c.args.words.now in
+    let image : List ℕ = g.D.Disk.seen c.args.disk.now in
+    let name_is : c.as_slice-in-Send.result.now ≡ name_at words c.in-Send.name = c.as_slice-in-Send.ensures.bytes ∙ c.in-Ok.ensures.name ∙ ap (entry_name words) c.in-Send.is in
+    let path_is = c.in-Ok.ensures.path ∙ ap (entry_path words) c.in-Send.is in
+    let same = c.answer_by-in-Send.ensures.answer ∙ ap₂ (λ (n p : List ℕ). ending.answer_of n p c.send_entry.result) (sym c.as_slice-in-Send.ensures.bytes) path_is in
+    rw c.in-Send.is (λ other tells.
+    let w = c.send_entry.ensures.unfinished tells in (
+      w.0,
+      w.1,
+      subst (λ (name : List ℕ). IsUnfinished sent_stream image name w.0) name_is
+          (w.2 (λ done. other (same ∙ ap (λ (end : StoreEnd). ending.answer_of c.as_slice-in-Send.result.now [] end) done))),
+    ))
+
+pub returns-in-Restore-clause-answered : goal.returns-in-Restore-clause-answered
+returns-in-Restore-clause-answered g c =
+    let words : List (List ℕ) = map string_bytes c.args.words.now in
+    let image : List ℕ = g.D.Disk.seen c.args.disk.now in
+    let left : List ℕ = g.D.Disk.seen c.restore_entry.new.disk in
+    let name_is : c.as_slice-in-Restore.result.now ≡ name_at words c.in-Restore.name = c.as_slice-in-Restore.ensures.bytes ∙ c.in-Ok.ensures.name ∙ ap (entry_name words) c.in-Restore.is in
+    let path_is = c.in-Ok.ensures.path ∙ ap (entry_path words) c.in-Restore.is in
+    let same = c.answer_by-in-Restore.ensures.answer ∙ ap₂ (λ (n p : List ℕ). ending.answer_of n p c.restore_entry.result) (sym c.as_slice-in-Restore.ensures.bytes) path_is in
+    rw c.in-Restore.is (λ tells.
+    let w = c.restore_entry.ensures.answered tells in (
+      w.0,
+      w.1,
+      subst (λ (a : Answer). SendAnswers restored_stream image (name_at words c.in-Restore.name) a w.0 left) (sym same)
+          (subst (λ (name : List ℕ). SendAnswers restored_stream image name (ending.answer_of c.as_slice-in-Restore.result.now [] c.restore_entry.result) w.0 left) name_is w.2),
+    ))
+
+pub returns-in-Restore-clause-in_part : goal.returns-in-Restore-clause-in_part
+returns-in-Restore-clause-in_part g c =
+    let words : List (List ℕ) = map string_bytes c.args.words.now in
+    let image : List ℕ = g.D.Disk.seen c.args.disk.now in
+    let name_is : c.as_slice-in-Restore.result.now ≡ name_at words c.in-Restore.name = c.as_slice-in-Restore.ensures.bytes ∙ c.in-Ok.ensures.name ∙ ap (entry_name words) c.in-Restore.is in
+    let path_is = c.in-Ok.ensures.path ∙ ap (entry_path words) c.in-Restore.is in
+    let same = c.answer_by-in-Restore.ensures.answer ∙ ap₂ (λ (n p : List ℕ). ending.answer_of n p c.restore_entry.result) (sym c.as_slice-in-Restore.ensures.bytes) path_is in
+    rw c.in-Restore.is (λ other tells.
+    let w = c.restore_entry.ensures.unfinished tells in (
+      w.0,
+      w.1,
+      subst (λ (name : List ℕ). IsUnfinished restored_stream image name w.0) name_is
+          (w.2 (λ done. other (same ∙ ap (λ (end : StoreEnd). ending.answer_of c.as_slice-in-Restore.result.now [] end) done))),
     ))
 
 pub returns-in-Receive-clause-answered : goal.returns-in-Receive-clause-answered
@@ -84,54 +161,6 @@ returns-in-Interleave-clause-silent g c = rw c.in-Interleave.is (λ none. absurd
 
 pub returns-in-Interleave-clause-answered : goal.returns-in-Interleave-clause-answered
 returns-in-Interleave-clause-answered g c = rw c.in-Interleave.is c.interleave_answer.ensures.answered
-
-pub returns-in-Send-clause-answered : goal.returns-in-Send-clause-answered
-returns-in-Send-clause-answered g c =
-    let words : List (List ℕ) = map string_bytes c.args.words.now in
-    let image : List ℕ = g.D.Disk.seen c.args.disk.now in
-    let left : List ℕ = g.D.Disk.seen c.send_entry.new.disk in
-    rw c.in-Send.is (λ tells.
-    let w = c.send_entry.ensures.answered tells in (
-      w.0,
-      w.1,
-      subst (λ (a : Answer). SendAnswers sent_stream image (word_at words c.in-Send.name) a w.0 left) (sym c.answer_by-in-Send.ensures.answer)
-          (subst (λ (name : List ℕ). SendAnswers sent_stream image name (ending.answer_of c.word_bytes-name-in-Send.result.now [] c.send_entry.result) w.0 left) (sym c.word_bytes-name-in-Send.ensures.bytes) w.2),
-    ))
-
-pub returns-in-Send-clause-in_part : goal.returns-in-Send-clause-in_part
-returns-in-Send-clause-in_part g c =
-    let image : List ℕ = g.D.Disk.seen c.args.disk.now in
-    rw c.in-Send.is (λ other tells.
-    let w = c.send_entry.ensures.unfinished tells in (
-      w.0,
-      w.1,
-      subst (λ (name : List ℕ). IsUnfinished sent_stream image name w.0) (sym c.word_bytes-name-in-Send.ensures.bytes)
-          (w.2 (λ done. other (c.answer_by-in-Send.ensures.answer ∙ ap (λ (end : StoreEnd). ending.answer_of c.word_bytes-name-in-Send.result.now [] end) done))),
-    ))
-
-pub returns-in-Restore-clause-answered : goal.returns-in-Restore-clause-answered
-returns-in-Restore-clause-answered g c =
-    let words : List (List ℕ) = map string_bytes c.args.words.now in
-    let image : List ℕ = g.D.Disk.seen c.args.disk.now in
-    let left : List ℕ = g.D.Disk.seen c.restore_entry.new.disk in
-    rw c.in-Restore.is (λ tells.
-    let w = c.restore_entry.ensures.answered tells in (
-      w.0,
-      w.1,
-      subst (λ (a : Answer). SendAnswers restored_stream image (word_at words c.in-Restore.name) a w.0 left) (sym c.answer_by-in-Restore.ensures.answer)
-          (subst (λ (name : List ℕ). SendAnswers restored_stream image name (ending.answer_of c.word_bytes-name-in-Restore.result.now [] c.restore_entry.result) w.0 left) (sym c.word_bytes-name-in-Restore.ensures.bytes) w.2),
-    ))
-
-pub returns-in-Restore-clause-in_part : goal.returns-in-Restore-clause-in_part
-returns-in-Restore-clause-in_part g c =
-    let image : List ℕ = g.D.Disk.seen c.args.disk.now in
-    rw c.in-Restore.is (λ other tells.
-    let w = c.restore_entry.ensures.unfinished tells in (
-      w.0,
-      w.1,
-      subst (λ (name : List ℕ). IsUnfinished restored_stream image name w.0) (sym c.word_bytes-name-in-Restore.ensures.bytes)
-          (w.2 (λ done. other (c.answer_by-in-Restore.ensures.answer ∙ ap (λ (end : StoreEnd). ending.answer_of c.word_bytes-name-in-Restore.result.now [] end) done))),
-    ))
 
 pub returns-in-Interleave-clause-acknowledged_in_turn : goal.returns-in-Interleave-clause-acknowledged_in_turn
 returns-in-Interleave-clause-acknowledged_in_turn g c =

@@ -100,16 +100,16 @@ returns-clause-answered g c tells =
     let at = (goal.at.returns-clause-answered g c).After-receive_store in
     read_of told files (files_in (drop c.args.files words))
     (λ bytes. Wrote old new (λ written. (words : List (List ℕ)) (specs : List GuardSpec) (store at : ℕ) → AllByRecursion IsBytes bytes → guards ≡ new_guards specs
-    → Answers (ReceiveFiles specs store at) words image (record { bytes = bytes; names = names }) (answer_of c.answer_by.result) written left))
+    → Answers (ReceiveFiles specs store at) words image (record { bytes = bytes; names = names }) (answer_of c.end_answer.result) written left))
     (λ bytes. Wrote old new (λ written. AllByRecursion IsBytes bytes
-    → Answers (ReceiveFiles specs c.args.store c.args.files) words image (record { bytes = bytes; names = names }) (answer_of c.answer_by.result) written left))
+    → Answers (ReceiveFiles specs c.args.store c.args.files) words image (record { bytes = bytes; names = names }) (answer_of c.end_answer.result) written left))
     (files_are g at)
     (λ none. c.in-Ok-of.ensures.some c.names_from.ensures.some (sym c.files.ensures.files ∙ none))
     (λ bytes w. (w.0, w.1, λ are. w.2 words specs c.args.store c.args.files are (are_new g at)))
     (subst (λ (ns : Names). IfAllTold told files (λ bytes. Wrote old new (λ written. (words : List (List ℕ)) (specs : List GuardSpec) (store at : ℕ) → AllByRecursion IsBytes bytes → guards ≡ new_guards specs
-    → Answers (ReceiveFiles specs store at) words image (record { bytes = bytes; names = ns }) (answer_of c.answer_by.result) written left))) (names_are g at)
+    → Answers (ReceiveFiles specs store at) words image (record { bytes = bytes; names = ns }) (answer_of c.end_answer.result) written left))) (names_are g at)
     (subst (λ (a : Answer). IfAllTold told files (λ bytes. Wrote old new (λ written. (words : List (List ℕ)) (specs : List GuardSpec) (store at : ℕ) → AllByRecursion IsBytes bytes → guards ≡ new_guards specs
-    → Answers (ReceiveFiles specs store at) words image (record { bytes = bytes; names = c.names.result.now }) a written left))) (sym c.answer_by.ensures.answer) (c.receive_store.ensures.answered tells)))
+    → Answers (ReceiveFiles specs store at) words image (record { bytes = bytes; names = c.names.result.now }) a written left))) (sym c.end_answer.ensures.answer) (c.receive_store.ensures.answered tells)))
 
 pub returns-clause-any_moment : goal.returns-clause-any_moment
 returns-clause-any_moment g c tells =

@@ -7,19 +7,15 @@ use Rattle.send_model.specs.Attribute.{IsBytes}
 use Rattle.send_model.specs.NamedWords.{is_name_word}
 use Rattle.send_model.specs.Renamed.{Names, IsNewName, AreNewNames}
 use Rattle.send_model.proofs.ElementLaws.{all_both}
-use Rattle.word_model.specs.NameWords.{given_from}
-use Rattle.word_model.proofs.GivenWords.{IsRead, read_none, read_name, read_file, read_second, read_long, read_end, read_no_file, files_stand}
-use Rattle.file_words.proofs.Standing.{word_there, none_left, seen_some, unnamed, not_less, none_given}
-use Rattle.file_words.proofs.given.GivenFiles.of.Goals.{then-is_some-via-then-is_some, then-is_some-via-else-is_some+then-not-is_short, then-not-is_name_word+in_ok-push+in_ok-from_str+in_ok-push-2, else-not-is_name_word+else-is_some+else-not-is_short+in_ok-name_of}
+use Rattle.word_model.specs.NameWords.{given_from, given_name}
+use Rattle.word_model.proofs.GivenWords.{IsRead, read_none, read_name, read_file, read_second, read_nameless, read_end, read_no_file, files_stand}
+use Rattle.file_words.proofs.Standing.{word_there, none_left, seen_some, unnamed, none_given}
+use Rattle.file_words.proofs.given.GivenFiles.of.Goals.{then-is_some-via-then-is_some, then-is_some-via-else-is_some+then-not-gives_name, then-not-is_name_word+in_ok-push+in_ok-from_str+in_ok-push-2, else-not-is_name_word+else-is_some+else-not-gives_name+in_ok-name_given}
 use Rattle.file_words.proofs.given.GivenFiles.of.Goals as goal
 
 same_read : {all files others left : List (List ℕ)} {names more : Names} {name next : Option (List ℕ)} → files ≡ others → names ≡ more → name ≡ next → IsRead all files names name left → IsRead all others more next left
 same_read {all} {files} {others} {left} {names} {more} {name} {next} f n o r =
     subst (λ (x : List (List ℕ)). IsRead all x more next left) f (subst (λ (x : Names). IsRead all files x next left) n (subst (λ (x : Option (List ℕ)). IsRead all files names x left) o r))
-
--- All that stands behind the front of a word.
-behind : (bytes : List ℕ) → take (length bytes - 5) (drop 5 bytes) ≡ drop 5 bytes
-behind bytes = take_all (length bytes - 5) (drop 5 bytes) (omega (arith, length-drop 5 bytes))
 
 pub loop-place-init : goal.loop-place-init
 loop-place-init c = record {
@@ -46,9 +42,9 @@ unreachable-requires c =
     let read : IsRead words files names c.loop-place.name (text ∷ left) = subst (λ (ws : List (List ℕ)). IsRead words files names c.loop-place.name ws) here c.loop-place.invariant.read in
     elim c.then-is_some.branch [
       | then-is_some-via-then-is_some w ↦ second words files names text left name c.requires.given c.loop-place.name (sym c.is_some.ensures ∙ w.if-is_some.true) read
-      | then-is_some-via-else-is_some+then-not-is_short w ↦ none_given _
-          (read_long words files names text left name
-          (subst (λ (bytes : List ℕ). 2 ^ 16 ≤ length (drop 5 bytes)) c.as_str-word.ensures.value (not_less (length (drop 5 c.as_str-word.result.now)) (2 ^ 16) w.is_short.result w.is_short.ensures.1 w.if-not-is_short.true))
+      | then-is_some-via-else-is_some+then-not-gives_name w ↦ none_given _
+          (read_nameless words files names text left name
+          (unnamed (given_name text) (ap (λ (bytes : List ℕ). is_some (given_name bytes)) (sym c.as_str-word.ensures.value) ∙ sym w.gives_name.ensures ∙ w.if-not-gives_name.true))
           (subst (λ (o : Option (List ℕ)). IsRead words files names o (text ∷ left)) (unnamed c.loop-place.name (sym c.is_some.ensures ∙ w.if-is_some.false)) read)) c.requires.given
     ]
 
@@ -71,15 +67,14 @@ loop-place-preserved c =
         fit = subst AreNewNames (sym (w.names-is ∙ w.in_ok-push.ensures.pushed)) (all_both (λ o. IfSome o IsNewName) names (c.loop-place.name ∷ []) c.loop-place.invariant.fit (c.loop-place.invariant.next, tt));
         next = subst (λ (o : Option (List ℕ)). IfSome o IsNewName) (sym w.name-is) tt;
       }
-      | else-not-is_name_word+else-is_some+else-not-is_short+in_ok-name_of w ↦
-          let short : length (drop 5 text) < 2 ^ 16 = subst (λ (bytes : List ℕ). length (drop 5 bytes) < 2 ^ 16) c.as_str-word.ensures.value (w.is_short.ensures.0 w.if-not-is_short.false) in
-          let same = behind w.as_bytes.result.now ∙ ap (λ (bytes : List ℕ). drop 5 bytes) (w.as_bytes.ensures.value ∙ c.as_str-word.ensures.value) in
-          let new : c.if-not-is_name_word.name ≡ Some (drop 5 text) = w.name-is ∙ ap (λ (name : List ℕ). Some name) (w.in_ok-name_of.ensures.equal ∙ same) in record {
+      | else-not-is_name_word+else-is_some+else-not-gives_name+in_ok-name_given w ↦
+          let gives : given_name text ≡ Some w.in_ok-name_given.field-0 = ap given_name (sym c.as_str-word.ensures.value) ∙ w.in_ok-name_given.ensures.given in
+          let new : c.if-not-is_name_word.name ≡ Some w.in_ok-name_given.field-0 = w.name-is in record {
             read = same_read (ap (λ v. map string_bytes v.items) (sym w.files-is)) (sym w.names-is) (sym new)
-                (read_name words files names text left (ap is_name_word (sym c.as_str-word.ensures.value) ∙ sym c.is_name_word.ensures ∙ w.if-not-is_name_word.false) short
+                (read_name words files names text w.in_ok-name_given.field-0 left (ap is_name_word (sym c.as_str-word.ensures.value) ∙ sym c.is_name_word.ensures ∙ w.if-not-is_name_word.false) gives
                 (subst (λ (o : Option (List ℕ)). IsRead words files names o (text ∷ left)) (unnamed c.loop-place.name (sym w.is_some.ensures ∙ w.if-is_some.false)) read));
             fit = subst AreNewNames (sym w.names-is) c.loop-place.invariant.fit;
-            next = subst (λ (o : Option (List ℕ)). IfSome o IsNewName) (sym new) (record { bytes = subst IsBytes same w.in_ok-name_of.ensures.bytes; short = short });
+            next = subst (λ (o : Option (List ℕ)). IfSome o IsNewName) (sym new) w.in_ok-name_given.ensures.fits;
           }
     ]
 
