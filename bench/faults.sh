@@ -686,6 +686,21 @@ case_is 'a file that is called like a name' "$([ "$status" = 0 ] || echo "status
 timeout 20 "$program" audit none name:1 small name:2 second >out 2>note; status=$?
 case_is 'a chain with names' "$([ "$status" = 0 ] && grep -q '^accepted 2 ' out || echo "status $status, $(cat out note)")"
 
+# ---- names that are no text
+
+rm -f names
+timeout 20 "$program" init names >out 2>note
+timeout 20 "$program" receive names 'name:escaped:\xff\x20' small >out 2>note; status=$?
+case_is 'a name that is no text is given' "$([ "$status" = 0 ] && grep -q '^complete \\xff\\x20 ' out || echo "status $status, $(cat out note)")"
+timeout 20 "$program" show names 'escaped:\xff\x20' >out 2>note; status=$?
+case_is 'it is asked for as it is printed' "$([ "$status" = 0 ] && grep -q '^subvol \\xff\\x20 ' out || echo "status $status, $(cat out note)")"
+timeout 20 "$program" drop names 'escaped:\xff' >out 2>note; status=$?
+case_is 'another is not there' "$([ "$status" = 8 ] && [ "$(cat note)" = 'missing \xff' ] || echo "status $status, $(cat note)")"
+printf '%s\n' 'usage' \
+    'btrsend: behind escaped: stands a name as `list` and `show` print it: a backslash, x and two of 0-9 a-f for each byte that is not visible' >wanted
+explain show names 'escaped:\xFF'; explained 'a word that list never prints' 2 note
+explain compose none name:escaped:a\ b small; explained 'a new name that list never prints' 2 note
+
 # ---- the files are as they were
 
 for name in small first second third damaged donor taker; do
