@@ -685,6 +685,16 @@ timeout 20 "$program" audit none ./name:x >out 2>note; status=$?
 case_is 'a file that is called like a name' "$([ "$status" = 0 ] || echo "status $status")"
 timeout 20 "$program" audit none name:1 small name:2 second >out 2>note; status=$?
 case_is 'a chain with names' "$([ "$status" = 0 ] && grep -q '^accepted 2 ' out || echo "status $status, $(cat out note)")"
+timeout 20 "$program" export none name:1 small name:2 second >exported 2>note; status=$?
+case_is 'it is exported with them' "$([ "$status" = 0 ] || echo "status $status, $(cat note)")"
+rm -f named
+timeout 20 "$program" init named >out 2>note
+timeout 20 "$program" receive named exported >out 2>note; status=$?
+case_is 'what was exported has the names' "$([ "$status" = 0 ] && [ "$(cut -d' ' -f2 <out | tr '\n' ' ')" = '1 2 ' ] || echo "status $status, $(cat out note)")"
+timeout 20 env BTRSEND_EXPLAIN=1 "$program" export none name:other itself >>itself 2>note; status=$?
+printf '%s\n' 'output fault' \
+    'btrsend: standard output is one of the files that are read: write the stream to another file' >wanted
+explained 'a file with a name is not exported to itself' 4 note
 
 # ---- names that are no text
 

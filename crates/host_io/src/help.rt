@@ -16,7 +16,7 @@ usage: btrsend init STORE
        btrsend interleave STORE SCHEDULE [GUARD..] FILE ..
        btrsend audit [GUARD..] STORE|none [name:NEW] FILE ..
        btrsend compose STORE|none [name:NEW] FILE .. > MERGED
-       btrsend export STORE|none FILE.. > STREAM
+       btrsend export STORE|none [name:NEW] FILE .. > STREAM
        btrsend dump FILE
        btrsend gen COUNT SEED > CHAIN
        btrsend trial COUNT SEED

@@ -107,7 +107,7 @@ fn place_of<R: Files>(files: &R, name: &str) -> Option<(u64, u64)> {
 // What words begin with that stand among files and name none, by the first word.
 fn among_files(word: &str) -> Option<&'static [u8]> {
     match word {
-        "audit" | "compose" | "receive" => Some(b"name:"),
+        "audit" | "compose" | "export" | "receive" => Some(b"name:"),
         "interleave" => Some(b"guard:"),
         _ => None,
     }

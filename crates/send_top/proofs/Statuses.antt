@@ -2,6 +2,7 @@
 use Rattle.std.proofs.Common.{◌≡◌, ◌⊎◌, ⊎_elim, refl, ap, [], arith}
 use Rattle.send_model.specs.Answer.{Done, Refused, Usage, InputFault, OutputFault, NoMemory, InputTooLong, TooMuch, InputChanged}
 use Rattle.send_model.specs.Answer as of_streams
+use Rattle.send_model.specs.Reading.{Verdict}
 use Rattle.store_model.specs.Answers.{Answer, OfAnyWord, StoreFault, NotStore, Missing, LogFull, StoreThere, Damaged, status_of, note_of}
 use Rattle.send_top.specs.Run.{IsCaused, IfOfCompose, IfOfStore, IsStoreStatus}
 
@@ -44,6 +45,24 @@ done-of_zero (OfAnyWord (InputTooLong file)) e = absurd (omega (arith, e))
 done-of_zero (StoreThere size) e = absurd (omega (arith, e))
 done-of_zero (OfAnyWord (InputChanged file place)) e = absurd (omega (arith, e))
 done-of_zero (Damaged group stored computed) e = absurd (omega (arith, e))
+
+pub refused-of_one : (answer : Answer) → status_of answer ≡ 1 → (verdict : Verdict) × (answer ≡ OfAnyWord (Refused verdict))
+unfolding status_of of_streams.status_of
+refused-of_one (OfAnyWord (Refused verdict)) e = (verdict, refl)
+refused-of_one (OfAnyWord Done) e = absurd (omega (arith, e))
+refused-of_one (OfAnyWord Usage) e = absurd (omega (arith, e))
+refused-of_one (OfAnyWord InputFault) e = absurd (omega (arith, e))
+refused-of_one (OfAnyWord OutputFault) e = absurd (omega (arith, e))
+refused-of_one StoreFault e = absurd (omega (arith, e))
+refused-of_one (NotStore group) e = absurd (omega (arith, e))
+refused-of_one (OfAnyWord NoMemory) e = absurd (omega (arith, e))
+refused-of_one (Missing what) e = absurd (omega (arith, e))
+refused-of_one (OfAnyWord (TooMuch sum)) e = absurd (omega (arith, e))
+refused-of_one (LogFull end wanted limit) e = absurd (omega (arith, e))
+refused-of_one (OfAnyWord (InputTooLong file)) e = absurd (omega (arith, e))
+refused-of_one (StoreThere size) e = absurd (omega (arith, e))
+refused-of_one (OfAnyWord (InputChanged file place)) e = absurd (omega (arith, e))
+refused-of_one (Damaged group stored computed) e = absurd (omega (arith, e))
 
 pub zero-of_done : (answer : Answer) → answer ≡ OfAnyWord Done → status_of answer ≡ 0
 unfolding status_of of_streams.status_of

@@ -1,15 +1,11 @@
 -- What words on streams answer, over a store and over none.
 use Rattle.std.specs.Prelude.{◌≡◌, ℕ, Bool, true, false, List, [], ◌∷◌, drop, Option, None, Some}
-use Rattle.std.specs.List.{AllByRecursion}
 use Rattle.std.proofs.Common.{refl, sym, ap, subst, ⊎_elim}
-use Rattle.send_model.specs.Answer.{Done, NoMemory}
-use Rattle.send_model.specs.Attribute.{IsBytes}
+use Rattle.send_model.specs.Answer.{Done, Refused, NoMemory}
 use Rattle.send_model.specs.Due.{DoneWhole, RefusedAt, TooLong}
 use Rattle.send_model.specs.Due as dues
-use Rattle.send_model.specs.Exported.{IsExported}
-use Rattle.send_model.specs.Headline.{IsComposedOf}
-use Rattle.send_model.specs.Reading.{input}
-use Rattle.send_model.specs.Renamed.{renamed}
+use Rattle.send_model.specs.Reading as meant
+use Rattle.send_model.specs.Renamed.{Names}
 use Rattle.send_model.specs.Sources.{due_of, EndSaysOf}
 use Rattle.send_model.specs.Store.{Store}
 use Rattle.send_model.specs.Words.{Request}
@@ -19,6 +15,7 @@ use Rattle.sx_base.specs.Calls.{IfAllTold, Wrote}
 use Rattle.sx_base.specs.Refusals.{verdict_meant}
 use Rattle.sx_base.specs.declared.outcome.Outcome.{Outcome}
 use Rattle.sx_base.specs.declared.outcome.Outcome.TheVariants as ended
+use Rattle.sx_base.specs.declared.outcome.Verdict.{Verdict}
 use Rattle.store_model.specs.Dues as store_dues
 use Rattle.store_model.specs.Stored.{StandsFor}
 use Rattle.store_model.specs.NamedFiles.{NamedFiles, read_of}
@@ -35,7 +32,7 @@ use Rattle.store_words.specs.Ending.{outcome_meant}
 use Rattle.store_words.proofs.StreamAnswers.{then_told}
 use Rattle.send_top.specs.Requests.{named_files, streams_names, streams_part_names}
 use Rattle.store_base.specs.Ending.{ChangeFound}
-use Rattle.send_top.specs.Run.{IfAllRead, OfDisk, IsChangedIn, IsOver, IsComposedFor, IsComposedOver, IsExportedOver}
+use Rattle.send_top.specs.Run.{IfAllRead, OfDisk, IsChangedIn, IsOver, WroteOver}
 use Rattle.send_top.proofs.ReceiveAnswers.{all_read}
 
 -- ---- over no store
@@ -148,35 +145,48 @@ outcome_done ended.InputFault e = cc
 outcome_done ended.OutputFault e = cc
 outcome_done ended.NoMemory e = cc
 
--- The headline and what is promised, over the store that is read and over none.
-module _ (told : Option (List (List ℕ × List ℕ))) (tells : Type 0) (words : List (List ℕ)) (image : List ℕ) (old new : Option (List ℕ)) (store at : ℕ) where
-  abbrev IsComposedBy : Bool → Type 0
-  IsComposedBy reads = OfDisk tells reads (IfAllTold told (files_in (drop at words)) (λ files. Wrote old new (λ written. (s : Store ℕ) → IsOver reads image s → IsComposedFor s (names_in (drop at words)) files written)))
+-- A refused command is that of one end.
+pub end_refused : (end : StoreEnd) (answer : Answer) (verdict : meant.Verdict) → answer ≡ ending.answer_of [] [] end → answer ≡ OfAnyWord (Refused verdict) → (found : Verdict) × (end ≡ made.Ends (ended.Refused found))
+end_refused (made.Ends (ended.Refused found)) answer verdict is refused = (found, refl)
+end_refused (made.Ends ended.Done) answer verdict is refused = cc
+end_refused (made.Ends (ended.InputTooLong file)) answer verdict is refused = cc
+end_refused (made.Ends (ended.TooMuch sum)) answer verdict is refused = cc
+end_refused (made.Ends (ended.InputChanged file place)) answer verdict is refused = cc
+end_refused (made.Ends ended.InputFault) answer verdict is refused = cc
+end_refused (made.Ends ended.OutputFault) answer verdict is refused = cc
+end_refused (made.Ends ended.NoMemory) answer verdict is refused = cc
+end_refused made.StoreFault answer verdict is refused = cc
+end_refused (made.NotStore group) answer verdict is refused = cc
+end_refused made.NoName answer verdict is refused = cc
+end_refused made.NoFile answer verdict is refused = cc
+end_refused (made.LogFull end wanted limit) answer verdict is refused = cc
+end_refused (made.StoreThere size) answer verdict is refused = cc
+end_refused (made.Damaged group stored computed) answer verdict is refused = cc
 
-  pub composed_over : reads_store words (Some store) ≡ true
-      → (tells → IfAllTold told (files_in (drop at words)) (λ files. Wrote old new (λ written. (s : Store ℕ) → StandsFor image s → IsComposedFor s (names_in (drop at words)) files written)))
-      → IsComposedOver told tells words image old new store at
-  composed_over reads holds = subst IsComposedBy (sym reads) holds
+pub outcome_refused : (outcome : Outcome) (verdict : meant.Verdict) → OfAnyWord (outcome_meant outcome) ≡ OfAnyWord (Refused verdict) → (found : Verdict) × (outcome ≡ ended.Refused found)
+outcome_refused (ended.Refused found) verdict e = (found, refl)
+outcome_refused ended.Done verdict e = cc
+outcome_refused (ended.InputTooLong file) verdict e = cc
+outcome_refused (ended.TooMuch sum) verdict e = cc
+outcome_refused (ended.InputChanged file place) verdict e = cc
+outcome_refused ended.InputFault verdict e = cc
+outcome_refused ended.OutputFault verdict e = cc
+outcome_refused ended.NoMemory verdict e = cc
 
-  pub composed_alone : reads_store words (Some store) ≡ false
-      → IfAllTold told (files_in (drop at words)) (λ files. Wrote old new (λ written. IsComposedOf [] (renamed (names_in (drop at words)) (input files)) written))
-      → IsComposedOver told tells words image old new store at
-  composed_alone none holds =
-      subst IsComposedBy (sym none)
-      (then_told told (files_in (drop at words)) (λ files. Wrote old new (λ written. IsComposedOf [] (renamed (names_in (drop at words)) (input files)) written))
-      (λ files. Wrote old new (λ written. (s : Store ℕ) → s ≡ [] → IsComposedFor s (names_in (drop at words)) files written))
-      (λ files w. (w.0, w.1, λ s is. subst (λ (t : Store ℕ). IsComposedFor t (names_in (drop at words)) files w.0) (sym is) w.2)) holds)
+-- What is said of what was written, over the store that is read and over none.
+module _ (P : Store ℕ → Names → List (List ℕ) → List ℕ → Type 0) (told : Option (List (List ℕ × List ℕ))) (tells : Type 0) (words : List (List ℕ)) (image : List ℕ) (old new : Option (List ℕ)) (store at : ℕ) where
+  abbrev WroteBy : Bool → Type 0
+  WroteBy reads = OfDisk tells reads (IfAllTold told (files_in (drop at words)) (λ files. Wrote old new (λ written. (s : Store ℕ) → IsOver reads image s → P s (names_in (drop at words)) files written)))
 
-  abbrev IsExportedBy : Bool → Type 0
-  IsExportedBy reads = OfDisk tells reads (IfAllTold told (drop at words) (λ files. Wrote old new (λ written. (s : Store ℕ) → IsOver reads image s → AllByRecursion IsBytes files → IsExported s files written)))
+  pub wrote_over : reads_store words (Some store) ≡ true
+      → (tells → IfAllTold told (files_in (drop at words)) (λ files. Wrote old new (λ written. (s : Store ℕ) → StandsFor image s → P s (names_in (drop at words)) files written)))
+      → WroteOver P told tells words image old new store at
+  wrote_over reads holds = subst WroteBy (sym reads) holds
 
-  pub exported_over : reads_store words (Some store) ≡ true
-      → (tells → IfAllTold told (drop at words) (λ files. Wrote old new (λ written. (s : Store ℕ) → StandsFor image s → AllByRecursion IsBytes files → IsExported s files written)))
-      → IsExportedOver told tells words image old new store at
-  exported_over reads holds = subst IsExportedBy (sym reads) holds
-
-  pub exported_alone : reads_store words (Some store) ≡ false → IfAllTold told (drop at words) (λ files. Wrote old new (λ written. AllByRecursion IsBytes files → IsExported [] files written)) → IsExportedOver told tells words image old new store at
-  exported_alone none holds =
-      subst IsExportedBy (sym none)
-      (then_told told (drop at words) (λ files. Wrote old new (λ written. AllByRecursion IsBytes files → IsExported [] files written)) (λ files. Wrote old new (λ written. (s : Store ℕ) → s ≡ [] → AllByRecursion IsBytes files → IsExported s files written))
-      (λ files w. (w.0, w.1, λ s is. subst (λ (t : Store ℕ). AllByRecursion IsBytes files → IsExported t files w.0) (sym is) w.2)) holds)
+  pub wrote_alone : reads_store words (Some store) ≡ false → IfAllTold told (files_in (drop at words)) (λ files. Wrote old new (P [] (names_in (drop at words)) files))
+      → WroteOver P told tells words image old new store at
+  wrote_alone none holds =
+      subst WroteBy (sym none)
+      (then_told told (files_in (drop at words)) (λ files. Wrote old new (P [] (names_in (drop at words)) files))
+      (λ files. Wrote old new (λ written. (s : Store ℕ) → s ≡ [] → P s (names_in (drop at words)) files written))
+      (λ files w. (w.0, w.1, λ s is. subst (λ (t : Store ℕ). P t (names_in (drop at words)) files w.0) (sym is) w.2)) holds)

@@ -2,9 +2,7 @@
 use Rattle.std.specs.Prelude.{◌≡◌, ◌≢◌, ℕ, List, [], ◌∷◌, drop, slice_index_or, Option, Result, Ok, Err, IfOk}
 use Rattle.std.proofs.Common.{refl, sym, ap, subst, ◌∙◌, arith}
 use Rattle.send_model.specs.Guards.{GuardSpec, Guard}
-use Rattle.send_model.specs.Headline.{IsComposedOf}
-use Rattle.send_model.specs.Reading.{input}
-use Rattle.send_model.specs.Renamed.{Names, renamed}
+use Rattle.send_model.specs.Renamed.{Names}
 use Rattle.send_model.specs.Due.{DoneWhole, RefusedAt, TooLong, TooMuch}
 use Rattle.send_model.specs.Sources.{Sources, sources, SaysOfFiles}
 use Rattle.send_model.specs.Store.{Store}
@@ -14,13 +12,14 @@ use Rattle.send_model.specs.Words.{Request, Compose, Audit, Dump, Export, new_gu
 use Rattle.sx_base.specs.Calls.{IfAllTold, Wrote, Ends, Caused}
 use Rattle.sx_base.specs.declared.outcome.Outcome.{Outcome}
 use Rattle.sx_base.specs.declared.outcome.Outcome.TheVariants as ended
+use Rattle.sx_base.specs.declared.outcome.Verdict.{Verdict}
 use Rattle.part_names.specs.Naming.{sources_named, EndsOf}
 use Rattle.auditor.specs.Answers.{AuditEnds}
 use Rattle.composer.specs.Files as composing
 use Rattle.store_words.proofs.StreamAnswers.{compose_ends, audit_ends, export_ends, then_told}
 use Rattle.word_model.specs.NameWords.{GivenFiles, files_of, names_of, files_in, names_in}
 use Rattle.send_top.specs.Requests.{IsGivenAt}
-use Rattle.send_top.specs.Run.{IfAllRead}
+use Rattle.send_top.specs.Run.{IfAllRead, IsComposedFor, IsFrontFor}
 
 -- A fact of told files whose names are given in another way.
 pub of_names : (told : Option (List (List ℕ × List ℕ))) (names others : List (List ℕ)) (P : List (List ℕ) → Type 0) → names ≡ others → IfAllTold told names P → IfAllTold told others P
@@ -28,8 +27,12 @@ of_names told names others P same holds = subst (λ (ns : List (List ℕ)). IfAl
 
 module _ (old new : Option (List ℕ)) (names : Names) (files : List (List ℕ)) where
   -- The headline holds where all was done.
-  pub headline : (outcome : Outcome) → outcome ≡ ended.Done → Wrote old new (composing.ComposeEnds [] names files outcome) → Wrote old new (λ written. IsComposedOf [] (renamed names (input files)) written)
+  pub headline : (outcome : Outcome) → outcome ≡ ended.Done → Wrote old new (composing.ComposeEnds [] names files outcome) → Wrote old new (IsComposedFor [] names files)
   headline outcome e w = (w.0, w.1, w.2.composed e)
+
+  -- Where a command is refused, all stands that comes before it.
+  pub composed_front : (outcome : Outcome) (verdict : Verdict) → outcome ≡ ended.Refused verdict → Wrote old new (composing.ComposeEnds [] names files outcome) → Wrote old new (IsFrontFor [] names files)
+  composed_front outcome verdict e w = (w.0, w.1, w.2.refused verdict e)
 
   -- The answer is the one that is due. The places of the store and the files play no part in it.
   pub composed_ends : (store at : ℕ) (outcome : Outcome) → Wrote old new (composing.ComposeEnds [] names files outcome) → Wrote old new (λ written. EndsOf (Compose store at) [] (sources_named names files) outcome written)
@@ -38,6 +41,9 @@ module _ (old new : Option (List ℕ)) (names : Names) (files : List (List ℕ))
   pub audits : (guards : List Guard) (specs : List GuardSpec) (store at : ℕ) (outcome : Outcome) → guards ≡ new_guards specs
       → Wrote old new (AuditEnds [] guards names files outcome) → Wrote old new (λ written. EndsOf (Audit specs store at) [] (sources_named names files) outcome written)
   audits guards specs store at outcome fits w = (w.0, w.1, audit_ends [] w.0 store at names files specs outcome (subst (λ (gs : List Guard). AuditEnds [] gs names files outcome w.0) fits w.2))
+
+  pub exports : (store at : ℕ) (outcome : Outcome) → Wrote old new (λ written. EndsOf (Export 0 0) [] (sources_named names files) outcome written) → Wrote old new (λ written. EndsOf (Export store at) [] (sources_named names files) outcome written)
+  exports store at outcome w = (w.0, w.1, export_ends [] w.0 store at (sources_named names files) outcome w.2)
 
 -- How a request ends over files ends it over what was read of them.
 module _ (request : Request) (base : Store ℕ) (files : List (List ℕ)) (written : List ℕ) where
@@ -72,9 +78,6 @@ module _ (old new : Option (List ℕ)) (files : List (List ℕ)) where
   dumps at ended.InputFault w = w
   dumps at ended.OutputFault w = w
   dumps at ended.NoMemory w = w
-
-  pub exports : (store at : ℕ) (outcome : Outcome) → Wrote old new (λ written. Ends (Export 0 0) [] files outcome written) → Wrote old new (λ written. EndsOf (Export store at) [] (sources_named [] files) outcome written)
-  exports store at outcome w = (w.0, w.1, export_ends [] w.0 store at files outcome w.2)
 
 -- What follows of files whose names are given in another way.
 pub following : (told : Option (List (List ℕ × List ℕ))) (names others : List (List ℕ)) (P Q : List (List ℕ) → Type 0) → names ≡ others

@@ -58,7 +58,7 @@ abbrev pub streams_names : streams.Request → List (List ℕ) → List (List �
 streams_names (Compose store files) words = files_in (drop files words)
 streams_names (Audit guards store files) words = files_in (drop files words)
 streams_names (Dump file) words = word_at words file ∷ []
-streams_names (Export store files) words = drop files words
+streams_names (Export store files) words = files_in (drop files words)
 streams_names (Gen count seed) words = []
 streams_names (Trial count seed) words = []
 
@@ -83,7 +83,7 @@ abbrev pub streams_part_names : streams.Request → List (List ℕ) → Names
 streams_part_names (Compose store files) words = names_in (drop files words)
 streams_part_names (Audit guards store files) words = names_in (drop files words)
 streams_part_names (Dump file) words = []
-streams_part_names (Export store files) words = []
+streams_part_names (Export store files) words = names_in (drop files words)
 streams_part_names (Gen count seed) words = []
 streams_part_names (Trial count seed) words = []
 

@@ -7,8 +7,7 @@ use Rattle.send_model.specs.Reading.{Reading, input}
 use Rattle.send_model.specs.Renamed.{Names, renamed}
 use Rattle.send_model.specs.Store.{Store}
 use Rattle.send_model.specs.Attribute.{IsBytes}
-use Rattle.send_model.specs.Headline.{IsComposedOf}
-use Rattle.send_model.specs.Exported.{IsExported}
+use Rattle.send_model.specs.Headline.{IsComposedOf, whole_output_of}
 use Rattle.send_model.specs.Answer.{Done, Refused, Usage, InputFault, OutputFault, NoMemory, InputTooLong, TooMuch, InputChanged}
 use Rattle.send_model.specs.Words as streams
 use Rattle.send_model.specs.Words.{Compose, Audit, Dump, Export, Gen, Trial, new_guards}
@@ -18,6 +17,7 @@ use Rattle.store_model.specs.Stored.{StandsFor}
 use Rattle.store_model.specs.Answers.{Answer, OfAnyWord, StoreFault, NotStore, Missing, LogFull, StoreThere, Damaged}
 use Rattle.word_model.specs.AllRequests.{Request, OfStore, SendEntry, RestoreEntry, TakeTurns, TurnFiles, name_at}
 use Rattle.word_model.specs.AllAnswers.{Answers, ReadsFiles}
+use Rattle.export_model.specs.Promises.{IsExportedOf}
 use Rattle.sent_model.specs.Sent.{sent_stream}
 use Rattle.sent_model.specs.Restored.{restored_stream}
 use Rattle.sent_model.specs.Promises.{IsReceivedAnew, IsUnfinished}
@@ -77,22 +77,28 @@ IsOver false image s = s ≡ []
 abbrev pub IsComposedFor : Store ℕ → Names → List (List ℕ) → (written : List ℕ) → Type 0
 IsComposedFor s names files written = let reading : Reading = renamed names (input files) in IsComposedOf (base_of s reading.items) reading written
 
--- The headline, of what was written where the files from a place on are composed, over the store that the word at a place names.
-abbrev pub IsComposedOver : (told : Option (List (List ℕ × List ℕ))) → (tells : Type 0) → List (List ℕ) → (image : List ℕ) → (old new : Option (List ℕ)) → (store at : ℕ) → Type 0
-IsComposedOver told tells words image old new store at = OfDisk tells (reads_store words (Some store)) (IfAllTold told (files_in (drop at words))
-    (λ files. Wrote old new (λ written. (s : Store ℕ) → IsOver (reads_store words (Some store)) image s → IsComposedFor s (names_in (drop at words)) files written)))
+-- Where a command is refused, all was written that stands for the commands before it.
+abbrev pub IsFrontFor : Store ℕ → Names → List (List ℕ) → (written : List ℕ) → Type 0
+IsFrontFor s names files written = let reading : Reading = renamed names (input files) in written ≡ whole_output_of (base_of s reading.items) reading
 
+-- What is promised of an exported stream, over a store, of what is read of files of bytes with the names that are given.
+abbrev pub IsExportedFor : Store ℕ → Names → List (List ℕ) → (written : List ℕ) → Type 0
+IsExportedFor s names files written = AllByRecursion IsBytes files → IsExportedOf s (renamed names (input files)) written
+
+-- This holds of what was written of the files from a place on, with the names that are given, over the store that the word at a place names.
+abbrev pub WroteOver : (Store ℕ → Names → List (List ℕ) → List ℕ → Type 0) → (told : Option (List (List ℕ × List ℕ))) → (tells : Type 0) → List (List ℕ) → (image : List ℕ) → (old new : Option (List ℕ)) → (store at : ℕ) → Type 0
+WroteOver P told tells words image old new store at = OfDisk tells (reads_store words (Some store)) (IfAllTold told (files_in (drop at words))
+    (λ files. Wrote old new (λ written. (s : Store ℕ) → IsOver (reads_store words (Some store)) image s → P s (names_in (drop at words)) files written)))
+
+-- So the headline does where files are composed; what is said where a command is refused; and what is promised where they are exported.
 abbrev pub Composes : (told : Option (List (List ℕ × List ℕ))) → (tells : Type 0) → List (List ℕ) → List Guard → (image : List ℕ) → (old new : Option (List ℕ)) → Type 0
-Composes told tells words guards image old new = (store at : ℕ) → Asks words guards (OfStore (OfStreams (Compose store at))) → IsComposedOver told tells words image old new store at
+Composes told tells words guards image old new = (store at : ℕ) → Asks words guards (OfStore (OfStreams (Compose store at))) → WroteOver IsComposedFor told tells words image old new store at
 
--- What is promised of an exported stream, of what was written where the files of bytes from a place on are exported, over the store that
--- the word at a place names.
-abbrev pub IsExportedOver : (told : Option (List (List ℕ × List ℕ))) → (tells : Type 0) → List (List ℕ) → (image : List ℕ) → (old new : Option (List ℕ)) → (store at : ℕ) → Type 0
-IsExportedOver told tells words image old new store at = OfDisk tells (reads_store words (Some store)) (IfAllTold told (drop at words)
-    (λ files. Wrote old new (λ written. (s : Store ℕ) → IsOver (reads_store words (Some store)) image s → AllByRecursion IsBytes files → IsExported s files written)))
+abbrev pub ComposesFront : (told : Option (List (List ℕ × List ℕ))) → (tells : Type 0) → List (List ℕ) → List Guard → (image : List ℕ) → (old new : Option (List ℕ)) → Type 0
+ComposesFront told tells words guards image old new = (store at : ℕ) → Asks words guards (OfStore (OfStreams (Compose store at))) → WroteOver IsFrontFor told tells words image old new store at
 
 abbrev pub Exports : (told : Option (List (List ℕ × List ℕ))) → (tells : Type 0) → List (List ℕ) → List Guard → (image : List ℕ) → (old new : Option (List ℕ)) → Type 0
-Exports told tells words guards image old new = (store at : ℕ) → Asks words guards (OfStore (OfStreams (Export store at))) → IsExportedOver told tells words image old new store at
+Exports told tells words guards image old new = (store at : ℕ) → Asks words guards (OfStore (OfStreams (Export store at))) → WroteOver IsExportedFor told tells words image old new store at
 
 -- What was written of the complete subvolume of the name at a place is one stream that makes it anew: every store that has neither its name
 -- nor its uuid receives it, with an equal listing.

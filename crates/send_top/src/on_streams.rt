@@ -1,13 +1,8 @@
 // What words on streams do.
 ghost use Rattle.std.specs.Prelude.{◌≡◌, ◌≢◌, ◌<◌, ℕ, [], map, length, drop, true, false, IfOk};
-ghost use Rattle.std.specs.List.{AllByRecursion};
 ghost use Rattle.std.specs.String.{string_bytes};
-ghost use Rattle.send_model.specs.Answer.{Done, Usage};
-ghost use Rattle.send_model.specs.Attribute.{IsBytes};
-ghost use Rattle.send_model.specs.Exported.{IsExported};
-ghost use Rattle.send_model.specs.Headline.{IsComposedOf};
-ghost use Rattle.send_model.specs.Reading.{input};
-ghost use Rattle.send_model.specs.Renamed.{renamed};
+ghost use Rattle.send_model.specs.Answer.{Done, Refused, Usage};
+ghost use Rattle.send_model.specs.Reading.{Verdict};
 ghost use Rattle.send_model.specs.Store.{Store};
 ghost use Rattle.send_model.specs.Words.{Compose, Export, new_guards};
 ghost use Rattle.store_model.specs.Requests.{OfStreams, word_at, store_of, reads_store};
@@ -21,9 +16,10 @@ ghost use Rattle.sx_base.specs.Causes.{Rose};
 ghost use Rattle.sx_base.specs.Crash.{LeavesOnly};
 ghost use Rattle.sx_base.specs.Disk.{IsImage};
 ghost use Rattle.sx_base.specs.declared.outcome.Outcome.TheVariants as ended;
+ghost use Rattle.sx_base.specs.declared.outcome.Verdict as sx;
 ghost use Rattle.send_top.specs.Answered.{answer_of};
 ghost use Rattle.send_top.specs.Requests.{AreWithin, HasGiven, named_files, streams_meant, streams_specs, streams_names, streams_part_names};
-ghost use Rattle.send_top.specs.Run.{AreSteady, EndCaused, IfAllRead, IfOfCompose, IfOfStore, IsCaused, IsChangedIn, IsComposedFor, IsComposedOver, IsExportedOver, MayGet, OfDisk};
+ghost use Rattle.send_top.specs.Run.{AreSteady, EndCaused, IfAllRead, IfOfCompose, IfOfStore, IsCaused, IsChangedIn, IsComposedFor, IsExportedFor, IsFrontFor, MayGet, OfDisk, WroteOver};
 
 use crate::noting::Answer;
 use crate::over_store::end_answer;
@@ -82,11 +78,16 @@ pub(crate) fn streams_answer<I: Inputs, O: Sink, D: Disk>(
         (map string_bytes words.now)) (I.last_end inputs.new) (answer_of result) }
     ensures composed { answer_of result ≡ OfAnyWord Done → (store at : ℕ)
         → streams_meant (map string_bytes words.now) request ≡ Compose store at
-        → IsComposedOver (I.told inputs.old) D.tells (map string_bytes words.now)
+        → WroteOver IsComposedFor (I.told inputs.old) D.tells (map string_bytes words.now)
+        (D.seen disk.old) (O.taken out.old) (O.taken out.new) store at }
+    ensures refused { (verdict : Verdict) → answer_of result ≡ OfAnyWord (Refused verdict)
+        → (store at : ℕ)
+        → streams_meant (map string_bytes words.now) request ≡ Compose store at
+        → WroteOver IsFrontFor (I.told inputs.old) D.tells (map string_bytes words.now)
         (D.seen disk.old) (O.taken out.old) (O.taken out.new) store at }
     ensures exported { answer_of result ≡ OfAnyWord Done → (store at : ℕ)
         → streams_meant (map string_bytes words.now) request ≡ Export store at
-        → IsExportedOver (I.told inputs.old) D.tells (map string_bytes words.now)
+        → WroteOver IsExportedFor (I.told inputs.old) D.tells (map string_bytes words.now)
         (D.seen disk.old) (O.taken out.old) (O.taken out.new) store at }
     ensures answered { OfDisk D.tells (reads_store (map string_bytes words.now)
         (store_of (streams_meant (map string_bytes words.now) request)))
@@ -130,7 +131,7 @@ fn given_of(
         StreamsRequest::Compose { files, .. } => GivenFiles::of(alloc, names_from(words, files)),
         StreamsRequest::Audit { files, .. } => GivenFiles::of(alloc, names_from(words, files)),
         StreamsRequest::Dump { .. } => GivenFiles::of(alloc, &[]),
-        StreamsRequest::Export { .. } => GivenFiles::of(alloc, &[]),
+        StreamsRequest::Export { files, .. } => GivenFiles::of(alloc, names_from(words, files)),
         StreamsRequest::Gen { .. } => GivenFiles::of(alloc, &[]),
         StreamsRequest::Trial { .. } => GivenFiles::of(alloc, &[]),
     }
@@ -176,12 +177,19 @@ fn streams_over_store<I: Inputs, O: Sink, D: Disk>(
         (λ files. Wrote (O.taken out.old) (O.taken out.new)
         (λ written. (s : Store ℕ) → StandsFor (D.seen disk.old) s
         → IsComposedFor s (names_in (drop at (map string_bytes words.now))) files written)) }
+    ensures refused { D.tells → (verdict : Verdict)
+        → answer_of result ≡ OfAnyWord (Refused verdict) → (store at : ℕ)
+        → streams_meant (map string_bytes words.now) request ≡ Compose store at
+        → IfAllTold (I.told inputs.old) (files_in (drop at (map string_bytes words.now)))
+        (λ files. Wrote (O.taken out.old) (O.taken out.new)
+        (λ written. (s : Store ℕ) → StandsFor (D.seen disk.old) s
+        → IsFrontFor s (names_in (drop at (map string_bytes words.now))) files written)) }
     ensures exported { D.tells → answer_of result ≡ OfAnyWord Done → (store at : ℕ)
         → streams_meant (map string_bytes words.now) request ≡ Export store at
-        → IfAllTold (I.told inputs.old) (drop at (map string_bytes words.now))
+        → IfAllTold (I.told inputs.old) (files_in (drop at (map string_bytes words.now)))
         (λ files. Wrote (O.taken out.old) (O.taken out.new)
-        (λ written. (s : Store ℕ) → StandsFor (D.seen disk.old) s → AllByRecursion IsBytes files
-        → IsExported s files written)) }
+        (λ written. (s : Store ℕ) → StandsFor (D.seen disk.old) s
+        → IsExportedFor s (names_in (drop at (map string_bytes words.now))) files written)) }
     ensures answered { D.tells → IfAllRead (I.told inputs.old)
         (streams_names (streams_meant (map string_bytes words.now) request)
         (map string_bytes words.now))
@@ -208,9 +216,11 @@ fn streams_over_store<I: Inputs, O: Sink, D: Disk>(
                 audit_store(alloc, disk, inputs, given.files(), names, guards, out),
             )
         }
-        StreamsRequest::Export { files, .. } => {
-            let names = names_from(words, files);
-            end_answer(alloc, export_store(alloc, disk, inputs, names, out))
+        StreamsRequest::Export { .. } => {
+            end_answer(
+                alloc,
+                export_store(alloc, disk, inputs, given.files(), given.names(), out),
+            )
         }
         StreamsRequest::Dump { .. } => unreachable!(),
         StreamsRequest::Gen { .. } => unreachable!(),
@@ -247,13 +257,17 @@ fn streams_end<I: Inputs, O: Sink>(
         → streams_meant (map string_bytes words.now) request ≡ Compose store at
         → IfAllTold (I.told inputs.old) (files_in (drop at (map string_bytes words.now)))
         (λ files. Wrote (O.taken out.old) (O.taken out.new)
-        (λ written. IsComposedOf [] (renamed (names_in (drop at (map string_bytes words.now)))
-        (input files)) written)) }
+        (IsComposedFor [] (names_in (drop at (map string_bytes words.now))) files)) }
+    ensures refused { (verdict : sx.Verdict) → result ≡ ended.Refused verdict → (store at : ℕ)
+        → streams_meant (map string_bytes words.now) request ≡ Compose store at
+        → IfAllTold (I.told inputs.old) (files_in (drop at (map string_bytes words.now)))
+        (λ files. Wrote (O.taken out.old) (O.taken out.new)
+        (IsFrontFor [] (names_in (drop at (map string_bytes words.now))) files)) }
     ensures exported { result ≡ ended.Done → (store at : ℕ)
         → streams_meant (map string_bytes words.now) request ≡ Export store at
-        → IfAllTold (I.told inputs.old) (drop at (map string_bytes words.now))
+        → IfAllTold (I.told inputs.old) (files_in (drop at (map string_bytes words.now)))
         (λ files. Wrote (O.taken out.old) (O.taken out.new)
-        (λ written. AllByRecursion IsBytes files → IsExported [] files written)) }
+        (IsExportedFor [] (names_in (drop at (map string_bytes words.now))) files)) }
     ensures ends { IfAllRead (I.told inputs.old)
         (streams_names (streams_meant (map string_bytes words.now) request)
         (map string_bytes words.now))
@@ -281,9 +295,11 @@ fn streams_end<I: Inputs, O: Sink>(
             )
         }
         StreamsRequest::Dump { file } => dump(alloc, inputs, name_at(words, file), out),
-        StreamsRequest::Export { files, .. } => {
+        StreamsRequest::Export { .. } => {
             let core = EditCore::new(alloc);
-            export(alloc, core, Nowhere, inputs, names_from(words, files), out)
+            let names = given.names();
+            names.are_given();
+            export(alloc, core, Nowhere, inputs, given.files(), names, out)
         }
         StreamsRequest::Gen { count, seed } => write_chain(alloc, count, seed, out),
         StreamsRequest::Trial { count, seed } => write_trial(alloc, count, seed, out),

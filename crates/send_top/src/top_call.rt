@@ -1,7 +1,8 @@
 // What a run does with its words.
 ghost use Rattle.std.specs.Prelude.{◌≡◌, ◌↔◌, ◌⊎◌, false, map};
 ghost use Rattle.std.specs.String.{string_bytes};
-ghost use Rattle.send_model.specs.Answer.{Done, Usage};
+ghost use Rattle.send_model.specs.Answer.{Done, Refused, Usage};
+ghost use Rattle.send_model.specs.Reading.{Verdict};
 ghost use Rattle.store_model.specs.Answers as meant;
 ghost use Rattle.store_model.specs.Answers.{OfAnyWord};
 ghost use Rattle.word_model.specs.AllRequests as requests;
@@ -11,7 +12,7 @@ ghost use Rattle.sx_base.specs.Crash.{LeavesOnly};
 ghost use Rattle.sx_base.specs.Disk.{settled};
 ghost use Rattle.send_top.specs.Answered.{IsGiven, answer_of};
 ghost use Rattle.send_top.specs.Requests.{AskNothing, Asks, uses_store};
-ghost use Rattle.send_top.specs.Run.{Acknowledges, AcknowledgesInTurn, AreSteady, AtAnyMoment, IfMadeOrDropped, AskForStore, AskToCompose, Composes, Exports, IfOfCompose, IfOfStore, IsAllowed, IsAnswered, IsCaused, IsChangedAt, IsStoreStatus, Prints, Sends, SendsInPart};
+ghost use Rattle.send_top.specs.Run.{Acknowledges, AcknowledgesInTurn, AreSteady, AtAnyMoment, IfMadeOrDropped, AskForStore, AskToCompose, Composes, ComposesFront, Exports, IfOfCompose, IfOfStore, IsAllowed, IsAnswered, IsCaused, IsChangedAt, IsStoreStatus, Prints, Sends, SendsInPart};
 
 use crate::fitting::guards_fit;
 use crate::noting::{Answer, status, write_note};
@@ -66,6 +67,9 @@ pub fn run<I: Inputs, O: Sink, N: Sink, D: Disk>(
         → AskForStore (map string_bytes words.now) (map (λ g. kept g) guards.items) }
     ensures composed { result ≡ 0
         → Composes (I.told inputs.old) D.tells (map string_bytes words.now)
+        (map (λ g. kept g) guards.items) (D.seen disk.old) (O.taken out.old) (O.taken out.new) }
+    ensures refused { result ≡ 1
+        → ComposesFront (I.told inputs.old) D.tells (map string_bytes words.now)
         (map (λ g. kept g) guards.items) (D.seen disk.old) (O.taken out.old) (O.taken out.new) }
     ensures exported { result ≡ 0
         → Exports (I.told inputs.old) D.tells (map string_bytes words.now)
@@ -146,6 +150,9 @@ fn answer_to<I: Inputs, O: Sink, D: Disk>(
         (AskForStore (map string_bytes words.now) (map (λ g. kept g) guards.old)) }
     ensures composed { answer_of result ≡ OfAnyWord Done
         → Composes (I.told inputs.old) D.tells (map string_bytes words.now)
+        (map (λ g. kept g) guards.old) (D.seen disk.old) (O.taken out.old) (O.taken out.new) }
+    ensures refused { (verdict : Verdict) → answer_of result ≡ OfAnyWord (Refused verdict)
+        → ComposesFront (I.told inputs.old) D.tells (map string_bytes words.now)
         (map (λ g. kept g) guards.old) (D.seen disk.old) (O.taken out.old) (O.taken out.new) }
     ensures exported { answer_of result ≡ OfAnyWord Done
         → Exports (I.told inputs.old) D.tells (map string_bytes words.now)

@@ -195,7 +195,7 @@ fn named_at(request: Request) -> Option<usize>
         Request::Streams(StreamsRequest::Compose { files, .. }) => Some(files),
         Request::Streams(StreamsRequest::Audit { files, .. }) => Some(files),
         Request::Streams(StreamsRequest::Dump { .. }) => None,
-        Request::Streams(StreamsRequest::Export { .. }) => None,
+        Request::Streams(StreamsRequest::Export { files, .. }) => Some(files),
         Request::Streams(StreamsRequest::Gen { .. }) => None,
         Request::Streams(StreamsRequest::Trial { .. }) => None,
         Request::Store(StoreRequest::Init { .. }) => None,

@@ -1,4 +1,5 @@
 pub mod StandingEntries
+pub mod NewEntries
 pub mod TracedEntries
 pub mod FileAnswers
 pub mod OverStanding

@@ -3,13 +3,14 @@ use Rattle.std.specs.Prelude.{◌≡◌, ℕ, true, List, [], Option, Some, Err}
 use Rattle.std.proofs.Common.{sym, subst, ◌∙◌}
 use Rattle.std.proofs.KnownBytes.{Appends-nil}
 use Rattle.send_model.specs.Store.{Store}
-use Rattle.send_model.specs.Headline.{IsComposedOf}
+use Rattle.send_model.specs.Headline.{IsComposedOf, whole_output_of}
 use Rattle.send_model.specs.Reading.{input}
 use Rattle.send_model.specs.Renamed.{Names, renamed}
 use Rattle.send_model.specs.Words.{Compose}
 use Rattle.sx_base.specs.Again.{EarlyEnd}
 use Rattle.sx_base.specs.Calls.{IfAllTold, Wrote}
 use Rattle.sx_base.specs.declared.outcome.Outcome.TheVariants as ended
+use Rattle.sx_base.specs.declared.outcome.Verdict.{Verdict}
 use Rattle.store_model.specs.Stored.{as_bytes, StandsFor}
 use Rattle.store_model.specs.NamedFiles.{NamedFiles}
 use Rattle.store_model.specs.Requests.{OfStreams, reads_store}
@@ -26,7 +27,7 @@ use Rattle.store_journal.specs.Opening.{OpenSays, IsOpenStop}
 use Rattle.store_words.specs.declared.ends.StoreEnd.{StoreEnd}
 use Rattle.store_words.specs.declared.ends.StoreEnd.TheVariants as made
 use Rattle.store_words.specs.Ending.{answer_of, end_by}
-use Rattle.store_words.proofs.Opened.{no_end}
+use Rattle.store_words.proofs.Opened.{no_end, no_refusal}
 use Rattle.store_words.proofs.StreamAnswers.{compose_ends, at_fault, stopped_answers, stood, ends_answer}
 use Rattle.part_names.specs.Naming.{sources_named}
 use Rattle.store_base.specs.Ending.{beside, EndsOver, ComposeCaused, ChangeFound}
@@ -56,6 +57,11 @@ ComposeSays seen left given end files written = (words : List (List ℕ)) (store
 -- Where all was done it is the composed stream, over each store that the image stands for.
 abbrev IsHeadline : (seen : List ℕ) (given : Names) → StoreEnd → List (List ℕ) → List ℕ → Type 0
 IsHeadline seen given end files written = end ≡ made.Ends ended.Done → (store : Store ℕ) → StandsFor seen store → IsComposedOf (beside store given files) (renamed given (input files)) written
+
+-- Where a command is refused it is all that stands for those before it.
+abbrev IsFront : (seen : List ℕ) (given : Names) → StoreEnd → List (List ℕ) → List ℕ → Type 0
+IsFront seen given end files written = (verdict : Verdict) → end ≡ made.Ends (ended.Refused verdict) → (store : Store ℕ) → StandsFor seen store
+    → written ≡ whole_output_of (beside store given files) (renamed given (input files))
 
 module _ (told : Option (List (List ℕ × List ℕ))) (names : List (List ℕ)) (seen left : List ℕ) (given : Names) (same : left ≡ seen) where
   -- The store does not open.
@@ -106,6 +112,32 @@ module _ (told : Option (List (List ℕ × List ℕ))) (names : List (List ℕ))
       by_end files written (made.LogFull wanted size limit) p is = absurd p
       by_end files written (made.StoreThere size) p is = absurd p
       by_end files written (made.Damaged group stored computed) p is = absurd p
+
+  -- What stands where a command is refused.
+  pub no_front : (taken : Option (List ℕ)) (why : StoreStop) (end : StoreEnd) → end ≡ end_by why → IsNoRefusal why → IfAllTold told names (λ files. Wrote taken taken (IsFront seen given end files))
+  no_front taken why end is kind = all_always told names (λ files. Wrote taken taken (IsFront seen given end files)) (λ files. ([], Appends-nil taken, λ verdict refused store stands. absurd (no_refusal why verdict kind (sym is ∙ refused))))
+
+  pub is_front : (old new : Option (List ℕ)) (s : Store ℕ) (end : StoreEnd) → StandsFor seen s → IfAllTold told names (λ files. Wrote old new (EndsOver (beside s given files) given files end))
+      → IfAllTold told names (λ files. Wrote old new (IsFront seen given end files))
+  is_front old new s end stands composed =
+      all_map told names (λ files. Wrote old new (EndsOver (beside s given files) given files end)) (λ files. Wrote old new (IsFront seen given end files))
+      (λ files wrote. (
+        wrote.0,
+        wrote.1,
+        λ verdict refused store other. subst (λ (t : Store ℕ). wrote.0 ≡ whole_output_of (beside t given files) (renamed given (input files))) (one_store 0 as_bytes seen s store stands other)
+            (by_end files wrote.0 end wrote.2 verdict refused),
+      )) composed
+    where
+      by_end : (files : List (List ℕ)) (written : List ℕ) (e : StoreEnd) → EndsOver (beside s given files) given files e written → (verdict : Verdict) → e ≡ made.Ends (ended.Refused verdict)
+          → written ≡ whole_output_of (beside s given files) (renamed given (input files))
+      by_end files written (made.Ends outcome) p verdict is = let same : outcome ≡ ended.Refused verdict = cc in p.refused verdict same
+      by_end files written made.StoreFault p verdict is = cc
+      by_end files written (made.NotStore group) p verdict is = absurd p
+      by_end files written made.NoName p verdict is = absurd p
+      by_end files written made.NoFile p verdict is = absurd p
+      by_end files written (made.LogFull wanted size limit) p verdict is = absurd p
+      by_end files written (made.StoreThere size) p verdict is = absurd p
+      by_end files written (made.Damaged group stored computed) p verdict is = absurd p
 
 -- ---- where it does not open
 

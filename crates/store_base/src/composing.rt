@@ -8,7 +8,7 @@ ghost use Rattle.send_model.specs.Lawful.{IsLawfulStore};
 ghost use Rattle.send_model.specs.Provenance.{traced_store};
 ghost use Rattle.send_model.specs.Receive.{start_of};
 ghost use Rattle.send_model.specs.Cells.{recelled_store, AllCells};
-ghost use Rattle.send_model.specs.Headline.{IsComposedOf};
+ghost use Rattle.send_model.specs.Headline.{IsComposedOf, whole_output_of};
 ghost use Rattle.send_model.specs.Renamed.{renamed};
 ghost use Rattle.send_model.specs.Words.{Compose};
 ghost use Rattle.store_model.specs.Stored.{StandsFor};
@@ -18,7 +18,8 @@ ghost use Rattle.sx_base.specs.Calls.{IfAllTold, Wrote};
 ghost use Rattle.sx_base.specs.Causes.{Rose};
 ghost use Rattle.sx_base.specs.Crash.{LeavesOnly};
 ghost use Rattle.sx_base.specs.Disk.{IsImage};
-ghost use Rattle.sx_base.specs.declared.outcome.Outcome.TheVariants.{Done};
+ghost use Rattle.sx_base.specs.declared.outcome.Outcome.TheVariants.{Done, Refused};
+ghost use Rattle.sx_base.specs.declared.outcome.Verdict.{Verdict};
 ghost use Rattle.provenance.specs.Traces.{place_of};
 ghost use Rattle.clone_pieces.specs.Origins.{IsHad, byte_of_trace};
 ghost use Rattle.clone_pieces.specs.Seen.{seen};
@@ -77,6 +78,12 @@ pub fn compose_store<D: Disk, I: Inputs, O: Sink>(
         (λ files. Wrote (O.taken out.old) (O.taken out.new)
         (λ written. result ≡ Ends Done → (store : meant.Store ℕ) → StandsFor (D.seen disk.old) store
         → IsComposedOf (beside store names.now files) (renamed names.now (input files)) written)) }
+    ensures refused { D.tells → IfAllTold (I.told inputs.old) (map string_bytes files.now)
+        (λ files. Wrote (O.taken out.old) (O.taken out.new)
+        (λ written. (verdict : Verdict) → result ≡ Ends (Refused verdict)
+        → (store : meant.Store ℕ) → StandsFor (D.seen disk.old) store
+        → written ≡ whole_output_of (beside store names.now files)
+        (renamed names.now (input files)))) }
     ensures cause { ComposeCaused
         ((D.faults disk.new ≡ D.faults disk.old) × (I.faults inputs.new ≡ I.faults inputs.old)
         × (I.ends inputs.new ≡ I.ends inputs.old) × (O.faults out.new ≡ O.faults out.old))

@@ -1,10 +1,11 @@
 // What of a store stands beside some files: its entries without the parts of the files, each with the index of its names.
-ghost use Rattle.std.specs.Prelude.{◌≡◌, ℕ, List, [], ◌∷◌, ◌++◌, map, Some, IfOk, OnOk, IfSome};
+ghost use Rattle.std.specs.Prelude.{◌≡◌, ℕ, List, [], ◌∷◌, ◌++◌, map, Some, Ok, IfOk, OnOk, IfSome};
 ghost use Rattle.send_model.specs.Subvolume.{IsLawful, is_file_kind};
 ghost use Rattle.inode_tree.specs.Kinds.{kind_of};
 ghost use Rattle.send_model.specs.Cells.{recelled};
 ghost use Rattle.send_model.specs.Thinned.{thinned_entry};
 ghost use Rattle.subvol_catalog.specs.Entries.{entry_of};
+ghost use Rattle.subvol_catalog.specs.Admission.{is_new};
 ghost use Rattle.provenance.specs.Cuts.{file_end};
 ghost use Rattle.store_journal.specs.Standing.{place_byte};
 ghost use Rattle.store_base.specs.Standing.{standing, keeps, AreLawful, traced_to_itself};
@@ -21,7 +22,7 @@ use std::marker::PhantomData;
 use store_groups::Place;
 use subvol::Subvol;
 use subvol_catalog::{Catalog, Entry, Key};
-use sx_base::Blob;
+use sx_base::{Blob, Stop};
 
 // Those of a catalogue that are no part of surveyed files, with the contents of those alone that they name. Fails for want of
 // memory alone.
@@ -36,14 +37,14 @@ pub(crate) fn index_all(
     let mut indexes = Catalog::new(alloc);
     for i in 0..catalog.len() {
         let Some(entry) = catalog.at(i) else {
-            return Err(AllocError);
+            unreachable!()
         };
         keep_entry(alloc, &mut indexes, entry, survey)?;
     }
     Ok(indexes)
 }
 
-// Adds an entry that is no part of surveyed files. Fails for want of memory alone.
+// Adds an entry, which is new, if it is no part of surveyed files. Fails for want of memory alone.
 fn keep_entry(
     alloc: Global,
     indexes: &mut Catalog<PathIndex<Place>>,
@@ -51,6 +52,7 @@ fn keep_entry(
     survey: &Survey,
 ) -> Result<(), AllocError>
     requires lawful { IfSome (entry_of entry.now).contents IsLawful }
+    requires new { is_new indexes.old entry.now.name entry.now.key.uuid ≡ Ok tt }
     ensures { OnOk result
         (indexes.new ≡ indexes.old ++ standing survey.now (entry_of entry.now ∷ [])) }
 {
@@ -104,11 +106,13 @@ fn add_entry(
     indexes: &mut Catalog<PathIndex<Place>>,
     entry: Entry<PathIndex<Place>>,
 ) -> Result<(), AllocError>
+    requires new { is_new indexes.old entry.name entry.key.uuid ≡ Ok tt }
     ensures { OnOk result (indexes.new ≡ indexes.old ++ entry_of entry ∷ []) }
 {
     match indexes.add(entry) {
         Ok(()) => Ok(()),
-        Err(_) => Err(AllocError),
+        Err(Stop::Refused(_)) => unreachable!(),
+        Err(Stop::NoMemory) => Err(AllocError),
     }
 }
 
@@ -122,21 +126,23 @@ pub(crate) fn trace_all(
     let mut core = EditCore::new(alloc);
     for i in 0..indexes.len() {
         let Some(entry) = indexes.at(i) else {
-            return Err(AllocError);
+            unreachable!()
         };
         add_traced(&mut core, entry)?;
     }
     Ok(core)
 }
 
-// Adds an entry whose cells are traced to their own places. Fails for want of memory alone.
+// Adds an entry, which is new, with its cells traced to their own places. Fails for want of memory alone.
 fn add_traced(core: &mut EditCore<Trace>, entry: &Entry<PathIndex<Place>>) -> Result<(), AllocError>
+    requires new { is_new core.old entry.now.name entry.now.key.uuid ≡ Ok tt }
     ensures { OnOk result (core.new ≡ core.old ++ traced_to_itself (entry_of entry.now) ∷ []) }
 {
     let sub = traced(entry)?;
     match core.add(entry.name.as_slice(), entry.key, entry.parent, sub) {
         Ok(()) => Ok(()),
-        Err(_) => Err(AllocError),
+        Err(Stop::Refused(_)) => unreachable!(),
+        Err(Stop::NoMemory) => Err(AllocError),
     }
 }
 

@@ -12,22 +12,25 @@ use Rattle.send_model.specs.Store.{Key, Store, same_key, find}
 use Rattle.send_model.specs.Receive.{start_of}
 use Rattle.send_model.specs.Provenance.{inode_with}
 use Rattle.send_model.specs.Cells.{recelled, recelled_store}
-use Rattle.send_model.specs.Exported.{IsMoment, HasTimes, AreSmallBy, byte_step, CanExportOver, IsExported}
+use Rattle.send_model.specs.Exported.{IsMoment, HasTimes, AreSmallBy, byte_step, CanExportOver}
+use Rattle.send_model.specs.Renamed.{Names, renamed, AreNewNames}
 use Rattle.send_model.specs.Sources.{StandsBeforeOf}
-use Rattle.send_model.specs.Words.{Export, due, whole_of}
+use Rattle.send_model.specs.Words.{Export}
 use Rattle.send_model.proofs.Sorts.{same_inside}
 use Rattle.send_model.proofs.CellSteps.{find-cells}
-use Rattle.send_model.proofs.ExportedStreams.{exported_is_same}
+use Rattle.export_model.specs.Promises.{IsExportedOf}
+use Rattle.export_model.proofs.ExportedReadings.{named_export_holds}
 use Rattle.sx_base.specs.Outside.{file_at}
-use Rattle.sx_base.specs.Calls.{Ends, IfAllTold, Wrote}
+use Rattle.sx_base.specs.Calls.{IfAllTold, Wrote}
 use Rattle.sx_base.specs.declared.outcome.Outcome.{Outcome}
 use Rattle.sx_base.specs.declared.outcome.Outcome.TheVariants as ended
 use Rattle.store_model.specs.Stored.{as_bytes, byte_of, StandsFor}
-use Rattle.store_model.specs.NamedFiles.{read_of, unnamed}
+use Rattle.store_model.specs.NamedFiles.{NamedFiles, read_of}
 use Rattle.store_model.specs.Requests.{OfStreams, reads_store}
 use Rattle.store_model.specs.Answers.{Answers}
 use Rattle.store_model.proofs.LawfulGroups.{stands_lawful}
 use Rattle.store_model.proofs.OneStore.{one_store}
+use Rattle.part_names.specs.Naming.{sources_named, EndsOf}
 use Rattle.store_groups.specs.declared.place.Place.{Place}
 use Rattle.store_groups.specs.declared.stops.StoreStop.{StoreStop}
 use Rattle.store_groups.specs.Stopping.{IfLog, IsNoRefusal}
@@ -99,98 +102,112 @@ map_some text [] some = λ e. some refl
 map_some text (word ∷ words) some = λ e. cc
 
 -- What was exported keeps what is promised of it.
-exported_of : (base : Store ℕ) → CanExportOver base → (files : List (List ℕ)) (written : List ℕ) (outcome : Outcome) → files ≢ [] → outcome ≡ ended.Done → Ends (Export 0 0) base files outcome written
-    → (outcome ≡ ended.Done → AreSmallBy byte_step (start_of base) (input files).items) → AllByRecursion IsBytes files → IsExported base files written
-unfolding due whole_of
-exported_of base can files written ended.Done some e (is, all) small bytes =
-    subst (λ (w : List ℕ). IsExported base files w) (sym all) (exported_is_same base files some can bytes is (small refl))
-exported_of base can files written (ended.Refused verdict) some e ends small bytes = cc
-exported_of base can files written (ended.InputTooLong file) some e ends small bytes = cc
-exported_of base can files written (ended.TooMuch sum) some e ends small bytes = cc
-exported_of base can files written (ended.InputChanged file place) some e ends small bytes = cc
-exported_of base can files written ended.InputFault some e ends small bytes = cc
-exported_of base can files written ended.OutputFault some e ends small bytes = cc
-exported_of base can files written ended.NoMemory some e ends small bytes = cc
+exported_of : (base : Store ℕ) → CanExportOver base → (new_names : Names) → AreNewNames new_names → (files : List (List ℕ)) (written : List ℕ) (outcome : Outcome) → files ≢ [] → outcome ≡ ended.Done
+    → EndsOf (Export 0 0) base (sources_named new_names files) outcome written
+    → (outcome ≡ ended.Done → AreSmallBy byte_step (start_of base) (renamed new_names (input files)).items) → AllByRecursion IsBytes files → IsExportedOf base (renamed new_names (input files)) written
+exported_of base can new_names new files written ended.Done some e (is, all) small bytes =
+    subst (λ (w : List ℕ). IsExportedOf base (renamed new_names (input files)) w) (sym all) (named_export_holds base new_names files some can bytes new is (small refl))
+exported_of base can new_names new files written (ended.Refused verdict) some e ends small bytes = cc
+exported_of base can new_names new files written (ended.InputTooLong file) some e ends small bytes = cc
+exported_of base can new_names new files written (ended.TooMuch sum) some e ends small bytes = cc
+exported_of base can new_names new files written (ended.InputChanged file place) some e ends small bytes = cc
+exported_of base can new_names new files written ended.InputFault some e ends small bytes = cc
+exported_of base can new_names new files written ended.OutputFault some e ends small bytes = cc
+exported_of base can new_names new files written ended.NoMemory some e ends small bytes = cc
 
-pub promised : (base : Store ℕ) → CanExportOver base → (told : Option (List (List ℕ × List ℕ))) (names : List (List ℕ)) (old new : Option (List ℕ)) (outcome : Outcome) → names ≢ [] → outcome ≡ ended.Done
-    → IfAllTold told names (λ files. Wrote old new (λ written. Ends (Export 0 0) base files outcome written))
-    → IfAllTold told names (λ files. outcome ≡ ended.Done → AreSmallBy byte_step (start_of base) (input files).items)
-    → IfAllTold told names (λ files. Wrote old new (λ written. AllByRecursion IsBytes files → IsExported base files written))
-promised base can None names old new outcome some done ends small = tt
-promised base can (Some table) names old new outcome some done ends small =
-    (ends.0, ends.1, λ bytes. exported_of base can (map (file_at table) names) ends.0 outcome (some_files table names some) done ends.2 small bytes)
+-- Where all was done, and the parts were small.
+abbrev AllDone : Store ℕ → Names → (old new : Option (List ℕ)) → Outcome → List (List ℕ) → Type 0
+AllDone base new_names old new outcome files = Wrote old new (λ written. EndsOf (Export 0 0) base (sources_named new_names files) outcome written)
+
+abbrev AllSmall : Store ℕ → Names → Outcome → List (List ℕ) → Type 0
+AllSmall base new_names outcome files = outcome ≡ ended.Done → AreSmallBy byte_step (start_of base) (renamed new_names (input files)).items
+
+-- What is promised then.
+abbrev pub IsExportedWith : Store ℕ → Names → (old new : Option (List ℕ)) → List (List ℕ) → Type 0
+IsExportedWith base new_names old new files = Wrote old new (λ written. AllByRecursion IsBytes files → IsExportedOf base (renamed new_names (input files)) written)
+
+pub promised : (base : Store ℕ) → CanExportOver base → (new_names : Names) → AreNewNames new_names → (told : Option (List (List ℕ × List ℕ))) (names : List (List ℕ)) (old new : Option (List ℕ)) (outcome : Outcome) → names ≢ []
+    → outcome ≡ ended.Done → IfAllTold told names (AllDone base new_names old new outcome) → IfAllTold told names (AllSmall base new_names outcome)
+    → IfAllTold told names (IsExportedWith base new_names old new)
+promised base can new_names fit None names old new outcome some done ends small = tt
+promised base can new_names fit (Some table) names old new outcome some done ends small =
+    (ends.0, ends.1, λ bytes. exported_of base can new_names fit (map (file_at table) names) ends.0 outcome (some_files table names some) done ends.2 small bytes)
 
 -- ---- the answers
 
+-- Files with the names that are given for their parts.
+abbrev given : Names → List (List ℕ) → NamedFiles
+given new_names files = record { bytes = files; names = new_names }
+
 -- Nothing is a front part of what is to be exported.
-nothing_exported : (s : Store ℕ) (files : List (List ℕ)) (store at : ℕ) → StandsBeforeOf (Export store at) s (read_of (unnamed files)) []
+nothing_exported : (s : Store ℕ) (files : NamedFiles) (store at : ℕ) → StandsBeforeOf (Export store at) s (read_of files) []
 nothing_exported s files store at = nothing_in_front _
 
 -- What was written is what an answer says, of all words that ask for it.
-abbrev ExportSays : (seen left : List ℕ) → StoreEnd → List (List ℕ) → List ℕ → Type 0
-ExportSays seen left end files written = (words : List (List ℕ)) (store at : ℕ) → reads_store words (Some store) ≡ true → Answers (OfStreams (Export store at)) words seen (unnamed files) (answer_of [] [] end) written left
+abbrev ExportSays : (seen left : List ℕ) → Names → StoreEnd → List (List ℕ) → List ℕ → Type 0
+ExportSays seen left new_names end files written = (words : List (List ℕ)) (store at : ℕ) → reads_store words (Some store) ≡ true
+    → Answers (OfStreams (Export store at)) words seen (given new_names files) (answer_of [] [] end) written left
 
 -- Where all was done it is what is promised, over each store that the image stands for.
-abbrev IsPromised : (seen : List ℕ) → StoreEnd → List (List ℕ) → List ℕ → Type 0
-IsPromised seen end files written = end ≡ made.Ends ended.Done → (store : Store ℕ) → StandsFor seen store → AllByRecursion IsBytes files → IsExported store files written
+abbrev IsPromised : (seen : List ℕ) → Names → StoreEnd → List (List ℕ) → List ℕ → Type 0
+IsPromised seen new_names end files written = end ≡ made.Ends ended.Done → (store : Store ℕ) → StandsFor seen store → AllByRecursion IsBytes files → IsExportedOf store (renamed new_names (input files)) written
 
-module _ (told : Option (List (List ℕ × List ℕ))) (names : List (List ℕ)) (seen left : List ℕ) (same : left ≡ seen) where
+module _ (told : Option (List (List ℕ × List ℕ))) (names : List (List ℕ)) (seen left : List ℕ) (new_names : Names) (same : left ≡ seen) where
   -- The store does not open.
   pub not_exported : (taken : Option (List ℕ)) (cause : Type 0) (why : StoreStop) (end : StoreEnd) → end ≡ end_by why → IsNoRefusal why → IfLog {T = StoreState} (Err why) (IsOpenStop cause) → OpenSays seen (Err why)
-      → IfAllTold told names (λ files. Wrote taken taken (ExportSays seen left end files))
+      → IfAllTold told names (λ files. Wrote taken taken (ExportSays seen left new_names end files))
   not_exported taken cause why end is kind stops opened =
-      always_told told names (λ files. Wrote taken taken (ExportSays seen left end files)) (λ files. (
+      always_told told names (λ files. Wrote taken taken (ExportSays seen left new_names end files)) (λ files. (
         [],
         Appends-nil taken,
         (λ words store at reads.
-            subst (λ (l : List ℕ). Answers (OfStreams (Export store at)) words seen (unnamed files) (answer_of [] [] end) [] l) (sym same)
-            (stopped_answers (Export store at) words seen (unnamed files) reads (λ s. nothing_exported s files store at) cause why end is kind stops opened)),
+            subst (λ (l : List ℕ). Answers (OfStreams (Export store at)) words seen (given new_names files) (answer_of [] [] end) [] l) (sym same)
+            (stopped_answers (Export store at) words seen (given new_names files) reads (λ s. nothing_exported s (given new_names files) store at) cause why end is kind stops opened)),
       ))
 
   -- It opens, and is exported over.
-  pub is_exported : (old new : Option (List ℕ)) (s : Store ℕ) (outcome : Outcome) → StandsFor seen s → IfAllTold told names (λ files. Wrote old new (λ written. Ends (Export 0 0) s files outcome written))
-      → IfAllTold told names (λ files. Wrote old new (ExportSays seen left (made.Ends outcome) files))
+  pub is_exported : (old new : Option (List ℕ)) (s : Store ℕ) (outcome : Outcome) → StandsFor seen s → IfAllTold told names (AllDone s new_names old new outcome)
+      → IfAllTold told names (λ files. Wrote old new (ExportSays seen left new_names (made.Ends outcome) files))
   is_exported old new s outcome stands exported =
-      then_told told names (λ files. Wrote old new (λ written. Ends (Export 0 0) s files outcome written)) (λ files. Wrote old new (ExportSays seen left (made.Ends outcome) files)) (λ files wrote. (
+      then_told told names (AllDone s new_names old new outcome) (λ files. Wrote old new (ExportSays seen left new_names (made.Ends outcome) files)) (λ files wrote. (
         wrote.0,
         wrote.1,
         (λ words store at reads.
-            subst (λ (l : List ℕ). Answers (OfStreams (Export store at)) words seen (unnamed files) (answer_of [] [] (made.Ends outcome)) wrote.0 l) (sym same)
-            (ends_answer (Export store at) words seen (unnamed files) reads s stands wrote.0 outcome (export_ends s wrote.0 store at files outcome wrote.2))),
+            subst (λ (l : List ℕ). Answers (OfStreams (Export store at)) words seen (given new_names files) (answer_of [] [] (made.Ends outcome)) wrote.0 l) (sym same)
+            (ends_answer (Export store at) words seen (given new_names files) reads s stands wrote.0 outcome (export_ends s wrote.0 store at (sources_named new_names files) outcome wrote.2))),
       )) exported
 
 -- The promise, where the store did not open and where it did.
-module _ (told : Option (List (List ℕ × List ℕ))) (names : List (List ℕ)) (seen : List ℕ) where
-  pub no_promise : (taken : Option (List ℕ)) (why : StoreStop) (end : StoreEnd) → end ≡ end_by why → IsNoRefusal why → IfAllTold told names (λ files. Wrote taken taken (IsPromised seen end files))
+module _ (told : Option (List (List ℕ × List ℕ))) (names : List (List ℕ)) (seen : List ℕ) (new_names : Names) where
+  pub no_promise : (taken : Option (List ℕ)) (why : StoreStop) (end : StoreEnd) → end ≡ end_by why → IsNoRefusal why → IfAllTold told names (λ files. Wrote taken taken (IsPromised seen new_names end files))
   no_promise taken why end is kind =
-      always_told told names (λ files. Wrote taken taken (IsPromised seen end files)) (λ files. ([], Appends-nil taken, λ done store stands bytes. absurd (no_end why kind (sym is ∙ done))))
+      always_told told names (λ files. Wrote taken taken (IsPromised seen new_names end files)) (λ files. ([], Appends-nil taken, λ done store stands bytes. absurd (no_end why kind (sym is ∙ done))))
 
-  pub is_promised : (old new : Option (List ℕ)) (end : ℕ) (core : Store (Option Place)) (outcome : Outcome) → names ≢ [] → AreKept end core → StandsFor seen (with_bytes seen core)
-      → IfAllTold told names (λ files. Wrote old new (λ written. Ends (Export 0 0) (with_bytes seen core) files outcome written))
-      → IfAllTold told names (λ files. outcome ≡ ended.Done → AreSmallBy byte_step (start_of (with_bytes seen core)) (input files).items)
-      → IfAllTold told names (λ files. Wrote old new (IsPromised seen (made.Ends outcome) files))
-  is_promised old new end core outcome some kept stands ends small = by_outcome outcome ends small
+  pub is_promised : (old new : Option (List ℕ)) (end : ℕ) (core : Store (Option Place)) (outcome : Outcome) → AreNewNames new_names → names ≢ [] → AreKept end core → StandsFor seen (with_bytes seen core)
+      → IfAllTold told names (AllDone (with_bytes seen core) new_names old new outcome)
+      → IfAllTold told names (AllSmall (with_bytes seen core) new_names outcome)
+      → IfAllTold told names (λ files. Wrote old new (IsPromised seen new_names (made.Ends outcome) files))
+  is_promised old new end core outcome fit some kept stands ends small = by_outcome outcome ends small
     where
       s : Store ℕ
       s = with_bytes seen core
 
-      at_each : (files : List (List ℕ)) → Wrote old new (λ written. AllByRecursion IsBytes files → IsExported s files written) → Wrote old new (IsPromised seen (made.Ends ended.Done) files)
-      at_each files wrote = (wrote.0, wrote.1, λ done store other bytes. subst (λ (t : Store ℕ). IsExported t files wrote.0) (one_store 0 as_bytes seen s store stands other) (wrote.2 bytes))
+      at_each : (files : List (List ℕ)) → IsExportedWith s new_names old new files → Wrote old new (IsPromised seen new_names (made.Ends ended.Done) files)
+      at_each files wrote = (wrote.0, wrote.1, λ done store other bytes. subst (λ (t : Store ℕ). IsExportedOf t (renamed new_names (input files)) wrote.0) (one_store 0 as_bytes seen s store stands other) (wrote.2 bytes))
 
-      other_end : (o : Outcome) → (o ≡ ended.Done → ⊥) → IfAllTold told names (λ files. Wrote old new (λ written. Ends (Export 0 0) s files o written))
-          → IfAllTold told names (λ files. Wrote old new (IsPromised seen (made.Ends o) files))
-      other_end o not ends = then_told told names (λ files. Wrote old new (λ written. Ends (Export 0 0) s files o written)) (λ files. Wrote old new (IsPromised seen (made.Ends o) files))
+      other_end : (o : Outcome) → (o ≡ ended.Done → ⊥) → IfAllTold told names (AllDone s new_names old new o)
+          → IfAllTold told names (λ files. Wrote old new (IsPromised seen new_names (made.Ends o) files))
+      other_end o not ends = then_told told names (AllDone s new_names old new o) (λ files. Wrote old new (IsPromised seen new_names (made.Ends o) files))
           (λ files wrote. (wrote.0, wrote.1, λ done store stands bytes. absurd (not (same_end done)))) ends
         where
           same_end : {a b : Outcome} → made.Ends a ≡ made.Ends b → a ≡ b
           same_end q = cc
 
-      by_outcome : (o : Outcome) → IfAllTold told names (λ files. Wrote old new (λ written. Ends (Export 0 0) s files o written))
-          → IfAllTold told names (λ files. o ≡ ended.Done → AreSmallBy byte_step (start_of s) (input files).items)
-          → IfAllTold told names (λ files. Wrote old new (IsPromised seen (made.Ends o) files))
+      by_outcome : (o : Outcome) → IfAllTold told names (AllDone s new_names old new o) → IfAllTold told names (AllSmall s new_names o)
+          → IfAllTold told names (λ files. Wrote old new (IsPromised seen new_names (made.Ends o) files))
       by_outcome ended.Done ends small =
-          then_told told names (λ files. Wrote old new (λ written. AllByRecursion IsBytes files → IsExported s files written)) (λ files. Wrote old new (IsPromised seen (made.Ends ended.Done) files)) at_each
-          (promised s (can_export end seen core kept stands) told names old new ended.Done some refl ends small)
+          then_told told names (IsExportedWith s new_names old new) (λ files. Wrote old new (IsPromised seen new_names (made.Ends ended.Done) files)) at_each
+          (promised s (can_export end seen core kept stands) new_names fit told names old new ended.Done some refl ends small)
       by_outcome (ended.Refused verdict) ends small = other_end (ended.Refused verdict) (λ e. cc) ends
       by_outcome (ended.InputTooLong file) ends small = other_end (ended.InputTooLong file) (λ e. cc) ends
       by_outcome (ended.TooMuch sum) ends small = other_end (ended.TooMuch sum) (λ e. cc) ends

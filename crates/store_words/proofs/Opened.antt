@@ -17,6 +17,7 @@ use Rattle.store_groups.specs.Stopping.{IfLog, IsNoRefusal}
 use Rattle.store_journal.specs.Shown.{StoreState}
 use Rattle.store_journal.specs.Opening.{OpenSays, IsOpenStop}
 use Rattle.sx_base.specs.declared.outcome.Outcome.TheVariants as ended
+use Rattle.sx_base.specs.declared.outcome.Verdict.{Verdict}
 use Rattle.store_words.specs.declared.ends.StoreEnd.TheVariants as made
 use Rattle.store_words.specs.Ending.{answer_of, end_by, Ways, EndCaused}
 
@@ -62,3 +63,12 @@ no_end (stop.Log log.DiskFault) kind e = cc
 no_end (stop.Log (log.NotStore group)) kind e = cc
 no_end (stop.Log (log.LogFull wanted size limit)) kind e = cc
 no_end (stop.Log (log.StoreThere size)) kind e = cc
+
+-- Nor does it refuse a command.
+pub no_refusal : (why : StoreStop) (verdict : Verdict) → IsNoRefusal why → end_by why ≡ made.Ends (ended.Refused verdict) → ⊥
+no_refusal (stop.Refused refusal) verdict kind e = kind
+no_refusal stop.NoMemory verdict kind e = cc
+no_refusal (stop.Log log.DiskFault) verdict kind e = cc
+no_refusal (stop.Log (log.NotStore group)) verdict kind e = cc
+no_refusal (stop.Log (log.LogFull wanted size limit)) verdict kind e = cc
+no_refusal (stop.Log (log.StoreThere size)) verdict kind e = cc

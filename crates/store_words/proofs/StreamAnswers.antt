@@ -3,21 +3,19 @@ use Rattle.std.specs.Prelude.{◌≡◌, ℕ, Bool, true, List, [], map, Option,
 use Rattle.std.proofs.Common.{refl, sym, ap, subst}
 use Rattle.send_model.specs.Guards.{GuardSpec}
 use Rattle.send_model.specs.Store.{Store}
-use Rattle.send_model.specs.Due.{Due, DoneWhole, RefusedAt, TooLong, TooMuch, audit_due}
-use Rattle.send_model.specs.Exported.{exported}
+use Rattle.send_model.specs.Due.{Due, DoneWhole, RefusedAt, TooLong, TooMuch}
 use Rattle.send_model.specs.Renamed.{Names}
-use Rattle.send_model.specs.Sources.{Sources, sources, due_of, EndSaysOf, StandsBeforeOf, StandsCutOf}
+use Rattle.send_model.specs.Sources.{Sources, due_of, EndSaysOf, StandsBeforeOf, StandsCutOf}
 use Rattle.send_model.specs.Words as streams
-use Rattle.send_model.specs.Words.{Compose, Audit, Export, new_guards, due, whole_of}
-use Rattle.send_model.proofs.SourceLaws.{no_names_change_nothing}
+use Rattle.send_model.specs.Words.{Compose, Audit, Export, new_guards}
 use Rattle.sx_base.specs.Outside.{file_at}
-use Rattle.sx_base.specs.Calls.{Ends, IfAllTold}
+use Rattle.sx_base.specs.Calls.{IfAllTold}
 use Rattle.sx_base.specs.Refusals.{verdict_meant}
 use Rattle.sx_base.specs.declared.outcome.Outcome.{Outcome}
 use Rattle.sx_base.specs.declared.outcome.Outcome.TheVariants as ended
 use Rattle.store_model.specs.Stored.{StandsFor, StandsForNone}
 use Rattle.store_model.specs.Dues as dues
-use Rattle.store_model.specs.NamedFiles.{NamedFiles, read_of, unnamed}
+use Rattle.store_model.specs.NamedFiles.{NamedFiles, read_of}
 use Rattle.store_model.specs.Requests.{OfStreams, store_of, reads_store, base_over, StreamsWrite, IsStreamsDue, StreamsSay}
 use Rattle.store_model.specs.Answers.{Answers, OfAnyWord, DueSays, StandsBefore, StandsFault, StreamsBefore, StreamsCut, StreamsFault}
 use Rattle.part_names.specs.Naming.{sources_named, EndsOf}
@@ -55,21 +53,15 @@ module _ (base : Store ℕ) (written : List ℕ) (store at : ℕ) where
   audit_ends names files specs ended.OutputFault w = w
   audit_ends names files specs ended.NoMemory w = w
 
-  -- Of files whose parts keep their own names.
-  export_read : (files : List (List ℕ)) (outcome : Outcome) → Ends (Export 0 0) base files outcome written → EndsOf (Export store at) base (sources files) outcome written
-  unfolding due whole_of audit_due exported
-  export_read files ended.Done w = w
-  export_read files (ended.Refused verdict) w = w
-  export_read files (ended.InputTooLong file) w = w
-  export_read files (ended.TooMuch sum) w = w
-  export_read files (ended.InputChanged file place) w = w
-  export_read files ended.InputFault w = w
-  export_read files ended.OutputFault w = w
-  export_read files ended.NoMemory w = w
-
-  pub export_ends : (files : List (List ℕ)) (outcome : Outcome) → Ends (Export 0 0) base files outcome written → EndsOf (Export store at) base (read_of (unnamed files)) outcome written
-  export_ends files outcome w =
-      subst (λ (read : Sources). EndsOf (Export store at) base read outcome written) (sym (no_names_change_nothing (sources files))) (export_read files outcome w)
+  pub export_ends : (read : Sources) (outcome : Outcome) → EndsOf (Export 0 0) base read outcome written → EndsOf (Export store at) base read outcome written
+  export_ends read ended.Done w = w
+  export_ends read (ended.Refused verdict) w = w
+  export_ends read (ended.InputTooLong file) w = w
+  export_ends read (ended.TooMuch sum) w = w
+  export_ends read (ended.InputChanged file place) w = w
+  export_ends read ended.InputFault w = w
+  export_ends read ended.OutputFault w = w
+  export_ends read ended.NoMemory w = w
 
 -- ---- the answers
 

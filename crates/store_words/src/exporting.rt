@@ -3,13 +3,14 @@ ghost use Rattle.std.specs.Prelude.{◌≡◌, ◌≢◌, ◌≤◌, ℕ, List, 
 ghost use Rattle.std.specs.List.{AllByRecursion};
 ghost use Rattle.std.specs.String.{string_bytes};
 ghost use Rattle.send_model.specs.Attribute.{IsBytes};
-ghost use Rattle.send_model.specs.Exported.{IsExported};
+ghost use Rattle.send_model.specs.Reading.{input};
+ghost use Rattle.send_model.specs.Renamed.{renamed};
 ghost use Rattle.send_model.specs.Store as meant;
 ghost use Rattle.send_model.specs.Words.{Export};
 ghost use Rattle.store_model.specs.Stored.{StandsFor};
-ghost use Rattle.store_model.specs.NamedFiles.{unnamed};
 ghost use Rattle.store_model.specs.Requests.{OfStreams, reads_store};
 ghost use Rattle.store_model.specs.Answers.{Answers};
+ghost use Rattle.export_model.specs.Promises.{IsExportedOf};
 ghost use Rattle.sx_base.specs.Calls.{IfAllTold, Wrote};
 ghost use Rattle.sx_base.specs.Causes.{Rose};
 ghost use Rattle.sx_base.specs.Crash.{LeavesOnly};
@@ -19,19 +20,22 @@ ghost use Rattle.store_words.specs.Ending.{answer_of, audit_ways, EndCaused};
 ghost use Rattle.store_words.specs.declared.ends.StoreEnd.TheVariants.{Ends};
 
 use crate::ends::{StoreEnd, ended_by};
+use part_names::PartNames;
 use std::alloc::Global;
 use store_groups::Place;
 use store_journal::Store;
 use stream_export::export;
 use sx_base::{Disk, Inputs, Sink};
 
-/// Writes the streams in the files for the real receiver, over the subvolumes of a store; nothing is received. Where all is accepted,
-/// every receiver of the files takes what was written. It ends as an audit over the store does. What the disk gives stays as it is.
+/// Writes the streams in the files, with the names that are given for their parts, for the real receiver, over the subvolumes of a store;
+/// nothing is received. Where all is accepted, every receiver of the files with these names takes what was written. It ends as an audit
+/// over the store does. What the disk gives stays as it is.
 pub fn export_store<D: Disk, I: Inputs, O: Sink>(
     alloc: Global,
     disk: &mut D,
     inputs: &mut I,
     files: &[String],
+    names: &PartNames,
     out: &mut O,
 ) -> StoreEnd
     requires some { files.now ≢ [] }
@@ -40,13 +44,14 @@ pub fn export_store<D: Disk, I: Inputs, O: Sink>(
         (λ files. Wrote (O.taken out.old) (O.taken out.new)
         (λ written. (words : List (List ℕ)) (store at : ℕ)
         → reads_store words (Some store) ≡ true
-        → Answers (OfStreams (Export store at)) words (D.seen disk.old) (unnamed files)
+        → Answers (OfStreams (Export store at)) words (D.seen disk.old)
+        (record { bytes = files; names = names.now })
         (answer_of [] [] result) written (D.seen disk.new))) }
     ensures exported { D.tells → IfAllTold (I.told inputs.old) (map string_bytes files.now)
         (λ files. Wrote (O.taken out.old) (O.taken out.new)
         (λ written. result ≡ Ends Done → (store : meant.Store ℕ)
         → StandsFor (D.seen disk.old) store → AllByRecursion IsBytes files
-        → IsExported store files written)) }
+        → IsExportedOf store (renamed names.now (input files)) written)) }
     ensures cause { EndCaused audit_ways
         ((D.faults disk.new ≡ D.faults disk.old) × (I.faults inputs.new ≡ I.faults inputs.old)
         × (I.ends inputs.new ≡ I.ends inputs.old) × (O.faults out.new ≡ O.faults out.old))
@@ -59,10 +64,12 @@ pub fn export_store<D: Disk, I: Inputs, O: Sink>(
         LeavesOnly D.moment D.left_since disk.old disk.new (IsImage (D.pending disk.old)) }
     ensures later { D.faults disk.old ≤ D.faults disk.new }
 {
+    names.are_given();
     let store = match Store::open(disk, alloc) {
         Ok(store) => store,
         Err(stop) => return ended_by(stop),
     };
     let core = store.into_core();
-    StoreEnd::Ends(export(alloc, core, Place { at: 0 }, inputs, files, out))
+    let blank = Place { at: 0 };
+    StoreEnd::Ends(export(alloc, core, blank, inputs, files, names, out))
 }

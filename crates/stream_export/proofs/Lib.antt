@@ -7,5 +7,6 @@ pub mod Frames
 pub mod ReadFrames
 pub mod Walking
 pub mod FreeNames
+mod Named
 mod OneItem
 mod Separating

@@ -1,5 +1,5 @@
 -- What the calls of an export answer: of one command, of one file and of all files.
-use Rattle.std.specs.Prelude.{◌≡◌, ⊤, ℕ, ◌+◌, Bool, List, [], ◌∷◌, ◌++◌, Option, None, Some, Result, Ok, Err}
+use Rattle.std.specs.Prelude.{◌≡◌, ⊤, ℕ, Bool, List, [], ◌++◌, Option, None, Some, Result, Ok, Err}
 use Rattle.std.specs.Io.KnownBytes.{Appends}
 use Rattle.send_model.specs.Refusal as meant
 use Rattle.send_model.specs.Reading.{Item, input}
@@ -8,7 +8,8 @@ use Rattle.send_model.specs.Counts.{is_end}
 use Rattle.send_model.specs.Exported.{Exporting, exporting_after}
 use Rattle.send_model.specs.Separated.{IsSmall}
 use Rattle.send_model.specs.Headline.{IsFrontOf}
-use Rattle.send_model.specs.Due.{DoneWhole, RefusedAt, TooLong, Limited, limited_from}
+use Rattle.send_model.specs.Due.{DoneWhole, RefusedAt, TooLong, Limited, AtEnd, AtFault, AtLimit, limited_from}
+use Rattle.send_model.specs.Renamed.{Names, renamed, renamed_limited}
 use Rattle.sx_base.specs.Calls.{Wrote}
 use Rattle.sx_base.specs.Causes.{Rose}
 use Rattle.sx_base.specs.Refusals.{refusal_of, verdict_meant}
@@ -18,7 +19,7 @@ use Rattle.sx_base.specs.declared.outcome.Verdict.{Verdict}
 use Rattle.sx_base.specs.declared.stop.Stop.{Stop}
 use Rattle.sx_base.specs.declared.stop.Stop.TheVariants as why
 use Rattle.stream_dump.specs.declared.gathering.Gathered.{Gathered}
-use Rattle.auditor.specs.Following.{beside, due_from_here, then_read}
+use Rattle.auditor.specs.Following.{beside, due_from_here, then_read, named_read, file_read, read_whole}
 use Rattle.stream_export.specs.Exporting.{Blank, blank_does, export_bytes, Point, written_from, SmallFrom, Goes}
 
 -- What an export knows between two commands.
@@ -90,28 +91,36 @@ Stops old read bytes_old bytes_new taken_old taken_now ended.Done = ⊥
 Stops old read bytes_old bytes_new taken_old taken_now (ended.TooMuch sum) = ⊥
 Stops old read bytes_old bytes_new taken_old taken_now (ended.InputChanged file place) = ⊥
 
--- All commands of a file are taken.
-pub record FileTaken (file : ℕ) (old new : Point) (bytes_old bytes_new : List ℕ) (taken_old taken_now : Option (List ℕ)) (bytes : List ℕ) : Type 0 where
+-- What is read of a file, and what is read of the others if that is all of it.
+abbrev pub then_others : Limited → Limited → Limited
+then_others first more = elim first.stop [
+  | AtEnd ↦ then_read first.items more
+  | AtFault verdict ↦ first
+  | AtLimit file ↦ first
+]
+
+-- All commands of a file are taken, with the name that is given with it for its heads.
+pub record FileTaken (name : Option (List ℕ)) (file : ℕ) (old new : Point) (bytes_old bytes_new : List ℕ) (taken_old taken_now : Option (List ℕ)) (bytes : List ℕ) : Type 0 where
   pub items : List Item
   pub text : List ℕ
-  pub read : (more : List (List ℕ)) → limited_from file (bytes ∷ more) ≡ then_read items (limited_from (file + 1) more)
+  pub read : named_read name (file_read file bytes) ≡ read_whole items
   pub goes : Goes old items new text
   pub passes : Passes bytes_old bytes_new text taken_old taken_now
 
--- A file is exported, or it ends the export, whatever files come after it.
-abbrev pub FileEnds : ℕ → Point → Point → (bytes_old bytes_new : List ℕ) → (taken_old taken_now : Option (List ℕ)) → Result (Unit {0}) Outcome → List ℕ → Type 0
-FileEnds file old new bytes_old bytes_new taken_old taken_now (Ok done) bytes = FileTaken file old new bytes_old bytes_new taken_old taken_now bytes
-FileEnds file old new bytes_old bytes_new taken_old taken_now (Err outcome) bytes =
-    (more : List (List ℕ)) → Stops old (limited_from file (bytes ∷ more)) bytes_old bytes_new taken_old taken_now outcome
+-- A file is exported, or it ends the export, whatever is read of the files that come after it.
+abbrev pub FileEnds : Option (List ℕ) → ℕ → Point → Point → (bytes_old bytes_new : List ℕ) → (taken_old taken_now : Option (List ℕ)) → Result (Unit {0}) Outcome → List ℕ → Type 0
+FileEnds name file old new bytes_old bytes_new taken_old taken_now (Ok done) bytes = FileTaken name file old new bytes_old bytes_new taken_old taken_now bytes
+FileEnds name file old new bytes_old bytes_new taken_old taken_now (Err outcome) bytes =
+    (more : Limited) → Stops old (then_others (named_read name (file_read file bytes)) more) bytes_old bytes_new taken_old taken_now outcome
 
 -- ---- all files
 
--- All commands of the files are taken.
-pub record AllTaken (old : Point) (bytes_old bytes_new : List ℕ) (taken_old taken_now : Option (List ℕ)) (files : List (List ℕ)) : Type 0 where
-  pub done : due_from_here (beside [] old.now.state) (limited_from 1 files) ≡ DoneWhole
-  pub passes : Passes bytes_old bytes_new (written_from old (limited_from 1 files).items) taken_old taken_now
-  pub small : SmallFrom old (input files).items
+-- All commands of the files are taken, with the names that are given.
+pub record AllTaken (names : Names) (old : Point) (bytes_old bytes_new : List ℕ) (taken_old taken_now : Option (List ℕ)) (files : List (List ℕ)) : Type 0 where
+  pub done : due_from_here (beside [] old.now.state) (renamed_limited names (limited_from 1 files)) ≡ DoneWhole
+  pub passes : Passes bytes_old bytes_new (written_from old (renamed_limited names (limited_from 1 files)).items) taken_old taken_now
+  pub small : SmallFrom old (renamed names (input files)).items
 
-abbrev pub AllEnd : Point → (bytes_old bytes_new : List ℕ) → (taken_old taken_now : Option (List ℕ)) → Result (Unit {0}) Outcome → List (List ℕ) → Type 0
-AllEnd old bytes_old bytes_new taken_old taken_now (Ok done) files = AllTaken old bytes_old bytes_new taken_old taken_now files
-AllEnd old bytes_old bytes_new taken_old taken_now (Err outcome) files = Stops old (limited_from 1 files) bytes_old bytes_new taken_old taken_now outcome
+abbrev pub AllEnd : Names → Point → (bytes_old bytes_new : List ℕ) → (taken_old taken_now : Option (List ℕ)) → Result (Unit {0}) Outcome → List (List ℕ) → Type 0
+AllEnd names old bytes_old bytes_new taken_old taken_now (Ok done) files = AllTaken names old bytes_old bytes_new taken_old taken_now files
+AllEnd names old bytes_old bytes_new taken_old taken_now (Err outcome) files = Stops old (renamed_limited names (limited_from 1 files)) bytes_old bytes_new taken_old taken_now outcome

@@ -5,30 +5,34 @@ ghost use Rattle.send_model.specs.Store as meant;
 ghost use Rattle.send_model.specs.Reading.{input};
 ghost use Rattle.send_model.specs.Receive.{start_of};
 ghost use Rattle.send_model.specs.Exported.{AreSmallBy, byte_step};
+ghost use Rattle.send_model.specs.Renamed.{renamed};
 ghost use Rattle.send_model.specs.Words.{Export};
 ghost use Rattle.sx_base.specs.declared.outcome.Outcome.TheVariants as ended;
-ghost use Rattle.sx_base.specs.Calls.{Caused, IfAllTold, Wrote, Ends, SteadyIfDone};
+ghost use Rattle.sx_base.specs.Calls.{Caused, IfAllTold, Wrote, SteadyIfDone};
+ghost use Rattle.part_names.specs.Naming.{EndsOf, sources_named};
 ghost use Rattle.auditor.specs.Following.{HaveSameShape};
 
 use crate::exporter::Exporter;
 use crate::files::export_files;
 use clone_resolve::EditCore;
 use extent_map::Origin;
+use part_names::PartNames;
 use std::alloc::Global;
 use stream_dump::{Gathered, finish};
 use sx_base::{Inputs, Outcome, Sink};
 
 /// Steps the streams in the files over the subvolumes of `core`, receives nothing, and writes each command that is taken in the
-/// receivable spelling, each stream with its own version, and separators between them. The files are read once, in order and one
-/// command at a time, so a pipe serves. `Refused` gives the first command that would be refused, or the first fault; then, and with
-/// `Done`, `out` got all commands before, and with every other outcome a front part of them. `blank` is the origin of every WRITE;
-/// nobody looks at it.
+/// receivable spelling, each stream with its own version, and separators between them. Each head of a file for which a name is given
+/// has it before anything looks at the head. The files are read once, in order and one command at a time, so a pipe serves. `Refused`
+/// gives the first command that would be refused, or the first fault; then, and with `Done`, `out` got all commands before, and with
+/// every other outcome a front part of them. `blank` is the origin of every WRITE; nobody looks at it.
 pub fn export<R: Origin, I: Inputs, O: Sink>(
     alloc: Global,
     core: EditCore<R>,
     blank: R,
     inputs: &mut I,
     files: &[String],
+    names: &PartNames,
     out: &mut O,
 ) -> Outcome
     requires reach { 2 ^ 18 ≤ R.reach blank }
@@ -43,15 +47,23 @@ pub fn export<R: Origin, I: Inputs, O: Sink>(
     ensures exported { (store : meant.Store ℕ) → HaveSameShape core store
         → IfAllTold (I.told inputs.old) (map string_bytes files.now)
         (λ files. Wrote (O.taken out.old) (O.taken out.new)
-        (λ written. Ends (Export 0 0) store files result written)) }
+        (λ written. EndsOf (Export 0 0) store (sources_named names.now files) result written)) }
     ensures small { (store : meant.Store ℕ) → HaveSameShape core store
         → IfAllTold (I.told inputs.old) (map string_bytes files.now)
         (λ files. result ≡ ended.Done
-        → AreSmallBy byte_step (start_of store) (input files).items) }
+        → AreSmallBy byte_step (start_of store) (renamed names.now (input files)).items) }
 {
     let mut exporter = Exporter::new(alloc, core, blank);
     let mut gathered = Gathered::new(alloc);
-    match export_files(alloc, &mut exporter, &mut gathered, inputs, files, out) {
+    match export_files(
+        alloc,
+        &mut exporter,
+        &mut gathered,
+        inputs,
+        files,
+        names,
+        out,
+    ) {
         Ok(()) => finish(&mut gathered, out, Outcome::Done),
         Err(outcome) => finish(&mut gathered, out, outcome),
     }

@@ -1,13 +1,11 @@
 -- Escaped forms are read back, and nothing else is.
-use Rattle.std.specs.Prelude.{◌≡◌, ℕ, ◌+◌, ◌-◌, ◌*◌, ◌/◌, ◌%◌, ◌<◌, ◌≤◌, ◌==◌, Bool, true, false, List, [], ◌∷◌, ◌++◌, take, drop, Option, None, Some, codes, nat_le, nat_lt, ◌&&◌, if◌then◌else◌, IfSome}
-use Rattle.std.specs.List.{AllByRecursion}
-use Rattle.std.specs.Str.{bytes_eq}
-use Rattle.std.proofs.Common.{refl, sym, ap, ap₂, subst, ◌∙◌, arith, inl, inr}
-use Rattle.std.proofs.lemmas.Bool.{true≢false, false≢true, lt-ltb, le-leb, ltb-true, ltb-false, leb-true, eqb-true, and_parts}
+use Rattle.std.specs.Prelude.{◌≡◌, ℕ, ◌+◌, ◌-◌, ◌*◌, ◌/◌, ◌%◌, ◌<◌, ◌≤◌, ◌==◌, Bool, true, false, List, [], ◌∷◌, ◌++◌, drop, Option, None, Some, nat_le, nat_lt, ◌&&◌, if◌then◌else◌, IfSome}
+use Rattle.std.proofs.Common.{refl, sym, ap, ap₂, subst, ◌∙◌, arith}
+use Rattle.std.proofs.lemmas.Bool.{lt-ltb, le-leb, ltb-true, ltb-false, leb-true, eqb-true, and_parts}
 use Rattle.send_model.specs.Attribute.{IsBytes}
 use Rattle.send_model.specs.Printed.{is_plain, hex_digit, hex_byte, escaped_byte, escaped}
 use Rattle.send_model.proofs.ElementLaws.{all_drop}
-use Rattle.word_model.specs.EscapedWords.{hex_value, unless_plain, byte_of, escape_of, onto, plain_byte, unescaped, is_escaped_word, meant_by, EscapedIsReadBack, ReadIsEscaped, BytesAreMeant}
+use Rattle.word_model.specs.EscapedWords.{hex_value, unless_plain, byte_of, escape_of, onto, plain_byte, unescaped, is_escaped_word, EscapedIsReadBack, ReadIsEscaped, BytesAreMeant}
 
 -- ---- digits
 

@@ -1,5 +1,5 @@
 -- The words of files with their names, one after the other; and what they give.
-use Rattle.std.specs.Prelude.{◌≡◌, ◌≢◌, ℕ, ◌<◌, ◌≤◌, ◌^◌, Bool, true, false, List, [], ◌∷◌, ◌++◌, length, drop, Option, None, Some, IfSome, is_some, nat_lt, if◌then◌else◌}
+use Rattle.std.specs.Prelude.{◌≡◌, ◌≢◌, ℕ, ◌<◌, ◌≤◌, ◌^◌, Bool, true, false, List, [], ◌∷◌, ◌++◌, length, drop, Option, None, Some, IfSome, nat_lt, if◌then◌else◌}
 use Rattle.std.specs.List.{AllByRecursion}
 use Rattle.std.proofs.Common.{refl, sym, ap, subst, suc, ◌∙◌, arith, append_assoc, append-nil}
 use Rattle.std.proofs.lemmas.Bool.{lt-ltb, ltb-true}
@@ -9,7 +9,7 @@ use Rattle.send_model.specs.Renamed.{Names, IsNewName, AreNewNames}
 use Rattle.send_model.proofs.ElementLaws.{all_drop}
 use Rattle.word_model.specs.EscapedWords.{meant_by}
 use Rattle.word_model.proofs.EscapedForms.{bytes_are_meant}
-use Rattle.word_model.specs.NameWords.{GivenFiles, if_short, given_name, no_files, with_file, given_from, files_of, names_of, files_in, names_in, PlainWordsAreFiles, WordsGiveFiles, GivenAreAsMany, GivenNamesFit}
+use Rattle.word_model.specs.NameWords.{GivenFiles, if_short, given_name, with_file, given_from, files_of, names_of, PlainWordsAreFiles, WordsGiveFiles, GivenAreAsMany, GivenNamesFit}
 
 -- ---- one word more
 

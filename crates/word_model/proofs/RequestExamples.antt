@@ -1,5 +1,5 @@
 -- Worked examples of words.
-use Rattle.std.specs.Prelude.{◌≡◌, [], ◌∷◌, ◌++◌, map, None, Some, codes, refl}
+use Rattle.std.specs.Prelude.{◌≡◌, [], ◌∷◌, map, None, Some, codes, refl}
 use Rattle.send_model.specs.Guards.{MostBytes, NoDevices, guard_of}
 use Rattle.send_model.specs.Words as streams
 use Rattle.send_model.specs.Words.{Compose, Audit, Dump}

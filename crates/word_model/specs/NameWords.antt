@@ -1,6 +1,6 @@
 -- Words that give names with files: `name:NEW` in front of a file, and what NEW means is then the name of the part or parts in it. This
 -- program's own.
-use Rattle.std.specs.Prelude.{◌≡◌, ◌≢◌, ℕ, Bool, true, false, List, [], ◌∷◌, ◌++◌, length, drop, map, Option, None, Some, is_some, nat_lt, ◌^◌, if◌then◌else◌}
+use Rattle.std.specs.Prelude.{◌≡◌, ◌≢◌, ℕ, Bool, true, false, List, [], ◌∷◌, length, drop, map, Option, None, Some, is_some, nat_lt, ◌^◌, if◌then◌else◌}
 use Rattle.std.specs.List.{AllByRecursion}
 use Rattle.send_model.specs.Attribute.{IsBytes}
 use Rattle.send_model.specs.NamedWords.{is_name_word}
@@ -58,12 +58,12 @@ names_in words = names_of (given_from None words)
 
 -- ---- the words that give names
 
--- The place of the first word that may give a name, in words in which one may. Where an export is made, none may.
+-- The place of the first word that may give a name, in words in which one may.
 abbrev pub streams_named_at : streams.Request → Option ℕ
 streams_named_at (Compose store files) = Some files
 streams_named_at (Audit guards store files) = Some files
 streams_named_at (Dump file) = None
-streams_named_at (Export store files) = None
+streams_named_at (Export store files) = Some files
 streams_named_at (Gen count seed) = None
 streams_named_at (Trial count seed) = None
 

@@ -7,6 +7,7 @@ use crate::streams::{
 };
 use clone_resolve::EditCore;
 use extent_map::Nowhere;
+use part_names::PartNames;
 use std::alloc::{AllocError, Global};
 use std::test::Fail;
 use stream_export::export;
@@ -97,7 +98,8 @@ fn exported(
     inputs.fail_call(failing)?;
     let names: [String; 1] = [String::from_str(alloc, "file")?];
     let core = EditCore::new(alloc);
-    Ok(export(alloc, core, Nowhere, &mut inputs, &names, out))
+    let unnamed = PartNames::none(alloc);
+    Ok(export(alloc, core, Nowhere, &mut inputs, &names, &unnamed, out))
 }
 
 #[test]

@@ -1,7 +1,7 @@
 // Runs with names for the parts of files. The expected bytes and notes are not this program's own.
 use crate::streams::{
-    DUMPED, END, FIRST, HEADER, MKFILE_X, Pieces, SNAPSHOT_A, SUBVOL_A_LATER, SUBVOL_B, WRITE_HI,
-    joined, words_of,
+    DUMPED, END, FIRST, HEADER, MKFILE_X, MKFILE_X_WITH_INO, Pieces, SNAPSHOT_A, SNAPSHOT_B,
+    SUBVOL_A, SUBVOL_A_LATER, SUBVOL_B, WRITE_HI, joined, words_of,
 };
 use disk_model::MemDisk;
 use guard_rules::{AnyGuard, Guard, parse_guard};
@@ -29,6 +29,20 @@ b 22222222-2222-2222-2222-222222222222 2 complete 11111111-1111-1111-1111-111111
 const ONE: Pieces = &[HEADER, SUBVOL_B, MKFILE_X, WRITE_HI, END];
 
 const CUT: Pieces = &[HEADER, SUBVOL_A_LATER, MKFILE_X, WRITE_HI];
+
+// The first part as it is received, and the second one under the name that is given for it.
+const EXPORTED: Pieces = &[
+    HEADER,
+    SUBVOL_A,
+    MKFILE_X_WITH_INO,
+    WRITE_HI,
+    END,
+    HEADER,
+    SNAPSHOT_B,
+    END,
+];
+
+const ONE_EXPORTED: Pieces = &[HEADER, SUBVOL_A, MKFILE_X_WITH_INO, WRITE_HI, END];
 
 const NAME_THERE: &[u8] = b"refused 2 1 17 11 NameThere\n";
 
@@ -68,7 +82,7 @@ fn ran(
 #[test]
 fn parts_have_the_names_that_are_given(rt: HostRuntime) -> Result<(), Fail> {
     let alloc = rt.alloc();
-    let table: [(&[&str], u8, Pieces, &[u8]); 17] = [
+    let table: [(&[&str], u8, Pieces, &[u8]); 21] = [
         (&["compose", "none", "first", "again"], 1, CUT, NAME_THERE),
         (
             &["compose", "none", "first", "name:b", "again"],
@@ -82,6 +96,20 @@ fn parts_have_the_names_that_are_given(rt: HostRuntime) -> Result<(), Fail> {
             ONE,
             b"",
         ),
+        (
+            &["export", "none", "first", "again"],
+            1,
+            ONE_EXPORTED,
+            NAME_THERE,
+        ),
+        (
+            &["export", "none", "first", "name:b", "again"],
+            0,
+            EXPORTED,
+            b"",
+        ),
+        (&["export", "none", "name:.", "first"], 1, &[], BAD_NAME),
+        (&["export", "none", "first", "name:b"], 2, &[], b"usage\n"),
         (&["audit", "none", "first", "again"], 1, &[], NAME_THERE),
         (
             &["audit", "none", "first", "name:b", "again"],

@@ -42,8 +42,19 @@ unfolding given_from
 of-requires-in-Dump c = record { given = refl }
 
 pub of-requires-in-Export : goal.of-requires-in-Export
-unfolding given_from
-of-requires-in-Export c = record { given = refl }
+of-requires-in-Export c =
+    let words : List (List ℕ) = map string_bytes c.args.words.now in
+    let stand : is_some (given_from None (drop c.in-Export.files words)) ≡ true = subst (λ r. names_stand (streams_named_at (streams_meant words r)) words ≡ true) c.in-Export.is c.requires.named in
+    record { given = subst (λ (ws : List (List ℕ)). is_some (given_from None ws) ≡ true) (drop-map string_bytes c.in-Export.files c.args.words.now ∙ sym (ap (map string_bytes) c.names_from-in-Export.ensures.names)) stand }
+
+pub returns-in-Export : goal.returns-in-Export
+returns-in-Export c =
+    let words : List (List ℕ) = map string_bytes c.args.words.now in
+    let same = ap (map string_bytes) c.names_from-in-Export.ensures.names ∙ sym (drop-map string_bytes c.in-Export.files c.args.words.now) in
+    rw c.in-Export.is (record {
+      given = then_both (λ given. given_from None (map string_bytes c.names_from-in-Export.result.now) ≡ Some given) (λ given. given.files ≢ []) (IsGivenAt c.in-Export.files words) c.of-in-Export.result
+          (λ given is some. record { is = subst (λ (ws : List (List ℕ)). given_from None ws ≡ Some given) same is; some = some }) c.of-in-Export.ensures.given (c.of-in-Export.ensures.some c.names_from-in-Export.ensures.some);
+    })
 
 pub of-requires-in-Gen : goal.of-requires-in-Gen
 unfolding given_from

@@ -3,7 +3,8 @@ use Rattle.std.specs.String.{string_bytes}
 use Rattle.std.proofs.Common.{sym, subst, ◌∙◌}
 use Rattle.store_model.specs.Requests.{store_of, reads_store}
 use Rattle.send_top.specs.Requests.{streams_meant}
-use Rattle.send_top.proofs.StreamsAnswers.{unread_store, nothing_read, outcome_done, composed_over, composed_alone, exported_over, exported_alone}
+use Rattle.send_top.proofs.StreamsAnswers.{unread_store, nothing_read, outcome_done, outcome_refused, wrote_over, wrote_alone}
+use Rattle.send_top.specs.Run.{IsComposedFor, IsExportedFor, IsFrontFor}
 use Rattle.send_top.proofs.on_streams.streams_answer.Goals as goal
 
 -- ---- there is no memory for the files
@@ -18,14 +19,21 @@ returns-in_default-clause-answered g c =
 pub returns-then-reads_store-clause-composed : goal.returns-then-reads_store-clause-composed
 returns-then-reads_store-clause-composed g c done store at is =
     let words : List (List ℕ) = map string_bytes c.args.words.now in
-    composed_over (g.I.Inputs.told c.args.inputs.now) g.D.Disk.tells words (g.D.Disk.seen c.args.disk.now) (g.O.Sink.taken c.args.out.now) (g.O.Sink.taken c.streams_over_store.new.out) store at
+    wrote_over IsComposedFor (g.I.Inputs.told c.args.inputs.now) g.D.Disk.tells words (g.D.Disk.seen c.args.disk.now) (g.O.Sink.taken c.args.out.now) (g.O.Sink.taken c.streams_over_store.new.out) store at
     (subst (λ r. reads_store words (store_of r) ≡ true) is (sym c.reads_store.ensures ∙ c.if-reads_store.true))
     (λ tells. c.streams_over_store.ensures.composed tells done store at is)
+
+pub returns-then-reads_store-clause-refused : goal.returns-then-reads_store-clause-refused
+returns-then-reads_store-clause-refused g c verdict refused store at is =
+    let words : List (List ℕ) = map string_bytes c.args.words.now in
+    wrote_over IsFrontFor (g.I.Inputs.told c.args.inputs.now) g.D.Disk.tells words (g.D.Disk.seen c.args.disk.now) (g.O.Sink.taken c.args.out.now) (g.O.Sink.taken c.streams_over_store.new.out) store at
+    (subst (λ r. reads_store words (store_of r) ≡ true) is (sym c.reads_store.ensures ∙ c.if-reads_store.true))
+    (λ tells. c.streams_over_store.ensures.refused tells verdict refused store at is)
 
 pub returns-then-reads_store-clause-exported : goal.returns-then-reads_store-clause-exported
 returns-then-reads_store-clause-exported g c done store at is =
     let words : List (List ℕ) = map string_bytes c.args.words.now in
-    exported_over (g.I.Inputs.told c.args.inputs.now) g.D.Disk.tells words (g.D.Disk.seen c.args.disk.now) (g.O.Sink.taken c.args.out.now) (g.O.Sink.taken c.streams_over_store.new.out) store at
+    wrote_over IsExportedFor (g.I.Inputs.told c.args.inputs.now) g.D.Disk.tells words (g.D.Disk.seen c.args.disk.now) (g.O.Sink.taken c.args.out.now) (g.O.Sink.taken c.streams_over_store.new.out) store at
     (subst (λ r. reads_store words (store_of r) ≡ true) is (sym c.reads_store.ensures ∙ c.if-reads_store.true))
     (λ tells. c.streams_over_store.ensures.exported tells done store at is)
 
@@ -34,14 +42,22 @@ returns-then-reads_store-clause-exported g c done store at is =
 pub returns-clause-composed : goal.returns-clause-composed
 returns-clause-composed g c done store at is =
     let words : List (List ℕ) = map string_bytes c.args.words.now in
-    composed_alone (g.I.Inputs.told c.args.inputs.now) g.D.Disk.tells words (g.D.Disk.seen c.args.disk.now) (g.O.Sink.taken c.args.out.now) (g.O.Sink.taken c.streams_end.new.out) store at
+    wrote_alone IsComposedFor (g.I.Inputs.told c.args.inputs.now) g.D.Disk.tells words (g.D.Disk.seen c.args.disk.now) (g.O.Sink.taken c.args.out.now) (g.O.Sink.taken c.streams_end.new.out) store at
     (subst (λ r. reads_store words (store_of r) ≡ false) is (sym c.reads_store.ensures ∙ c.if-reads_store.false))
     (c.streams_end.ensures.composed (outcome_done c.streams_end.result done) store at is)
+
+pub returns-clause-refused : goal.returns-clause-refused
+returns-clause-refused g c verdict refused store at is =
+    let words : List (List ℕ) = map string_bytes c.args.words.now in
+    let found = outcome_refused c.streams_end.result verdict refused in
+    wrote_alone IsFrontFor (g.I.Inputs.told c.args.inputs.now) g.D.Disk.tells words (g.D.Disk.seen c.args.disk.now) (g.O.Sink.taken c.args.out.now) (g.O.Sink.taken c.streams_end.new.out) store at
+    (subst (λ r. reads_store words (store_of r) ≡ false) is (sym c.reads_store.ensures ∙ c.if-reads_store.false))
+    (c.streams_end.ensures.refused found.0 found.1 store at is)
 
 pub returns-clause-exported : goal.returns-clause-exported
 returns-clause-exported g c done store at is =
     let words : List (List ℕ) = map string_bytes c.args.words.now in
-    exported_alone (g.I.Inputs.told c.args.inputs.now) g.D.Disk.tells words (g.D.Disk.seen c.args.disk.now) (g.O.Sink.taken c.args.out.now) (g.O.Sink.taken c.streams_end.new.out) store at
+    wrote_alone IsExportedFor (g.I.Inputs.told c.args.inputs.now) g.D.Disk.tells words (g.D.Disk.seen c.args.disk.now) (g.O.Sink.taken c.args.out.now) (g.O.Sink.taken c.streams_end.new.out) store at
     (subst (λ r. reads_store words (store_of r) ≡ false) is (sym c.reads_store.ensures ∙ c.if-reads_store.false))
     (c.streams_end.ensures.exported (outcome_done c.streams_end.result done) store at is)
 

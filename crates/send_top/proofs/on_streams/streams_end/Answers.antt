@@ -1,15 +1,9 @@
 use Rattle.std.specs.Prelude.{◌≡◌, ℕ, [], map, drop, List, Option}
 use Rattle.std.specs.String.{string_bytes}
-use Rattle.std.specs.List.{AllByRecursion}
 use Rattle.std.proofs.Common.{refl, sym, ap, subst, ◌∙◌}
-use Rattle.std.proofs.lemmas.List.{drop-map}
-use Rattle.sx_base.specs.Calls.{FoundChanged, IfAllTold, Wrote, Ends}
+use Rattle.sx_base.specs.Calls.{FoundChanged, IfAllTold, Wrote}
 use Rattle.sx_base.proofs.Ended.{steady_anyway}
-use Rattle.send_model.specs.Attribute.{IsBytes}
-use Rattle.send_model.specs.Exported.{IsExported}
-use Rattle.send_model.specs.Headline.{IsComposedOf}
-use Rattle.send_model.specs.Reading.{input}
-use Rattle.send_model.specs.Renamed.{Names, renamed}
+use Rattle.send_model.specs.Renamed.{Names}
 use Rattle.word_model.specs.NameWords.{files_in, names_in}
 use Rattle.part_names.specs.Naming.{sources_named, EndsOf}
 use Rattle.send_model.specs.Store.{Store}
@@ -20,19 +14,23 @@ use Rattle.composer.specs.Files as composing
 use Rattle.auditor.specs.Following.{blank}
 use Rattle.auditor.specs.Answers.{AuditEnds}
 use Rattle.send_top.specs.Requests.{guards_in, before_store, streams_specs, streams_meant, HasGiven, IsGivenAt}
-use Rattle.send_top.proofs.StreamsEnds.{following, read_of, of_one_file, composed_ends, headline, audits, dumps, exports, unnamed_ends, caused_unread, of_names, given_files, given_names, files_of_compose, files_of_export}
+use Rattle.send_top.proofs.StreamsEnds.{following, read_of, of_one_file, composed_ends, composed_front, headline, audits, dumps, exports, unnamed_ends, caused_unread, of_names, given_files, given_names, files_of_compose, files_of_export}
 use Rattle.send_model.proofs.ExportedStreams.{none_can}
-use Rattle.store_words.proofs.ExportAnswers.{map_some, promised}
+use Rattle.store_words.proofs.ExportAnswers.{promised}
+use Rattle.send_top.specs.Run.{IsComposedFor, IsExportedFor, IsFrontFor}
 use Rattle.send_top.proofs.on_streams.streams_end.Given.{Over}
-use Rattle.send_top.proofs.on_streams.streams_end.Goals.{After-compose, After-audit}
+use Rattle.send_top.proofs.on_streams.streams_end.Goals.{After-compose, After-audit, After-export}
 use Rattle.send_top.proofs.on_streams.streams_end.Goals as goal
 
--- What the words give, of the request that is composed, and of the one that is checked.
+-- What the words give, of the request that is composed, of the one that is checked and of the one that is exported.
 compose_given : (g : Over) (c : After-compose g) → IsGivenAt c.in-Compose.files (map string_bytes c.args.words.now) c.args.given.now
 compose_given g c = subst (λ r. HasGiven (streams_meant (map string_bytes c.args.words.now) r) (map string_bytes c.args.words.now) c.args.given.now) c.in-Compose.is c.requires.given
 
 audit_given : (g : Over) (c : After-audit g) → IsGivenAt c.in-Audit.files (map string_bytes c.args.words.now) c.args.given.now
 audit_given g c = subst (λ r. HasGiven (streams_meant (map string_bytes c.args.words.now) r) (map string_bytes c.args.words.now) c.args.given.now) c.in-Audit.is c.requires.given
+
+export_given : (g : Over) (c : After-export g) → IsGivenAt c.in-Export.files (map string_bytes c.args.words.now) c.args.given.now
+export_given g c = subst (λ r. HasGiven (streams_meant (map string_bytes c.args.words.now) r) (map string_bytes c.args.words.now) c.args.given.now) c.in-Export.is c.requires.given
 
 pub compose-requires : goal.compose-requires
 compose-requires g c =
@@ -48,13 +46,32 @@ returns-in-Compose-clause-composed g c done =
     let files : List (List ℕ) = map string_bytes c.files.result.now in
     let is = compose_given g (goal.at.returns-in-Compose-clause-composed g c).After-compose in
     let names : Names = names_in (drop c.in-Compose.files words) in
-    rw c.in-Compose.is (λ store at same. subst (λ (n : ℕ). IfAllTold told (files_in (drop n words)) (λ bytes. Wrote old new (λ written. IsComposedOf [] (renamed (names_in (drop n words)) (input bytes)) written)))
+    rw c.in-Compose.is (λ store at same. subst (λ (n : ℕ). IfAllTold told (files_in (drop n words)) (λ bytes. Wrote old new (IsComposedFor [] (names_in (drop n words)) bytes)))
     (files_of_compose c.in-Compose.store c.in-Compose.files store at same)
     (following told files (files_in (drop c.in-Compose.files words))
     (λ bytes. Wrote old new (composing.ComposeEnds [] names bytes c.compose.result))
-    (λ bytes. Wrote old new (λ written. IsComposedOf [] (renamed names (input bytes)) written))
+    (λ bytes. Wrote old new (IsComposedFor [] names bytes))
     (c.files.ensures.files ∙ given_files c.in-Compose.files words c.args.given.now is)
     (λ bytes. headline old new names bytes c.compose.result done)
+    (subst (λ (ns : Names). IfAllTold told files (λ bytes. Wrote old new (composing.ComposeEnds [] ns bytes c.compose.result)))
+    (c.names.ensures.names ∙ given_names c.in-Compose.files words c.args.given.now is) c.compose.ensures.ends)))
+
+pub returns-in-Compose-clause-refused : goal.returns-in-Compose-clause-refused
+returns-in-Compose-clause-refused g c verdict refused =
+    let told = g.I.Inputs.told c.args.inputs.now in
+    let old = g.O.Sink.taken c.args.out.now in
+    let new = g.O.Sink.taken c.compose.new.out in
+    let words : List (List ℕ) = map string_bytes c.args.words.now in
+    let files : List (List ℕ) = map string_bytes c.files.result.now in
+    let is = compose_given g (goal.at.returns-in-Compose-clause-refused g c).After-compose in
+    let names : Names = names_in (drop c.in-Compose.files words) in
+    rw c.in-Compose.is (λ store at same. subst (λ (n : ℕ). IfAllTold told (files_in (drop n words)) (λ bytes. Wrote old new (IsFrontFor [] (names_in (drop n words)) bytes)))
+    (files_of_compose c.in-Compose.store c.in-Compose.files store at same)
+    (following told files (files_in (drop c.in-Compose.files words))
+    (λ bytes. Wrote old new (composing.ComposeEnds [] names bytes c.compose.result))
+    (λ bytes. Wrote old new (IsFrontFor [] names bytes))
+    (c.files.ensures.files ∙ given_files c.in-Compose.files words c.args.given.now is)
+    (λ bytes. composed_front old new names bytes c.compose.result verdict refused)
     (subst (λ (ns : Names). IfAllTold told files (λ bytes. Wrote old new (composing.ComposeEnds [] ns bytes c.compose.result)))
     (c.names.ensures.names ∙ given_names c.in-Compose.files words c.args.given.now is) c.compose.ensures.ends)))
 
@@ -107,27 +124,38 @@ returns-in-Export-clause-exported g c done =
     let new = g.O.Sink.taken c.export.new.out in
     let told = g.I.Inputs.told c.args.inputs.now in
     let words : List (List ℕ) = map string_bytes c.args.words.now in
-    let names : List (List ℕ) = map string_bytes c.names_from.result.now in
+    let files : List (List ℕ) = map string_bytes c.files-in-Export.result.now in
     let same = ap (λ (s : Store (Option Nowhere)). blank s) c.new-core-in-Export.ensures in
-    rw c.in-Export.is (λ store at is. subst (λ (n : ℕ). IfAllTold told (drop n words) (λ files. Wrote old new (λ written. AllByRecursion IsBytes files → IsExported [] files written)))
-    (files_of_export c.in-Export.store c.in-Export.files store at is)
-    (of_names told names (drop c.in-Export.files words)
-    (λ files. Wrote old new (λ written. AllByRecursion IsBytes files → IsExported [] files written))
-    (ap (map string_bytes) c.names_from.ensures.names ∙ sym (drop-map string_bytes c.in-Export.files c.args.words.now))
-    (promised [] none_can told names old new c.export.result (map_some string_bytes c.names_from.result.now c.names_from.ensures.some) done
-    (c.export.ensures.exported [] same) (c.export.ensures.small [] same))))
+    let is = export_given g (goal.at.returns-in-Export-clause-exported g c).After-export in
+    let names : Names = c.names-names-in-Export.result.now in
+    rw c.in-Export.is (λ store at is_at. subst (λ (n : ℕ). IfAllTold told (files_in (drop n words)) (λ bytes. Wrote old new (IsExportedFor [] (names_in (drop n words)) bytes)))
+    (files_of_export c.in-Export.store c.in-Export.files store at is_at)
+    (of_names told files (files_in (drop c.in-Export.files words))
+    (λ bytes. Wrote old new (IsExportedFor [] (names_in (drop c.in-Export.files words)) bytes))
+    (c.files-in-Export.ensures.files ∙ given_files c.in-Export.files words c.args.given.now is)
+    (subst (λ (ns : Names). IfAllTold told files (λ bytes. Wrote old new (IsExportedFor [] ns bytes)))
+    (c.names-names-in-Export.ensures.names ∙ given_names c.in-Export.files words c.args.given.now is)
+    (promised [] none_can names c.are_given.ensures.given told files old new c.export.result (λ none. is.some (sym c.files-in-Export.ensures.files ∙ none)) done
+    (c.export.ensures.exported [] same) (c.export.ensures.small [] same)))))
 
 pub returns-in-Export-clause-ends : goal.returns-in-Export-clause-ends
 returns-in-Export-clause-ends g c =
+    let told = g.I.Inputs.told c.args.inputs.now in
     let old = g.O.Sink.taken c.args.out.now in
     let new = g.O.Sink.taken c.export.new.out in
-    rw c.in-Export.is (read_of (g.I.Inputs.told c.args.inputs.now) (map string_bytes c.names_from.result.now) (drop c.in-Export.files (map string_bytes c.args.words.now))
-    (λ files. Wrote old new (λ written. Ends (Export 0 0) [] files c.export.result written))
-    (λ files. Wrote old new (λ written. EndsOf (Export c.in-Export.store c.in-Export.files) [] (sources_named [] files) c.export.result written))
-    (ap (map string_bytes) c.names_from.ensures.names ∙ sym (drop-map string_bytes c.in-Export.files c.args.words.now))
-    (map_some string_bytes c.names_from.result.now c.names_from.ensures.some)
-    (λ files. exports old new files c.in-Export.store c.in-Export.files c.export.result)
-    (c.export.ensures.exported [] (ap (λ (s : Store (Option Nowhere)). blank s) c.new-core-in-Export.ensures)))
+    let words : List (List ℕ) = map string_bytes c.args.words.now in
+    let files : List (List ℕ) = map string_bytes c.files-in-Export.result.now in
+    let is = export_given g (goal.at.returns-in-Export-clause-ends g c).After-export in
+    let names : Names = names_in (drop c.in-Export.files words) in
+    rw c.in-Export.is (read_of told files (files_in (drop c.in-Export.files words))
+    (λ bytes. Wrote old new (λ written. EndsOf (Export 0 0) [] (sources_named names bytes) c.export.result written))
+    (λ bytes. Wrote old new (λ written. EndsOf (Export c.in-Export.store c.in-Export.files) [] (sources_named names bytes) c.export.result written))
+    (c.files-in-Export.ensures.files ∙ given_files c.in-Export.files words c.args.given.now is)
+    (λ none. is.some (sym c.files-in-Export.ensures.files ∙ none))
+    (λ bytes. exports old new names bytes c.in-Export.store c.in-Export.files c.export.result)
+    (subst (λ (ns : Names). IfAllTold told files (λ bytes. Wrote old new (λ written. EndsOf (Export 0 0) [] (sources_named ns bytes) c.export.result written)))
+    (c.names-names-in-Export.ensures.names ∙ given_names c.in-Export.files words c.args.given.now is)
+    (c.export.ensures.exported [] (ap (λ (s : Store (Option Nowhere)). blank s) c.new-core-in-Export.ensures))))
 
 pub returns-in-Trial-clause-cause : goal.returns-in-Trial-clause-cause
 returns-in-Trial-clause-cause g c = rw c.in-Trial.is (caused_unread (g.I.Inputs.faults c.args.inputs.now) (g.I.Inputs.faults c.args.inputs.now) (g.O.Sink.faults c.args.out.now) (g.O.Sink.faults c.write_trial.new.out) c.write_trial.result c.write_trial.ensures.cause)

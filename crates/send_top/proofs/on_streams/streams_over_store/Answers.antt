@@ -1,41 +1,39 @@
 use Rattle.std.specs.Prelude.{◌≡◌, ℕ, List, Some, map, drop, true}
-use Rattle.std.specs.List.{AllByRecursion}
 use Rattle.std.specs.String.{string_bytes}
 use Rattle.std.proofs.Common.{sym, ap, subst, ◌∙◌}
-use Rattle.std.proofs.lemmas.List.{drop-map}
-use Rattle.send_model.specs.Attribute.{IsBytes}
-use Rattle.send_model.specs.Exported.{IsExported}
 use Rattle.send_model.specs.Guards.{Guard, GuardSpec}
 use Rattle.send_model.specs.Renamed.{Names}
 use Rattle.send_model.specs.Store.{Store}
 use Rattle.send_model.specs.Words.{Compose, Audit, Export, new_guards}
 use Rattle.store_model.specs.Stored.{StandsFor}
-use Rattle.store_model.specs.NamedFiles.{unnamed}
 use Rattle.word_model.specs.NameWords.{files_in, names_in}
 use Rattle.store_model.specs.Requests.{OfStreams, store_of, reads_store}
 use Rattle.store_model.specs.Answers.{Answer, Answers}
 use Rattle.sx_base.specs.Calls.{IfAllTold, Wrote}
-use Rattle.sx_base.specs.declared.outcome.Outcome.TheVariants.{Done}
+use Rattle.sx_base.specs.declared.outcome.Outcome.TheVariants.{Done, Refused}
+use Rattle.sx_base.specs.declared.outcome.Verdict.{Verdict}
 use Rattle.store_words.specs.declared.ends.StoreEnd.TheVariants.{Ends}
-use Rattle.store_words.proofs.ExportAnswers.{map_some}
 use Rattle.store_base.specs.Ending.{ChangeFound}
 use Rattle.send_top.specs.Answered.{answer_of}
 use Rattle.send_top.specs.Requests.{before_store, guards_in, streams_meant, streams_specs, HasGiven, IsGivenAt}
-use Rattle.send_top.specs.Run.{IsComposedFor}
+use Rattle.send_top.specs.Run.{IsComposedFor, IsExportedFor, IsFrontFor}
 use Rattle.send_top.proofs.StreamsEnds.{following, read_of, given_files, given_names, files_of_compose, files_of_export}
-use Rattle.send_top.proofs.StreamsAnswers.{end_done, change_found}
+use Rattle.send_top.proofs.StreamsAnswers.{end_done, end_refused, change_found}
 use Rattle.send_top.proofs.on_streams.streams_over_store.Given.{Over}
-use Rattle.send_top.proofs.on_streams.streams_over_store.Goals.{After-compose_store, After-audit_store}
+use Rattle.send_top.proofs.on_streams.streams_over_store.Goals.{After-compose_store, After-audit_store, After-export_store}
 use Rattle.send_top.proofs.on_streams.streams_over_store.Goals as goal
 
 -- ---- composing
 
--- What the words give, of the request that is composed, and of the one that is checked.
+-- What the words give, of the request that is composed, of the one that is checked and of the one that is exported.
 compose_given : (g : Over) (c : After-compose_store g) → IsGivenAt c.in-Compose.files (map string_bytes c.args.words.now) c.args.given.now
 compose_given g c = subst (λ r. HasGiven (streams_meant (map string_bytes c.args.words.now) r) (map string_bytes c.args.words.now) c.args.given.now) c.in-Compose.is c.requires.given
 
 audit_given : (g : Over) (c : After-audit_store g) → IsGivenAt c.in-Audit.files (map string_bytes c.args.words.now) c.args.given.now
 audit_given g c = subst (λ r. HasGiven (streams_meant (map string_bytes c.args.words.now) r) (map string_bytes c.args.words.now) c.args.given.now) c.in-Audit.is c.requires.given
+
+export_given : (g : Over) (c : After-export_store g) → IsGivenAt c.in-Export.files (map string_bytes c.args.words.now) c.args.given.now
+export_given g c = subst (λ r. HasGiven (streams_meant (map string_bytes c.args.words.now) r) (map string_bytes c.args.words.now) c.args.given.now) c.in-Export.is c.requires.given
 
 pub compose_store-requires : goal.compose_store-requires
 compose_store-requires g c =
@@ -89,6 +87,28 @@ returns-in-Compose-clause-composed g c =
     (subst (λ (ns : Names). IfAllTold told files (λ bytes. Wrote old new (λ written. c.compose_store.result ≡ Ends Done → (s : Store ℕ) → StandsFor image s → IsComposedFor s ns bytes written)))
     (c.names.ensures.names ∙ given_names c.in-Compose.files words c.args.given.now is) (c.compose_store.ensures.composed tells))))
 
+pub returns-in-Compose-clause-refused : goal.returns-in-Compose-clause-refused
+returns-in-Compose-clause-refused g c =
+    let words : List (List ℕ) = map string_bytes c.args.words.now in
+    let told = g.I.Inputs.told c.args.inputs.now in
+    let files : List (List ℕ) = map string_bytes c.files.result.now in
+    let old = g.O.Sink.taken c.args.out.now in
+    let new = g.O.Sink.taken c.compose_store.new.out in
+    let image : List ℕ = g.D.Disk.seen c.args.disk.now in
+    let is = compose_given g (goal.at.returns-in-Compose-clause-refused g c).After-compose_store in
+    let names : Names = names_in (drop c.in-Compose.files words) in
+    rw c.in-Compose.is (λ tells verdict refused store at same.
+    let found = end_refused c.compose_store.result (answer_of c.end_answer.result) verdict c.end_answer.ensures.answer refused in
+    subst (λ (n : ℕ). IfAllTold told (files_in (drop n words)) (λ bytes. Wrote old new (λ written. (s : Store ℕ) → StandsFor image s → IsFrontFor s (names_in (drop n words)) bytes written)))
+    (files_of_compose c.in-Compose.store c.in-Compose.files store at same)
+    (following told files (files_in (drop c.in-Compose.files words))
+    (λ bytes. Wrote old new (λ written. (v : Verdict) → c.compose_store.result ≡ Ends (Refused v) → (s : Store ℕ) → StandsFor image s → IsFrontFor s names bytes written))
+    (λ bytes. Wrote old new (λ written. (s : Store ℕ) → StandsFor image s → IsFrontFor s names bytes written))
+    (c.files.ensures.files ∙ given_files c.in-Compose.files words c.args.given.now is)
+    (λ bytes w. (w.0, w.1, w.2 found.0 found.1))
+    (subst (λ (ns : Names). IfAllTold told files (λ bytes. Wrote old new (λ written. (v : Verdict) → c.compose_store.result ≡ Ends (Refused v) → (s : Store ℕ) → StandsFor image s → IsFrontFor s ns bytes written)))
+    (c.names.ensures.names ∙ given_names c.in-Compose.files words c.args.given.now is) (c.compose_store.ensures.refused tells))))
+
 pub returns-in-Compose-clause-changed_at : goal.returns-in-Compose-clause-changed_at
 returns-in-Compose-clause-changed_at g c =
     let is = compose_given g (goal.at.returns-in-Compose-clause-changed_at g c).After-compose_store in
@@ -130,38 +150,54 @@ returns-in-Audit-clause-answered g c =
 
 -- ---- exporting
 
+pub export_store-requires : goal.export_store-requires
+export_store-requires g c =
+    let is = subst (λ r. HasGiven (streams_meant (map string_bytes c.args.words.now) r) (map string_bytes c.args.words.now) c.args.given.now) c.in-Export.is c.requires.given in
+    record { some = λ none. is.some (sym c.files-in-Export.ensures.files ∙ ap (map string_bytes) none) }
+
 pub returns-in-Export-clause-answered : goal.returns-in-Export-clause-answered
 returns-in-Export-clause-answered g c =
     let words : List (List ℕ) = map string_bytes c.args.words.now in
     let told = g.I.Inputs.told c.args.inputs.now in
-    let names : List (List ℕ) = map string_bytes c.names_from-names.result.now in
+    let files : List (List ℕ) = map string_bytes c.files-in-Export.result.now in
     let old = g.O.Sink.taken c.args.out.now in
     let new = g.O.Sink.taken c.export_store.new.out in
     let image : List ℕ = g.D.Disk.seen c.args.disk.now in
     let left : List ℕ = g.D.Disk.seen c.export_store.new.disk in
+    let is = export_given g (goal.at.returns-in-Export-clause-answered g c).After-export_store in
+    let names : Names = names_in (drop c.in-Export.files words) in
     let reads : reads_store words (Some c.in-Export.store) ≡ true = subst (λ r. reads_store words (store_of (streams_meant words r)) ≡ true) c.in-Export.is c.requires.reads in
-    rw c.in-Export.is (λ tells. read_of told names (drop c.in-Export.files words)
-    (λ files. Wrote old new (λ written. (words : List (List ℕ)) (store at : ℕ) → reads_store words (Some store) ≡ true → Answers (OfStreams (Export store at)) words image (unnamed files) (answer_of c.end_answer-in-Export.result) written left))
-    (λ files. Wrote old new (λ written. Answers (OfStreams (Export c.in-Export.store c.in-Export.files)) words image (unnamed files) (answer_of c.end_answer-in-Export.result) written left))
-    (ap (map string_bytes) c.names_from-names.ensures.names ∙ sym (drop-map string_bytes c.in-Export.files c.args.words.now))
-    (map_some string_bytes c.names_from-names.result.now c.names_from-names.ensures.some)
-    (λ files w. (w.0, w.1, w.2 words c.in-Export.store c.in-Export.files reads))
-    (subst (λ (a : Answer). IfAllTold told names (λ files. Wrote old new (λ written. (words : List (List ℕ)) (store at : ℕ) → reads_store words (Some store) ≡ true → Answers (OfStreams (Export store at)) words image (unnamed files) a written left)))
-    (sym c.end_answer-in-Export.ensures.answer) (c.export_store.ensures.answered tells)))
+    rw c.in-Export.is (λ tells. read_of told files (files_in (drop c.in-Export.files words))
+    (λ bytes. Wrote old new (λ written. (words : List (List ℕ)) (store at : ℕ) → reads_store words (Some store) ≡ true
+    → Answers (OfStreams (Export store at)) words image (record { bytes = bytes; names = names }) (answer_of c.end_answer-in-Export.result) written left))
+    (λ bytes. Wrote old new (λ written. Answers (OfStreams (Export c.in-Export.store c.in-Export.files)) words image (record { bytes = bytes; names = names }) (answer_of c.end_answer-in-Export.result) written left))
+    (c.files-in-Export.ensures.files ∙ given_files c.in-Export.files words c.args.given.now is)
+    (λ none. is.some (sym c.files-in-Export.ensures.files ∙ none))
+    (λ bytes w. (w.0, w.1, w.2 words c.in-Export.store c.in-Export.files reads))
+    (subst (λ (ns : Names). IfAllTold told files (λ bytes. Wrote old new (λ written. (words : List (List ℕ)) (store at : ℕ) → reads_store words (Some store) ≡ true
+    → Answers (OfStreams (Export store at)) words image (record { bytes = bytes; names = ns }) (answer_of c.end_answer-in-Export.result) written left)))
+    (c.names-in-Export.ensures.names ∙ given_names c.in-Export.files words c.args.given.now is)
+    (subst (λ (a : Answer). IfAllTold told files (λ bytes. Wrote old new (λ written. (words : List (List ℕ)) (store at : ℕ) → reads_store words (Some store) ≡ true
+    → Answers (OfStreams (Export store at)) words image (record { bytes = bytes; names = c.names-in-Export.result.now }) a written left)))
+    (sym c.end_answer-in-Export.ensures.answer) (c.export_store.ensures.answered tells))))
 
 pub returns-in-Export-clause-exported : goal.returns-in-Export-clause-exported
 returns-in-Export-clause-exported g c =
     let words : List (List ℕ) = map string_bytes c.args.words.now in
     let told = g.I.Inputs.told c.args.inputs.now in
-    let names : List (List ℕ) = map string_bytes c.names_from-names.result.now in
+    let files : List (List ℕ) = map string_bytes c.files-in-Export.result.now in
     let old = g.O.Sink.taken c.args.out.now in
     let new = g.O.Sink.taken c.export_store.new.out in
     let image : List ℕ = g.D.Disk.seen c.args.disk.now in
-    rw c.in-Export.is (λ tells done store at is. subst (λ (n : ℕ). IfAllTold told (drop n words) (λ files. Wrote old new (λ written. (s : Store ℕ) → StandsFor image s → AllByRecursion IsBytes files → IsExported s files written)))
-    (files_of_export c.in-Export.store c.in-Export.files store at is)
-    (following told names (drop c.in-Export.files words)
-    (λ files. Wrote old new (λ written. c.export_store.result ≡ Ends Done → (s : Store ℕ) → StandsFor image s → AllByRecursion IsBytes files → IsExported s files written))
-    (λ files. Wrote old new (λ written. (s : Store ℕ) → StandsFor image s → AllByRecursion IsBytes files → IsExported s files written))
-    (ap (map string_bytes) c.names_from-names.ensures.names ∙ sym (drop-map string_bytes c.in-Export.files c.args.words.now))
-    (λ files w. (w.0, w.1, w.2 (end_done c.export_store.result (answer_of c.end_answer-in-Export.result) c.end_answer-in-Export.ensures.answer done)))
-    (c.export_store.ensures.exported tells)))
+    let is = export_given g (goal.at.returns-in-Export-clause-exported g c).After-export_store in
+    let names : Names = names_in (drop c.in-Export.files words) in
+    rw c.in-Export.is (λ tells done store at same.
+    subst (λ (n : ℕ). IfAllTold told (files_in (drop n words)) (λ bytes. Wrote old new (λ written. (s : Store ℕ) → StandsFor image s → IsExportedFor s (names_in (drop n words)) bytes written)))
+    (files_of_export c.in-Export.store c.in-Export.files store at same)
+    (following told files (files_in (drop c.in-Export.files words))
+    (λ bytes. Wrote old new (λ written. c.export_store.result ≡ Ends Done → (s : Store ℕ) → StandsFor image s → IsExportedFor s names bytes written))
+    (λ bytes. Wrote old new (λ written. (s : Store ℕ) → StandsFor image s → IsExportedFor s names bytes written))
+    (c.files-in-Export.ensures.files ∙ given_files c.in-Export.files words c.args.given.now is)
+    (λ bytes w. (w.0, w.1, w.2 (end_done c.export_store.result (answer_of c.end_answer-in-Export.result) c.end_answer-in-Export.ensures.answer done)))
+    (subst (λ (ns : Names). IfAllTold told files (λ bytes. Wrote old new (λ written. c.export_store.result ≡ Ends Done → (s : Store ℕ) → StandsFor image s → IsExportedFor s ns bytes written)))
+    (c.names-in-Export.ensures.names ∙ given_names c.in-Export.files words c.args.given.now is) (c.export_store.ensures.exported tells))))

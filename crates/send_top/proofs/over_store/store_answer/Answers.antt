@@ -12,15 +12,13 @@ use Rattle.store_model.specs.Answers.{Answer, Answers}
 use Rattle.word_model.specs.AllRequests.{TurnFiles, name_at}
 use Rattle.sent_model.specs.Sent.{sent_stream}
 use Rattle.sent_model.specs.Restored.{restored_stream}
-use Rattle.sent_model.specs.HeldStores.{SendAnswers}
-use Rattle.sent_model.specs.Promises.{IsUnfinished}
 use Rattle.store_words.specs.Ending as ending
-use Rattle.store_words.specs.declared.ends.StoreEnd.{StoreEnd}
 use Rattle.turn_sessions.specs.Leaving.{LeftByTurns}
 use Rattle.store_words.specs.Receiving.{LeftByReceive}
 use Rattle.sx_base.specs.Calls.{IfAllTold, Wrote}
 use Rattle.sx_base.specs.Disk.{IsImage}
 use Rattle.send_top.specs.Requests.{before_store, entry_name, entry_path, guards_in, places_in, turns_in, with_names}
+use Rattle.send_top.proofs.SentAnew.{answered_of_name, in_part_of_name}
 use Rattle.send_top.proofs.NothingDone.{nothing_answered, nothing_in_part}
 use Rattle.send_top.proofs.ReceiveAnswers.{of_same, of_same_turns}
 use Rattle.send_top.proofs.over_store.store_answer.Goals as goal
@@ -52,64 +50,38 @@ returns-in-Drop-clause-answered g c =
 pub returns-in-Send-clause-answered : goal.returns-in-Send-clause-answered
 returns-in-Send-clause-answered g c =
     let words : List (List ℕ) = map string_bytes c.args.words.now in
-    let image : List ℕ = g.D.Disk.seen c.args.disk.now in
-    let left : List ℕ = g.D.Disk.seen c.send_entry.new.disk in
-    let name_is : c.as_slice-in-Send.result.now ≡ name_at words c.in-Send.name = c.as_slice-in-Send.ensures.bytes ∙ c.in-Ok.ensures.name ∙ ap (entry_name words) c.in-Send.is in
-    let path_is = c.in-Ok.ensures.path ∙ ap (entry_path words) c.in-Send.is in
-    let same = c.answer_by-in-Send.ensures.answer ∙ ap₂ (λ (n p : List ℕ). ending.answer_of n p c.send_entry.result) (sym c.as_slice-in-Send.ensures.bytes) path_is in
-    rw c.in-Send.is (λ tells.
-    let w = c.send_entry.ensures.answered tells in (
-      w.0,
-      w.1,
-      subst (λ (a : Answer). SendAnswers sent_stream image (name_at words c.in-Send.name) a w.0 left) (sym same)
-          (subst (λ (name : List ℕ). SendAnswers sent_stream image name (ending.answer_of c.as_slice-in-Send.result.now [] c.send_entry.result) w.0 left) name_is w.2),
-    ))
+    let name : List ℕ = c.as_slice-in-Send.result.now in
+    let name_is : name ≡ name_at words c.in-Send.name = c.as_slice-in-Send.ensures.bytes ∙ c.in-Ok.ensures.name ∙ ap (entry_name words) c.in-Send.is in
+    let same = c.answer_by-in-Send.ensures.answer ∙ ap₂ (λ (n p : List ℕ). ending.answer_of n p c.send_entry.result) (sym c.as_slice-in-Send.ensures.bytes) (c.in-Ok.ensures.path ∙ ap (entry_path words) c.in-Send.is) in
+    rw c.in-Send.is (λ tells. answered_of_name sent_stream (g.D.Disk.seen c.args.disk.now) name (name_at words c.in-Send.name) (g.O.Sink.taken c.args.out.now) (g.O.Sink.taken c.send_entry.new.out) c.send_entry.result _ same name_is
+    (g.D.Disk.seen c.send_entry.new.disk) (c.send_entry.ensures.answered tells))
 
 pub returns-in-Send-clause-in_part : goal.returns-in-Send-clause-in_part
 returns-in-Send-clause-in_part g c =
     let words : List (List ℕ) = map string_bytes c.args.words.now in
-    let image : List ℕ = g.D.Disk.seen c.args.disk.now in
-    let name_is : c.as_slice-in-Send.result.now ≡ name_at words c.in-Send.name = c.as_slice-in-Send.ensures.bytes ∙ c.in-Ok.ensures.name ∙ ap (entry_name words) c.in-Send.is in
-    let path_is = c.in-Ok.ensures.path ∙ ap (entry_path words) c.in-Send.is in
-    let same = c.answer_by-in-Send.ensures.answer ∙ ap₂ (λ (n p : List ℕ). ending.answer_of n p c.send_entry.result) (sym c.as_slice-in-Send.ensures.bytes) path_is in
-    rw c.in-Send.is (λ other tells.
-    let w = c.send_entry.ensures.unfinished tells in (
-      w.0,
-      w.1,
-      subst (λ (name : List ℕ). IsUnfinished sent_stream image name w.0) name_is
-          (w.2 (λ done. other (same ∙ ap (λ (end : StoreEnd). ending.answer_of c.as_slice-in-Send.result.now [] end) done))),
-    ))
+    let name : List ℕ = c.as_slice-in-Send.result.now in
+    let name_is : name ≡ name_at words c.in-Send.name = c.as_slice-in-Send.ensures.bytes ∙ c.in-Ok.ensures.name ∙ ap (entry_name words) c.in-Send.is in
+    let same = c.answer_by-in-Send.ensures.answer ∙ ap₂ (λ (n p : List ℕ). ending.answer_of n p c.send_entry.result) (sym c.as_slice-in-Send.ensures.bytes) (c.in-Ok.ensures.path ∙ ap (entry_path words) c.in-Send.is) in
+    rw c.in-Send.is (λ other tells. in_part_of_name sent_stream (g.D.Disk.seen c.args.disk.now) name (name_at words c.in-Send.name) (g.O.Sink.taken c.args.out.now) (g.O.Sink.taken c.send_entry.new.out) c.send_entry.result _ same name_is
+    (c.send_entry.ensures.unfinished tells) other)
 
 pub returns-in-Restore-clause-answered : goal.returns-in-Restore-clause-answered
 returns-in-Restore-clause-answered g c =
     let words : List (List ℕ) = map string_bytes c.args.words.now in
-    let image : List ℕ = g.D.Disk.seen c.args.disk.now in
-    let left : List ℕ = g.D.Disk.seen c.restore_entry.new.disk in
-    let name_is : c.as_slice-in-Restore.result.now ≡ name_at words c.in-Restore.name = c.as_slice-in-Restore.ensures.bytes ∙ c.in-Ok.ensures.name ∙ ap (entry_name words) c.in-Restore.is in
-    let path_is = c.in-Ok.ensures.path ∙ ap (entry_path words) c.in-Restore.is in
-    let same = c.answer_by-in-Restore.ensures.answer ∙ ap₂ (λ (n p : List ℕ). ending.answer_of n p c.restore_entry.result) (sym c.as_slice-in-Restore.ensures.bytes) path_is in
-    rw c.in-Restore.is (λ tells.
-    let w = c.restore_entry.ensures.answered tells in (
-      w.0,
-      w.1,
-      subst (λ (a : Answer). SendAnswers restored_stream image (name_at words c.in-Restore.name) a w.0 left) (sym same)
-          (subst (λ (name : List ℕ). SendAnswers restored_stream image name (ending.answer_of c.as_slice-in-Restore.result.now [] c.restore_entry.result) w.0 left) name_is w.2),
-    ))
+    let name : List ℕ = c.as_slice-in-Restore.result.now in
+    let name_is : name ≡ name_at words c.in-Restore.name = c.as_slice-in-Restore.ensures.bytes ∙ c.in-Ok.ensures.name ∙ ap (entry_name words) c.in-Restore.is in
+    let same = c.answer_by-in-Restore.ensures.answer ∙ ap₂ (λ (n p : List ℕ). ending.answer_of n p c.restore_entry.result) (sym c.as_slice-in-Restore.ensures.bytes) (c.in-Ok.ensures.path ∙ ap (entry_path words) c.in-Restore.is) in
+    rw c.in-Restore.is (λ tells. answered_of_name restored_stream (g.D.Disk.seen c.args.disk.now) name (name_at words c.in-Restore.name) (g.O.Sink.taken c.args.out.now) (g.O.Sink.taken c.restore_entry.new.out) c.restore_entry.result _ same name_is
+    (g.D.Disk.seen c.restore_entry.new.disk) (c.restore_entry.ensures.answered tells))
 
 pub returns-in-Restore-clause-in_part : goal.returns-in-Restore-clause-in_part
 returns-in-Restore-clause-in_part g c =
     let words : List (List ℕ) = map string_bytes c.args.words.now in
-    let image : List ℕ = g.D.Disk.seen c.args.disk.now in
-    let name_is : c.as_slice-in-Restore.result.now ≡ name_at words c.in-Restore.name = c.as_slice-in-Restore.ensures.bytes ∙ c.in-Ok.ensures.name ∙ ap (entry_name words) c.in-Restore.is in
-    let path_is = c.in-Ok.ensures.path ∙ ap (entry_path words) c.in-Restore.is in
-    let same = c.answer_by-in-Restore.ensures.answer ∙ ap₂ (λ (n p : List ℕ). ending.answer_of n p c.restore_entry.result) (sym c.as_slice-in-Restore.ensures.bytes) path_is in
-    rw c.in-Restore.is (λ other tells.
-    let w = c.restore_entry.ensures.unfinished tells in (
-      w.0,
-      w.1,
-      subst (λ (name : List ℕ). IsUnfinished restored_stream image name w.0) name_is
-          (w.2 (λ done. other (same ∙ ap (λ (end : StoreEnd). ending.answer_of c.as_slice-in-Restore.result.now [] end) done))),
-    ))
+    let name : List ℕ = c.as_slice-in-Restore.result.now in
+    let name_is : name ≡ name_at words c.in-Restore.name = c.as_slice-in-Restore.ensures.bytes ∙ c.in-Ok.ensures.name ∙ ap (entry_name words) c.in-Restore.is in
+    let same = c.answer_by-in-Restore.ensures.answer ∙ ap₂ (λ (n p : List ℕ). ending.answer_of n p c.restore_entry.result) (sym c.as_slice-in-Restore.ensures.bytes) (c.in-Ok.ensures.path ∙ ap (entry_path words) c.in-Restore.is) in
+    rw c.in-Restore.is (λ other tells. in_part_of_name restored_stream (g.D.Disk.seen c.args.disk.now) name (name_at words c.in-Restore.name) (g.O.Sink.taken c.args.out.now) (g.O.Sink.taken c.restore_entry.new.out) c.restore_entry.result _ same name_is
+    (c.restore_entry.ensures.unfinished tells) other)
 
 pub returns-in-Receive-clause-answered : goal.returns-in-Receive-clause-answered
 returns-in-Receive-clause-answered g c = rw c.in-Receive.is c.receive_answer.ensures.answered

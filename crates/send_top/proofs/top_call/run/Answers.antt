@@ -8,9 +8,9 @@ use Rattle.word_model.specs.AllAnswers.{ReadsFiles, ReadsOnly}
 use Rattle.sx_base.specs.Causes.{Rose}
 use Rattle.send_top.specs.Answered.{answer_of}
 use Rattle.send_top.specs.Requests.{AskNothing, Asks, uses_store}
-use Rattle.send_top.specs.Run.{Acknowledges, AreSteady, AskForStore, AskToCompose, Composes, Exports, IsAllowed, IsAnswered, IsChangedAt, IsStoreStatus, Prints, Sends}
+use Rattle.send_top.specs.Run.{Acknowledges, AreSteady, AskForStore, AskToCompose, Composes, ComposesFront, Exports, IsAllowed, IsAnswered, IsChangedAt, IsStoreStatus, Prints, Sends}
 use Rattle.send_top.proofs.SentAnew.{sends}
-use Rattle.send_top.proofs.Statuses.{usage-of_two, two-of_usage, zero-of_done, done-of_zero, steady-of_zero, input_fault-of_three, output_fault-of_four, store_fault-of_five, changed-of_thirteen, of_compose, of_store}
+use Rattle.send_top.proofs.Statuses.{usage-of_two, two-of_usage, zero-of_done, done-of_zero, refused-of_one, steady-of_zero, input_fault-of_three, output_fault-of_four, store_fault-of_five, changed-of_thirteen, of_compose, of_store}
 use Rattle.send_top.proofs.top_call.run.Given.{Over}
 use Rattle.send_top.proofs.top_call.run.Goals.{After-status}
 use Rattle.send_top.proofs.top_call.run.Goals as goal
@@ -83,6 +83,12 @@ pub returns-clause-composed : goal.returns-clause-composed
 returns-clause-composed g c none =
     subst (λ gs. Composes (g.I.Inputs.told c.args.inputs.now) g.D.Disk.tells (map string_bytes c.args.words.now) (map (λ b. (goal.Guard-dyn g (b.vtable, b.value)).kept b.value) gs) (g.D.Disk.seen c.args.disk.now) (g.O.Sink.taken c.args.out.now) (g.O.Sink.taken c.answer_to-answer.new.out))
     c.deref_mut.ensures.value (c.answer_to-answer.ensures.composed (done-of_zero (answer_of c.answer_to-answer.result) (sym c.status.ensures ∙ none)))
+
+pub returns-clause-refused : goal.returns-clause-refused
+returns-clause-refused g c one =
+    let found = refused-of_one (answer_of c.answer_to-answer.result) (sym c.status.ensures ∙ one) in
+    subst (λ gs. ComposesFront (g.I.Inputs.told c.args.inputs.now) g.D.Disk.tells (map string_bytes c.args.words.now) (map (λ b. (goal.Guard-dyn g (b.vtable, b.value)).kept b.value) gs) (g.D.Disk.seen c.args.disk.now) (g.O.Sink.taken c.args.out.now) (g.O.Sink.taken c.answer_to-answer.new.out))
+    c.deref_mut.ensures.value (c.answer_to-answer.ensures.refused found.0 found.1)
 
 pub returns-clause-exported : goal.returns-clause-exported
 returns-clause-exported g c none =

@@ -9,7 +9,7 @@ use Rattle.sx_base.proofs.DiskMoments.{joins, weakens}
 use Rattle.store_model.proofs.LawfulGroups.{stands_lawful}
 use Rattle.store_journal.specs.Standing.{with_bytes}
 use Rattle.store_base.specs.Ending.{beside, EndsOver, ComposeCaused, ChangeFound}
-use Rattle.store_base.proofs.StoreAnswers.{not_composed, no_headline, is_composed, is_headline, opening_caused, opening_unchanged}
+use Rattle.store_base.proofs.StoreAnswers.{not_composed, no_headline, no_front, is_composed, is_headline, is_front, opening_caused, opening_unchanged}
 use Rattle.store_base.proofs.composing.compose_store.Given.{Over}
 use Rattle.store_base.proofs.composing.compose_store.Goals.{After-compose_opened}
 use Rattle.store_base.proofs.composing.compose_store.Goals as goal
@@ -22,6 +22,10 @@ returns-in-Err-clause-answered g c tells =
 pub returns-in-Err-clause-composed : goal.returns-in-Err-clause-composed
 returns-in-Err-clause-composed g c tells =
     no_headline _ _ (g.D.Disk.seen c.args.disk.now) c.args.names.now (g.O.Sink.taken c.args.out.now) c.in-Err.stop c.ended_by.result c.ended_by.ensures c.in-Err.ensures.not_refused
+
+pub returns-in-Err-clause-refused : goal.returns-in-Err-clause-refused
+returns-in-Err-clause-refused g c tells =
+    no_front _ _ (g.D.Disk.seen c.args.disk.now) c.args.names.now (g.O.Sink.taken c.args.out.now) c.in-Err.stop c.ended_by.result c.ended_by.ensures c.in-Err.ensures.not_refused
 
 pub returns-in-Err-clause-cause : goal.returns-in-Err-clause-cause
 returns-in-Err-clause-cause g c = subst (ComposeCaused _ _ _ _ _) (sym c.ended_by.ensures) (opening_caused _ _ _ _ _ c.in-Err.stop c.in-Err.ensures.not_refused c.in-Err.ensures.stops)
@@ -53,6 +57,11 @@ pub returns-clause-composed : goal.returns-clause-composed
 returns-clause-composed g c tells =
     let seen : List ℕ = g.D.Disk.seen c.args.disk.now in
     is_headline _ _ seen c.args.names.now _ _ (with_bytes seen c.in-Ok.store.core) c.compose_opened.result (c.in-Ok.ensures.says tells) (ends g (goal.at.returns-clause-composed g c).After-compose_opened tells)
+
+pub returns-clause-refused : goal.returns-clause-refused
+returns-clause-refused g c tells =
+    let seen : List ℕ = g.D.Disk.seen c.args.disk.now in
+    is_front _ _ seen c.args.names.now _ _ (with_bytes seen c.in-Ok.store.core) c.compose_opened.result (c.in-Ok.ensures.says tells) (ends g (goal.at.returns-clause-refused g c).After-compose_opened tells)
 
 pub returns-clause-any_moment : goal.returns-clause-any_moment
 returns-clause-any_moment g c tells =

@@ -1,4 +1,5 @@
 use Rattle.std.proofs.Common.{◌≡◌, ◌-◌}
+use Rattle.std.specs.Option.{option_copied}
 use Rattle.send_model.specs.Lengths.{limit}
 use Rattle.cmd_reader.specs.Places.{IfTold}
 use Rattle.cmd_reader.specs.Left.{HasAhead}
@@ -15,7 +16,7 @@ invariant-loop-item g l = record {
   out_steady : g.O.Sink.faults l.out ≡ g.O.Sink.faults l.fn.out;
   file : l.reader.file ≡ l.fn.file;
   name : l.reader.name ≡ l.fn.name;
-  stands : IfTold (g.I.Inputs.told l.fn.inputs) l.fn.name (Stands l.fn.file (point_at l.fn.exporter l.fn.gathered) (point_at l.exporter l.gathered)
+  stands : IfTold (g.I.Inputs.told l.fn.inputs) l.fn.name (Stands (option_copied l.fn.new_name) l.fn.file (point_at l.fn.exporter l.fn.gathered) (point_at l.exporter l.gathered)
       l.fn.gathered.bytes l.gathered.bytes (g.O.Sink.taken l.fn.out) (g.O.Sink.taken l.out) l.reader);
   ahead : IfTold (g.I.Inputs.told l.inputs) l.reader.name (HasAhead l.reader);
 }

@@ -15,7 +15,7 @@ invariant-loop-file g l = record {
   steady : g.I.Inputs.faults l.inputs ≡ g.I.Inputs.faults l.fn.inputs;
   ends_steady : g.I.Inputs.ends l.inputs ≡ g.I.Inputs.ends l.fn.inputs;
   out_steady : g.O.Sink.faults l.out ≡ g.O.Sink.faults l.fn.out;
-  stand : IfAllTold (g.I.Inputs.told l.fn.inputs) (map string_bytes l.fn.files) (AllStand l.file (point_at l.fn.exporter l.fn.gathered) (point_at l.exporter l.gathered)
+  stand : IfAllTold (g.I.Inputs.told l.fn.inputs) (map string_bytes l.fn.files) (AllStand l.fn.names l.file (point_at l.fn.exporter l.fn.gathered) (point_at l.exporter l.gathered)
       l.fn.gathered.bytes l.gathered.bytes (g.O.Sink.taken l.fn.out) (g.O.Sink.taken l.out));
 }
 

@@ -1,0 +1,3 @@
+pub mod NamedStreams
+pub mod ComposedAgain
+pub mod ExportedReadings
