@@ -690,7 +690,7 @@ case_is 'it is exported with them' "$([ "$status" = 0 ] || echo "status $status,
 rm -f named
 timeout 20 "$program" init named >out 2>note
 timeout 20 "$program" receive named exported >out 2>note; status=$?
-case_is 'what was exported has the names' "$([ "$status" = 0 ] && [ "$(cut -d' ' -f2 <out | tr '\n' ' ')" = '1 2 ' ] || echo "status $status, $(cat out note)")"
+case_is 'what was exported has the names' "$([ "$status" = 0 ] && [ "$(sed 's/^complete \([^ ]*\) .*/\1/' out | tr '\n' ' ')" = '1 2 ' ] || echo "status $status, $(cat out note)")"
 timeout 20 env BTRSEND_EXPLAIN=1 "$program" export none name:other itself >>itself 2>note; status=$?
 printf '%s\n' 'output fault' \
     'btrsend: standard output is one of the files that are read: write the stream to another file' >wanted
