@@ -6,3 +6,4 @@ pub mod Versions
 pub mod NamedItems
 pub mod Surveys
 pub mod Named
+mod IndexedUuids

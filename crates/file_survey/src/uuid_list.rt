@@ -3,16 +3,16 @@ ghost use Rattle.std.specs.Prelude.{◌≡◌, [], ◌∷◌, ◌++◌, OnOk};
 ghost use Rattle.send_model.specs.Outside.{is_among};
 ghost use Rattle.file_survey.specs.Findings.{joined_by};
 
-use indexmap::IndexSet;
 use std::alloc::{AllocError, Global};
+use std::collections::BTreeSet;
 use std::marker::Model;
 use uuid::Uuid;
 
-// UUIDs in their order, some of them maybe more than once, with an index by which each is found.
+// UUIDs in their order, some of them maybe more than once, with an ordered index by which each is found.
 #[derive(Debug, Drop)]
 pub(crate) struct UuidList {
     list: Vec<Uuid>,
-    index: IndexSet<Uuid>,
+    index: BTreeSet<Uuid>,
 }
 
 impl Model for UuidList {
@@ -33,7 +33,7 @@ impl UuidList {
     {
         UuidList {
             list: Vec::new(alloc),
-            index: IndexSet::new(alloc),
+            index: BTreeSet::new(alloc),
         }
     }
 

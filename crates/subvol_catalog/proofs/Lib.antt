@@ -1,3 +1,5 @@
-mod NameMaps
+mod OrderedRows
 mod Admissions
 mod Pairs
+mod Numbers
+mod Views

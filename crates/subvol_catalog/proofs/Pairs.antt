@@ -1,9 +1,8 @@
 -- Entries under their UUIDs: what is found among them, and what adding, completing and taking out one makes of them.
-use Rattle.std.proofs.Common.{◌≡◌, ℕ, zero, suc, slice_get, Bool, true, false, cond, not, ◌&&◌, ◌||◌, ◌==◌, List, [], ◌∷◌, ◌++◌, Some, None, Option, IsTrue, is_some, Vec, refl, sym, ap, subst, ◌∙◌}
+use Rattle.std.proofs.Common.{◌≡◌, ℕ, Bool, true, false, cond, not, ◌&&◌, ◌||◌, ◌==◌, List, [], ◌∷◌, ◌++◌, Some, None, Option, is_some, Vec, refl, sym, ap, subst, ◌∙◌}
 use Rattle.std.proofs.lemmas.Bool.{false≢true}
 use Rattle.std.specs.Str.{bytes_eq}
 use Rattle.std.specs.Map.{lookup, remove_entry, set_value}
-use Rattle.send_model.specs.Path.{is_name}
 use Rattle.send_model.specs.Store as meant
 use Rattle.std.specs.Option.{option_map}
 use Rattle.send_model.specs.Store.{IsStore, has_name, has_uuid, find, with_contents}
@@ -13,10 +12,10 @@ use Rattle.subvol_catalog.specs.Entries.{entry_of, listed, of_uuid, AreNamed}
 use Rattle.subvol_catalog.specs.Admission.{uuid_named, without_name, without_uuid}
 use Rattle.subvol_catalog.specs.Indexes.{led_to, IsListed, AreListed}
 
-some≢none : {X : Type 0} (x : X) → Some x ≡ None → ⊥
+pub some≢none : {X : Type 0} (x : X) → Some x ≡ None → ⊥
 some≢none x e = cc
 
-some_same : {X : Type 0} (x y : X) → Some x ≡ Some y → x ≡ y
+pub some_same : {X : Type 0} (x y : X) → Some x ≡ Some y → x ≡ y
 some_same x y e = cc
 
 -- Equal the other way round.
@@ -33,6 +32,11 @@ is_some_cond : {X : Type 0} (b : Bool) (x : X) (o : Option X) → is_some (cond 
 is_some_cond true x o = refl
 is_some_cond false x o = refl
 
+-- A value is there before and after a function of it.
+pub mapped : {X Y : Type 0} (f : X → Y) (o : Option X) → is_some (option_map f o) ≡ is_some o
+mapped f None = refl
+mapped f (Some x) = refl
+
 -- Whether a name is there.
 pub name_there : {S : Type 0} (name : List ℕ) (es : List (meant.Entry S)) → is_some (uuid_named name es) ≡ has_name name es
 name_there name [] = refl
@@ -48,11 +52,11 @@ finds_none {S} key (e ∷ es) f = one (bytes_eq e.key.uuid key.uuid) (e.key.ctra
     one true c f more = absurd (false≢true (sym f))
     one false c f more = more f
 
-or_false_left : (a b : Bool) → a || b ≡ false → a ≡ false
+pub or_false_left : (a b : Bool) → a || b ≡ false → a ≡ false
 or_false_left true b f = f
 or_false_left false b f = refl
 
-or_false_right : (a b : Bool) → a || b ≡ false → b ≡ false
+pub or_false_right : (a b : Bool) → a || b ≡ false → b ≡ false
 or_false_right true b f = absurd (false≢true (sym f))
 or_false_right false b f = f
 
@@ -61,7 +65,7 @@ or_true true b t = refl
 or_true false b t = t
 
 -- Where none has the UUID, or the name, none goes.
-all_others : {S : Type 0} (u : List ℕ) (es : List (meant.Entry S)) → has_uuid u es ≡ false → without_uuid u es ≡ es
+pub all_others : {S : Type 0} (u : List ℕ) (es : List (meant.Entry S)) → has_uuid u es ≡ false → without_uuid u es ≡ es
 all_others u [] f = refl
 all_others {S} u (e ∷ es) f =
     ap (λ (b : Bool). cond (not b) (e ∷ without_uuid u es) (without_uuid u es)) (or_false_left (bytes_eq e.key.uuid u) (has_uuid u es) f)
@@ -73,32 +77,53 @@ all_else {S} name (e ∷ es) f =
     ap (λ (b : Bool). cond (not b) (e ∷ without_name name es) (without_name name es)) (or_false_left (bytes_eq e.name name) (has_name name es) f)
     ∙ ap (λ (r : List (meant.Entry S)). e ∷ r) (all_else name es (or_false_right (bytes_eq e.name name) (has_name name es) f))
 
+-- Whether a UUID is there.
+pub uuid_finds : {S : Type 0} (u : List ℕ) (es : List (meant.Entry S)) → is_some (of_uuid u es) ≡ has_uuid u es
+uuid_finds u [] = refl
+uuid_finds u (e ∷ es) = is_some_cond (bytes_eq e.key.uuid u) e (of_uuid u es) ∙ ap (λ (b : Bool). bytes_eq e.key.uuid u || b) (uuid_finds u es)
+
+-- The UUID that a name finds is there.
+pub named_uuid : {S : Type 0} (name u : List ℕ) (es : List (meant.Entry S)) → uuid_named name es ≡ Some u → has_uuid u es ≡ true
+named_uuid name u [] e = absurd (some≢none u (sym e))
+named_uuid {S} name u (x ∷ es) e = one (bytes_eq x.name name) e (named_uuid name u es)
+  where
+    one : (b : Bool) → cond b (Some x.key.uuid) (uuid_named name es) ≡ Some u → (uuid_named name es ≡ Some u → has_uuid u es ≡ true) → bytes_eq x.key.uuid u || has_uuid u es ≡ true
+    one true e more = let same : x.key.uuid ≡ u = some_same x.key.uuid u e in ap (λ (b : Bool). b || has_uuid u es) (ap (λ (y : List ℕ). bytes_eq y u) same ∙ bytes_eq_same u)
+    one false e more = or_true (bytes_eq x.key.uuid u) (has_uuid u es) (more e)
+
 -- What a key finds, by the entry of its UUID.
-abbrev pub in_entry : {V : Type 0} → meant.Key → Option (Entry V) → Option V
+abbrev in_entry : {V : Type 0} → meant.Key → Option (Entry V) → Option V
 in_entry key None = None
 in_entry key (Some e) = cond (e.key.ctransid == key.ctransid) e.value None
 
+-- What a key finds, by the entry of its UUID as the definitions have it.
+abbrev pub of_key : {S : Type 0} → meant.Key → Option (meant.Entry S) → Option S
+of_key key None = None
+of_key key (Some e) = cond (e.key.ctransid == key.ctransid) e.contents None
+
 -- What a name finds, by the entry of the UUID to which it leads.
-abbrev pub if_named : {V : Type 0} → List ℕ → List ℕ → Option (Entry V) → Option (List ℕ)
+abbrev if_named : {V : Type 0} → List ℕ → List ℕ → Option (Entry V) → Option (List ℕ)
 if_named name u None = None
 if_named name u (Some e) = cond (bytes_eq e.name name) (Some u) None
+
+-- What a name finds, by the entry of its UUID as the definitions have it.
+abbrev pub of_name : {S : Type 0} → List ℕ → List ℕ → Option (meant.Entry S) → Option (List ℕ)
+of_name name u None = None
+of_name name u (Some e) = cond (bytes_eq e.name name) (Some u) None
 
 module _ {A V : Type 0} (names : List (Vec ℕ A × List ℕ)) where
   -- An entry has the UUID under which it stands.
   matched : (u : List ℕ) (p : List ℕ × Entry V) → IsListed names p.0 p.1 → bytes_eq p.1.key.uuid u ≡ bytes_eq u p.0
   matched u p l = ap (λ (x : List ℕ). bytes_eq x u) l.keyed ∙ turned p.0 u
 
-  pub uuid_there : (u : List ℕ) (ps : List (List ℕ × Entry V)) → AreListed names ps → is_some (lookup (bytes_eq u) ps) ≡ has_uuid u (listed ps)
+  uuid_there : (u : List ℕ) (ps : List (List ℕ × Entry V)) → AreListed names ps → is_some (lookup (bytes_eq u) ps) ≡ has_uuid u (listed ps)
   uuid_there u [] l = refl
   uuid_there u (p ∷ ps) l =
       is_some_cond (bytes_eq u p.0) p.1 (lookup (bytes_eq u) ps)
       ∙ (λ i. sym (matched u p l.0) i || uuid_there u ps l.2 i)
 
-  -- A UUID that finds nothing is no entry's.
-  pub absent : (u : List ℕ) (ps : List (List ℕ × Entry V)) → AreListed names ps → lookup (bytes_eq u) ps ≡ None → has_uuid u (listed ps) ≡ false
-  absent u ps l e = sym (uuid_there u ps l) ∙ ap is_some e
-
-  pub none_there : (u : List ℕ) (ps : List (List ℕ × Entry V)) → AreListed names ps → has_uuid u (listed ps) ≡ false → lookup (bytes_eq u) ps ≡ None
+  -- A UUID that is no entry's finds nothing.
+  none_there : (u : List ℕ) (ps : List (List ℕ × Entry V)) → AreListed names ps → has_uuid u (listed ps) ≡ false → lookup (bytes_eq u) ps ≡ None
   none_there u ps l f = one (lookup (bytes_eq u) ps) (uuid_there u ps l ∙ f)
     where
       one : (o : Option (Entry V)) → is_some o ≡ false → o ≡ None
@@ -116,7 +141,7 @@ module _ {A V : Type 0} (names : List (Vec ℕ A × List ℕ)) where
       one true more = refl
       one false more = more
 
-  pub found_in : (key : meant.Key) (ps : List (List ℕ × Entry V)) → AreListed names ps → find (listed ps) key ≡ in_entry key (lookup (bytes_eq key.uuid) ps)
+  found_in : (key : meant.Key) (ps : List (List ℕ × Entry V)) → AreListed names ps → find (listed ps) key ≡ in_entry key (lookup (bytes_eq key.uuid) ps)
   unfolding find
   found_in key [] l = refl
   found_in key (p ∷ ps) l = one (bytes_eq key.uuid p.0) refl (found_in key ps l.2)
@@ -139,6 +164,14 @@ module _ {A V : Type 0} (names : List (Vec ℕ A × List ℕ)) where
           ap (λ (b : Bool). cond (b && (p.1.key.ctransid == key.ctransid)) (elim p.1.value as (λ x. Option V) [ None ↦ rest | Some s ↦ Some s ]) rest) (matched key.uuid p l.0 ∙ t)
           ∙ more ∙ sym (ap (λ (b : Bool). in_entry key (cond b (Some p.1) (lookup (bytes_eq key.uuid) ps))) t)
 
+  -- What a key finds, by the entry that its UUID finds.
+  pub found_by : (key : meant.Key) (ps : List (List ℕ × Entry V)) → AreListed names ps → find (listed ps) key ≡ of_key key (of_uuid key.uuid (listed ps))
+  found_by key ps l = found_in key ps l ∙ same (lookup (bytes_eq key.uuid) ps) ∙ ap (of_key key) (sym (of_uuid_in key.uuid ps l))
+    where
+      same : (o : Option (Entry V)) → in_entry key o ≡ of_key key (option_map entry_of o)
+      same None = refl
+      same (Some e) = refl
+
   -- ---- names
 
   -- A name that leads nowhere is no entry's.
@@ -150,7 +183,7 @@ module _ {A V : Type 0} (names : List (Vec ℕ A × List ℕ)) where
       one true t more = absurd (some≢none p.0 (sym l.0.named ∙ ap (led_to names) (bytes_eq_true p.1.name name t) ∙ e))
       one false t more = more
 
-  pub named_in : (name u : List ℕ) (ps : List (List ℕ × Entry V)) → AreListed names ps → led_to names name ≡ Some u → uuid_named name (listed ps) ≡ if_named name u (lookup (bytes_eq u) ps)
+  named_in : (name u : List ℕ) (ps : List (List ℕ × Entry V)) → AreListed names ps → led_to names name ≡ Some u → uuid_named name (listed ps) ≡ if_named name u (lookup (bytes_eq u) ps)
   named_in name u [] l e = refl
   named_in name u (p ∷ ps) l e = one (bytes_eq u p.0) refl (named_in name u ps l.2 e)
     where
@@ -176,22 +209,13 @@ module _ {A V : Type 0} (names : List (Vec ℕ A × List ℕ)) where
               absurd (false≢true (sym t ∙ ap (bytes_eq u) same ∙ bytes_eq_same u))
           other false n = more
 
-  -- The first entry of a name stands where the name leads.
-  pub leads : (name u : List ℕ) (ps : List (List ℕ × Entry V)) → AreListed names ps → uuid_named name (listed ps) ≡ Some u → led_to names name ≡ Some u
-  leads name u [] l e = absurd (some≢none u (sym e))
-  leads name u (p ∷ ps) l e = one (bytes_eq p.1.name name) refl e (leads name u ps l.2)
+  -- What a name finds, by the entry that its UUID finds.
+  pub named_by : (name u : List ℕ) (ps : List (List ℕ × Entry V)) → AreListed names ps → led_to names name ≡ Some u → uuid_named name (listed ps) ≡ of_name name u (of_uuid u (listed ps))
+  named_by name u ps l e = named_in name u ps l e ∙ same (lookup (bytes_eq u) ps) ∙ ap (of_name name u) (sym (of_uuid_in u ps l))
     where
-      one : (b : Bool) → bytes_eq p.1.name name ≡ b → cond b (Some p.1.key.uuid) (uuid_named name (listed ps)) ≡ Some u → (uuid_named name (listed ps) ≡ Some u → led_to names name ≡ Some u) → led_to names name ≡ Some u
-      one true t e more = ap (led_to names) (sym (bytes_eq_true p.1.name name t)) ∙ l.0.named ∙ ap Some (sym l.0.keyed) ∙ e
-      one false t e more = more e
-
-  named_uuid : (name u : List ℕ) (ps : List (List ℕ × Entry V)) → uuid_named name (listed ps) ≡ Some u → has_uuid u (listed ps) ≡ true
-  named_uuid name u [] e = absurd (some≢none u (sym e))
-  named_uuid name u (p ∷ ps) e = one (bytes_eq p.1.name name) e (named_uuid name u ps)
-    where
-      one : (b : Bool) → cond b (Some p.1.key.uuid) (uuid_named name (listed ps)) ≡ Some u → (uuid_named name (listed ps) ≡ Some u → has_uuid u (listed ps) ≡ true) → bytes_eq p.1.key.uuid u || has_uuid u (listed ps) ≡ true
-      one true e more = let same : p.1.key.uuid ≡ u = cc in ap (λ (b : Bool). b || has_uuid u (listed ps)) (ap (λ (x : List ℕ). bytes_eq x u) same ∙ bytes_eq_same u)
-      one false e more = or_true (bytes_eq p.1.key.uuid u) (has_uuid u (listed ps)) (more e)
+      same : (o : Option (Entry V)) → if_named name u o ≡ of_name name u (option_map entry_of o)
+      same None = refl
+      same (Some e) = refl
 
   -- Where none has the UUID to which a name leads, none has the name.
   pub no_name : (name u : List ℕ) (ps : List (List ℕ × Entry V)) → AreListed names ps → led_to names name ≡ Some u → has_uuid u (listed ps) ≡ false → has_name name (listed ps) ≡ false
@@ -315,7 +339,7 @@ module _ {A V : Type 0} (names : List (Vec ℕ A × List ℕ)) where
           subst (λ (b : Bool). two b (bytes_eq p.1.key.uuid u)) (sym t) (subst (λ (b : Bool). two true b) (sym a)
           (all_else name es (no_name name u ps l.2 led alone) ∙ sym (all_others u es alone)))
       one false t e more =
-          let there : has_uuid u es ≡ true = named_uuid name u ps e in
+          let there : has_uuid u es ≡ true = named_uuid name u es e in
           let other : bytes_eq p.1.key.uuid u ≡ false = apart (bytes_eq p.1.key.uuid u) refl there in
           subst (λ (b : Bool). two b (bytes_eq p.1.key.uuid u)) (sym t) (subst (λ (b : Bool). two false b) (sym other) (ap (λ (r : List (meant.Entry V)). entry_of p.1 ∷ r) (more e)))
         where
@@ -330,12 +354,6 @@ completes_none u s [] f = refl
 completes_none {S} u s (e ∷ es) f =
     ap (λ (b : Bool). cond b (record e { contents = Some s } ∷ es) (e ∷ with_contents u s es)) (or_false_left (bytes_eq e.key.uuid u) (has_uuid u es) f)
     ∙ ap (λ (r : List (meant.Entry S)). e ∷ r) (completes_none u s es (or_false_right (bytes_eq e.key.uuid u) (has_uuid u es) f))
-
--- The name of an entry is lawful.
-pub named_at : {A V : Type 0} (names : List (Vec ℕ A × List ℕ)) (i : ℕ) (ps : List (List ℕ × Entry V)) (u : List ℕ) (e : Entry V) → AreListed names ps → slice_get ps i ≡ Some (u, e) → IsTrue (is_name e.name)
-named_at {A} {V} names i [] u e l f = absurd (some≢none (u, e) (sym f))
-named_at {A} {V} names zero (p ∷ ps) u e l f = let same : p ≡ (u, e) = some_same p (u, e) f in subst (λ (x : List ℕ × Entry V). IsTrue (is_name x.1.name)) same l.0.lawful
-named_at {A} {V} names (suc i) (p ∷ ps) u e l f = named_at names i ps u e l.2 f
 
 -- Maps of names that lead alike but for one name that no entry has.
 pub kept : {A V : Type 0} (names names' : List (Vec ℕ A × List ℕ)) (gone : List ℕ) → ((n : List ℕ) → bytes_eq n gone ≡ false → led_to names' n ≡ led_to names n)

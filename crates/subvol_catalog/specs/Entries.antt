@@ -14,8 +14,8 @@ key_of key = record { uuid = key.uuid; ctransid = key.ctransid }
 abbrev pub entry_of : {V : Type 0} → Entry V → meant.Entry V
 entry_of e = record { name = e.name; key = key_of e.key; parent = option_map key_of e.parent; contents = e.value }
 
--- The entries of pairs of a UUID and an entry.
-abbrev pub listed : {V : Type 0} → List (List ℕ × Entry V) → List (meant.Entry V)
+-- The entries of pairs of a number or a UUID and an entry.
+abbrev pub listed : {K V : Type 0} → List (K × Entry V) → List (meant.Entry V)
 listed pairs = map (λ p. entry_of p.1) pairs
 
 abbrev pub head_with : List ℕ → Key → Option Key → meant.Head

@@ -4,6 +4,7 @@ ghost use Rattle.std.specs.Option.{option_map, option_copied};
 ghost use Rattle.send_model.specs.Path.{is_name};
 ghost use Rattle.send_model.specs.Store.{IsStore, has_name, has_uuid, find, with_contents, unfinished};
 ghost use Rattle.subvol_catalog.specs.Entries.{key_of, entry_of, head_with, of_uuid, AreNamed};
+ghost use Rattle.subvol_catalog.specs.Indexes.{numbered};
 ghost use Rattle.subvol_catalog.specs.Admission.{uuid_named, is_new, has_parent, admitted, IsRefusedBy, Adds, without_name, without_uuid};
 
 use crate::entry::Entry;
@@ -19,10 +20,14 @@ use uuid::Uuid;
 /// Subvolumes in the order in which they began, found by name and by key. No name and no UUID stands twice.
 #[derive(Debug, Drop)]
 pub struct Catalog<V> {
-    entries: IndexMap<Uuid, Entry<V>>,
-    // The UUID of each entry by its name. A call for which memory ran out may leave a name here: it counts only where the
-    // entry of its UUID has it.
+    // Each entry under a number of its own. A stream chooses UUIDs but no numbers, so only numbers are hashed.
+    entries: IndexMap<u64, Entry<V>>,
+    // The number of each entry by its UUID, and the UUID of each by its name. A call for which memory ran out may leave a
+    // UUID or a name here: a UUID counts only where the entry of its number has it, a name where the entry of its UUID has it.
+    uuids: BTreeMap<Uuid, u64>,
     names: BTreeMap<Vec<u8>, Uuid>,
+    // The number of the entry that is added next. All others are below it.
+    next: u64,
 }
 
 impl<V> Model for Catalog<V> {
@@ -35,9 +40,9 @@ impl<V> Model for Catalog<V> {
 
     ghost view = { λ c. listed c.entries.entries };
 
-    ghost use Rattle.subvol_catalog.specs.Indexes.{AreListed};
+    ghost use Rattle.subvol_catalog.specs.Indexes.{AreFound};
 
-    ghost invariant = { λ c. AreListed c.names.entries c.entries.entries };
+    ghost invariant = { λ c. AreFound c.names.entries c.uuids.entries c.next c.entries.entries };
 }
 
 impl<V> Catalog<V> {
@@ -47,7 +52,9 @@ impl<V> Catalog<V> {
     {
         Catalog {
             entries: IndexMap::new(alloc),
+            uuids: BTreeMap::new(alloc),
             names: BTreeMap::new(alloc),
+            next: 0,
         }
     }
 
@@ -75,7 +82,8 @@ impl<V> Catalog<V> {
     pub fn by_uuid(&self, uuid: Uuid) -> Option<&Entry<V>>
         ensures entry { option_map (λ e. entry_of e.now) result ≡ of_uuid uuid self.now }
     {
-        let entry = self.entries.get(&uuid)?;
+        let number = number_of(&self.uuids, &self.entries, uuid)?;
+        let entry = self.entries.get(&number)?;
         Some(entry)
     }
 
@@ -83,7 +91,8 @@ impl<V> Catalog<V> {
     pub fn by_key(&self, key: Key) -> Option<&V>
         ensures found { option_copied result ≡ find self.now (key_of key) }
     {
-        let entry = self.entries.get(&key.uuid)?;
+        let number = number_of(&self.uuids, &self.entries, key.uuid)?;
+        let entry = self.entries.get(&number)?;
         if entry.key.ctransid != key.ctransid {
             return None;
         }
@@ -95,7 +104,7 @@ impl<V> Catalog<V> {
         ensures { result ≡ uuid_named name.now self.now }
     {
         let uuid = *self.names.get(name)?;
-        let entry = self.entries.get(&uuid)?;
+        let entry = self.by_uuid(uuid)?;
         if entry.name.as_slice() == name {
             Some(uuid)
         } else {
@@ -107,7 +116,7 @@ impl<V> Catalog<V> {
     fn has_uuid(&self, uuid: Uuid) -> bool
         ensures { result ≡ has_uuid uuid self.now }
     {
-        self.entries.contains_key(&uuid)
+        self.by_uuid(uuid).is_some()
     }
 }
 
@@ -182,16 +191,22 @@ impl<V: Drop> Catalog<V> {
         }
     }
 
-    // Puts a new entry behind the others.
+    // Puts a new entry behind the others. Where no number is left, that is answered as want of memory.
     fn push(&mut self, entry: Entry<V>) -> Result<(), Stop>
         requires new { is_new self.old entry.name entry.key.uuid ≡ Ok tt }
         ensures added { Adds result (Ok tt) (entry_of entry) self.old self.new }
     {
         let uuid = entry.uuid();
+        let number = self.next;
+        let Some(next) = number.checked_add(1) else {
+            return Err(Stop::NoMemory);
+        };
         let alloc = *self.entries.allocator();
         let name = Vec::from_slice(alloc, entry.name.as_slice())?;
         self.names.insert(name, uuid)?;
-        self.entries.insert(uuid, entry)?;
+        self.uuids.insert(uuid, number)?;
+        self.entries.insert(number, entry)?;
+        self.next = next;
         Ok(())
     }
 
@@ -200,7 +215,10 @@ impl<V: Drop> Catalog<V> {
     pub fn complete(&mut self, uuid: Uuid, value: V)
         ensures complete { self.new ≡ with_contents uuid value self.old }
     {
-        let Some(entry) = self.entries.get_mut(&uuid) else {
+        let Some(number) = number_of(&self.uuids, &self.entries, uuid) else {
+            return;
+        };
+        let Some(entry) = self.entries.get_mut(&number) else {
             return;
         };
         entry.value = Some(value);
@@ -214,9 +232,9 @@ impl<V: Drop> Catalog<V> {
         let Some(uuid) = self.uuid_of(name) else {
             return false;
         };
-        self.names.remove(name);
-        self.entries.shift_remove(&uuid);
-        true
+        // What holds of the indexes says that no other entry has this UUID.
+        let _ = &self.names;
+        self.drop_uuid(uuid)
     }
 
     /// Takes out the entry of a UUID, and answers whether there was one. The others keep their order. Takes no memory.
@@ -224,10 +242,31 @@ impl<V: Drop> Catalog<V> {
         ensures there { result ≡ has_uuid uuid self.old }
         ensures dropped { self.new ≡ without_uuid uuid self.old }
     {
-        let Some(entry) = self.entries.shift_remove(&uuid) else {
+        let Some(number) = number_of(&self.uuids, &self.entries, uuid) else {
             return false;
         };
+        let Some(entry) = self.entries.shift_remove(&number) else {
+            return false;
+        };
+        self.uuids.remove(&uuid);
         self.names.remove(entry.name.as_slice());
         true
+    }
+}
+
+// The number of the entry that has a UUID.
+fn number_of<V>(
+    uuids: &BTreeMap<Uuid, u64>,
+    entries: &IndexMap<u64, Entry<V>>,
+    uuid: Uuid,
+) -> Option<u64>
+    ensures { result ≡ numbered uuids.now.entries entries.now.entries uuid }
+{
+    let number = *uuids.get(&uuid)?;
+    let entry = entries.get(&number)?;
+    if entry.key.uuid == uuid {
+        Some(number)
+    } else {
+        None
     }
 }

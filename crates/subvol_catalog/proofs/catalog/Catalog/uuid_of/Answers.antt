@@ -1,27 +1,35 @@
 use Rattle.std.proofs.Common.{◌≡◌, ℕ, Bool, true, false, List, None, Some, cond, sym, ap, ◌∙◌}
 use Rattle.std.specs.Str.{bytes_eq}
-use Rattle.subvol_catalog.specs.Entries.{listed}
+use Rattle.subvol_catalog.specs.Entries.{listed, of_uuid}
 use Rattle.subvol_catalog.specs.Admission.{uuid_named}
-use Rattle.subvol_catalog.proofs.Pairs.{none_named, named_in, if_named}
+use Rattle.subvol_catalog.proofs.Pairs.{of_name}
+use Rattle.subvol_catalog.proofs.Views.{unnamed, name_finds}
 use Rattle.subvol_catalog.proofs.catalog.Catalog.uuid_of.Given.{Over}
 use Rattle.subvol_catalog.proofs.catalog.Catalog.uuid_of.Goals.{After-eq}
 use Rattle.subvol_catalog.proofs.catalog.Catalog.uuid_of.Goals as goal
 
 pub returns-in_err-uuid : goal.returns-in_err-uuid
-returns-in_err-uuid g c = rw (c.from_residual.ensures, ← c.self.view_is) (sym (none_named c.self.inside.names.entries c.args.name.now c.self.inside.entries.entries c.self.invariant (sym c.in_err-uuid.ensures.value)))
+returns-in_err-uuid g c =
+    let i = c.self.inside in
+    rw (c.from_residual.ensures, ← c.self.view_is) (sym (unnamed i.names.entries i.uuids.entries i.next i.entries.entries c.self.invariant c.args.name.now (sym c.in_err-uuid.ensures.value)))
 
 pub returns-in_err-entry : goal.returns-in_err-entry
 returns-in_err-entry g c =
+    let i = c.self.inside in
     let u : List ℕ = c.in_ok-uuid.field-0.now in
-    rw (c.from_residual-in_err-entry.ensures, ← c.self.view_is)
-    (sym (named_in c.self.inside.names.entries c.args.name.now u c.self.inside.entries.entries c.self.invariant (sym c.in_ok-uuid.ensures.value) ∙ ap (if_named c.args.name.now u) (sym c.in_err-entry.ensures.value)))
+    let found = name_finds i.names.entries i.uuids.entries i.next i.entries.entries c.self.invariant c.args.name.now u (sym c.in_ok-uuid.ensures.value) in
+    let none = ap (of_uuid u) c.self.view_is ∙ sym c.in_err-entry.ensures.entry in
+    rw (c.from_residual-in_err-entry.ensures, ← c.self.view_is) (sym (found ∙ ap (of_name c.args.name.now u) none))
 
 -- What is found, by whether the entry that the name leads to has this name.
 by_name : (g : Over) (c : After-eq g) (same : Bool) → c.eq.result ≡ same → cond same (Some c.in_ok-uuid.field-0.now) None ≡ uuid_named c.args.name.now (listed c.self.inside.entries.entries)
 by_name g c same is =
+    let i = c.self.inside in
     let u : List ℕ = c.in_ok-uuid.field-0.now in
     let eq : bytes_eq c.in_ok-entry.entry.now.name c.args.name.now ≡ c.eq.result = ap (λ (x : List ℕ). bytes_eq x c.args.name.now) (sym c.as_slice.ensures.bytes) ∙ sym c.eq.ensures in
-    sym (named_in c.self.inside.names.entries c.args.name.now u c.self.inside.entries.entries c.self.invariant (sym c.in_ok-uuid.ensures.value) ∙ ap (if_named c.args.name.now u) (sym c.in_ok-entry.ensures.value) ∙ ap (λ (b : Bool). cond b (Some u) None) (eq ∙ is))
+    let found = name_finds i.names.entries i.uuids.entries i.next i.entries.entries c.self.invariant c.args.name.now u (sym c.in_ok-uuid.ensures.value) in
+    let some = ap (of_uuid u) c.self.view_is ∙ sym c.in_ok-entry.ensures.entry in
+    sym (found ∙ ap (of_name c.args.name.now u) some ∙ ap (λ (b : Bool). cond b (Some u) None) (eq ∙ is))
 
 pub returns-then-eq : goal.returns-then-eq
 returns-then-eq g c = rw (← c.self.view_is) (by_name g (goal.at.returns-then-eq g c).After-eq true c.if-eq.true)
