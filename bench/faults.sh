@@ -98,6 +98,15 @@ put('donor', full(b'a', 1, file(b'1', given)))
 put('taker', later(b'b', 2, long + file(b'2') + command(16, path=b'2', **clone)))
 put('donor-taker', full(b'b', 2, file(b'1', given) + long + file(b'2', given)))
 
+# A file that is cloned onto its own end until it has 2^50 runs and 2^62 bytes, and a later part that clones all of it.
+doubled, length = [command(3, path=b'1'), command(15, path=b'1', offset=0, data=bytes(4096))], 4096
+own = dict(clone_uuid=uuid(1), clone_ctransid=1, clone_path=b'1', clone_offset=0)
+for _ in range(50):
+    doubled.append(command(16, path=b'1', offset=length, clone_len=length, **own))
+    length *= 2
+put('doubled', full(b'a', 1, b''.join(doubled)))
+put('whole-cloned', later(b'b', 2, file(b'2') + command(16, path=b'2', offset=0, clone_len=length, **own)))
+
 files = [file(b'%d' % number, b'%d' % number) for number in range(3000)]
 put('m0', full(b's0', 1, files[0]))
 for number in range(1, 3000):
@@ -227,6 +236,7 @@ run compose none small second; composed 'a chain' small-second
 run compose none first second third; composed 'a long chain' first-third
 (ulimit -n 24; timeout 20 "$program" compose none $(seq -f m%g 0 2999) >out 2>note); status=$?
 composed '3000 files, of which 24 may be open' many
+run compose none doubled whole-cloned; refused '2^62 bytes in 2^50 runs that would be written anew' 9 "too much $((1 << 62))"
 
 # ---- words
 

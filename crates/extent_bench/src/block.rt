@@ -1,5 +1,5 @@
 // What the cells of the measured file are.
-ghost use Rattle.std.specs.Prelude.{◌+◌, ◌-◌, ◌^◌};
+ghost use Rattle.std.specs.Prelude.{◌+◌, ◌-◌, ◌^◌, false};
 
 use extent_map::Origin;
 
@@ -10,11 +10,13 @@ pub struct Byte {
 }
 
 impl Origin for Byte {
-    ghost use Rattle.std.proofs.Common.{add-zero, add_assoc, ap, arith};
+    ghost use Rattle.std.proofs.Common.{add-zero, add_assoc, ap, arith, refl};
 
     ghost reach = { λ b. 2 ^ 64 - 1 - b.number };
 
     ghost advanced = { λ b k. record b { number = b.number + k } };
+
+    ghost foreign = { λ b. false };
 
     fn advance(&self, k: u64) -> Byte {
         Byte {
@@ -22,9 +24,15 @@ impl Origin for Byte {
         }
     }
 
+    fn is_foreign(&self) -> bool {
+        false
+    }
+
     ghost advanced_by_none = { λ b. ap (λ n. record b { number = n }) (add-zero b.number) };
 
     ghost reach_is_left = { λ b j k h. Prim.omega arith };
 
     ghost advanced_twice = { λ b j k h. ap (λ n. record b { number = n }) (add_assoc b.number j k) };
+
+    ghost foreign_stays = { λ b k h. refl };
 }

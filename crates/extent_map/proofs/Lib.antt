@@ -1,5 +1,6 @@
 pub mod Ahead
 pub mod CellLists
+pub mod Foreigns
 pub mod Halves
 pub mod Layouts
 pub mod LeafEdits

@@ -1,11 +1,11 @@
 -- What is seen of the kinds of trees.
-use Rattle.std.proofs.Common.{◌≡◌, ℕ, ◌+◌, ◌*◌, ◌^◌, ◌<◌, ◌≤◌, List, [], ◌∷◌, length, suc, refl, sym, ap, ◌∙◌, subst, arith, Vec, Global}
+use Rattle.std.proofs.Common.{◌≡◌, ℕ, Bool, ◌+◌, ◌*◌, ◌^◌, ◌<◌, ◌≤◌, List, [], ◌∷◌, length, suc, refl, sym, ap, ◌∙◌, subst, arith, Vec, Global}
 use Rattle.std.proofs.lemmas.List.Elements.{All-head, All-tail}
 use Rattle.std.proofs.lemmas.List.Sums.{sum_by-cons}
 use Rattle.std.specs.List.{sum_by}
 use native.Mathlib.Nat.{two-pow-succ}
 use Rattle.extent_map.specs.Seen.{Seen, cells_count, joined, IsKid, AreKids}
-use Rattle.extent_map.specs.Trees.{count_of, height_of, seen, IsTree}
+use Rattle.extent_map.specs.Trees.{count_of, height_of, seen, HasParts}
 use Rattle.extent_map.specs.declared.tree.Shape.{Shape}
 use Rattle.extent_map.specs.declared.tree.Shape.TheVariants.{Empty, Leaf, Fork}
 use Rattle.std.specs.declared.rc.Rc.{Rc}
@@ -16,10 +16,10 @@ use Rattle.extent_map.proofs.LeafEdits.{length-all_cells}
 use Rattle.extent_map.proofs.Spans.{length-all}
 
 module _ {O : Type 0} (advanced : O → ℕ → O) (reach : O → ℕ) where
-  pub length-seen : (t : Shape O) → IsTree reach t → length (seen advanced t).cells ≡ count_of t
+  pub length-seen : (t : Shape O) → HasParts reach t → length (seen advanced t).cells ≡ count_of t
   length-seen Empty h = refl
-  length-seen (Leaf len pieces) h = length-all_cells advanced reach pieces.value.items ∙ sym h.counted
-  length-seen (Fork height len kids) h = length-all (λ (k : Seen O). k.cells) cells_count (λ k. refl) kids.value.items ∙ sym h.counted
+  length-seen (Leaf foreign len pieces) h = length-all_cells advanced reach pieces.value.items ∙ sym h.counted
+  length-seen (Fork height foreign len kids) h = length-all (λ (k : Seen O). k.cells) cells_count (λ k. refl) kids.value.items ∙ sym h.counted
 
 -- one step up is twice as many
 twice : (n : ℕ) → 2 ^ (n + 1) ≡ 2 ^ n + 2 ^ n
@@ -46,14 +46,14 @@ module _ {O : Type 0} where
   kids_some steps (k ∷ ks) each two = omega (arith, (All-head (IsKid steps) k ks each).some, sum_by-cons cells_count k ks)
 
 module _ {O : Type 0} (advanced : O → ℕ → O) (reach : O → ℕ) where
-  pub is_kid : (t : Shape O) → IsTree reach t → 0 < (seen advanced t).height → IsKid (seen advanced t).height (seen advanced t)
+  pub is_kid : (t : Shape O) → HasParts reach t → 0 < (seen advanced t).height → IsKid (seen advanced t).height (seen advanced t)
   is_kid Empty h up = absurd (omega (arith, up))
-  is_kid (Leaf len pieces) h up =
-      let l = length-seen advanced reach (Leaf len pieces) h in
+  is_kid (Leaf foreign len pieces) h up =
+      let l = length-seen advanced reach (Leaf foreign len pieces) h in
       let e : 2 ^ 1 ≡ 2 = refl in
       record { height = refl; some = omega (arith, l, h.some); high = up; balanced = omega (arith, l, h.some, e) }
-  is_kid (Fork height len kids) h up =
-      let l = length-seen advanced reach (Fork height len kids) h in
+  is_kid (Fork height foreign len kids) h up =
+      let l = length-seen advanced reach (Fork height foreign len kids) h in
       let b = h.below in
       record {
         height = refl;
@@ -63,29 +63,29 @@ module _ {O : Type 0} (advanced : O → ℕ → O) (reach : O → ℕ) where
       }
 
   -- a leaf that is taken apart
-  pub leaf_opened : (s : Seen O) (t : Shape O) (len : ℕ) (node : Rc (Vec (Piece O) Global) Global) (pieces : List (Piece O)) → seen advanced t ≡ s → IsTree reach t → t ≡ Leaf len node → pieces ≡ node.value.items → ArePiecesOf advanced reach s pieces
-  leaf_opened s t len node pieces v h e p =
-      let tree : IsTree reach (Leaf len node) = subst (IsTree reach) e h in
-      let view : seen advanced (Leaf len node) ≡ s = ap (seen advanced) (sym e) ∙ v in
+  pub leaf_opened : (s : Seen O) (t : Shape O) (foreign : Bool) (len : ℕ) (node : Rc (Vec (Piece O) Global) Global) (pieces : List (Piece O)) → seen advanced t ≡ s → HasParts reach t → t ≡ Leaf foreign len node → pieces ≡ node.value.items → ArePiecesOf advanced reach s pieces
+  leaf_opened s t foreign len node pieces v h e p =
+      let tree : HasParts reach (Leaf foreign len node) = subst (HasParts reach) e h in
+      let view : seen advanced (Leaf foreign len node) ≡ s = ap (seen advanced) (sym e) ∙ v in
       record {
         have = record {
           are = ap (all_cells advanced) p ∙ ap (λ (x : Seen O). x.cells) view;
           each = subst (ArePieces reach) (sym p) tree.each;
         };
         height = sym (ap (λ (x : Seen O). x.height) view);
-        some = omega (arith, ap (λ (x : Seen O). length x.cells) view, length-seen advanced reach (Leaf len node) tree, tree.some);
+        some = omega (arith, ap (λ (x : Seen O). length x.cells) view, length-seen advanced reach (Leaf foreign len node) tree, tree.some);
       }
 
   pub height-seen : (t : Shape O) → (seen advanced t).height ≡ height_of t
   height-seen Empty = refl
-  height-seen (Leaf len pieces) = refl
-  height-seen (Fork height len kids) = refl
+  height-seen (Leaf foreign len pieces) = refl
+  height-seen (Fork height foreign len kids) = refl
 
   -- a tree over others that is taken apart
-  pub fork_opened : (s : Seen O) (t : Shape O) (high len : ℕ) (node : Rc (Vec (Seen O) Global) Global) → seen advanced t ≡ s → IsTree reach t → t ≡ Fork high len node → AreKidsOf s high node.value.items
-  fork_opened s t high len node v h e =
-      let tree : IsTree reach (Fork high len node) = subst (IsTree reach) e h in
-      let view : seen advanced (Fork high len node) ≡ s = ap (seen advanced) (sym e) ∙ v in
+  pub fork_opened : (s : Seen O) (t : Shape O) (high : ℕ) (foreign : Bool) (len : ℕ) (node : Rc (Vec (Seen O) Global) Global) → seen advanced t ≡ s → HasParts reach t → t ≡ Fork high foreign len node → AreKidsOf s high node.value.items
+  fork_opened s t high foreign len node v h e =
+      let tree : HasParts reach (Fork high foreign len node) = subst (HasParts reach) e h in
+      let view : seen advanced (Fork high foreign len node) ≡ s = ap (seen advanced) (sym e) ∙ v in
       record {
         below = tree.below;
         as_high = sym (ap (λ (x : Seen O). x.height) view);

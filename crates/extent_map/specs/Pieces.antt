@@ -1,7 +1,7 @@
 -- The cells of runs and of holes, and what the pieces of a range are. Source: this project; a piece is what a reader of a
 -- file's extents takes at a time.
-use Rattle.std.specs.Prelude.{◌≡◌, ℕ, ◌+◌, ◌<◌, ◌≤◌, Option, Some, None, MatchOption, IfSome, List, [], ◌++◌, map, length, ◌^◌}
-use Rattle.std.specs.List.{range_with_len}
+use Rattle.std.specs.Prelude.{◌≡◌, ℕ, ◌+◌, ◌<◌, ◌≤◌, Bool, false, Option, Some, None, MatchOption, IfSome, List, [], ◌++◌, map, length, ◌^◌}
+use Rattle.std.specs.List.{range_with_len, list_any}
 use lib.ListN.{replicate}
 
 -- The cells of a run of `len` cells from an origin.
@@ -16,6 +16,15 @@ zero_cells len = replicate len None
 unfoldable pub piece_cells : {O : Type 0} → (O → ℕ → O) → Option O → ℕ → List (Option O)
 piece_cells advanced None len = zero_cells len
 piece_cells advanced (Some origin) len = run_cells advanced origin len
+
+-- Whether a cell is foreign: one whose origin is.
+abbrev pub foreign_cell : {O : Type 0} → (O → Bool) → Option O → Bool
+foreign_cell foreign None = false
+foreign_cell foreign (Some origin) = foreign origin
+
+-- Whether one of some cells is foreign.
+abbrev pub have_foreign : {O : Type 0} → (O → Bool) → List (Option O) → Bool
+have_foreign foreign cells = list_any (foreign_cell foreign) cells
 
 -- A call of `next` where the cells `left` are left: it gives the piece that they begin with, of a cell at least, and
 -- leaves the others, or there are none.

@@ -1,9 +1,10 @@
 // The contents of a file.
 ghost use Rattle.std.specs.Prelude.{◌≡◌, ℕ, ◌+◌, ◌^◌, ◌<◌, ◌≤◌, ◌⊎◌, IfOk, IfSome, OnOk, None, Some, [], length};
-ghost use Rattle.extent_map.specs.Cells.{resize_cells, put_cells, cells_between};
-ghost use Rattle.extent_map.specs.Pieces.{run_cells, zero_cells};
+ghost use Rattle.extent_map.specs.Cells.{resize_cells, put_cells, cells_between, IsFirstFrom};
+ghost use Rattle.extent_map.specs.Pieces.{run_cells, zero_cells, foreign_cell};
 ghost use Rattle.extent_map.specs.Leaves.{cells_in, IsReached};
 
+use crate::foreign::first_in_tree;
 use crate::origin::Origin;
 use crate::parts::Part;
 use crate::piece::Piece;
@@ -54,6 +55,19 @@ impl<O: Origin> Root<O> {
         match self {
             Root::One(piece) => piece.len,
             Root::Many(tree) => tree.span(),
+        }
+    }
+
+    /// The first place from `at` on where a foreign cell stands, or the end of the cells.
+    fn first_foreign(&self, at: u64) -> u64
+        requires root { IsRoot O.advanced O.reach self.now }
+        requires within { at ≤ length (root_cells O.advanced self.now) }
+        ensures { IsFirstFrom (foreign_cell O.foreign) None at (root_cells O.advanced self.now)
+            result }
+    {
+        match self {
+            Root::One(piece) => piece.first_foreign(at),
+            Root::Many(tree) => first_in_tree(tree, at),
         }
     }
 
@@ -209,6 +223,15 @@ impl<O: Origin> Extents<O> {
         ensures { result ≡ cells_between from len self.now }
     {
         Pieces::new(&self.root, from, from + len)
+    }
+
+    /// The first place from `at` on where a foreign cell stands, or the size where there is none. It takes no memory, and
+    /// passes any number of runs that are not foreign at once.
+    pub fn next_foreign(&self, at: u64) -> u64
+        requires { at ≤ length self.now }
+        ensures { IsFirstFrom (foreign_cell O.foreign) None at self.now result }
+    {
+        self.root.first_foreign(at)
     }
 
     /// Whether a range is of few pieces.

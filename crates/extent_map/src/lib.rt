@@ -3,6 +3,7 @@
 
 mod editing;
 mod extents;
+mod foreign;
 mod joining;
 mod leaf;
 mod making;

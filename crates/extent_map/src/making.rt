@@ -6,7 +6,7 @@ ghost use Rattle.extent_map.specs.Seen.{cells_count, joined, AreBelow, IsFork, I
 ghost use Rattle.extent_map.specs.Trees.{IsLeaf};
 
 use crate::origin::Origin;
-use crate::parts::{Part, fresh, given, taken, total};
+use crate::parts::{Part, any_foreign, fresh, given, taken, total};
 use crate::piece::Piece;
 use crate::tree::{KIDS, PIECES, Shape, Tree};
 use std::alloc::{AllocError, Global};
@@ -40,9 +40,9 @@ impl<O: Origin> Tree<O> {
             (λ opened. ArePiecesOf O.advanced O.reach self opened.1.items) }
     {
         match self.shape {
-            Shape::Leaf(_, node) => taken(alloc, node),
+            Shape::Leaf(_, _, node) => taken(alloc, node),
             Shape::Empty => unreachable!(),
-            Shape::Fork(_, _, _) => unreachable!(),
+            Shape::Fork(_, _, _, _) => unreachable!(),
         }
     }
 
@@ -52,7 +52,7 @@ impl<O: Origin> Tree<O> {
         ensures { IfOk result (λ kids. AreKidsOf self kids.height kids.trees.items) }
     {
         match self.shape {
-            Shape::Fork(height, _, node) => {
+            Shape::Fork(height, _, _, node) => {
                 let (node, trees) = taken(alloc, node)?;
                 Ok(Kids {
                     height,
@@ -61,7 +61,7 @@ impl<O: Origin> Tree<O> {
                 })
             }
             Shape::Empty => unreachable!(),
-            Shape::Leaf(_, _) => unreachable!(),
+            Shape::Leaf(_, _, _) => unreachable!(),
         }
     }
 }
@@ -77,8 +77,9 @@ pub(crate) fn leaf<O: Origin>(
     ensures cells { IfOk result (λ t. t.cells ≡ all_cells O.advanced pieces.items) }
     ensures height { IfOk result (λ t. t.height ≡ 1) }
 {
+    let foreign = any_foreign(&pieces);
     Ok(Tree {
-        shape: Shape::Leaf(len, given(alloc, node, pieces)?),
+        shape: Shape::Leaf(foreign, len, given(alloc, node, pieces)?),
     })
 }
 
@@ -129,8 +130,9 @@ pub(crate) fn over<O: Origin>(
     ensures cells { IfOk result (λ t. t.cells ≡ joined trees.items) }
     ensures height { IfOk result (λ t. t.height ≡ height) }
 {
+    let foreign = any_foreign(&trees);
     Ok(Tree {
-        shape: Shape::Fork(height, len, given(alloc, node, trees)?),
+        shape: Shape::Fork(height, foreign, len, given(alloc, node, trees)?),
     })
 }
 

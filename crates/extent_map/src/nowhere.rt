@@ -1,5 +1,5 @@
 // An origin that points nowhere.
-ghost use Rattle.std.specs.Prelude.{◌^◌};
+ghost use Rattle.std.specs.Prelude.{◌^◌, false};
 
 use crate::origin::Origin;
 
@@ -14,9 +14,15 @@ impl Origin for Nowhere {
 
     ghost advanced = { λ o k. o };
 
+    ghost foreign = { λ o. false };
+
     fn advance(&self, k: u64) -> Nowhere {
         let _ = k;
         Nowhere
+    }
+
+    fn is_foreign(&self) -> bool {
+        false
     }
 
     fn goes_on(&self, len: u64, next: &Nowhere, more: u64) -> bool {
@@ -29,4 +35,6 @@ impl Origin for Nowhere {
     ghost reach_is_left = { λ o j k h. Prim.omega (arith, h) };
 
     ghost advanced_twice = { λ o j k h. refl };
+
+    ghost foreign_stays = { λ o k h. refl };
 }

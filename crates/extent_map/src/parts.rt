@@ -1,6 +1,6 @@
 // Lists of parts: pieces, which a leaf has, and trees, which a tree has.
-ghost use Rattle.std.specs.Prelude.{◌≡◌, ℕ, ◌+◌, ◌^◌, ◌<◌, ◌≤◌, IfOk, length};
-ghost use Rattle.std.specs.List.{sum_by};
+ghost use Rattle.std.specs.Prelude.{◌≡◌, ℕ, ◌+◌, ◌^◌, ◌<◌, ◌≤◌, Bool, IfOk, length};
+ghost use Rattle.std.specs.List.{list_any, sum_by};
 ghost use Rattle.extent_map.specs.Parts.{IsFound};
 
 use std::alloc::{AllocError, Global};
@@ -11,9 +11,16 @@ pub(crate) trait Part: Drop {
     /// How many cells it has.
     ghost span: { Self → ℕ };
 
+    /// Whether one of its cells is foreign.
+    ghost foreign: { Self → Bool };
+
     /// How many cells it has.
     fn span(&self) -> u64
         ensures { result ≡ span self.now };
+
+    /// Whether one of its cells is foreign.
+    fn has_foreign(&self) -> bool
+        ensures { result ≡ foreign self.now };
 
     /// The same part. Fails for want of memory alone.
     fn copy(&self) -> Result<Self, AllocError>
@@ -49,6 +56,18 @@ pub(crate) fn total<T: Part>(parts: &[T]) -> u64
         sum += part.span();
     }
     sum
+}
+
+/// Whether one of some parts has a foreign cell.
+pub(crate) fn any_foreign<T: Part>(parts: &[T]) -> bool
+    ensures { result ≡ list_any T.foreign parts.now }
+{
+    for part in parts {
+        if part.has_foreign() {
+            return true;
+        }
+    }
+    false
 }
 
 /// The parts, each copied, with room for two more.

@@ -1,5 +1,7 @@
 // A run of cells, or some zero cells.
-ghost use Rattle.std.specs.Prelude.{◌≡◌, ℕ, ◌+◌, ◌-◌, ◌^◌, ◌<◌, ◌≤◌, IfSome, IsTrue, take, drop};
+ghost use Rattle.std.specs.Prelude.{◌≡◌, ℕ, ◌+◌, ◌-◌, ◌^◌, ◌<◌, ◌≤◌, None, IfSome, IsTrue, take, drop};
+ghost use Rattle.extent_map.specs.Cells.{IsFirstFrom};
+ghost use Rattle.extent_map.specs.Pieces.{foreign_cell};
 
 use crate::origin::Origin;
 use crate::parts::Part;
@@ -23,8 +25,17 @@ impl<O: Copy> Clone for Piece<O> {
 impl<O: Origin> Part for Piece<O> {
     ghost span = { λ piece. piece.len };
 
+    ghost foreign = { λ piece. foreign_cell O.foreign piece.origin };
+
     fn span(&self) -> u64 {
         self.len
+    }
+
+    fn has_foreign(&self) -> bool {
+        match &self.origin {
+            Some(origin) => origin.is_foreign(),
+            None => false,
+        }
     }
 
     fn copy(&self) -> Result<Piece<O>, AllocError> {
@@ -34,7 +45,7 @@ impl<O: Origin> Part for Piece<O> {
 
 impl<O: Origin> Piece<O> {
     ghost use Rattle.extent_map.specs.Pieces.{AreOne};
-    ghost use Rattle.extent_map.specs.Leaves.{cells_in, IsReached, IsBoth};
+    ghost use Rattle.extent_map.specs.Leaves.{cells_in, IsPiece, IsReached, IsBoth};
 
     /// The first `count` cells.
     pub(crate) fn front(&self, count: u64) -> Piece<O>
@@ -66,6 +77,16 @@ impl<O: Origin> Piece<O> {
             },
             None => Piece { origin: None, len },
         }
+    }
+
+    /// The first place from `at` on where a foreign cell stands, or the end of the cells.
+    pub(crate) fn first_foreign(&self, at: u64) -> u64
+        requires piece { IsPiece O.reach self.now }
+        requires within { at ≤ self.now.len }
+        ensures { IsFirstFrom (foreign_cell O.foreign) None at (cells_in O.advanced self.now)
+            result }
+    {
+        if self.has_foreign() { at } else { self.len }
     }
 
     /// Whether this piece and the next one are one.

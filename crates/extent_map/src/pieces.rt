@@ -106,12 +106,12 @@ fn seek<O: Origin>(tree: &Tree<O>, at: u64) -> (&[Piece<O>], u64)
 {
     match &tree.shape {
         Shape::Empty => unreachable!(),
-        Shape::Leaf(_, pieces) => {
+        Shape::Leaf(_, _, pieces) => {
             let pieces = pieces.as_ref().as_slice();
             let (index, start) = find(pieces, at);
             (&pieces[index..], at - start)
         }
-        Shape::Fork(_, _, trees) => {
+        Shape::Fork(_, _, _, trees) => {
             let trees = trees.as_ref().as_slice();
             let (index, start) = find(trees, at);
             seek(&trees[index], at - start)

@@ -1,8 +1,9 @@
 // A tree of runs, whose parts other trees may share.
 ghost use Rattle.std.specs.Prelude.{◌≡◌, ℕ, ◌+◌, ◌*◌, ◌^◌, ◌<◌, ◌≤◌, [], IfOk, IfSome, length};
 ghost use Rattle.extent_map.specs.Leaves.{IsOnly};
+ghost use Rattle.extent_map.specs.Pieces.{have_foreign};
 ghost use Rattle.extent_map.specs.Seen.{cells_count, IsKid};
-ghost use Rattle.extent_map.specs.Trees.{count_of, height_of};
+ghost use Rattle.extent_map.specs.Trees.{count_of, height_of, says_foreign};
 
 use crate::origin::Origin;
 use crate::parts::Part;
@@ -25,14 +26,15 @@ pub(crate) struct Tree<O: Origin> {
     pub(crate) shape: Shape<O>,
 }
 
-/// No cells, pieces, or trees of one height: how many cells they have, and they.
+/// No cells, pieces, or trees of one height: whether one of their cells is foreign, how many cells they
+/// have, and they. The small fields stand together, since what stands in each file's contents is as long as they are laid out.
 #[cycle(tree)]
 #[derive(Debug, Drop)]
 pub(crate) enum Shape<O: Origin> {
     Empty,
-    Leaf(u64, Rc<Vec<Piece<O>>>),
+    Leaf(bool, u64, Rc<Vec<Piece<O>>>),
     /// The height comes first: how many steps it is down to a leaf's pieces.
-    Fork(u8, u64, Rc<Vec<Tree<O>>>),
+    Fork(u8, bool, u64, Rc<Vec<Tree<O>>>),
 }
 
 impl<O: Origin> Model for Tree<O> {
@@ -44,13 +46,13 @@ impl<O: Origin> Model for Tree<O> {
 
     ghost view = { λ t. seen O.advanced t.shape };
 
-    ghost invariant = { λ t. IsTree O.reach t.shape };
+    ghost invariant = { λ t. IsTree O.advanced O.foreign O.reach t.shape };
 
     ghost size = { λ s. s.height };
 
     ghost use Rattle.extent_map.specs.Falls.{kids_lower};
 
-    ghost size_decreases = { λ a h. kids_lower O O.Origin a.shape h };
+    ghost size_decreases = { λ a h. kids_lower O O.Origin a.shape h.parts };
 }
 
 impl<O: Origin> Shape<O> {
@@ -59,8 +61,8 @@ impl<O: Origin> Shape<O> {
     {
         match self {
             Shape::Empty => 0,
-            Shape::Leaf(len, _) => *len,
-            Shape::Fork(_, len, _) => *len,
+            Shape::Leaf(_, len, _) => *len,
+            Shape::Fork(_, _, len, _) => *len,
         }
     }
 
@@ -69,8 +71,18 @@ impl<O: Origin> Shape<O> {
     {
         match self {
             Shape::Empty => 0,
-            Shape::Leaf(_, _) => 1,
-            Shape::Fork(height, _, _) => *height,
+            Shape::Leaf(_, _, _) => 1,
+            Shape::Fork(height, _, _, _) => *height,
+        }
+    }
+
+    fn says_foreign(&self) -> bool
+        ensures { result ≡ says_foreign self.now }
+    {
+        match self {
+            Shape::Empty => false,
+            Shape::Leaf(foreign, _, _) => *foreign,
+            Shape::Fork(_, foreign, _, _) => *foreign,
         }
     }
 }
@@ -78,8 +90,14 @@ impl<O: Origin> Shape<O> {
 impl<O: Origin> Part for Tree<O> {
     ghost span = { λ tree. cells_count tree };
 
+    ghost foreign = { λ tree. have_foreign O.foreign tree.cells };
+
     fn span(&self) -> u64 {
         self.shape.count()
+    }
+
+    fn has_foreign(&self) -> bool {
+        self.shape.says_foreign()
     }
 
     fn copy(&self) -> Result<Tree<O>, AllocError> {
@@ -87,11 +105,11 @@ impl<O: Origin> Part for Tree<O> {
             Shape::Empty => Ok(Tree {
                 shape: Shape::Empty,
             }),
-            Shape::Leaf(len, pieces) => Ok(Tree {
-                shape: Shape::Leaf(*len, pieces.clone()?),
+            Shape::Leaf(foreign, len, pieces) => Ok(Tree {
+                shape: Shape::Leaf(*foreign, *len, pieces.clone()?),
             }),
-            Shape::Fork(height, len, kids) => Ok(Tree {
-                shape: Shape::Fork(*height, *len, kids.clone()?),
+            Shape::Fork(height, foreign, len, kids) => Ok(Tree {
+                shape: Shape::Fork(*height, *foreign, *len, kids.clone()?),
             }),
         }
     }
@@ -120,10 +138,10 @@ impl<O: Origin> Tree<O> {
     /// Whether another tree of its height is small enough to become one with it.
     pub(crate) fn takes(&self, other: &Tree<O>) -> bool {
         match (&self.shape, &other.shape) {
-            (Shape::Leaf(_, pieces), Shape::Leaf(_, more)) => {
+            (Shape::Leaf(_, _, pieces), Shape::Leaf(_, _, more)) => {
                 pieces.as_ref().len().saturating_add(more.as_ref().len()) <= PIECES / 2
             }
-            (Shape::Fork(_, _, kids), Shape::Fork(_, _, more)) => {
+            (Shape::Fork(_, _, _, kids), Shape::Fork(_, _, _, more)) => {
                 kids.as_ref().len().saturating_add(more.as_ref().len()) <= KIDS
             }
             _ => false,
@@ -135,7 +153,7 @@ impl<O: Origin> Tree<O> {
         ensures { IfSome result (IsOnly O.advanced O.reach self.now) }
     {
         match &self.shape {
-            Shape::Leaf(_, pieces) => match pieces.as_ref().as_slice() {
+            Shape::Leaf(_, _, pieces) => match pieces.as_ref().as_slice() {
                 [piece] => Some(*piece),
                 _ => None,
             },

@@ -15,7 +15,7 @@ use crate::spelling::Spelling;
 use extent_map::Origin;
 use inode_tree::{Bytes, Inode, NodeKind, Timestamp};
 use send_commands::{Command, Time};
-use shared_map::SharedMap;
+use shared_map::Entries;
 use std::alloc::AllocError;
 use sx_base::Blob;
 
@@ -27,15 +27,15 @@ impl<F: Form> Spelling<F> {
     pub fn xattrs(
         &self,
         path: &[u8],
-        xattrs: &SharedMap<Bytes, Bytes>,
+        xattrs: Entries<'_, Bytes, Bytes>,
         to: &mut Blob,
     ) -> Result<(), AllocError>
         requires short { IsShortPath path.now }
-        requires said { AllByRecursion (λ x. HasLength x.0 × HasLength x.1) xattrs.now }
+        requires said { AllByRecursion (λ x. HasLength x.0 × HasLength x.1) xattrs }
         ensures added { OnOk result (to.new ≡ to.old ++ spelled_all F.spelled self.now.version
-            (map (λ e. SetXattr e.0 e.1 path.now) xattrs.now)) }
+            (map (λ e. SetXattr e.0 e.1 path.now) xattrs.entry)) }
     {
-        for (name, value) in xattrs.iter() {
+        for (name, value) in xattrs {
             self.xattr(path, name.as_slice(), value.as_slice(), to)?;
         }
         Ok(())

@@ -1,4 +1,5 @@
 pub mod Changes
+pub mod Extras
 pub mod Kinds
 pub mod Openings
 pub mod Places

@@ -1,6 +1,9 @@
 -- The first sixteen bytes of a name as two numbers, which compare as the bytes do. Source: this program's own.
-use Rattle.std.specs.Prelude.{◌≡◌, ℕ, ◌+◌, ◌*◌, ◌<◌, ◌≤◌, List}
+use Rattle.std.specs.Prelude.{◌≡◌, ℕ, ◌+◌, ◌*◌, ◌<◌, ◌≤◌, List, take}
+use Rattle.std.specs.Rc.{rc_slice_items}
 use Rattle.std.proofs.Math.ListN.{get_or}
+use Rattle.inode_tree.specs.declared.name.Rest.{Rest}
+use Rattle.inode_tree.specs.declared.name.Rest.TheVariants.{Short, Long}
 
 -- The byte at a place, or zero where there is none; two, four and eight bytes from a place on, the first the highest.
 abbrev pub byte_at : List ℕ → ℕ → ℕ
@@ -26,3 +29,13 @@ pub record IsOpening (bytes opening : List ℕ) (len : ℕ) : Type 0 where
   pub same : (place : ℕ) → place < 16 → byte_at opening place ≡ byte_at bytes place
   pub small : (place : ℕ) → byte_at bytes place < 256
   pub fits : len ≤ 16
+
+-- A name by its first sixteen bytes and what stands beside them.
+abbrev pub whole : Rest → List ℕ → List ℕ
+whole (Short len) opening = take len opening
+whole (Long bytes) opening = rc_slice_items bytes
+
+-- How many bytes a name has, if all of them are among its first sixteen.
+abbrev pub within : Rest → ℕ
+within (Short len) = len
+within (Long bytes) = 0

@@ -8,7 +8,6 @@ ghost use Rattle.inode_tree.specs.Changes.{with_times, changed};
 ghost use Rattle.inode_tree.specs.Kinds.{time_of};
 
 use crate::change::{Change, Changing, Swapping};
-use crate::name::BytesRef;
 use crate::time::Timestamp;
 use crate::tree::Tree;
 use extent_map::{Extents, Origin};
@@ -134,7 +133,7 @@ impl<O: Origin> Tree<O> {
         ensures { result ≡ edit.has_xattr self.now ino name.now }
     {
         match self.inode(ino) {
-            Some(inode) => inode.xattrs().get(&BytesRef::new(name)).is_some(),
+            Some(inode) => inode.xattr(name).is_some(),
             None => false,
         }
     }

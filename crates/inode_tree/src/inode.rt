@@ -1,17 +1,20 @@
 // The inodes of a tree.
 ghost use Rattle.std.specs.Prelude.{◌≡◌, ◌<◌, ◌≤◌, ◌^◌, length, IfOk, OnOk};
 ghost use Rattle.extent_map.specs.Pieces.{run_cells};
+ghost use Rattle.std.specs.Option.{option_copied};
+ghost use Rattle.send_model.specs.Map.{bytes_cmp, value_at};
 ghost use Rattle.send_model.specs.Provenance.{inode_with};
 ghost use Rattle.send_model.specs.Subvolume.{is_directory_kind};
 ghost use Rattle.inode_tree.specs.Changes.{changed};
 ghost use Rattle.inode_tree.specs.Kinds.{kind_of, time_of, new_of_kind, mode_of};
 
 use crate::change::Change;
+use crate::extras::Extras;
 use crate::kind::NodeKind;
-use crate::name::{Bytes, BytesRef};
+use crate::name::Bytes;
 use crate::time::Timestamp;
 use extent_map::{Extents, Origin};
-use shared_map::{Copied, SharedMap};
+use shared_map::{Copied, Entries};
 use std::alloc::{AllocError, Global};
 use std::marker::Model;
 
@@ -24,10 +27,7 @@ pub struct Inode<O: Origin> {
     gid: u64,
     atime: Timestamp,
     mtime: Timestamp,
-    rdev: u64,
-    flags: u64,
-    target: Bytes,
-    xattrs: SharedMap<Bytes, Bytes>,
+    extras: Extras,
     contents: Extents<O>,
 }
 
@@ -45,10 +45,10 @@ impl<O: Origin> Model for Inode<O> {
       gid = i.gid;
       atime = time_of i.atime;
       mtime = time_of i.mtime;
-      rdev = i.rdev;
-      flags = i.flags;
-      target = i.target;
-      xattrs = i.xattrs;
+      rdev = i.extras.rdev;
+      flags = i.extras.flags;
+      target = i.extras.target;
+      xattrs = i.extras.xattrs;
       cells = i.contents;
     } };
 }
@@ -71,10 +71,7 @@ impl<O: Origin> Inode<O> {
             gid: 0,
             atime: epoch,
             mtime: epoch,
-            rdev,
-            flags: 0,
-            target: Bytes::new(alloc, target)?,
-            xattrs: SharedMap::new(alloc),
+            extras: Extras::new(alloc, rdev, target)?,
             contents: Extents::new(alloc),
         })
     }
@@ -132,28 +129,35 @@ impl<O: Origin> Inode<O> {
     pub fn rdev(&self) -> u64
         ensures { result ≡ self.now.rdev }
     {
-        self.rdev
+        self.extras.rdev()
     }
 
     /// The flags of FILEATTR.
     pub fn flags(&self) -> u64
         ensures { result ≡ self.now.flags }
     {
-        self.flags
+        self.extras.flags()
     }
 
     /// What a symbolic link leads to, any bytes.
     pub fn target(&self) -> &[u8]
         ensures { result.now ≡ self.now.target }
     {
-        self.target.as_slice()
+        self.extras.target()
     }
 
-    /// The extended attributes by their names.
-    pub fn xattrs(&self) -> &SharedMap<Bytes, Bytes>
-        ensures { result.now ≡ self.now.xattrs }
+    /// The extended attributes in rising order of their names.
+    pub fn xattrs(&self) -> Entries<'_, Bytes, Bytes>
+        ensures { result ≡ self.now.xattrs }
     {
-        &self.xattrs
+        self.extras.xattrs()
+    }
+
+    // The value of an extended attribute, if there is one of the name.
+    pub(crate) fn xattr(&self, name: &[u8]) -> Option<&Bytes>
+        ensures { option_copied result ≡ value_at bytes_cmp name.now self.now.xattrs }
+    {
+        self.extras.xattr(name)
     }
 
     /// The contents of a file.
@@ -177,14 +181,9 @@ impl<O: Origin> Inode<O> {
                 self.atime = *atime;
                 self.mtime = *mtime;
             }
-            Change::Flags(flags) => self.flags = *flags,
-            Change::SetXattr(name, value) => {
-                let value = Bytes::new(alloc, value)?;
-                self.xattrs.insert(&BytesRef::new(name), value)?;
-            }
-            Change::RemoveXattr(name) => {
-                let _value = self.xattrs.remove(&BytesRef::new(name))?;
-            }
+            Change::Flags(flags) => self.extras.set_flags(alloc, *flags)?,
+            Change::SetXattr(name, value) => self.extras.set_xattr(alloc, name, value)?,
+            Change::RemoveXattr(name) => self.extras.remove_xattr(name)?,
         }
         Ok(())
     }
@@ -207,10 +206,7 @@ impl<O: Origin> Inode<O> {
             gid: self.gid,
             atime: self.atime,
             mtime: self.mtime,
-            rdev: self.rdev,
-            flags: self.flags,
-            target: self.target.copy()?,
-            xattrs: self.xattrs.copy()?,
+            extras: self.extras.copy()?,
             contents,
         })
     }
@@ -233,10 +229,7 @@ impl<O: Origin> Copied for Inode<O> {
             gid: self.gid,
             atime: self.atime,
             mtime: self.mtime,
-            rdev: self.rdev,
-            flags: self.flags,
-            target: self.target.copy()?,
-            xattrs: self.xattrs.copy()?,
+            extras: self.extras.copy()?,
             contents: self.contents.copy()?,
         })
     }

@@ -3,6 +3,7 @@
 
 mod attributes;
 mod change;
+mod extras;
 mod inode;
 mod kind;
 mod making;

@@ -1,5 +1,5 @@
 // Names and bytes as keys of maps.
-ghost use Rattle.std.specs.Prelude.{◌≡◌, ◌<◌, ◌≤◌, ◌+◌, length, IfOk};
+ghost use Rattle.std.specs.Prelude.{◌≡◌, ◌<◌, ◌≤◌, ◌+◌, [], length, IfOk};
 ghost use Rattle.send_model.specs.Map.{bytes_cmp};
 ghost use Rattle.inode_tree.specs.Openings.{byte_at, two_at, four_at, eight_at};
 
@@ -28,6 +28,13 @@ impl Model for Bytes {
 }
 
 impl Bytes {
+    // No bytes.
+    pub(crate) fn none() -> Bytes
+        ensures { result ≡ [] }
+    {
+        Bytes { bytes: None }
+    }
+
     /// These bytes. Fails for want of memory alone.
     pub(crate) fn new(alloc: Global, bytes: &[u8]) -> Result<Bytes, AllocError>
         ensures { IfOk result (λ copy. copy ≡ bytes.now) }
@@ -182,23 +189,27 @@ pub(crate) struct Name {
     directory: u64,
     // The first bytes, and zero bytes behind the end of a name that has fewer.
     opening: [u8; OPENING],
-    // How many bytes a name has that all stand in it.
-    len: u8,
+    rest: Rest,
+}
+
+// What stands beside the first bytes of a name.
+#[derive(Debug, Drop)]
+pub(crate) enum Rest {
+    // How many bytes it has, where there are no others.
+    Short(u8),
     // All bytes of a longer one.
-    long: Option<RcSlice<u8>>,
+    Long(RcSlice<u8>),
 }
 
 impl Model for Name {
-    ghost use Rattle.std.specs.Prelude.{ℕ, List, take};
-    ghost use Rattle.std.specs.Option.{option_map_or};
-    ghost use Rattle.std.specs.Rc.{rc_slice_items};
-    ghost use Rattle.inode_tree.specs.Openings.{IsOpening};
+    ghost use Rattle.std.specs.Prelude.{ℕ, List};
+    ghost use Rattle.inode_tree.specs.Openings.{whole, within, IsOpening};
 
     ghost Value = { ℕ × List ℕ };
 
-    ghost view = { λ n. (n.directory, option_map_or rc_slice_items n.long (take n.len n.opening)) };
+    ghost view = { λ n. (n.directory, whole n.rest n.opening) };
 
-    ghost invariant = { λ n. IsOpening (option_map_or rc_slice_items n.long (take n.len n.opening)) n.opening n.len };
+    ghost invariant = { λ n. IsOpening (whole n.rest n.opening) n.opening (within n.rest) };
 }
 
 impl Name {
@@ -213,16 +224,14 @@ impl Name {
             return Ok(Name {
                 directory,
                 opening,
-                len: 0,
-                long: Some(bytes),
+                rest: Rest::Long(bytes),
             });
         }
         opening[..name.len()].copy_from_slice(name);
         Ok(Name {
             directory,
             opening,
-            len: name.len() as u8,
-            long: None,
+            rest: Rest::Short(name.len() as u8),
         })
     }
 
@@ -230,9 +239,9 @@ impl Name {
     pub(crate) fn bytes(&self) -> &[u8]
         ensures { result.now ≡ self.now.1 }
     {
-        match &self.long {
-            Some(bytes) => bytes.as_slice(),
-            None => &self.opening[..usize::from(self.len)],
+        match &self.rest {
+            Rest::Long(bytes) => bytes.as_slice(),
+            Rest::Short(len) => &self.opening[..usize::from(*len)],
         }
     }
 
@@ -251,15 +260,14 @@ impl Key for Name {
     ghost order = { named_cmp };
 
     fn copy_key(&self) -> Result<Name, AllocError> {
-        let long = match &self.long {
-            Some(bytes) => Some(bytes.clone()?),
-            None => None,
+        let rest = match &self.rest {
+            Rest::Long(bytes) => Rest::Long(bytes.clone()?),
+            Rest::Short(len) => Rest::Short(*len),
         };
         Ok(Name {
             directory: self.directory,
             opening: self.opening,
-            len: self.len,
-            long,
+            rest,
         })
     }
 

@@ -1,19 +1,21 @@
 -- The cells in front of some contents, piece by piece.
-use Rattle.std.specs.Prelude.{◌≡◌, ℕ, ◌+◌, ◌-◌, ◌<◌, ◌≤◌, List, ◌++◌, map, length, take, drop, get_or, Option, None, Some}
+use Rattle.std.specs.Prelude.{◌≡◌, ℕ, ◌+◌, ◌-◌, ◌<◌, ◌≤◌, List, ◌++◌, map, length, take, drop, get_or, Option, None, Some, is_some, not, Bool, true, false}
 use Rattle.std.proofs.Common.{refl, sym, ap, ◌∙◌, arith}
 use Rattle.std.proofs.Math.Logic.{⊎_elim}
-use Rattle.std.proofs.lemmas.Bool.{cases_lt}
-use Rattle.std.proofs.lemmas.List.{length-map, length-take, length-drop, get_or-drop, get_or-map, get_or_append_left, drop-map, drop-take}
+use Rattle.std.proofs.lemmas.Bool.{cases_lt, false≢true}
+use Rattle.std.proofs.lemmas.List.{drop_at, length-append, length-map, length-take, length-drop, get_or-drop, get_or-take, get_or-map, get_or_append_left, drop-map, drop-take}
 use Rattle.send_model.specs.Provenance.{Place}
 use Rattle.send_model.proofs.Overwriting.{drop_twice}
-use Rattle.extent_map.specs.Cells.{cells_between}
-use Rattle.extent_map.specs.Pieces.{piece_cells}
+use Rattle.extent_map.specs.Cells.{cells_between, IsFirstFrom}
+use Rattle.extent_map.specs.Pieces.{foreign_cell, piece_cells}
 use Rattle.extent_map.proofs.Layouts.{length-piece, get_or-hole, get_or-run}
 use Rattle.extent_map.proofs.PieceByPiece.{reaches}
 use Rattle.provenance.specs.declared.trace.Trace.{Trace}
 use Rattle.provenance.specs.declared.trace.Trace.TheVariants.{Fresh, Outside}
-use Rattle.provenance.specs.Traces.{advanced_by, place_of, place_in}
+use Rattle.provenance.specs.Traces.{advanced_by, is_outside, place_of, place_in}
 use Rattle.provenance.specs.Cuts.{later, Follows, Stops}
+use Rattle.provenance.specs.Plans.{spot_in}
+use Rattle.provenance.specs.declared.front.Spot.{Spot}
 use Rattle.provenance.proofs.CutLaws.{after_none, later_twice}
 
 trace_later : (t : Trace) (k : ℕ) → place_of (advanced_by t k) ≡ later (place_of t) k
@@ -51,12 +53,6 @@ module _ (whole : List (Option Trace)) (have : ℕ) (origin : Option Trace) (n :
       ∙ ap (λ (o : Option Place). later o (i - have)) on ∙ later_twice first have (i - have) ∙ ap (later first) e)
       (cases_lt i have)
 
-  -- The first piece.
-  pub begins : 0 < n → have ≡ 0 → Follows (place_in origin) (have + n) (map place_in whole)
-  begins some none i lt =
-      let e : have + i ≡ i = omega (arith, none) in
-      ap (λ (k : ℕ). get_or (map place_in whole) k None) (sym e) ∙ next_place_is some i (omega (arith, lt, none))
-
   -- A piece that does not go on.
   pub stops : 0 < n → (first : Option Place) → (place_in origin ≡ later first have → ⊥) → Stops first have (map place_in whole)
   stops some None other = tt
@@ -68,6 +64,17 @@ module _ (whole : List (Option Trace)) (have : ℕ) (origin : Option Trace) (n :
       later_none : (o : Option Place) → later o 0 ≡ o
       later_none None = refl
       later_none (Some q) = ap Some (after_none q)
+
+-- The first piece.
+module _ (whole : List (Option Trace)) (origin : Option Trace) (n : ℕ) (rest : List (Option Trace)) (is : whole ≡ piece_cells advanced_by origin n ++ rest) where
+  pub first_within : n ≤ length whole
+  first_within = omega (arith, ap length is, length-append (piece_cells advanced_by origin n) rest, length-piece advanced_by origin n)
+
+  pub first_left : drop n whole ≡ rest
+  first_left = ap (drop n) is ∙ drop_at (piece_cells advanced_by origin n) rest n (length-piece advanced_by origin n)
+
+  pub begins : Follows (place_in origin) n (map place_in whole)
+  begins i lt = place_there whole i (omega (arith, lt, first_within)) ∙ piece_follows origin n rest whole is i lt
 
 -- All cells are in front.
 pub stops_at_end : (first : Option Place) (have : ℕ) (cells : List (Option Place)) → length cells ≤ have → Stops first have cells
@@ -85,3 +92,46 @@ places_after at s end cells le =
     let e : end - at ≡ s + (end - (at + s)) = omega (arith, le) in
     drop-map place_in s (take (end - at) (drop at cells))
     ∙ ap (map place_in) (ap (λ (k : ℕ). drop s (take k (drop at cells))) e ∙ drop-take s (end - (at + s)) (drop at cells) ∙ ap (take (end - (at + s))) (drop_twice at s cells))
+
+-- A cell that is not from outside has no place, and one without a place is not from outside.
+other_place : (c : Option Trace) → foreign_cell is_outside c ≡ false → place_in c ≡ None
+other_place None h = refl
+other_place (Some (Fresh file at)) h = refl
+other_place (Some (Outside key ino at)) h = absurd (false≢true (sym h))
+
+placed_cell : (c : Option Trace) → foreign_cell is_outside c ≡ true → is_some (place_in c) ≡ true
+placed_cell None h = absurd (false≢true h)
+placed_cell (Some (Fresh file at)) h = absurd (false≢true h)
+placed_cell (Some (Outside key ino at)) h = refl
+
+-- Where there is no spot, there is no place.
+pub unplaced : (s : Option Spot) (o : Option Place) (none : Bool) → spot_in s ≡ o → is_some s ≡ not none → none ≡ true → o ≡ None
+unplaced None o none e h is = sym e
+unplaced (Some spot) o none e h is = absurd (false≢true (sym (h ∙ ap not is)))
+
+-- The cells from one place of some contents up to another.
+module _ (contents : List (Option Trace)) (at end : ℕ) (within : end ≤ length contents) where
+  cell_at : (i : ℕ) → at + i < end → get_or (map place_in (cells_between at (end - at) contents)) i None ≡ place_in (get_or contents (at + i) None)
+  unfolding cells_between
+  cell_at i lt =
+      place_there (take (end - at) (drop at contents)) i (omega (arith, lt, within, length-take (end - at) (drop at contents), length-drop at contents))
+      ∙ ap place_in (get_or-take (end - at) (drop at contents) i None (omega (arith, lt)) ∙ get_or-drop at contents i None)
+
+  module _ (place : ℕ) (next : IsFirstFrom (foreign_cell is_outside) None at contents place) where
+    -- Those before the next one from outside have no place.
+    pub none_follow : (len : ℕ) → at + len ≤ place → at + len ≤ end → Follows None len (map place_in (cells_between at (end - at) contents))
+    none_follow len before in_range i lt = cell_at i (omega (arith, lt, in_range)) ∙ other_place (get_or contents (at + i) None) (next.before (at + i) (omega arith) (omega (arith, lt, before)))
+
+    -- Where the first one has no place, the next one from outside is another.
+    pub goes_past : (origin : Option Trace) (n : ℕ) (rest : List (Option Trace)) → cells_between at (end - at) contents ≡ piece_cells advanced_by origin n ++ rest → 0 < n → at < end → place_in origin ≡ None → at < place
+    goes_past origin n rest is some order none = ⊎_elim
+        (λ (past : at < place). past)
+        (λ (up : place ≤ at).
+        let here : place ≡ at + 0 = omega (arith, up, next.from) in
+        let outside : foreign_cell is_outside (get_or contents (at + 0) None) ≡ true =
+        ap (λ (k : ℕ). foreign_cell is_outside (get_or contents k None)) (sym here) ∙ next.there (omega (arith, up, order, within)) in
+        let placed = placed_cell (get_or contents (at + 0) None) outside in
+        let missing : place_in (get_or contents (at + 0) None) ≡ None =
+        sym (cell_at 0 (omega (arith, order))) ∙ begins (cells_between at (end - at) contents) origin n rest is 0 some ∙ ap (λ (o : Option Place). later o 0) none in
+        absurd (false≢true (sym (sym placed ∙ ap is_some missing))))
+        (cases_lt at place)

@@ -1,6 +1,6 @@
 -- Traces as the definitions of provenance have them: a trace to a complete subvolume is a place there, and a fresh one is none.
 -- This program's own.
-use Rattle.std.specs.Prelude.{ℕ, ◌+◌, ◌-◌, ◌^◌, ◌≡◌, Option, None, Some}
+use Rattle.std.specs.Prelude.{Bool, true, false, ℕ, ◌+◌, ◌-◌, ◌^◌, ◌≡◌, Option, None, Some}
 use Rattle.send_model.specs.Subvolume.{Subvolume}
 use Rattle.send_model.specs.Provenance.{Place, Traced, traced_subvolume}
 use Rattle.send_model.specs.Store as meant
@@ -19,6 +19,11 @@ reach_of (Outside key ino at) = 2 ^ 64 - 1 - at
 abbrev pub advanced_by : Trace → ℕ → Trace
 advanced_by (Fresh file at) k = Fresh file (at + k)
 advanced_by (Outside key ino at) k = Outside key ino (at + k)
+
+-- Whether a trace leads to a complete subvolume.
+abbrev pub is_outside : Trace → Bool
+is_outside (Fresh file at) = false
+is_outside (Outside key ino at) = true
 
 -- The outside place of a trace, if it has one.
 abbrev pub place_of : Trace → Option Place

@@ -24,7 +24,8 @@ pub(crate) struct Front {
     pub(crate) len: u64,
 }
 
-/// The cells in front of those from `at` up to `end`, as many as there are of one kind.
+/// The cells in front of those from `at` up to `end`, as many as there are of one kind. Those that come from no place are passed at
+/// once, whatever runs they are.
 pub(crate) fn front_at(contents: &Extents<Trace>, at: u64, end: u64) -> Front
     requires order { at < end }
     requires within { end ≤ length contents.now }
@@ -35,19 +36,27 @@ pub(crate) fn front_at(contents: &Extents<Trace>, at: u64, end: u64) -> Front
     ensures stops { Stops (spot_in result.spot) result.len
         (map place_in (cells_between at (end - at) contents.now)) }
 {
-    let mut first = None;
-    let mut have = 0;
-    for (origin, len) in contents.pieces(at, end - at) {
-        let next = spot_of(origin);
-        if have == 0 {
-            first = next;
-        } else if !goes_on(&first, have, &next) {
+    let mut rest = contents.pieces(at, end - at);
+    let Some((origin, len)) = rest.next() else {
+        unreachable!()
+    };
+    let first = spot_of(origin);
+    if first.is_none() {
+        return Front {
+            spot: None,
+            len: contents.next_foreign(at).min(end) - at,
+        };
+    }
+    let mut have = len;
+    for (more, more_len) in rest {
+        let next = spot_of(more);
+        if !goes_on(&first, have, &next) {
             return Front {
                 spot: first,
                 len: have,
             };
         }
-        have += len;
+        have += more_len;
     }
     Front {
         spot: first,

@@ -26,12 +26,14 @@ pub enum Trace {
 }
 
 impl Origin for Trace {
-    ghost use Rattle.provenance.specs.Traces.{reach_of, advanced_by};
-    ghost use Rattle.provenance.specs.TraceLaws.{by_none, is_left, by_both};
+    ghost use Rattle.provenance.specs.Traces.{reach_of, advanced_by, is_outside};
+    ghost use Rattle.provenance.specs.TraceLaws.{by_none, is_left, by_both, outside_stays};
 
     ghost reach = { reach_of };
 
     ghost advanced = { advanced_by };
+
+    ghost foreign = { is_outside };
 
     fn advance(&self, k: u64) -> Trace {
         match *self {
@@ -44,9 +46,18 @@ impl Origin for Trace {
         }
     }
 
+    fn is_foreign(&self) -> bool {
+        match *self {
+            Trace::Fresh { .. } => false,
+            Trace::Outside { .. } => true,
+        }
+    }
+
     ghost advanced_by_none = { by_none };
 
     ghost reach_is_left = { is_left };
 
     ghost advanced_twice = { by_both };
+
+    ghost foreign_stays = { outside_stays };
 }

@@ -1,5 +1,5 @@
 // The entries of a map, one after the other.
-ghost use Rattle.std.specs.Prelude.{◌≡◌};
+ghost use Rattle.std.specs.Prelude.{◌≡◌, []};
 ghost use Rattle.std.specs.Iterator.{item_count, YieldsFirstRef};
 ghost use Rattle.shared_map.specs.Pages.{joined, AreFilled};
 
@@ -32,6 +32,16 @@ impl<'a, K: Key, V: Copied> Entries<'a, K, V> {
         ensures { result ≡ joined pages.now }
     {
         Entries { rest: &[], pages }
+    }
+
+    /// No entries.
+    pub fn none() -> Entries<'a, K, V>
+        ensures { result ≡ [] }
+    {
+        Entries {
+            rest: &[],
+            pages: &[],
+        }
     }
 }
 

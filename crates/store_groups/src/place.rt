@@ -8,14 +8,22 @@ pub struct Place {
 }
 
 impl Origin for Place {
+    ghost use Rattle.std.specs.Prelude.{false};
+    ghost use Rattle.std.proofs.Common.{refl};
     ghost use Rattle.store_groups.specs.Placing.{reach_of, further, by_none, is_left, by_both};
 
     ghost reach = { reach_of };
 
     ghost advanced = { further };
 
+    ghost foreign = { λ place. false };
+
     fn advance(&self, k: u64) -> Place {
         Place { at: self.at + k }
+    }
+
+    fn is_foreign(&self) -> bool {
+        false
     }
 
     ghost advanced_by_none = { by_none };
@@ -23,4 +31,6 @@ impl Origin for Place {
     ghost reach_is_left = { is_left };
 
     ghost advanced_twice = { by_both };
+
+    ghost foreign_stays = { λ place k h. refl };
 }

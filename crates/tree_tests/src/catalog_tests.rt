@@ -1,10 +1,13 @@
 // That there is memory, and a catalogue as its user sees it.
+use crate::same::same;
 use std::alloc::{AllocError, Global};
-use std::process::Abort;
 use std::test::Fail;
 use subvol_catalog::{Catalog, Entry, Key};
 use sx_base::{Blob, Refusal, Stop};
 use uuid::Uuid;
+
+// A key: the byte that its UUID has sixteen times, and the transaction number.
+type Short = (u8, u64);
 
 fn name(alloc: Global, text: &str) -> Result<Blob, AllocError> {
     let mut name = Blob::new(alloc);
@@ -12,52 +15,96 @@ fn name(alloc: Global, text: &str) -> Result<Blob, AllocError> {
     Ok(name)
 }
 
-fn key(byte: u8, ctransid: u64) -> Key {
+fn key(short: Short) -> Key {
     Key {
-        uuid: Uuid::from_bytes([byte; 16]),
-        ctransid,
+        uuid: Uuid::from_bytes([short.0; 16]),
+        ctransid: short.1,
     }
 }
 
+fn parent_key(parent: Option<Short>) -> Option<Key> {
+    Some(key(parent?))
+}
+
+fn begin(
+    alloc: Global,
+    catalog: &mut Catalog<u64>,
+    text: &str,
+    new: Short,
+    parent: Option<Short>,
+) -> Result<(), Stop> {
+    catalog.begin(name(alloc, text)?, key(new), parent_key(parent))
+}
+
+fn add(
+    alloc: Global,
+    catalog: &mut Catalog<u64>,
+    text: &str,
+    new: Short,
+    parent: Option<Short>,
+    value: Option<u64>,
+) -> Result<(), Stop> {
+    catalog.add(Entry {
+        name: name(alloc, text)?,
+        key: key(new),
+        parent: parent_key(parent),
+        value,
+    })
+}
+
 // Three subvolumes, one on the other: the first two are complete.
+const CHAIN: &[(&str, Short, Option<Short>, Option<u64>)] = &[
+    ("monday", (1, 10), None, Some(100)),
+    ("tuesday", (2, 20), Some((1, 10)), Some(200)),
+    ("wednesday", (3, 30), Some((2, 20)), None),
+];
+
 fn chain(alloc: Global) -> Result<Catalog<u64>, Stop> {
     let mut catalog = Catalog::new(alloc);
-    catalog.begin(name(alloc, "monday")?, key(1, 10), None)?;
-    catalog.complete(key(1, 10).uuid, 100);
-    catalog.begin(name(alloc, "tuesday")?, key(2, 20), Some(key(1, 10)))?;
-    catalog.complete(key(2, 20).uuid, 200);
-    catalog.begin(name(alloc, "wednesday")?, key(3, 30), Some(key(2, 20)))?;
+    for &(text, new, parent, value) in CHAIN {
+        begin(alloc, &mut catalog, text, new, parent)?;
+        if let Some(value) = value {
+            catalog.complete(key(new).uuid, value);
+        }
+    }
     Ok(catalog)
 }
+
+const BY_KEY: &[(Short, Option<u64>)] = &[
+    ((1, 10), Some(100)),
+    ((2, 20), Some(200)),
+    ((2, 10), None),
+    ((3, 30), None),
+    ((4, 40), None),
+];
 
 #[test]
 fn complete_entries_are_found_by_key(rt: HostRuntime) -> Result<(), Fail> {
     let catalog = chain(rt.alloc())?;
-    assert_eq!(rt; catalog.by_key(key(1, 10)), Some(&100));
-    assert_eq!(rt; catalog.by_key(key(2, 20)), Some(&200));
-    assert_eq!(rt; catalog.by_key(key(2, 10)), None);
-    assert_eq!(rt; catalog.by_key(key(3, 30)), None);
-    assert_eq!(rt; catalog.by_key(key(4, 40)), None);
+    for &(short, value) in BY_KEY {
+        same(&rt, catalog.by_key(key(short)).copied(), value);
+    }
     Ok(())
 }
+
+const REFUSED: &[(&str, Short, Option<Short>, Refusal)] = &[
+    ("", (1, 10), Some((9, 9)), Refusal::BadName),
+    ("a/b", (4, 40), None, Refusal::BadName),
+    ("..", (4, 40), None, Refusal::BadName),
+    ("monday", (1, 10), Some((9, 9)), Refusal::NameThere),
+    ("friday", (2, 99), Some((9, 9)), Refusal::UuidThere),
+    ("friday", (4, 40), Some((9, 9)), Refusal::NoParent),
+    ("friday", (4, 40), Some((2, 21)), Refusal::NoParent),
+    ("friday", (4, 40), Some((3, 30)), Refusal::NoParent),
+];
 
 #[test]
 fn the_first_reason_refuses(rt: HostRuntime) -> Result<(), Fail> {
     let mut catalog = chain(rt.alloc())?;
-    let table = [
-        ("", key(1, 10), Some(key(9, 9)), Refusal::BadName),
-        ("a/b", key(4, 40), None, Refusal::BadName),
-        ("..", key(4, 40), None, Refusal::BadName),
-        ("monday", key(1, 10), Some(key(9, 9)), Refusal::NameThere),
-        ("friday", key(2, 99), Some(key(9, 9)), Refusal::UuidThere),
-        ("friday", key(4, 40), Some(key(9, 9)), Refusal::NoParent),
-        ("friday", key(4, 40), Some(key(2, 21)), Refusal::NoParent),
-        ("friday", key(4, 40), Some(key(3, 30)), Refusal::NoParent),
-    ];
-    for (text, new, parent, refusal) in table {
-        let answer = catalog.begin(name(rt.alloc(), text)?, new, parent);
-        assert_eq!(rt; answer, Err(Stop::Refused(refusal)));
-        assert_eq!(rt; catalog.len(), 3);
+    for &(text, new, parent, refusal) in REFUSED {
+        let answer = begin(rt.alloc(), &mut catalog, text, new, parent);
+        same(&rt, answer, Err(Stop::Refused(refusal)));
+        same(&rt, catalog.len(), 3);
     }
     Ok(())
 }
@@ -65,37 +112,37 @@ fn the_first_reason_refuses(rt: HostRuntime) -> Result<(), Fail> {
 #[test]
 fn entries_are_added_whatever_their_parent(rt: HostRuntime) -> Result<(), Fail> {
     let mut catalog = chain(rt.alloc())?;
-    let added = Entry {
-        name: name(rt.alloc(), "friday")?,
-        key: key(5, 50),
-        parent: Some(key(9, 9)),
-        value: Some(500),
-    };
-    catalog.add(added)?;
-    assert_eq!(rt; catalog.by_key(key(5, 50)), Some(&500));
-    let again = Entry {
-        name: name(rt.alloc(), "saturday")?,
-        key: key(5, 51),
-        parent: None,
-        value: None,
-    };
-    assert_eq!(rt; catalog.add(again), Err(Stop::Refused(Refusal::UuidThere)));
+    let parent = Some((9, 9));
+    let added = add(
+        rt.alloc(),
+        &mut catalog,
+        "friday",
+        (5, 50),
+        parent,
+        Some(500),
+    );
+    same(&rt, added, Ok(()));
+    same(&rt, catalog.by_key(key((5, 50))).copied(), Some(500));
+    let again = add(rt.alloc(), &mut catalog, "saturday", (5, 51), None, None);
+    same(&rt, again, Err(Stop::Refused(Refusal::UuidThere)));
     Ok(())
+}
+
+fn name_at(catalog: &Catalog<u64>, place: usize) -> Option<&[u8]> {
+    Some(catalog.at(place)?.name.as_slice())
 }
 
 #[test]
 fn what_is_dropped_makes_room(rt: HostRuntime) -> Result<(), Fail> {
     let mut catalog = chain(rt.alloc())?;
-    assert!(rt; catalog.drop_name(b"tuesday"));
-    assert!(rt; !catalog.drop_name(b"tuesday"));
-    assert!(rt; catalog.drop_uuid(key(1, 0).uuid));
-    assert!(rt; !catalog.drop_uuid(key(1, 0).uuid));
-    assert_eq!(rt; catalog.len(), 1);
-    catalog.begin(name(rt.alloc(), "monday")?, key(2, 20), None)?;
-    for (place, want) in [(0, "wednesday"), (1, "monday")] {
-        let found = catalog.at(place).map(|entry| entry.name.as_slice());
-        assert_eq!(rt; found, Some(want.as_bytes()));
-    }
-    assert!(rt; catalog.at(2).is_none());
+    same(&rt, catalog.drop_name(b"tuesday"), true);
+    same(&rt, catalog.drop_name(b"tuesday"), false);
+    same(&rt, catalog.drop_uuid(key((1, 0)).uuid), true);
+    same(&rt, catalog.drop_uuid(key((1, 0)).uuid), false);
+    same(&rt, catalog.len(), 1);
+    begin(rt.alloc(), &mut catalog, "monday", (2, 20), None)?;
+    same(&rt, name_at(&catalog, 0), Some(b"wednesday".as_slice()));
+    same(&rt, name_at(&catalog, 1), Some(b"monday".as_slice()));
+    same(&rt, name_at(&catalog, 2), None);
     Ok(())
 }

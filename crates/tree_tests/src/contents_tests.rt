@@ -1,8 +1,9 @@
 // Contents of files as commands make them, one call after the other.
 
 use crate::marks::Mark;
+use crate::same::same;
 use inode_tree::{NodeKind, Starts};
-use std::alloc::Global;
+use std::alloc::{AllocError, Global};
 use std::test::Fail;
 use subvol::Subvol;
 use sx_base::{Refusal, Stop};
@@ -20,12 +21,9 @@ impl Starts<Mark> for Numbers {
     }
 }
 
-// The refusal of a call, if it was refused.
-fn refusal(answer: Result<(), Stop>) -> Option<Refusal> {
-    match answer {
-        Err(Stop::Refused(refusal)) => Some(refusal),
-        Ok(()) | Err(Stop::NoMemory) => None,
-    }
+// What a call answers that is refused.
+fn refused(refusal: Refusal) -> Result<(), Stop> {
+    Err(Stop::Refused(refusal))
 }
 
 // A subvolume with one file, which has so many cells.
@@ -45,95 +43,117 @@ fn piece(subvol: &Subvol<Mark>, ino: u64, number: usize) -> Option<(Option<Mark>
 #[test]
 fn ranges_are_allocated(rt: HostRuntime) -> Result<(), Fail> {
     let mut subvol = with_file(rt.alloc(), 2)?;
-    subvol.fallocate(b"x", 3, 0, 1)?;
-    subvol.fallocate(b"x", 0, 0, 5)?;
-    assert_eq!(rt; piece(&subvol, 257, 0), Some((None, 1)));
-    assert_eq!(rt; piece(&subvol, 257, 1), Some((Some(Mark { place: 1 }), 1)));
-    assert_eq!(rt; piece(&subvol, 257, 2), Some((None, 3)));
-    assert_eq!(rt; piece(&subvol, 257, 3), None);
+    same(&rt, subvol.fallocate(b"x", 3, 0, 1), Ok(()));
+    same(&rt, subvol.fallocate(b"x", 0, 0, 5), Ok(()));
+    same(&rt, piece(&subvol, 257, 0), Some((None, 1)));
+    same(
+        &rt,
+        piece(&subvol, 257, 1),
+        Some((Some(Mark { place: 1 }), 1)),
+    );
+    same(&rt, piece(&subvol, 257, 2), Some((None, 3)));
+    same(&rt, piece(&subvol, 257, 3), None);
     Ok(())
 }
 
 #[test]
 fn allocations_are_refused(rt: HostRuntime) -> Result<(), Fail> {
     let mut subvol = with_file(rt.alloc(), 2)?;
-    assert_eq!(rt;
-        refusal(subvol.fallocate(b"x", 2, 0, u64::MAX)),
-        Some(Refusal::BadFallocate(2))
-    );
-    assert_eq!(rt;
-        refusal(subvol.fallocate(b"x", 17, 1, u64::MAX)),
-        Some(Refusal::FileTooBig)
-    );
-    assert_eq!(rt;
-        refusal(subvol.truncate(b"", 1 << 63)),
-        Some(Refusal::NotFile)
+    for (mode, at, refusal) in [
+        (2, 0, Refusal::BadFallocate(2)),
+        (17, 1, Refusal::FileTooBig),
+    ] {
+        let answer = subvol.fallocate(b"x", mode, at, u64::MAX);
+        same(&rt, answer, refused(refusal));
+    }
+    same(
+        &rt,
+        subvol.truncate(b"", 1 << 63),
+        refused(Refusal::NotFile),
     );
     Ok(())
 }
+
+// From where a clone within a file of two blocks is made, to where, and how long it is.
+const CLONES: &[(u64, u64, u64, Refusal)] = &[
+    (4_096, 0, 8_192, Refusal::Overlap),
+    (8_192, 0, 100, Refusal::Unaligned),
+    (8_192, 4_096, 8_192, Refusal::BadRange),
+];
 
 #[test]
 fn clones_are_refused(rt: HostRuntime) -> Result<(), Fail> {
     let mut subvol = with_file(rt.alloc(), 8_192)?;
-    assert_eq!(rt;
-        refusal(subvol.clone_here(b"x", 4_096, b"x", 0, 8_192)),
-        Some(Refusal::Overlap)
-    );
-    assert_eq!(rt;
-        refusal(subvol.clone_here(b"x", 8_192, b"x", 0, 100)),
-        Some(Refusal::Unaligned)
-    );
-    assert_eq!(rt;
-        refusal(subvol.clone_here(b"x", 8_192, b"x", 4_096, 8_192)),
-        Some(Refusal::BadRange)
-    );
+    for &(at, from, len, refusal) in CLONES {
+        let answer = subvol.clone_here(b"x", at, b"x", from, len);
+        same(&rt, answer, refused(refusal));
+    }
     Ok(())
+}
+
+// A file that is two clones of the second block of another.
+fn with_clones(alloc: Global) -> Result<Subvol<Mark>, Stop> {
+    let source = with_file(alloc, 8_192)?;
+    let mut subvol = with_file(alloc, 0)?;
+    subvol.clone_from(b"x", 4_096, &source, b"x", 4_096, 4_096)?;
+    subvol.clone_here(b"x", 0, b"x", 4_096, 4_096)?;
+    Ok(subvol)
 }
 
 #[test]
 fn blocks_are_cloned(rt: HostRuntime) -> Result<(), Fail> {
-    let source = with_file(rt.alloc(), 8_192)?;
-    let mut subvol = with_file(rt.alloc(), 0)?;
-    subvol.clone_from(b"x", 4_096, &source, b"x", 4_096, 4_096)?;
-    subvol.clone_here(b"x", 0, b"x", 4_096, 4_096)?;
-    let block = Some((Some(Mark { place: 4_096 }), 4_096));
-    assert_eq!(rt; piece(&subvol, 257, 0), block);
-    assert_eq!(rt; piece(&subvol, 257, 1), block);
-    subvol.truncate(b"x", 1)?;
-    assert_eq!(rt;
-        piece(&subvol, 257, 0),
-        Some((Some(Mark { place: 4_096 }), 1))
-    );
+    let mut subvol = with_clones(rt.alloc())?;
+    let mark = Some(Mark { place: 4_096 });
+    same(&rt, piece(&subvol, 257, 0), Some((mark, 4_096)));
+    same(&rt, piece(&subvol, 257, 1), Some((mark, 4_096)));
+    same(&rt, subvol.truncate(b"x", 1), Ok(()));
+    same(&rt, piece(&subvol, 257, 0), Some((mark, 1)));
     Ok(())
 }
 
-#[test]
-fn a_snapshot_copies_what_it_changes(rt: HostRuntime) -> Result<(), Fail> {
-    let mut subvol: Subvol<Mark> = Subvol::new_root(rt.alloc())?;
+// A subvolume of a thousand files.
+fn thousand(alloc: Global) -> Result<Subvol<Mark>, Stop> {
+    let mut subvol: Subvol<Mark> = Subvol::new_root(alloc)?;
     for number in 0_u16..1_000 {
         let [low, high] = number.to_le_bytes();
         let path = [b'0' + low % 64, b'0' + low / 64, b'0' + high % 8];
         subvol.tree_mut().make(&path, NodeKind::File, 0, b"")?;
     }
-    assert_eq!(rt; subvol.copied(), 0);
+    Ok(subvol)
+}
+
+// A copy of which the mode of a file is changed.
+fn changed(subvol: &Subvol<Mark>) -> Result<Subvol<Mark>, Stop> {
+    let mut next = subvol.copy()?;
+    next.tree_mut().set_mode(b"000", 0o755)?;
+    Ok(next)
+}
+
+#[test]
+fn a_snapshot_copies_what_it_changes(rt: HostRuntime) -> Result<(), Fail> {
+    let mut subvol = thousand(rt.alloc())?;
+    same(&rt, subvol.copied(), 0);
     for _snapshot in 0..32 {
-        let mut next = subvol.copy()?;
-        next.tree_mut().set_mode(b"000", 0o755)?;
-        assert_eq!(rt; next.copied(), 1);
-        subvol = next;
+        subvol = changed(&subvol)?;
+        same(&rt, subvol.copied(), 1);
     }
     Ok(())
+}
+
+// The subvolume with places of its own.
+fn traced(subvol: &Subvol<Mark>) -> Result<Subvol<Mark>, AllocError> {
+    subvol.retraced(&Numbers)
 }
 
 #[test]
 fn contents_get_places_of_their_own(rt: HostRuntime) -> Result<(), Fail> {
     let mut subvol = with_file(rt.alloc(), 2)?;
-    subvol.fallocate(b"x", 3, 0, 1)?;
-    let other = subvol.retraced(&Numbers)?;
-    assert_eq!(rt; other.tree().find(b"x"), Ok(257));
+    same(&rt, subvol.fallocate(b"x", 3, 0, 1), Ok(()));
+    let other = traced(&subvol)?;
+    same(&rt, other.tree().find(b"x"), Ok(257));
     let run = Some((Some(Mark { place: 257 }), 2));
-    assert_eq!(rt; piece(&other, 257, 0), run);
-    assert_eq!(rt; piece(&other, 257, 1), None);
-    assert_eq!(rt; piece(&subvol, 257, 0), Some((None, 1)));
+    same(&rt, piece(&other, 257, 0), run);
+    same(&rt, piece(&other, 257, 1), None);
+    same(&rt, piece(&subvol, 257, 0), Some((None, 1)));
     Ok(())
 }

@@ -4,18 +4,19 @@
 // An edit is four letters: what it does, a path, another path (or a mode), and the number of its refusal, counted from @, which
 // stands for none.
 use crate::marks::Mark;
+use crate::same::same;
 use inode_tree::{NodeKind, Tree};
 use std::process::Abort;
 use std::test::Fail;
 use sx_base::Stop;
 
 // The paths from A on.
-const PATHS: [&[u8]; 16] = [
+const PATHS: &[&[u8]] = &[
     b"a", b"b", b"c", b"a/a", b"a/b", b"b/a", b"b/b", b"c/a", b"a/a/a", b"a/a/b", b"a/b/a",
     b"b/a/a", b"b/b/a", b"a/a/a/a", b"", b"a//b",
 ];
 
-const EDITS_FIRST: [&[u8]; 8] = [
+const EDITS_FIRST: &[&[u8]] = &[
     b"mHCOlLCOcEBOdBE@lGJOfMEOcBB@uGGOmBA@mBLOmDIOcOG@dAFQcGNOmDDOdCH@mIKOfACQcIHOmMHO",
     b"mGEOmEDOrMAOmGLOmDCOdKFOmGEOdBF@fFF@dKBOdHN@mKMOuEDOdFDQmGCOmBA@mHIPdCCQrJBPfBC@",
     b"dEB@lIKOdIOPuLDPmDB@dCEQmHGPmIIOfFFPfOKZlKB@fIGOcKD@cJFOfHJQlAERlLARcBD@fFJPmABP",
@@ -26,7 +27,7 @@ const EDITS_FIRST: [&[u8]; 8] = [
     b"cFJ@fCC@mHCPuCA@mAKPfLM@dFBQlADRuGB@dIDQfAKQcHLOrHBOcLC@dGE@uDCRfHMOmBMTmDM@lMNO",
 ];
 
-const EDITS_LAST: [&[u8]; 7] = [
+const EDITS_LAST: &[&[u8]] = &[
     b"mAFSfBAQdCM@cJCOdIAOcAI@fACQlELQcBA@dHC@mEMRmAA@lHCRfHEQmBFTfABQlKEPfEIQdHGQlLAR",
     b"dLFQuHHRlFBRfJAOlDHRmFJOdBAQlABRlMCRrMNSmECRfGEQmBFTcBI@mGPNdALQmEJOlBIOfECQdIKO",
     b"lHLQcEJ@lDBRfMHQmFF@dGJQmKLPlDNOfCDQmBGTmCBSlDJOdGBQmILOlCGRlKCRfHCQmACSmCD@dAOQ",
@@ -37,7 +38,7 @@ const EDITS_LAST: [&[u8]; 7] = [
 ];
 
 // What stands after the first edits, by number: the inode's kind and mode; and the names.
-const INODES_FIRST: [(u64, NodeKind, u16); 10] = [
+const INODES_FIRST: &[(u64, NodeKind, u16)] = &[
     (256, NodeKind::Directory, 0o2_452),
     (258, NodeKind::Directory, 0o700),
     (259, NodeKind::Directory, 0o700),
@@ -50,7 +51,7 @@ const INODES_FIRST: [(u64, NodeKind, u16); 10] = [
     (273, NodeKind::Directory, 0o700),
 ];
 
-const NAMES_FIRST: [(u64, &[u8], u64); 9] = [
+const NAMES_FIRST: &[(u64, &[u8], u64)] = &[
     (256, b"a", 259),
     (256, b"b", 258),
     (258, b"a", 269),
@@ -63,7 +64,7 @@ const NAMES_FIRST: [(u64, &[u8], u64); 9] = [
 ];
 
 // The same after all edits.
-const INODES_LAST: [(u64, NodeKind, u16); 13] = [
+const INODES_LAST: &[(u64, NodeKind, u16)] = &[
     (256, NodeKind::Directory, 0o2_452),
     (258, NodeKind::Directory, 0o3_416),
     (259, NodeKind::Directory, 0o3_315),
@@ -79,7 +80,7 @@ const INODES_LAST: [(u64, NodeKind, u16); 13] = [
     (280, NodeKind::Directory, 0o700),
 ];
 
-const NAMES_LAST: [(u64, &[u8], u64); 12] = [
+const NAMES_LAST: &[(u64, &[u8], u64)] = &[
     (256, b"a", 259),
     (256, b"b", 258),
     (256, b"c", 277),
@@ -136,7 +137,7 @@ fn edit(rt: &impl Abort, tree: &mut Tree<Mark>, line: &[u8]) -> Result<(), Fail>
     for edit in line.chunks_exact(4) {
         if let [what, path, other, want] = edit {
             let number = number_of(done(tree, *what, *path, *other))?;
-            assert_eq!(rt; number, u64::from(want.wrapping_sub(b'@')));
+            same(rt, number, u64::from(want.wrapping_sub(b'@')));
         }
     }
     Ok(())
@@ -149,39 +150,41 @@ fn edit_all(rt: &impl Abort, tree: &mut Tree<Mark>, lines: &[&[u8]]) -> Result<(
     Ok(())
 }
 
+fn kind_and_mode(tree: &Tree<Mark>, number: u64) -> Option<(NodeKind, u16)> {
+    let inode = tree.inode(number)?;
+    Some((inode.kind(), inode.mode()))
+}
+
 fn inodes_are(rt: &impl Abort, tree: &Tree<Mark>, table: &[(u64, NodeKind, u16)]) {
     let mut last = 0;
     for (number, kind, mode) in table {
-        assert_eq!(rt; tree.inode_after(last), Some(*number));
-        let Some(inode) = tree.inode(*number) else {
-            panic!(rt; "an inode is missing");
-        };
-        assert_eq!(rt; (inode.kind(), inode.mode()), (*kind, *mode));
+        same(rt, tree.inode_after(last), Some(*number));
+        same(rt, kind_and_mode(tree, *number), Some((*kind, *mode)));
         last = *number;
     }
-    assert_eq!(rt; tree.inode_after(last), None);
+    same(rt, tree.inode_after(last), None);
 }
 
 fn names_are(rt: &impl Abort, tree: &Tree<Mark>, table: &[(u64, &[u8], u64)]) {
     let mut directory = 0;
     let mut name: &[u8] = b"";
     for entry in table {
-        assert_eq!(rt; tree.name_after(directory, name), Some(*entry));
+        same(rt, tree.name_after(directory, name), Some(*entry));
         directory = entry.0;
         name = entry.1;
     }
-    assert_eq!(rt; tree.name_after(directory, name), None);
+    same(rt, tree.name_after(directory, name), None);
 }
 
 #[test]
 fn edits_leave_what_a_plain_map_has(rt: HostRuntime) -> Result<(), Fail> {
     let mut tree = Tree::new(rt.alloc())?;
-    edit_all(&rt, &mut tree, &EDITS_FIRST)?;
+    edit_all(&rt, &mut tree, EDITS_FIRST)?;
     let copy = tree.copy()?;
-    edit_all(&rt, &mut tree, &EDITS_LAST)?;
-    inodes_are(&rt, &tree, &INODES_LAST);
-    names_are(&rt, &tree, &NAMES_LAST);
-    inodes_are(&rt, &copy, &INODES_FIRST);
-    names_are(&rt, &copy, &NAMES_FIRST);
+    edit_all(&rt, &mut tree, EDITS_LAST)?;
+    inodes_are(&rt, &tree, INODES_LAST);
+    names_are(&rt, &tree, NAMES_LAST);
+    inodes_are(&rt, &copy, INODES_FIRST);
+    names_are(&rt, &copy, NAMES_FIRST);
     Ok(())
 }

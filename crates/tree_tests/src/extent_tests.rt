@@ -1,7 +1,7 @@
 // A fixed table of calls, applied to `Extents` and to the vector of cells.
 ghost use Rattle.std.specs.Prelude.{◌≡◌, ◌+◌, ◌-◌, ◌^◌, ◌<◌, ◌≤◌, ◌⊎◌, IfSome, IsTrue, length};
 
-use crate::marks::Mark;
+use crate::marks::Sought;
 use crate::plain::PlainCells;
 use extent_map::{Extents, Origin};
 use std::alloc::{AllocError, Global};
@@ -9,7 +9,7 @@ use std::mem;
 use std::test::Fail;
 
 /// A cell of a piece.
-fn cell_of(origin: Option<Mark>, k: u64) -> Option<Mark>
+fn cell_of(origin: Option<Sought>, k: u64) -> Option<Sought>
     requires { IfSome origin (λ o. k ≤ 2 ^ 64 - 1 - o.place) }
 {
     match origin {
@@ -18,11 +18,19 @@ fn cell_of(origin: Option<Mark>, k: u64) -> Option<Mark>
     }
 }
 
+/// Whether a foreign cell stands at a place.
+fn is_foreign_at(cells: &[Option<Sought>], at: u64) -> bool {
+    match cells.get(at as usize) {
+        Some(Some(cell)) => cell.foreign,
+        _ => false,
+    }
+}
+
 /// A file, as both keep it.
 #[derive(Drop)]
 struct Both {
-    extents: Extents<Mark>,
-    plain: PlainCells<Mark>,
+    extents: Extents<Sought>,
+    plain: PlainCells<Sought>,
 }
 
 /// Numbers that look drawn, and are the same each time.
@@ -76,7 +84,24 @@ impl Both {
         place == cells.len() && place as u64 == size
     }
 
-    fn put_run(&mut self, at: u64, origin: Mark, len: u64) -> Result<(), AllocError>
+    /// Whether both have the same next foreign cell, from each place on.
+    fn agree_on_foreign(&self) -> bool {
+        let cells = self.plain.cells();
+        let size = self.extents.size();
+        let mut next = size;
+        for behind in 0..=cells.len() {
+            let at = (cells.len() - behind) as u64;
+            if is_foreign_at(cells, at) {
+                next = at;
+            }
+            if at > size || self.extents.next_foreign(at) != next {
+                return false;
+            }
+        }
+        true
+    }
+
+    fn put_run(&mut self, at: u64, origin: Sought, len: u64) -> Result<(), AllocError>
         requires end { at + len < 2 ^ 63 }
         requires reaches { origin.place + len < 2 ^ 64 }
     {
@@ -140,8 +165,9 @@ fn call(draw: &mut Draw, number: u64, file: &mut Both, other: &mut Both) -> Resu
     match kind {
         0..=2 => file.put_run(
             at,
-            Mark {
+            Sought {
                 place: number * 4_096 + draw.below(1_000),
+                foreign: draw.below(4) == 0,
             },
             len,
         )?,
@@ -192,12 +218,107 @@ fn a_table_of_calls_gives_the_same_cells(rt: HostRuntime) -> Result<(), Fail> {
     for number in 0..200 {
         let called = call(&mut draw, number, &mut file, &mut other)?;
         assert!(rt;
-            called && file.agree() && other.agree(),
+            called && file.agree() && other.agree() && file.agree_on_foreign(),
             "after call {number}"
         );
         if file.extents.size() > 128 {
             file.cut_to(40)?;
         }
+    }
+    Ok(())
+}
+
+/// A file of so many runs of two cells with a zero cell behind each, of which one in `step` is foreign.
+fn rows(alloc: Global, runs: u32, step: u32) -> Result<Both, AllocError>
+    requires { 0 < step }
+{
+    let mut file = Both::new(alloc);
+    for number in 0..runs {
+        let at = number as u64 * 3;
+        let foreign = number % step == step - 1;
+        file.put_run(at, Sought { place: at, foreign }, 2)?;
+        file.zero_run(at + 2, 1)?;
+    }
+    Ok(file)
+}
+
+#[test]
+fn the_next_foreign_cell_is_that_of_the_plain_cells(rt: HostRuntime) -> Result<(), Fail> {
+    // how many runs, and how many of them have one foreign among them; the last ones are of many nodes
+    let table = [
+        (0, 1),
+        (1, 1),
+        (1, 2),
+        (2, 1),
+        (2, 2),
+        (2, 3),
+        (9, 4),
+        (60, 1),
+        (60, 60),
+        (60, 61),
+        (700, 7),
+        (700, 333),
+        (700, 700),
+        (700, 701),
+    ];
+    for &(runs, step) in &table {
+        let file = rows(rt.alloc(), runs, step.max(1))?;
+        assert!(rt;
+            file.agree() && file.agree_on_foreign(),
+            "{runs} runs, one in {step} foreign"
+        );
+    }
+    Ok(())
+}
+
+/// Puts a file onto its own end so many times, as far as that fits.
+fn double(file: &mut Extents<Sought>, times: u32) -> Result<(), AllocError> {
+    for _ in 0..times {
+        let size = file.size();
+        if size < 1 << 60 {
+            file.copy_within(size, 0, size)?;
+        }
+    }
+    Ok(())
+}
+
+/// The next foreign cell from a place on, where the file reaches so far.
+fn next_from(file: &Extents<Sought>, at: u64) -> Option<u64> {
+    if at > file.size() {
+        return None;
+    }
+    Some(file.next_foreign(at))
+}
+
+#[test]
+fn a_file_of_many_runs_is_passed_at_once(rt: HostRuntime) -> Result<(), Fail> {
+    let own = Sought {
+        place: 0,
+        foreign: false,
+    };
+    let other = Sought {
+        place: 0,
+        foreign: true,
+    };
+    let mut file = Extents::new(rt.alloc());
+    for at in 0..20u64 {
+        file.put_run(at, own, 1)?;
+    }
+    double(&mut file, 50)?;
+    assert_eq!(rt; file.size(), 20 << 50);
+    assert_eq!(rt; next_from(&file, 0), Some(20 << 50));
+    assert_eq!(rt; next_from(&file, 20 << 50), Some(20 << 50));
+    file.put_run(13 << 50, other, 1)?;
+    double(&mut file, 4)?;
+    let table = [
+        (0, 13 << 50),
+        (13 << 50, 13 << 50),
+        ((13 << 50) + 1, 33 << 50),
+        (40 << 50, 53 << 50),
+        ((313 << 50) + 1, 320 << 50),
+    ];
+    for &(at, next) in &table {
+        assert_eq!(rt; next_from(&file, at), Some(next));
     }
     Ok(())
 }

@@ -1,5 +1,6 @@
 // Trees as commands make them. The calls stand in tables, so that each test is a loop over one helper.
 use crate::marks::Mark;
+use crate::same::same;
 use extent_map::Extents;
 use inode_tree::{NodeKind, Timestamp, Tree};
 use std::alloc::{AllocError, Global};
@@ -62,7 +63,7 @@ fn call_all(
 ) -> Result<(), Fail> {
     for (call, want) in calls {
         let answer = refusal_of(tree, *call)?;
-        assert_eq!(rt; answer, *want);
+        same(rt, answer, *want);
     }
     Ok(())
 }
@@ -85,11 +86,11 @@ fn copy_of(tree: &Tree<Mark>) -> Result<Tree<Mark>, AllocError> {
 
 fn leads(rt: &impl Abort, tree: &Tree<Mark>, table: &[Leads]) {
     for (path, want) in table {
-        assert_eq!(rt; tree.find(path), *want);
+        same(rt, tree.find(path), *want);
     }
 }
 
-const NAMES: [(Call, Option<Refusal>); 9] = [
+const NAMES: &[(Call, Option<Refusal>)] = &[
     (Call::Make(b"d", NodeKind::Directory), None),
     (Call::Make(b"d/x", NodeKind::File), None),
     (Call::Link(b"y", b"d/x"), None),
@@ -101,66 +102,78 @@ const NAMES: [(Call, Option<Refusal>); 9] = [
     (Call::Rmdir(b"y"), Some(Refusal::NotDirectory)),
 ];
 
+const NAMES_LEAD: &[Leads] = &[
+    (b"", Ok(256)),
+    (b"d", Ok(257)),
+    (b"d/x", Ok(258)),
+    (b"y", Ok(258)),
+    (b"y/z", Err(Refusal::NotDirectory)),
+];
+
 #[test]
 fn names_are_found(rt: HostRuntime) -> Result<(), Fail> {
-    let tree = tree_after(&rt, rt.alloc(), &NAMES)?;
-    let table: [Leads; 5] = [
-        (b"", Ok(256)),
-        (b"d", Ok(257)),
-        (b"d/x", Ok(258)),
-        (b"y", Ok(258)),
-        (b"y/z", Err(Refusal::NotDirectory)),
-    ];
-    leads(&rt, &tree, &table);
+    let tree = tree_after(&rt, rt.alloc(), NAMES)?;
+    leads(&rt, &tree, NAMES_LEAD);
     Ok(())
 }
 
-const REMOVALS: [(Call, Option<Refusal>); 3] = [
+const REMOVALS: &[(Call, Option<Refusal>)] = &[
     (Call::Unlink(b"d/x"), None),
     (Call::Unlink(b"y"), None),
     (Call::Rmdir(b"d"), None),
 ];
 
+const REMOVED_LEAD: &[Leads] = &[(b"d", Err(Refusal::NoEntry))];
+
+const KEPT_LEAD: &[Leads] = &[(b"d/x", Ok(258)), (b"y", Ok(258))];
+
 #[test]
 fn a_copy_keeps_what_goes(rt: HostRuntime) -> Result<(), Fail> {
-    let mut tree = tree_after(&rt, rt.alloc(), &NAMES)?;
+    let mut tree = tree_after(&rt, rt.alloc(), NAMES)?;
     let copy = copy_of(&tree)?;
-    call_all(&rt, &mut tree, &REMOVALS)?;
-    leads(&rt, &tree, &[(b"d", Err(Refusal::NoEntry))]);
-    leads(&rt, &copy, &[(b"d/x", Ok(258)), (b"y", Ok(258))]);
-    assert_eq!(rt; tree.inode_after(256), None);
-    assert_eq!(rt;
+    call_all(&rt, &mut tree, REMOVALS)?;
+    leads(&rt, &tree, REMOVED_LEAD);
+    leads(&rt, &copy, KEPT_LEAD);
+    same(&rt, tree.inode_after(256), None);
+    same(
+        &rt,
         copy.name_after(256, b"y"),
-        Some((257, b"x".as_slice(), 258))
+        Some((257, b"x".as_slice(), 258)),
     );
     Ok(())
 }
 
+const MOVES: &[(Call, Option<Refusal>)] = &[
+    (Call::Make(b"x", NodeKind::File), None),
+    (Call::Link(b"y", b"x"), None),
+    (Call::Rename(b"x", b"y"), None),
+    (Call::Make(b"d", NodeKind::Directory), None),
+    (Call::Make(b"e", NodeKind::Directory), None),
+    (Call::Make(b"e/f", NodeKind::File), None),
+    (Call::Rename(b"d", b"e"), Some(Refusal::NotEmpty)),
+    (Call::Rename(b"d", b"d/g"), Some(Refusal::IntoItself)),
+    (Call::Rename(b"z", b"/"), Some(Refusal::NoEntry)),
+    (Call::Rename(b"d", b"x"), Some(Refusal::NotDirectory)),
+    (Call::Rename(b"x", b"d"), Some(Refusal::IsDirectory)),
+    (Call::Rename(b"e", b"d"), None),
+    (Call::Rename(b"d/f", b"x"), None),
+];
+
+const MOVED_LEAD: &[Leads] = &[
+    (b"x", Ok(260)),
+    (b"y", Ok(257)),
+    (b"d/f", Err(Refusal::NoEntry)),
+];
+
 #[test]
 fn names_move(rt: HostRuntime) -> Result<(), Fail> {
-    let calls: [(Call, Option<Refusal>); 13] = [
-        (Call::Make(b"x", NodeKind::File), None),
-        (Call::Link(b"y", b"x"), None),
-        (Call::Rename(b"x", b"y"), None),
-        (Call::Make(b"d", NodeKind::Directory), None),
-        (Call::Make(b"e", NodeKind::Directory), None),
-        (Call::Make(b"e/f", NodeKind::File), None),
-        (Call::Rename(b"d", b"e"), Some(Refusal::NotEmpty)),
-        (Call::Rename(b"d", b"d/g"), Some(Refusal::IntoItself)),
-        (Call::Rename(b"z", b"/"), Some(Refusal::NoEntry)),
-        (Call::Rename(b"d", b"x"), Some(Refusal::NotDirectory)),
-        (Call::Rename(b"x", b"d"), Some(Refusal::IsDirectory)),
-        (Call::Rename(b"e", b"d"), None),
-        (Call::Rename(b"d/f", b"x"), None),
-    ];
-    let tree = tree_after(&rt, rt.alloc(), &calls)?;
-    leads(&rt, &tree, &[(b"x", Ok(260)), (b"y", Ok(257))]);
-    leads(&rt, &tree, &[(b"d/f", Err(Refusal::NoEntry))]);
+    let tree = tree_after(&rt, rt.alloc(), MOVES)?;
+    leads(&rt, &tree, MOVED_LEAD);
     Ok(())
 }
 
 // Each name goes or moves right after a walk by it.
-const WALKED: [(Call, Option<Refusal>); 21] = [
+const WALKED: &[(Call, Option<Refusal>)] = &[
     (Call::Make(b"d", NodeKind::Directory), None),
     (Call::Make(b"d/e", NodeKind::Directory), None),
     (Call::Make(b"d/e/x", NodeKind::File), None),
@@ -187,30 +200,33 @@ const WALKED: [(Call, Option<Refusal>); 21] = [
     (Call::Rename(b"h", b"g"), None),
 ];
 
+const WALKED_LEAD: &[Leads] = &[
+    (b"c/e", Ok(261)),
+    (b"g", Ok(263)),
+    (b"g/k", Ok(264)),
+    (b"h/k", Err(Refusal::NoEntry)),
+    (b"g/k/", Err(Refusal::BadPath)),
+    (b"g/", Err(Refusal::BadPath)),
+    (b"g/.", Err(Refusal::BadPath)),
+];
+
 #[test]
 fn what_was_walked_may_go(rt: HostRuntime) -> Result<(), Fail> {
-    let tree = tree_after(&rt, rt.alloc(), &WALKED)?;
-    let table: [Leads; 7] = [
-        (b"c/e", Ok(261)),
-        (b"g", Ok(263)),
-        (b"g/k", Ok(264)),
-        (b"h/k", Err(Refusal::NoEntry)),
-        (b"g/k/", Err(Refusal::BadPath)),
-        (b"g/", Err(Refusal::BadPath)),
-        (b"g/.", Err(Refusal::BadPath)),
-    ];
-    leads(&rt, &tree, &table);
+    let tree = tree_after(&rt, rt.alloc(), WALKED)?;
+    leads(&rt, &tree, WALKED_LEAD);
     Ok(())
 }
 
 const MOMENT: Timestamp = Timestamp { secs: 7, nanos: 8 };
 
-const DEVICE: [(Call, Option<Refusal>); 2] = [
+const EPOCH: Timestamp = Timestamp { secs: 0, nanos: 0 };
+
+const DEVICE: &[(Call, Option<Refusal>)] = &[
     (Call::Make(b"n", NodeKind::CharacterDevice), None),
     (Call::SetXattr(b"n", b"user.k"), None),
 ];
 
-const CHANGES: [(Call, Option<Refusal>); 7] = [
+const CHANGES: &[(Call, Option<Refusal>)] = &[
     (Call::SetMode(b"n", 0o123_755), None),
     (Call::SetOwner(b"n", 1_000, 1_001), None),
     (Call::SetTimes(b"n", MOMENT), None),
@@ -218,6 +234,9 @@ const CHANGES: [(Call, Option<Refusal>); 7] = [
     (Call::RemoveXattr(b"n", b"user.k"), None),
     (Call::RemoveXattr(b"n", b"user.k"), Some(Refusal::NoXattr)),
     (Call::SetXattr(b"n", b""), Some(Refusal::BadXattr)),
+    (Call::RemoveXattr(b"", b"user.k"), Some(Refusal::NoXattr)),
+    (Call::SetFlags(b"", 32), None),
+    (Call::SetXattr(b"", b"user.r"), None),
 ];
 
 // The mode, the owner and the group of an inode, and its flags.
@@ -226,27 +245,30 @@ fn says(tree: &Tree<Mark>, ino: u64) -> Option<(u16, u64, u64, u64)> {
     Some((inode.mode(), inode.uid(), inode.gid(), inode.flags()))
 }
 
-// The times of an inode, the number of its device, and how many extended attributes it has.
-fn has(tree: &Tree<Mark>, ino: u64) -> Option<(Timestamp, Timestamp, u64, u64)> {
+// The times of an inode, the number of its device, and whether it has an extended attribute.
+fn has(tree: &Tree<Mark>, ino: u64) -> Option<(Timestamp, Timestamp, u64, bool)> {
     let inode = tree.inode(ino)?;
     Some((
         inode.atime(),
         inode.mtime(),
         inode.rdev(),
-        inode.xattrs().len(),
+        inode.xattrs().next().is_some(),
     ))
 }
 
 #[test]
 fn a_snapshot_changes_alone(rt: HostRuntime) -> Result<(), Fail> {
-    let before = tree_after(&rt, rt.alloc(), &DEVICE)?;
+    let before = tree_after(&rt, rt.alloc(), DEVICE)?;
     let mut after = copy_of(&before)?;
-    call_all(&rt, &mut after, &CHANGES)?;
-    assert_eq!(rt; says(&before, 257), Some((0o600, 0, 0, 0)));
-    assert_eq!(rt; says(&after, 257), Some((0o3_755, 1_000, 1_001, 16)));
-    let epoch = Timestamp { secs: 0, nanos: 0 };
-    assert_eq!(rt; has(&before, 257), Some((epoch, epoch, 1_281, 1)));
-    assert_eq!(rt; has(&after, 257), Some((MOMENT, MOMENT, 1_281, 0)));
+    call_all(&rt, &mut after, CHANGES)?;
+    same(&rt, says(&before, 257), Some((0o600, 0, 0, 0)));
+    same(&rt, says(&after, 257), Some((0o3_755, 1_000, 1_001, 16)));
+    same(&rt, has(&before, 257), Some((EPOCH, EPOCH, 1_281, true)));
+    same(&rt, has(&after, 257), Some((MOMENT, MOMENT, 1_281, false)));
+    same(&rt, says(&before, 256), Some((0o700, 0, 0, 0)));
+    same(&rt, says(&after, 256), Some((0o700, 0, 0, 32)));
+    same(&rt, has(&before, 256), Some((EPOCH, EPOCH, 0, false)));
+    same(&rt, has(&after, 256), Some((EPOCH, EPOCH, 0, true)));
     Ok(())
 }
 
@@ -261,15 +283,15 @@ fn size_of(tree: &Tree<Mark>, ino: u64) -> Option<u64> {
     Some(tree.inode(ino)?.contents().size())
 }
 
-const FILE: [(Call, Option<Refusal>); 1] = [(Call::Make(b"x", NodeKind::File), None)];
+const FILE: &[(Call, Option<Refusal>)] = &[(Call::Make(b"x", NodeKind::File), None)];
 
 #[test]
 fn contents_are_exchanged(rt: HostRuntime) -> Result<(), Fail> {
-    let mut tree = tree_after(&rt, rt.alloc(), &FILE)?;
+    let mut tree = tree_after(&rt, rt.alloc(), FILE)?;
     let mut contents = three_cells(rt.alloc())?;
-    assert_eq!(rt; tree.swap_contents(257, &mut contents)?, true);
-    assert_eq!(rt; contents.size(), 0);
-    assert_eq!(rt; tree.swap_contents(256, &mut contents)?, false);
-    assert_eq!(rt; size_of(&tree, 257), Some(3));
+    same(&rt, tree.swap_contents(257, &mut contents), Ok(true));
+    same(&rt, contents.size(), 0);
+    same(&rt, tree.swap_contents(256, &mut contents), Ok(false));
+    same(&rt, size_of(&tree, 257), Some(3));
     Ok(())
 }

@@ -21,4 +21,6 @@ mod marks;
 #[cfg(test)]
 mod plain;
 #[cfg(test)]
+mod same;
+#[cfg(test)]
 mod view_tests;

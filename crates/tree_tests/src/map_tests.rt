@@ -1,8 +1,10 @@
 // Maps and their copies.
 ghost use Rattle.std.specs.Prelude.{◌+◌, ◌%◌, ◌^◌};
 
-use shared_map::{Copied, Edit, InShared, Shared, SharedMap};
+use crate::same::same;
+use shared_map::{Copied, Edit, Entries, InShared, Shared, SharedMap};
 use std::alloc::{AllocError, Global};
+use std::process::Abort;
 use std::test::Fail;
 
 // How many entries the maps of these tests have: some more than eight pages hold.
@@ -18,61 +20,78 @@ fn doubles(alloc: Global) -> Result<SharedMap<u64, u64>, AllocError> {
     Ok(map)
 }
 
+fn value(map: &SharedMap<u64, u64>, key: u64) -> Option<u64> {
+    map.get(&key).copied()
+}
+
 #[test]
 fn entries_come_in_order(rt: HostRuntime) -> Result<(), Fail> {
     let map = doubles(rt.alloc())?;
-    assert_eq!(rt; map.len(), COUNT);
-    let mut wanted = 0;
+    same(&rt, map.len(), COUNT);
+    let mut wanted: u64 = 0;
     for (key, value) in map.iter() {
-        assert!(rt;
-            *key == wanted && *value == key.wrapping_mul(2),
-            "the entry {key}"
-        );
+        same(&rt, (*key, *value), (wanted, wanted.wrapping_mul(2)));
         wanted = wanted.wrapping_add(1);
     }
-    assert_eq!(rt; wanted, COUNT);
-    assert_eq!(rt; map.get(&617), Some(&1_234));
-    assert_eq!(rt; map.get(&1_000), None);
-    assert_eq!(rt; map.next_after(&127), Some(&(128, 256)));
-    assert_eq!(rt; map.next_after(&999), None);
+    same(&rt, wanted, COUNT);
+    same(&rt, value(&map, 617), Some(1_234));
+    same(&rt, value(&map, 1_000), None);
+    same(&rt, map.next_after(&127), Some(&(128, 256)));
+    same(&rt, map.next_after(&999), None);
     Ok(())
+}
+
+// Takes out the keys that do not end in 7.
+fn thin(rt: &impl Abort, map: &mut SharedMap<u64, u64>) {
+    for key in 0..COUNT {
+        if key % 10 != 7 {
+            same(rt, map.remove(&key), Ok(Some(key * 2)));
+        }
+    }
 }
 
 #[test]
 fn a_copy_keeps_what_the_other_loses(rt: HostRuntime) -> Result<(), Fail> {
     let before = doubles(rt.alloc())?;
     let mut after = before.copy()?;
-    for key in 0..COUNT {
-        if key % 10 != 7 {
-            assert_eq!(rt; after.remove(&key)?, Some(key * 2));
-        }
-    }
+    thin(&rt, &mut after);
     after.insert(&7, 1)?;
-    assert_eq!(rt; after.remove(&8)?, None);
-    assert_eq!(rt; after.len(), 100);
-    assert_eq!(rt; after.get(&7), Some(&1));
-    assert_eq!(rt; after.next_after(&7), Some(&(17, 34)));
-    assert_eq!(rt; before.len(), COUNT);
-    assert_eq!(rt; before.get(&7), Some(&14));
-    assert_eq!(rt; before.next_after(&7), Some(&(8, 16)));
+    same(&rt, after.remove(&8), Ok(None));
+    same(&rt, after.len(), 100);
+    same(&rt, value(&after, 7), Some(1));
+    same(&rt, after.next_after(&7), Some(&(17, 34)));
+    same(&rt, before.len(), COUNT);
+    same(&rt, value(&before, 7), Some(14));
+    same(&rt, before.next_after(&7), Some(&(8, 16)));
     Ok(())
+}
+
+// A map of the same entries, each of which is new when it is put in.
+fn all_new(rt: &impl Abort, alloc: Global) -> SharedMap<u64, u64> {
+    let mut map = SharedMap::new(alloc);
+    for key in 0..COUNT {
+        same(rt, map.insert_new(&key, key * 2), Ok(true));
+    }
+    map
+}
+
+#[test]
+fn no_entries_are_none(rt: HostRuntime) {
+    same(&rt, Entries::<u64, u64>::none().next(), None);
 }
 
 #[test]
 fn a_new_key_is_told_from_one_that_is_there(rt: HostRuntime) -> Result<(), Fail> {
-    let mut map = SharedMap::new(rt.alloc());
-    for key in 0..COUNT {
-        assert_eq!(rt; map.insert_new(&key, key * 2)?, true);
-    }
+    let mut map = all_new(&rt, rt.alloc());
     let before = map.copy()?;
-    assert_eq!(rt; map.insert_new(&500, 1)?, false);
-    assert_eq!(rt; map.get(&500), Some(&1_000));
-    assert_eq!(rt; map.insert_new(&1_000, 1)?, true);
-    assert_eq!(rt; map.get(&1_000), Some(&1));
-    assert_eq!(rt; map.next_after(&999), Some(&(1_000, 1)));
-    assert_eq!(rt; map.len(), 1_001);
-    assert_eq!(rt; before.len(), COUNT);
-    assert_eq!(rt; before.get(&1_000), None);
+    same(&rt, map.insert_new(&500, 1), Ok(false));
+    same(&rt, value(&map, 500), Some(1_000));
+    same(&rt, map.insert_new(&1_000, 1), Ok(true));
+    same(&rt, value(&map, 1_000), Some(1));
+    same(&rt, map.next_after(&999), Some(&(1_000, 1)));
+    same(&rt, map.len(), 1_001);
+    same(&rt, before.len(), COUNT);
+    same(&rt, value(&before, 1_000), None);
     Ok(())
 }
 
@@ -100,14 +119,14 @@ fn a_value_is_changed_where_it_stands(rt: HostRuntime) -> Result<(), Fail> {
     let before = doubles(rt.alloc())?;
     let mut after = before.copy()?;
     let mut add = Add { more: 3, was: 0 };
-    assert_eq!(rt; after.edit(&500, &mut add)?, true);
-    assert_eq!(rt; add.was, 1_000);
-    assert_eq!(rt; after.edit(&1_000, &mut add)?, false);
-    assert_eq!(rt; add.was, 1_000);
-    assert_eq!(rt; after.get(&500), Some(&1_003));
-    assert_eq!(rt; after.get(&501), Some(&1_002));
-    assert_eq!(rt; after.len(), COUNT);
-    assert_eq!(rt; before.get(&500), Some(&1_000));
+    same(&rt, after.edit(&500, &mut add), Ok(true));
+    same(&rt, add.was, 1_000);
+    same(&rt, after.edit(&1_000, &mut add), Ok(false));
+    same(&rt, add.was, 1_000);
+    same(&rt, value(&after, 500), Some(1_003));
+    same(&rt, value(&after, 501), Some(1_002));
+    same(&rt, after.len(), COUNT);
+    same(&rt, value(&before, 500), Some(1_000));
     Ok(())
 }
 
@@ -117,14 +136,14 @@ fn what_is_shared_is_copied_to_change_it(rt: HostRuntime) -> Result<(), Fail> {
     let five = Shared::new(rt.alloc(), 5_u64)?;
     map.insert(&7, five.copy()?)?;
     let mut add = InShared::new(rt.alloc(), Add { more: 1, was: 0 });
-    assert_eq!(rt; map.edit(&7, &mut add)?, true);
-    assert_eq!(rt; add.copied(), true);
-    assert_eq!(rt; map.edit(&7, &mut add)?, true);
-    assert_eq!(rt; add.copied(), false);
-    assert_eq!(rt; add.into_inner().was, 6);
-    assert_eq!(rt; *five.get(), 5);
+    same(&rt, map.edit(&7, &mut add), Ok(true));
+    same(&rt, add.copied(), true);
+    same(&rt, map.edit(&7, &mut add), Ok(true));
+    same(&rt, add.copied(), false);
+    same(&rt, add.into_inner().was, 6);
+    same(&rt, *five.get(), 5);
     if let Some(value) = map.get(&7) {
-        assert_eq!(rt; *value.get(), 7);
+        same(&rt, *value.get(), 7);
     }
     Ok(())
 }

@@ -2,6 +2,7 @@
 // program; those of the others are written by hand.
 
 use crate::marks::Mark;
+use crate::same::same;
 use inode_tree::{NodeKind, Timestamp};
 use std::alloc::Global;
 use std::test::Fail;
@@ -23,7 +24,7 @@ fn key(byte: u8, ctransid: u64) -> Key {
 // An entry: its name, the byte of its UUID, its transaction number, whether it is complete, and its parent's byte and number.
 type Row = (&'static [u8], u8, u64, bool, Option<(u8, u64)>);
 
-const TWO_PARTS: [Row; 2] = [
+const TWO_PARTS: &[Row] = &[
     (b"a", 0x11, 1, true, None),
     (b"b", 0x22, 2, true, Some((0x11, 1))),
 ];
@@ -31,12 +32,12 @@ const TWO_PARTS: [Row; 2] = [
 const TWO_PART_LINES: &[u8] =
     b"a 11111111-1111-1111-1111-111111111111 1 complete -\nb 22222222-2222-2222-2222-222222222222 2 complete 11111111-1111-1111-1111-111111111111:1\n";
 
-const UNFINISHED: [Row; 1] = [(b"a", 0x11, 1, false, None)];
+const UNFINISHED: &[Row] = &[(b"a", 0x11, 1, false, None)];
 
 const UNFINISHED_LINE: &[u8] = b"a 11111111-1111-1111-1111-111111111111 1 unfinished -\n";
 
 // Entries stay in the order in which they began. A parent need not be there.
-const OTHERS: [Row; 3] = [
+const OTHERS: &[Row] = &[
     (b"z\\ \xc3\xa9", 0xab, u64::MAX, true, Some((0xff, 0))),
     (b"-", 0x00, 0, false, Some((0xab, u64::MAX))),
     (b"b~!", 0x0f, 10, true, None),
@@ -72,12 +73,18 @@ fn lists(alloc: Global, rows: &[Row], lines: &[u8]) -> Result<bool, Fail> {
     Ok(answer == Outcome::Done && out.bytes() == lines)
 }
 
+const LISTS: &[(&[Row], &[u8])] = &[
+    (&[], b""),
+    (TWO_PARTS, TWO_PART_LINES),
+    (UNFINISHED, UNFINISHED_LINE),
+    (OTHERS, OTHER_LINES),
+];
+
 #[test]
 fn entries_are_listed(rt: HostRuntime) -> Result<(), Fail> {
-    assert!(rt; lists(rt.alloc(), &[], b"")?);
-    assert!(rt; lists(rt.alloc(), &TWO_PARTS, TWO_PART_LINES)?);
-    assert!(rt; lists(rt.alloc(), &UNFINISHED, UNFINISHED_LINE)?);
-    assert!(rt; lists(rt.alloc(), &OTHERS, OTHER_LINES)?);
+    for &(rows, lines) in LISTS {
+        same(&rt, lists(rt.alloc(), rows, lines)?, true);
+    }
     Ok(())
 }
 
@@ -140,7 +147,7 @@ fn shows(alloc: Global, name: &[u8], key: Key, steps: &[Step], lines: &[u8]) -> 
     Ok(answer == Outcome::Done && out.bytes() == lines)
 }
 
-const HOME: [Step; 8] = [
+const HOME: &[Step] = &[
     Step::Owner(b"", 0, 0),
     Step::Mode(b"", 0o755),
     Step::Times(b"", (1_700_000_000, 0), (1_700_000_000, 0)),
@@ -154,7 +161,7 @@ const HOME: [Step; 8] = [
 const HOME_LINES: &[u8] =
     b"subvol home 11111111-1111-1111-1111-111111111111 9 258\ninode 256 dir 755 0 0 1700000000.000000000 1700000000.000000000 0 -\ninode 257 file 644 1000 1000 1700000001.000000500 1700000002.000000000 0 6\nname 256 notes 257\n";
 
-const KINDS: [Step; 6] = [
+const KINDS: &[Step] = &[
     Step::Make(b"d", NodeKind::Directory, 0, b""),
     Step::Make(b"d/s", NodeKind::SymbolicLink, 0, b"../x y"),
     Step::Make(b"d/n", NodeKind::CharacterDevice, 1_281, b""),
@@ -168,7 +175,7 @@ const KIND_LINES: &[u8] =
 
 // Names in the order of their bytes, two of one inode; modes with and without all bits; attributes in the order of their names; a
 // file that ends in a hole.
-const FURTHER: [Step; 12] = [
+const FURTHER: &[Step] = &[
     Step::Make(b"\xff", NodeKind::BlockDevice, u64::MAX, b""),
     Step::Make(b"b", NodeKind::Directory, 0, b""),
     Step::Make(b"b/z", NodeKind::File, 0, b""),
@@ -186,11 +193,21 @@ const FURTHER: [Step; 12] = [
 const FURTHER_LINES: &[u8] =
     b"subvol \\x09 00000000-0000-0000-0000-000000000000 0 260\ninode 256 dir 700 0 0 0.000000000 0.000000000 0 -\ninode 257 blk 600 0 0 0.000000000 0.000000000 0 18446744073709551615\ninode 258 dir 0 0 0 0.000000000 0.000000000 0 -\ninode 259 file 7777 18446744073709551615 65534 18446744073709551615.999999999 1.000000010 16 4100\nxattr 259 user.b \nname 256 B 259\nname 256 b 258\nname 256 b\\x20c 259\nname 256 \\xff 257\nname 258 z 259\n";
 
+// The name, the byte of the UUID and the transaction number of a subvolume, how it is made, and its lines.
+type Shown = (&'static [u8], u8, u64, &'static [Step], &'static [u8]);
+
+const SHOWN: &[Shown] = &[
+    (b"home", 0x11, 9, HOME, HOME_LINES),
+    (b"a", 0x11, 1, KINDS, KIND_LINES),
+    (b"\t", 0, 0, FURTHER, FURTHER_LINES),
+];
+
 #[test]
 fn subvolumes_are_shown(rt: HostRuntime) -> Result<(), Fail> {
-    assert!(rt; shows(rt.alloc(), b"home", key(0x11, 9), &HOME, HOME_LINES)?);
-    assert!(rt; shows(rt.alloc(), b"a", key(0x11, 1), &KINDS, KIND_LINES)?);
-    assert!(rt; shows(rt.alloc(), b"\t", key(0, 0), &FURTHER, FURTHER_LINES)?);
+    for &(name, byte, ctransid, steps, lines) in SHOWN {
+        let shown = shows(rt.alloc(), name, key(byte, ctransid), steps, lines)?;
+        same(&rt, shown, true);
+    }
     Ok(())
 }
 
@@ -200,30 +217,33 @@ fn subvolumes_are_shown(rt: HostRuntime) -> Result<(), Fail> {
 fn cut_list(alloc: Global, call: u64) -> Result<(u64, Outcome), Fail> {
     let mut out = MemSink::new(alloc);
     out.fail_call(call)?;
-    let answer = list(alloc, &catalog(alloc, &TWO_PARTS)?, &mut out);
+    let answer = list(alloc, &catalog(alloc, TWO_PARTS)?, &mut out);
     Ok((out.bytes().len() as u64, answer))
 }
 
 #[test]
 fn a_fault_of_the_output_is_answered(rt: HostRuntime) -> Result<(), Fail> {
-    assert_eq!(rt; cut_list(rt.alloc(), 1)?, (0, Outcome::OutputFault));
-    assert_eq!(rt;
-        cut_list(rt.alloc(), 2)?,
-        (TWO_PART_LINES.len() as u64, Outcome::Done)
-    );
+    same(&rt, cut_list(rt.alloc(), 1)?, (0, Outcome::OutputFault));
+    let whole = TWO_PART_LINES.len() as u64;
+    same(&rt, cut_list(rt.alloc(), 2)?, (whole, Outcome::Done));
     Ok(())
 }
 
-// A value of so many bytes makes a line that is written before the others are made.
+// A subvolume with a value of so many bytes that its line is written before the others are made.
+fn with_much_text(alloc: Global) -> Result<Subvol<Mark>, Fail> {
+    let mut sub = made(alloc, KINDS)?;
+    let value = vec![in alloc; 0xab; 33_000]?;
+    sub.tree_mut().set_xattr(b"", b"user.v", value.as_slice())?;
+    Ok(sub)
+}
+
 #[test]
 fn much_text_goes_out_in_pieces(rt: HostRuntime) -> Result<(), Fail> {
-    let mut sub = made(rt.alloc(), &KINDS)?;
-    let value = vec![in rt.alloc(); 0xab; 33_000]?;
-    sub.tree_mut().set_xattr(b"", b"user.v", value.as_slice())?;
+    let sub = with_much_text(rt.alloc())?;
     let mut out = MemSink::new(rt.alloc());
     out.fail_call(2)?;
     let answer = show(rt.alloc(), b"a", key(0x11, 1), &sub, &mut out);
-    assert_eq!(rt; answer, Outcome::OutputFault);
-    assert_eq!(rt; out.bytes().len(), 52 + 50 + 66_000 + 18);
+    same(&rt, answer, Outcome::OutputFault);
+    same(&rt, out.bytes().len(), 52 + 50 + 66_000 + 18);
     Ok(())
 }

@@ -15,7 +15,7 @@ ghost use Rattle.tree_view.specs.Printing.{AddsText, Prints, PrintCaused, at_zer
 use crate::writing::{write_inode, write_name, write_subvol, write_xattr};
 use extent_map::Origin;
 use inode_tree::{Bytes, Inode, Tree};
-use shared_map::SharedMap;
+use shared_map::Entries;
 use std::alloc::Global;
 use stream_dump::{Gathered, finish};
 use subvol::Subvol;
@@ -128,16 +128,16 @@ fn write_with_xattrs<R: Origin, O: Sink>(
 // Writes the lines of the extended attributes of an inode.
 fn write_xattrs<O: Sink>(
     ino: u64,
-    xattrs: &SharedMap<Bytes, Bytes>,
+    xattrs: Entries<'_, Bytes, Bytes>,
     text: &mut Gathered,
     out: &mut O,
 ) -> Result<(), Outcome>
     ensures later { O.faults out.old ≤ O.faults out.new }
     ensures steady { Steady (O.faults out.old) (O.faults out.new) result }
-    ensures added { AddsText (flat_map (xattr_line ino) xattrs.now) text.old.bytes text.new.bytes
+    ensures added { AddsText (flat_map (xattr_line ino) xattrs.entry) text.old.bytes text.new.bytes
         (O.taken out.old) (O.taken out.new) (O.faults out.old) (O.faults out.new) result }
 {
-    for (name, value) in xattrs.iter() {
+    for (name, value) in xattrs {
         write_xattr(ino, name.as_slice(), value.as_slice(), text, out)?;
     }
     Ok(())

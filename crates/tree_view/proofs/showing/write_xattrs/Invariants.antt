@@ -8,5 +8,5 @@ use Rattle.tree_view.proofs.showing.write_xattrs.Given as goal
 abbrev pub invariant-loop-name : goal.invariant-loop-name
 invariant-loop-name g l = record {
   steady : g.O.Sink.faults l.out ≡ g.O.Sink.faults l.fn.out;
-  printed : Printed (flat_map (xattr_line l.ino) l.xattrs) (flat_map (xattr_line l.ino) l.name-iterator) l.fn.text.bytes l.text.bytes (g.O.Sink.taken l.fn.out) (g.O.Sink.taken l.out);
+  printed : Printed (flat_map (xattr_line l.ino) l.fn.xattrs) (flat_map (xattr_line l.ino) l.name-iterator) l.fn.text.bytes l.text.bytes (g.O.Sink.taken l.fn.out) (g.O.Sink.taken l.out);
 }

@@ -8,6 +8,6 @@ use Rattle.inode_commands.proofs.spelling.Spelling.xattrs.Given as goal
 abbrev pub invariant-loop-name : goal.invariant-loop-name
 invariant-loop-name g l = record {
   added : l.to ++ spelled_all g.F.Form.spelled l.self.version (map (λ e. SetXattr e.0 e.1 l.path) l.name-iterator)
-      ≡ l.fn.to ++ spelled_all g.F.Form.spelled l.self.version (map (λ e. SetXattr e.0 e.1 l.path) l.xattrs);
+      ≡ l.fn.to ++ spelled_all g.F.Form.spelled l.self.version (map (λ e. SetXattr e.0 e.1 l.path) l.fn.xattrs);
   said : AllByRecursion (λ x. HasLength x.0 × HasLength x.1) l.name-iterator;
 }
