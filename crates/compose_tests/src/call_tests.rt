@@ -1,6 +1,7 @@
 // How compose asks for its files: what no clause says of it.
 ghost use Rattle.std.specs.Prelude.{None, string_bytes};
 
+use crate::same::same;
 use crate::streams::{CLONE_FROM_A, END, FIRST, HEADER, MKFILE_Y, SNAPSHOT_B, joined};
 use crate::values::two_names;
 use composer::compose;
@@ -134,48 +135,46 @@ fn two_files(alloc: Global, ended: bool) -> Result<ListedInputs, AllocError> {
     })
 }
 
+// How composing the two files ends.
+fn composed(alloc: Global, inputs: &mut ListedInputs) -> Result<Outcome, AllocError> {
+    let names = two_names(alloc)?;
+    let own = PartNames::none(alloc);
+    let mut out = MemSink::new(alloc);
+    Ok(compose(alloc, inputs, &names, &own, &mut out))
+}
+
+// Whether the calls are two passes over the two files.
+fn are_passes(alloc: Global, calls: &[Call]) -> Result<bool, AllocError> {
+    let first = ("first", joined(alloc, FIRST)?.len() as u64);
+    let second = ("second", joined(alloc, SECOND)?.len() as u64);
+    Ok(read_in_order(calls, &[first, second, first, second]))
+}
+
+// Whether the one call is for the data of the first stream.
+fn is_for_data(calls: &[Call]) -> bool {
+    let [call] = calls else {
+        return false;
+    };
+    call.name.as_str() == "first" && call.at == PLACE && call.count == 2
+}
+
 #[test]
 fn each_file_is_asked_for_once_in_a_pass(rt: HostRuntime) -> Result<(), Fail> {
     let mut inputs = two_files(rt.alloc(), false)?;
-    let names = two_names(rt.alloc())?;
-    let own = PartNames::none(rt.alloc());
-    let mut out = MemSink::new(rt.alloc());
-    assert_eq!(rt;
-        compose(rt.alloc(), &mut inputs, &names, &own, &mut out),
-        Outcome::Done
-    );
-    let first = joined(rt.alloc(), FIRST)?;
-    let second = joined(rt.alloc(), SECOND)?;
-    let passes = [
-        ("first", first.len() as u64),
-        ("second", second.len() as u64),
-        ("first", first.len() as u64),
-        ("second", second.len() as u64),
-    ];
-    assert!(rt; read_in_order(inputs.calls.as_slice(), &passes));
+    same(&rt, composed(rt.alloc(), &mut inputs)?, Outcome::Done);
+    same(&rt, are_passes(rt.alloc(), inputs.calls.as_slice())?, true);
     // The data of the vanishing part are asked for again, in a call of its own, and so no byte of them was kept.
-    assert_eq!(rt; inputs.again.len(), 1);
-    let again = inputs.again.iter().next();
-    assert!(rt;
-        again.is_some_and(|call| call.name.as_str() == "first"
-            && call.at == PLACE
-            && call.count == 2)
-    );
+    same(&rt, is_for_data(inputs.again.as_slice()), true);
     Ok(())
 }
 
 #[test]
 fn data_that_are_gone_are_no_data(rt: HostRuntime) -> Result<(), Fail> {
     let mut inputs = two_files(rt.alloc(), true)?;
-    let names = two_names(rt.alloc())?;
-    let own = PartNames::none(rt.alloc());
-    let mut out = MemSink::new(rt.alloc());
-    assert_eq!(rt;
-        compose(rt.alloc(), &mut inputs, &names, &own, &mut out),
-        Outcome::InputChanged {
-            file: 1,
-            place: PLACE
-        }
-    );
+    let gone = Outcome::InputChanged {
+        file: 1,
+        place: PLACE,
+    };
+    same(&rt, composed(rt.alloc(), &mut inputs)?, gone);
     Ok(())
 }

@@ -9,6 +9,8 @@ mod guard_tests;
 #[cfg(test)]
 mod piece_tests;
 #[cfg(test)]
+mod same;
+#[cfg(test)]
 mod silent_tests;
 #[cfg(test)]
 mod step_tests;

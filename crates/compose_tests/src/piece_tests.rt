@@ -5,11 +5,13 @@ ghost use Rattle.extent_map.specs.Cells.{cells_between};
 ghost use Rattle.clone_pieces.specs.Origins.{IsHad};
 ghost use Rattle.sx_base.specs.Again.{no_end};
 
+use crate::same::same;
 use clone_pieces::{NoBase, put, redirect, send, uncarried};
 use extent_map::Extents;
 use provenance::Trace;
 use send_commands::Command;
 use std::alloc::{AllocError, Global};
+use std::process::Abort;
 use std::test::Fail;
 use sx_base::{Blob, Failed, Inputs, Lost, MemSink};
 
@@ -55,19 +57,22 @@ fn contents(alloc: Global) -> Result<Extents<Trace>, AllocError>
     Ok(contents)
 }
 
-#[test]
-#[tactic(auto, unfolding(send_commands::specs::Writing::IsWritable, send_model::specs::Command::row, send_model::specs::Store::find))]
-fn bytes_are_written_again(rt: HostRuntime) -> Result<(), Fail> {
-    let contents = contents(rt.alloc())?;
+// Writes what stands for a clone of these bytes.
+#[tactic(auto, unfolding(send_model::specs::Store::find))]
+fn write_clone(
+    rt: &impl Abort,
+    alloc: Global,
+    pending: &mut Blob,
+    out: &mut MemSink,
+) -> Result<(), AllocError> {
+    let contents = contents(alloc)?;
     let len = contents.size();
     assert_eq!(rt; len, 100_000);
-    assert_eq!(rt; uncarried(&contents, 0, len, &NoBase), 100_000);
-    let files = [String::from_str(rt.alloc(), "a")?];
+    same(rt, uncarried(&contents, 0, len, &NoBase), 100_000);
+    let files = [String::from_str(alloc, "a")?];
     let mut bytes = NoBase;
-    let mut pending = Blob::new(rt.alloc());
-    let mut out = MemSink::new(rt.alloc());
     let done = redirect(
-        rt.alloc(),
+        alloc,
         b"f",
         8_192,
         &contents,
@@ -78,27 +83,48 @@ fn bytes_are_written_again(rt: HostRuntime) -> Result<(), Fail> {
         &mut Remainders,
         &NoBase,
         &mut bytes,
-        &mut pending,
-        &mut out,
+        pending,
+        out,
     );
-    assert_eq!(rt; done, Ok(()));
-    assert_eq!(rt; put(&Command::End, 1, &mut pending, &mut out), Ok(()));
-    assert_eq!(rt; send(&mut pending, &mut out), Ok(()));
+    same(rt, done, Ok(()));
+    Ok(())
+}
+
+// Writes END, and all that is pending.
+#[tactic(auto, unfolding(send_commands::specs::Writing::IsWritable, send_model::specs::Command::row))]
+fn write_end(rt: &impl Abort, pending: &mut Blob, out: &mut MemSink) {
+    same(rt, put(&Command::End, 1, pending, out), Ok(()));
+    same(rt, send(pending, out), Ok(()));
+}
+
+// So many bytes from a place on; none where there are fewer.
+fn part(bytes: &[u8], at: usize, len: usize) -> &[u8] {
+    bytes.get(at..at.saturating_add(len)).unwrap_or(b"")
+}
+
+// Where a WRITE begins, its body's length, its offset, and its first two bytes.
+const WRITES: &[(usize, u32, u64, [u8; 2])] = &[
+    (0, 49_173, 8_192, [0, 0]),
+    (49_183, 49_173, 57_344, [210, 211]),
+    (98_366, 1_717, 106_496, [166, 167]),
+];
+
+#[test]
+fn bytes_are_written_again(rt: HostRuntime) -> Result<(), Fail> {
+    let mut pending = Blob::new(rt.alloc());
+    let mut out = MemSink::new(rt.alloc());
+    write_clone(&rt, rt.alloc(), &mut pending, &mut out)?;
+    write_end(&rt, &mut pending, &mut out);
     let written = out.bytes();
     // Of each WRITE 31 bytes stand around its data, and END has no body.
-    assert_eq!(rt; written.len(), 3 * 31 + 100_000 + 10);
-    // (where a WRITE begins, its body's length, its offset, and its first two bytes)
-    let table: [(usize, u32, u64, [u8; 2]); 3] = [
-        (0, 49_173, 8_192, [0, 0]),
-        (49_183, 49_173, 57_344, [210, 211]),
-        (98_366, 1_717, 106_496, [166, 167]),
-    ];
-    for (at, size, offset, first) in table {
-        assert_eq!(rt; &written[at..at + 4], size.to_le_bytes().as_slice());
-        assert_eq!(rt; &written[at + 10..at + 15], [15, 0, 1, 0, b'f'].as_slice());
-        assert_eq!(rt; &written[at + 19..at + 27], offset.to_le_bytes().as_slice());
-        assert_eq!(rt; &written[at + 31..at + 33], first.as_slice());
+    same(&rt, written.len(), 3 * 31 + 100_000 + 10);
+    for &(at, size, offset, first) in WRITES {
+        let write = part(written, at, 33);
+        same(&rt, part(write, 0, 4), size.to_le_bytes().as_slice());
+        same(&rt, part(write, 10, 5), [15, 0, 1, 0, b'f'].as_slice());
+        same(&rt, part(write, 19, 8), offset.to_le_bytes().as_slice());
+        same(&rt, part(write, 31, 2), first.as_slice());
     }
-    assert_eq!(rt; &written[33..37], [0, 0, 7, 8].as_slice());
+    same(&rt, part(written, 33, 4), [0, 0, 7, 8].as_slice());
     Ok(())
 }

@@ -12,6 +12,7 @@ ghost use Rattle.file_survey.specs.Findings.{SurveyEnd};
 ghost use Rattle.sx_base.specs.Calls.{IfAllTold, CausedAgain, SteadyIfDone};
 ghost use Rattle.compose_tests.specs.Silent.{held_store};
 
+use crate::same::same;
 use crate::streams::{CLONE_FROM_B, END, HEADER, MKFILE_Y, SNAPSHOT_B, WRITE_Y_HI, joined};
 use crate::values::{key, two_names};
 use clone_pieces::{Known, OutsideBytes};
@@ -33,6 +34,13 @@ const SNAPSHOT_R: &[u8] =
 
 const SNAPSHOT_OF_A: &[u8] =
     b"E\x00\x00\x00\x02\x00/\x1d%\x89\x01\x00\x10\x003333333333333333\x02\x00\x08\x00\x03\x00\x00\x00\x00\x00\x00\x00\x0f\x00\x01\x00r\x14\x00\x10\x00\x11\x11\x11\x11\x11\x11\x11\x11\x11\x11\x11\x11\x11\x11\x11\x11\x15\x00\x08\x00\x01\x00\x00\x00\x00\x00\x00\x00";
+
+// The two files, and what is written.
+const FIRST: &[&[u8]] = &[HEADER, SNAPSHOT_B, END];
+
+const SECOND: &[&[u8]] = &[HEADER, SNAPSHOT_R, MKFILE_Y, CLONE_FROM_B, END];
+
+const WHOLE: &[&[u8]] = &[HEADER, SNAPSHOT_OF_A, MKFILE_Y, WRITE_Y_HI, END];
 
 // What is known of the base: a subvolume with this key, of which two bytes are held.
 #[derive(Drop)]
@@ -186,61 +194,62 @@ fn over(
     compose_over(alloc, seen, core, &known, bytes, inputs, files, &own, out)
 }
 
-// Composes two files over the base, of whose reads one fails; gives the outcome, what is written, and how often the base was read
-// and failed.
+// The two files.
+fn two_files(alloc: Global) -> Result<MemInputs, AllocError> {
+    let first = joined(alloc, FIRST)?;
+    let second = joined(alloc, SECOND)?;
+    let mut inputs = MemInputs::new(alloc);
+    inputs.add("first", first.as_slice())?;
+    inputs.add("second", second.as_slice())?;
+    Ok(inputs)
+}
+
+// Surveys the two files, and composes them over the base.
+fn surveyed(
+    rt: &impl Abort,
+    alloc: Global,
+    bytes: &mut SilentBytes,
+    inputs: &mut MemInputs,
+    out: &mut MemSink,
+) -> Result<Outcome, Fail> {
+    let names = two_names(alloc)?;
+    let core = standing(alloc, bytes.key)?;
+    let Ok(seen) = survey(alloc, inputs, &names, &PartNames::none(alloc)) else {
+        panic!(rt; "the files are not surveyed")
+    };
+    assert!(rt; !seen.has_part(bytes.key.uuid));
+    Ok(over(alloc, &seen, core, bytes, inputs, &names, out))
+}
+
+// Composes the two files over the base, of whose reads one fails; gives the outcome, what is written, and how often the base was
+// read and failed.
 fn composed(
     rt: &impl Abort,
     alloc: Global,
     failing: u64,
 ) -> Result<(Outcome, Vec<u8>, u64, u64), Fail> {
-    let key = key(17, 1);
-    let first = joined(alloc, &[HEADER, SNAPSHOT_B, END])?;
-    let second = joined(alloc, &[HEADER, SNAPSHOT_R, MKFILE_Y, CLONE_FROM_B, END])?;
-    let mut inputs = MemInputs::new(alloc);
-    inputs.add("first", first.as_slice())?;
-    inputs.add("second", second.as_slice())?;
-    let names = two_names(alloc)?;
+    let mut inputs = two_files(alloc)?;
     let mut out = MemSink::new(alloc);
-    let core = standing(alloc, key)?;
     let mut bytes = SilentBytes {
-        key,
+        key: key(17, 1),
         failing,
         calls: 0,
         faults: 0,
     };
-    let Ok(seen) = survey(alloc, &mut inputs, &names, &PartNames::none(alloc)) else {
-        panic!(rt; "the files are not surveyed")
-    };
-    assert!(rt; !seen.has_part(key.uuid));
-    let outcome = over(
-        alloc,
-        &seen,
-        core,
-        &mut bytes,
-        &mut inputs,
-        &names,
-        &mut out,
-    );
-    Ok((
-        outcome,
-        Vec::from_slice(alloc, out.bytes())?,
-        bytes.calls,
-        bytes.faults,
-    ))
+    let outcome = surveyed(rt, alloc, &mut bytes, &mut inputs, &mut out)?;
+    let written = Vec::from_slice(alloc, out.bytes())?;
+    Ok((outcome, written, bytes.calls, bytes.faults))
 }
 
 // The bytes that are read are written, whatever is held; and a read that fails ends the run.
 #[test]
 fn bytes_are_taken_as_they_are_read(rt: HostRuntime) -> Result<(), Fail> {
-    let alloc = rt.alloc();
-    let whole = joined(alloc, &[HEADER, SNAPSHOT_OF_A, MKFILE_Y, WRITE_Y_HI, END])?;
-    let (outcome, bytes, calls, faults) = composed(&rt, alloc, 0)?;
-    assert_eq!(rt; outcome, Outcome::Done);
-    assert_eq!(rt; bytes.as_slice(), whole.as_slice());
-    assert_eq!(rt; (calls, faults), (1, 0));
-    let (outcome, bytes, calls, faults) = composed(&rt, alloc, 1)?;
-    assert_eq!(rt; outcome, Outcome::InputFault);
-    assert!(rt; bytes.len() < whole.len());
-    assert_eq!(rt; (calls, faults), (1, 1));
+    let whole = joined(rt.alloc(), WHOLE)?;
+    let (outcome, bytes, calls, faults) = composed(&rt, rt.alloc(), 0)?;
+    same(&rt, (outcome, calls, faults), (Outcome::Done, 1, 0));
+    same(&rt, bytes.as_slice(), whole.as_slice());
+    let (outcome, bytes, calls, faults) = composed(&rt, rt.alloc(), 1)?;
+    same(&rt, (outcome, calls, faults), (Outcome::InputFault, 1, 1));
+    same(&rt, bytes.len() < whole.len(), true);
     Ok(())
 }

@@ -5,6 +5,7 @@ ghost use Rattle.send_commands.specs.Meaning.{meaning_of};
 ghost use Rattle.clone_resolve.specs.Steps.{data_len, done_by, Fits};
 ghost use Rattle.clone_resolve.specs.declared.done.Done.TheVariants as did;
 
+use crate::same::same;
 use crate::values::{blob, key, uuid};
 use clone_resolve::{EditCore, Part};
 use extent_map::Nowhere;
@@ -123,7 +124,7 @@ fn copied_after(rt: &impl Abort, alloc: Global, rows: &[Row]) -> Result<Option<u
     for row in rows {
         let c = command_of(alloc, *row)?;
         let answer = number_of(&mut core, &mut part, &c)?;
-        assert_eq!(rt; answer, row.5);
+        same(rt, answer, row.5);
     }
     Ok(copied(&part))
 }
@@ -135,7 +136,7 @@ fn copied(part: &Option<Part<Nowhere>>) -> Option<u64> {
     }
 }
 
-const CLONES: [Row; 18] = [
+const CLONES: &[Row] = &[
     (Word::Subvol, 1, b"a", b"", 0, 0),
     (Word::MkFile, 0, b"x", b"", 0, 0),
     (Word::Write, 0, b"x", b"aa", 4_998, 0),
@@ -158,11 +159,11 @@ const CLONES: [Row; 18] = [
 
 #[test]
 fn clones_are_taken_or_refused(rt: HostRuntime) -> Result<(), Fail> {
-    assert_eq!(rt; copied_after(&rt, rt.alloc(), &CLONES)?, Some(1));
+    same(&rt, copied_after(&rt, rt.alloc(), CLONES)?, Some(1));
     Ok(())
 }
 
-const RENAMES: [Row; 14] = [
+const RENAMES: &[Row] = &[
     (Word::Subvol, 1, b"a", b"", 0, 0),
     (Word::MkFile, 0, b"x", b"", 0, 0),
     (Word::Link, 0, b"y", b"x", 0, 0),
@@ -181,11 +182,11 @@ const RENAMES: [Row; 14] = [
 
 #[test]
 fn names_move(rt: HostRuntime) -> Result<(), Fail> {
-    assert_eq!(rt; copied_after(&rt, rt.alloc(), &RENAMES)?, Some(0));
+    same(&rt, copied_after(&rt, rt.alloc(), RENAMES)?, Some(0));
     Ok(())
 }
 
-const HEADS: [Row; 11] = [
+const HEADS: &[Row] = &[
     (Word::MkFile, 0, b"x", b"", 0, 9),
     (Word::Subvol, 1, b"a/b", b"", 0, 10),
     (Word::Subvol, 1, b"a", b"", 0, 0),
@@ -201,11 +202,11 @@ const HEADS: [Row; 11] = [
 
 #[test]
 fn heads_begin_parts(rt: HostRuntime) -> Result<(), Fail> {
-    assert_eq!(rt; copied_after(&rt, rt.alloc(), &HEADS)?, None);
+    same(&rt, copied_after(&rt, rt.alloc(), HEADS)?, None);
     Ok(())
 }
 
-const SNAPSHOTS: [Row; 8] = [
+const SNAPSHOTS: &[Row] = &[
     (Word::Subvol, 1, b"a", b"", 0, 0),
     (Word::MkFile, 0, b"x", b"", 0, 0),
     (Word::MkFile, 0, b"y", b"", 0, 0),
@@ -218,7 +219,7 @@ const SNAPSHOTS: [Row; 8] = [
 
 #[test]
 fn a_snapshot_copies_what_it_changes(rt: HostRuntime) -> Result<(), Fail> {
-    assert_eq!(rt; copied_after(&rt, rt.alloc(), &SNAPSHOTS)?, Some(1));
+    same(&rt, copied_after(&rt, rt.alloc(), SNAPSHOTS)?, Some(1));
     Ok(())
 }
 
@@ -268,15 +269,26 @@ fn has_file(core: &EditCore<Nowhere>) -> bool {
     }
 }
 
+// Adds a file to the part.
+fn add_file(alloc: Global, core: &EditCore<Nowhere>, part: &mut Part<Nowhere>) -> Result<(), Stop> {
+    core.edit(part, &edit(blob(alloc, b"x")?), Nowhere)
+}
+
+// A core whose one subvolume is the part with the file.
+fn with_part(alloc: Global) -> Result<EditCore<Nowhere>, Stop> {
+    let mut core = EditCore::new(alloc);
+    add_root(alloc, &mut core)?;
+    let mut part = first_part(alloc)?;
+    add_file(alloc, &core, &mut part)?;
+    core.complete(part);
+    Ok(core)
+}
+
 #[test]
 fn entries_come_and_go(rt: HostRuntime) -> Result<(), Fail> {
-    let mut core = EditCore::new(rt.alloc());
-    add_root(rt.alloc(), &mut core)?;
-    let mut part = first_part(rt.alloc())?;
-    core.edit(&mut part, &edit(blob(rt.alloc(), b"x")?), Nowhere)?;
-    core.complete(part);
-    assert!(rt; has_file(&core));
+    let mut core = with_part(rt.alloc())?;
+    same(&rt, has_file(&core), true);
     core.hide(uuid(1));
-    assert!(rt; !core.drop_name(b"a"));
+    same(&rt, core.drop_name(b"a"), false);
     Ok(())
 }

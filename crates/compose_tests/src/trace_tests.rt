@@ -1,9 +1,11 @@
 // Contents of bytes of outside files, and what they are cut into.
+use crate::same::same;
 use crate::values::key;
 use extent_map::Extents;
 use inode_tree::NodeKind;
 use provenance::{Ends, Plan, Trace, cut_blocks, retag};
 use std::alloc::{AllocError, Global};
+use std::process::Abort;
 use std::test::Fail;
 use subvol::Subvol;
 use subvol_catalog::Key;
@@ -24,7 +26,15 @@ impl Ends for AllEnd {
     }
 }
 
-fn carry(ino: u64, from: u64, len: u64) -> Plan {
+// A run, or a piece of what contents are cut into: of an inode, from a place on, and so long. Number 0 is no inode: the bytes of a
+// run were written, and those of a piece are.
+type Run = (u32, u32, u32);
+
+fn plan(piece: Run) -> Plan {
+    let (ino, from, len) = (u64::from(piece.0), u64::from(piece.1), u64::from(piece.2));
+    if ino == 0 {
+        return Plan::Literal { from, len };
+    }
     Plan::Carry {
         key: key(1, 1),
         ino,
@@ -33,12 +43,8 @@ fn carry(ino: u64, from: u64, len: u64) -> Plan {
     }
 }
 
-fn literal(from: u64, len: u64) -> Plan {
-    Plan::Literal { from, len }
-}
-
-// Contents of runs, each from a place of an inode and so long. Number 0 is no inode: the bytes were written.
-fn contents(alloc: Global, runs: &[(u32, u32, u32)]) -> Result<Extents<Trace>, AllocError> {
+// Contents of these runs.
+fn contents(alloc: Global, runs: &[Run]) -> Result<Extents<Trace>, AllocError> {
     let mut contents = Extents::new(alloc);
     for (ino, at, len) in runs {
         let (at, len) = (u64::from(*at), u64::from(*len));
@@ -58,11 +64,14 @@ fn contents(alloc: Global, runs: &[(u32, u32, u32)]) -> Result<Extents<Trace>, A
 }
 
 // Whether contents are cut into these pieces.
-fn is_cut(contents: &Extents<Trace>, size: Option<u64>, expected: &[Plan]) -> bool {
+fn is_cut(contents: &Extents<Trace>, size: Option<u64>, expected: &[Run]) -> bool {
     let ends = AllEnd { size };
     let mut place: usize = 0;
-    for plan in cut_blocks(contents, 0, contents.size(), &ends) {
-        if expected.get(place).copied() != Some(plan) {
+    for found in cut_blocks(contents, 0, contents.size(), &ends) {
+        let Some(piece) = expected.get(place) else {
+            return false;
+        };
+        if plan(*piece) != found {
             return false;
         }
         place = place.wrapping_add(1);
@@ -70,33 +79,56 @@ fn is_cut(contents: &Extents<Trace>, size: Option<u64>, expected: &[Plan]) -> bo
     place == expected.len()
 }
 
-#[test]
-fn a_short_block_is_carried_where_its_file_ends(rt: HostRuntime) -> Result<(), Fail> {
-    let row = contents(
-        rt.alloc(),
-        &[(257, 0, 8_192), (0, 0, 4_096), (257, 8_192, 1_000)],
-    )?;
-    let all = [
-        carry(257, 0, 8_192),
-        literal(8_192, 4_096),
-        carry(257, 8_192, 1_000),
-    ];
-    assert!(rt; is_cut(&row, Some(9_192), &all));
-    let but_the_last = [carry(257, 0, 8_192), literal(8_192, 5_096)];
-    assert!(rt; is_cut(&row, Some(9_193), &but_the_last));
-    assert!(rt; is_cut(&row, None, &[literal(0, 13_288)]));
+// Runs, the size of each file, and what the runs are cut into.
+type Cut = (&'static [Run], Option<u64>, &'static [Run]);
+
+fn are_cut(rt: &impl Abort, alloc: Global, table: &[Cut]) -> Result<(), AllocError> {
+    for (runs, size, pieces) in table {
+        same(rt, is_cut(&contents(alloc, runs)?, *size, pieces), true);
+    }
     Ok(())
 }
 
+const SHORT: &[Run] = &[(257, 0, 8_192), (0, 0, 4_096), (257, 8_192, 1_000)];
+
+const SHORT_CUTS: &[Cut] = &[
+    (
+        SHORT,
+        Some(9_192),
+        &[(257, 0, 8_192), (0, 8_192, 4_096), (257, 8_192, 1_000)],
+    ),
+    (SHORT, Some(9_193), &[(257, 0, 8_192), (0, 8_192, 5_096)]),
+    (SHORT, None, &[(0, 0, 13_288)]),
+];
+
+#[test]
+fn a_short_block_is_carried_where_its_file_ends(rt: HostRuntime) -> Result<(), Fail> {
+    are_cut(&rt, rt.alloc(), SHORT_CUTS)?;
+    Ok(())
+}
+
+// Runs of two files, runs that begin within a block, and runs that are one.
+const RUN_CUTS: &[Cut] = &[
+    (
+        &[(257, 0, 4_096), (258, 4_096, 4_096)],
+        Some(1 << 20),
+        &[(257, 0, 4_096), (258, 4_096, 4_096)],
+    ),
+    (
+        &[(257, 1, 4_096), (257, 4_097, 4_096)],
+        Some(1 << 20),
+        &[(0, 0, 8_192)],
+    ),
+    (
+        &[(257, 4_096, 96), (257, 4_192, 8_096)],
+        Some(1 << 20),
+        &[(257, 4_096, 8_192)],
+    ),
+];
+
 #[test]
 fn runs_are_of_one_file(rt: HostRuntime) -> Result<(), Fail> {
-    let two = contents(rt.alloc(), &[(257, 0, 4_096), (258, 4_096, 4_096)])?;
-    let each = [carry(257, 0, 4_096), carry(258, 4_096, 4_096)];
-    assert!(rt; is_cut(&two, Some(1 << 20), &each));
-    let inside = contents(rt.alloc(), &[(257, 1, 4_096), (257, 4_097, 4_096)])?;
-    assert!(rt; is_cut(&inside, Some(1 << 20), &[literal(0, 8_192)]));
-    let parts = contents(rt.alloc(), &[(257, 4_096, 96), (257, 4_192, 8_096)])?;
-    assert!(rt; is_cut(&parts, Some(1 << 20), &[carry(257, 4_096, 8_192)]));
+    are_cut(&rt, rt.alloc(), RUN_CUTS)?;
     Ok(())
 }
 
@@ -108,18 +140,20 @@ fn with_file(alloc: Global) -> Result<Subvol<Trace>, Stop> {
     Ok(subvol)
 }
 
+// The first piece of a file.
+fn first_piece(sub: &Subvol<Trace>, ino: u64) -> Option<(Option<Trace>, u64)> {
+    let contents = sub.tree().inode(ino)?.contents();
+    contents.pieces(0, contents.size()).next()
+}
+
 #[test]
 fn a_subvolume_is_traced_to_itself(rt: HostRuntime) -> Result<(), Fail> {
     let traced = retag(&with_file(rt.alloc())?, key(1, 1))?;
-    let found = match traced.tree().inode(257) {
-        Some(inode) => inode.contents().pieces(0, inode.contents().size()).next(),
-        None => None,
-    };
     let first = Trace::Outside {
         key: key(1, 1),
         ino: 257,
         at: 0,
     };
-    assert_eq!(rt; found, Some((Some(first), 2)));
+    same(&rt, first_piece(&traced, 257), Some((Some(first), 2)));
     Ok(())
 }

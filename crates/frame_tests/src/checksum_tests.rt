@@ -1,6 +1,8 @@
 //! Published checksums, and long lists against a loop over single bits.
 
+use crate::same::same;
 use crc32c_part::update;
+use std::process::Abort;
 
 fn bit_by_bit(crc: u32, bytes: &[u8]) -> u32 {
     let mut sum = crc;
@@ -25,17 +27,29 @@ fn counting_up() -> [u8; 32] {
     bytes
 }
 
+// The check value of CRC-32C and the examples of RFC 3720, appendix B.4, before their last inversion; the header of an END frame,
+// with its checksum field as zero.
+const PUBLISHED: &[(u32, &[u8], u32)] = &[
+    (0xffff_ffff, b"123456789", 0x1cf9_6d7c),
+    (0xffff_ffff, &[0; 32], !0x8a91_36aa),
+    (0xffff_ffff, &[0xff; 32], !0x62a8_ab43),
+    (0, &[0, 0, 0, 0, 21, 0, 0, 0, 0, 0], 0x9dc9_6c50),
+    (0, &[0; 10], 0),
+    (0x1234_5678, &[], 0x1234_5678),
+];
+
 #[test]
 fn published_checksums(rt: HostRuntime) {
-    // The check value of CRC-32C and the examples of RFC 3720, appendix B.4, before their last inversion.
-    assert_eq!(rt; update(0xffff_ffff, b"123456789"), 0x1cf9_6d7c);
-    assert_eq!(rt; update(0xffff_ffff, &[0; 32]), !0x8a91_36aa);
-    assert_eq!(rt; update(0xffff_ffff, &[0xff; 32]), !0x62a8_ab43);
-    assert_eq!(rt; update(0xffff_ffff, &counting_up()), !0x46dd_794e);
-    // The header of an END frame, with its checksum field as zero.
-    assert_eq!(rt; update(0, &[0, 0, 0, 0, 21, 0, 0, 0, 0, 0]), 0x9dc9_6c50);
-    assert_eq!(rt; update(0, &[0; 10]), 0);
-    assert_eq!(rt; update(0x1234_5678, &[]), 0x1234_5678);
+    for &(crc, bytes, want) in PUBLISHED {
+        same(&rt, update(crc, bytes), want);
+    }
+    same(&rt, update(0xffff_ffff, &counting_up()), !0x46dd_794e);
+}
+
+// Both ways to take a checksum of these bytes give the same; the length is there to be shown.
+fn is_as_bit_by_bit(rt: &impl Abort, crc: u32, bytes: &[u8]) {
+    let len = bytes.len();
+    same(rt, (len, update(crc, bytes)), (len, bit_by_bit(crc, bytes)));
 }
 
 #[test]
@@ -47,15 +61,7 @@ fn every_length_as_bit_by_bit(rt: HostRuntime) {
         *byte = (seed >> 24) as u8;
     }
     for len in 0..100 {
-        assert_eq!(rt;
-            update(seed, &bytes[..len]),
-            bit_by_bit(seed, &bytes[..len]),
-            "the first {len} bytes"
-        );
-        assert_eq!(rt;
-            update(len as u32, &bytes[len..]),
-            bit_by_bit(len as u32, &bytes[len..]),
-            "all from {len} on"
-        );
+        is_as_bit_by_bit(&rt, seed, &bytes[..len]);
+        is_as_bit_by_bit(&rt, len as u32, &bytes[len..]);
     }
 }

@@ -4,14 +4,16 @@ ghost use Rattle.send_commands.specs.Meaning.{meaning_of};
 ghost use Rattle.send_commands.specs.Writing.{IsWritable};
 
 use crate::frames::{END, WRITE_OF_VERSION_2};
+use crate::same::same;
 use send_commands::{Command, data_place, decode, encode};
-use std::alloc::Global;
+use std::alloc::{AllocError, Global};
+use std::process::Abort;
 use std::test::Fail;
 use sx_base::{Blob, Refusal, Stop};
 use tlv_frame::attrs;
 
 // A frame of each command, with its number and in the canonical spelling.
-const FRAMES: [(u16, &[u8]); 22] = [
+const FRAMES: &[(u16, &[u8])] = &[
     (
         1,
         b"%\x00\x00\x00\x01\x00m\xa2\xafL\x01\x00\x10\x00\x11\x11\x11\x11\x11\x11\x11\x11\x11\x11\x11\x11\x11\x11\x11\x11\x02\x00\x08\x00\x07\x00\x00\x00\x00\x00\x00\x00\x0f\x00\x01\x00a",
@@ -85,7 +87,7 @@ const FRAMES: [(u16, &[u8]); 22] = [
 ];
 
 // Bodies that break a rule, with their command's number.
-const REFUSED: [(&str, u16, &[u8], Refusal); 7] = [
+const REFUSED: &[(&str, u16, &[u8], Refusal)] = &[
     (
         "no command has the number zero",
         0,
@@ -131,7 +133,7 @@ const REFUSED: [(&str, u16, &[u8], Refusal); 7] = [
 ];
 
 // Bodies that break a rule of version 2, with their command's number.
-const REFUSED_IN_SECOND: [(&str, u16, &[u8], Refusal); 6] = [
+const REFUSED_IN_SECOND: &[(&str, u16, &[u8], Refusal)] = &[
     ("a write of compressed bytes", 25, b"", Refusal::Encoded),
     (
         "a write of compressed bytes with a bad attribute",
@@ -181,95 +183,127 @@ fn refusal(alloc: Global, version: u32, cmd: u16, body: &[u8]) -> Option<Refusal
     }
 }
 
+// The canonical spelling of the command of a number whose frame has this body in version 1, and the place of its data.
+fn spelled(alloc: Global, cmd: u16, body: &[u8]) -> Result<(Blob, Option<u64>), Stop> {
+    let command = read(alloc, 1, cmd, body)?;
+    let mut to = Blob::new(alloc);
+    encode(&command, 1, &mut to)?;
+    Ok((to, data_place(&command, 1)))
+}
+
 #[test]
 fn each_command_is_read_and_written(rt: HostRuntime) -> Result<(), Fail> {
-    for (cmd, frame) in FRAMES {
+    for &(cmd, frame) in FRAMES {
         let body = frame.get(10..).ok_or("a frame has a header")?;
-        let command = read(rt.alloc(), 1, cmd, body)?;
-        let mut to = Blob::new(rt.alloc());
-        encode(&command, 1, &mut to)?;
-        assert_eq!(rt; to.as_slice(), frame);
-        let place = if cmd == 15 { Some(31) } else { None };
-        assert_eq!(rt; data_place(&command, 1), place);
+        let (to, place) = spelled(rt.alloc(), cmd, body)?;
+        same(&rt, to.as_slice(), frame);
+        same(&rt, place, if cmd == 15 { Some(31) } else { None });
     }
     Ok(())
 }
 
+const BODIES: &[&[u8]] = &[
+    b"\x13\x00\x05\x00hello\x03\x00\x08\x00\x01\x01\x00\x00\x00\x00\x00\x00\x0f\x00\x01\x00x\x09\x00\x03\x00odd\x12\x00\x08\x00\x00\x10\x00\x00\x00\x00\x00\x00",
+    b"\x12\x00\x08\x00\x00\x10\x00\x00\x00\x00\x00\x00\x13\x00\x05\x00hello\x0f\x00\x01\x00x",
+];
+
+const WRITE_HELLO: &[u8] =
+    b"\x1a\x00\x00\x00\x0f\x00\x8d\xec*$\x0f\x00\x01\x00x\x12\x00\x08\x00\x00\x10\x00\x00\x00\x00\x00\x00\x13\x00\x05\x00hello";
+
 #[test]
 fn attributes_stand_in_any_order(rt: HostRuntime) -> Result<(), Fail> {
-    let bodies: [&[u8]; 2] = [
-        b"\x13\x00\x05\x00hello\x03\x00\x08\x00\x01\x01\x00\x00\x00\x00\x00\x00\x0f\x00\x01\x00x\x09\x00\x03\x00odd\x12\x00\x08\x00\x00\x10\x00\x00\x00\x00\x00\x00",
-        b"\x12\x00\x08\x00\x00\x10\x00\x00\x00\x00\x00\x00\x13\x00\x05\x00hello\x0f\x00\x01\x00x",
-    ];
-    for body in bodies {
-        let command = read(rt.alloc(), 1, 15, body)?;
-        let mut to = Blob::new(rt.alloc());
-        encode(&command, 1, &mut to)?;
-        assert_eq!(rt;
-            to.as_slice(),
-            b"\x1a\x00\x00\x00\x0f\x00\x8d\xec*$\x0f\x00\x01\x00x\x12\x00\x08\x00\x00\x10\x00\x00\x00\x00\x00\x00\x13\x00\x05\x00hello".as_slice()
-        );
+    for &body in BODIES {
+        let (to, _) = spelled(rt.alloc(), 15, body)?;
+        same(&rt, to.as_slice(), WRITE_HELLO);
     }
     Ok(())
+}
+
+// Each body is refused in a version; what is wrong is there to be shown.
+fn are_refused(
+    rt: &impl Abort,
+    alloc: Global,
+    version: u32,
+    table: &[(&str, u16, &[u8], Refusal)],
+) {
+    for &(what, cmd, body, want) in table {
+        let refused = refusal(alloc, version, cmd, body);
+        same(rt, (what, refused), (what, Some(want)));
+    }
 }
 
 #[test]
 fn the_first_rule_that_is_broken_refuses(rt: HostRuntime) {
-    for (what, cmd, body, want) in REFUSED {
-        assert_eq!(rt; refusal(rt.alloc(), 1, cmd, body), Some(want), "{what}");
+    are_refused(&rt, rt.alloc(), 1, REFUSED);
+    are_refused(&rt, rt.alloc(), 2, REFUSED_IN_SECOND);
+    let unknown = refusal(rt.alloc(), 1, 25, b"");
+    same(&rt, unknown, Some(Refusal::UnknownCommand(25)));
+}
+
+// Where a WRITE begins, and its bytes.
+fn written(command: &Command) -> Option<(u64, &[u8])> {
+    match command {
+        Command::Write { offset, bytes, .. } => Some((*offset, bytes.as_slice())),
+        _ => None,
     }
-    for (what, cmd, body, want) in REFUSED_IN_SECOND {
-        assert_eq!(rt; refusal(rt.alloc(), 2, cmd, body), Some(want), "{what}");
+}
+
+// The size, the place and the mode of a FALLOCATE, or the flags of a FILEATTR.
+fn numbers(command: &Command) -> Option<(u64, u64, u32)> {
+    match command {
+        Command::Fallocate {
+            size,
+            offset,
+            mode,
+            ..
+        } => Some((*size, *offset, *mode)),
+        Command::FileAttr { flags, .. } => Some((*flags, 0, 0)),
+        _ => None,
     }
-    assert_eq!(rt;
-        refusal(rt.alloc(), 1, 25, b""),
-        Some(Refusal::UnknownCommand(25))
-    );
+}
+
+const FALLOCATE_BODY: &[u8] =
+    b"\x04\x00\x08\x00\x01\x00\x00\x00\x00\x00\x00\x00\x0f\x00\x01\x00x\x12\x00\x08\x00\x02\x00\x00\x00\x00\x00\x00\x00\x19\x00\x04\x00\x03\x00\x00\x00";
+
+const FILEATTR_BODY: &[u8] = b"\x0f\x00\x01\x00x\x1a\x00\x08\x00\x10\x00\x00\x00\x00\x00\x00\x00";
+
+// The numbers of the command with this body in version 2.
+fn numbers_of(alloc: Global, cmd: u16, body: &[u8]) -> Result<Option<(u64, u64, u32)>, Stop> {
+    Ok(numbers(&read(alloc, 2, cmd, body)?))
 }
 
 #[test]
 fn commands_of_version_two_are_read(rt: HostRuntime) -> Result<(), Fail> {
-    let write = &WRITE_OF_VERSION_2[10..];
-    let Command::Write { offset, bytes, .. } = read(rt.alloc(), 2, 15, write)? else {
-        return Err(Fail::from("a write is read"));
-    };
-    assert_eq!(rt; offset, 5);
-    assert_eq!(rt; bytes.as_slice(), b"hi".as_slice());
-    let fallocate =
-        b"\x04\x00\x08\x00\x01\x00\x00\x00\x00\x00\x00\x00\x0f\x00\x01\x00x\x12\x00\x08\x00\x02\x00\x00\x00\x00\x00\x00\x00\x19\x00\x04\x00\x03\x00\x00\x00";
-    let Command::Fallocate {
-        size,
-        offset,
-        mode,
-        ..
-    } = read(rt.alloc(), 2, 23, fallocate)?
-    else {
-        return Err(Fail::from("a fallocate is read"));
-    };
-    assert_eq!(rt; (size, offset, mode), (1, 2, 3));
-    let fileattr = b"\x0f\x00\x01\x00x\x1a\x00\x08\x00\x10\x00\x00\x00\x00\x00\x00\x00";
-    let Command::FileAttr { flags, .. } = read(rt.alloc(), 2, 24, fileattr)? else {
-        return Err(Fail::from("flags are read"));
-    };
-    assert_eq!(rt; flags, 16);
+    let write = read(rt.alloc(), 2, 15, &WRITE_OF_VERSION_2[10..])?;
+    same(&rt, written(&write), Some((5, b"hi".as_slice())));
+    let allocated = numbers_of(rt.alloc(), 23, FALLOCATE_BODY);
+    same(&rt, allocated, Ok(Some((1, 2, 3))));
+    let flagged = numbers_of(rt.alloc(), 24, FILEATTR_BODY);
+    same(&rt, flagged, Ok(Some((16, 0, 0))));
     Ok(())
 }
 
-#[test]
+// A WRITE as version 2 spells it, and the place of its data.
 #[tactic(auto, unfolding(send_commands::specs::Writing::IsWritable, send_model::specs::Command::row, send_model::specs::Spelling::attributes_of, send_model::specs::Spelling::body_of, send_model::specs::Spelling::attribute_bytes))]
-fn commands_of_version_two_are_written(rt: HostRuntime) -> Result<(), Fail> {
-    let mut path = Blob::new(rt.alloc());
+fn written_in_second(alloc: Global) -> Result<(Blob, Option<u64>), AllocError> {
+    let mut path = Blob::new(alloc);
     path.push_all(b"x")?;
-    let mut bytes = Blob::new(rt.alloc());
+    let mut bytes = Blob::new(alloc);
     bytes.push_all(b"hi")?;
     let write = Command::Write {
         path,
         offset: 5,
         bytes,
     };
-    let mut to = Blob::new(rt.alloc());
+    let mut to = Blob::new(alloc);
     encode(&write, 2, &mut to)?;
-    assert_eq!(rt; to.as_slice(), WRITE_OF_VERSION_2);
-    assert_eq!(rt; data_place(&write, 2), Some(29));
+    Ok((to, data_place(&write, 2)))
+}
+
+#[test]
+fn commands_of_version_two_are_written(rt: HostRuntime) -> Result<(), Fail> {
+    let (to, place) = written_in_second(rt.alloc())?;
+    same(&rt, to.as_slice(), WRITE_OF_VERSION_2);
+    same(&rt, place, Some(29));
     Ok(())
 }

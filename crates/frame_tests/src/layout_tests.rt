@@ -1,5 +1,7 @@
 // What no clause says: that each call succeeds where there is memory, and bytes from another program.
 use crate::frames::{END, WRITE_OF_VERSION_2};
+use crate::same::same;
+use std::process::Abort;
 use std::test::Fail;
 use sx_base::{Blob, Refusal};
 use tlv_frame::{AttrTable, FrameHead, FrameWriter, StreamHead, attrs};
@@ -10,42 +12,30 @@ const WRITE_HEAD: &[u8; 10] = b"\x17\x00\x00\x00\x0f\x00\xec\x08\x18^";
 const WRITE_BODY: &[u8] =
     b"\x0f\x00\x01\x00x\x12\x00\x08\x00\x05\x00\x00\x00\x00\x00\x00\x00\x13\x00\x02\x00hi";
 
+const HEADERS: &[(&[u8; 17], Result<StreamHead, Refusal>)] = &[
+    (b"btrfs-stream\0\x01\0\0\0", Ok(StreamHead { version: 1 })),
+    (b"btrfs-stream\0\x02\0\0\0", Ok(StreamHead { version: 2 })),
+    (b"btrfs-stream\0\x03\0\0\0", Err(Refusal::BadVersion(3))),
+    (b"btrfs-stream\0\x02\x01\0\0", Err(Refusal::BadVersion(258))),
+    (b"btrfs-stream \x01\0\0\0", Err(Refusal::BadMagic)),
+];
+
 #[test]
 fn stream_headers_are_read(rt: HostRuntime) {
-    assert_eq!(rt;
-        StreamHead::read(b"btrfs-stream\0\x01\0\0\0"),
-        Ok(StreamHead { version: 1 })
-    );
-    assert_eq!(rt;
-        StreamHead::read(b"btrfs-stream\0\x02\0\0\0"),
-        Ok(StreamHead { version: 2 })
-    );
-    assert_eq!(rt;
-        StreamHead::read(b"btrfs-stream\0\x03\0\0\0"),
-        Err(Refusal::BadVersion(3))
-    );
-    assert_eq!(rt;
-        StreamHead::read(b"btrfs-stream\0\x02\x01\0\0"),
-        Err(Refusal::BadVersion(258))
-    );
-    assert_eq!(rt;
-        StreamHead::read(b"btrfs-stream \x01\0\0\0"),
-        Err(Refusal::BadMagic)
-    );
+    for &(header, want) in HEADERS {
+        same(&rt, StreamHead::read(header), want);
+    }
 }
 
 #[test]
 fn frame_headers_are_read(rt: HostRuntime) -> Result<(), Fail> {
-    let head = FrameHead::read(END).ok().ok_or("the header is lawful")?;
-    assert_eq!(rt;
-        head,
-        FrameHead {
-            len: 0,
-            cmd: 21,
-            crc: 0x9dc9_6c50
-        }
-    );
-    assert_eq!(rt; head.check_crc(b""), Ok(()));
+    let right = FrameHead {
+        len: 0,
+        cmd: 21,
+        crc: 0x9dc9_6c50,
+    };
+    same(&rt, FrameHead::read(END), Ok(right));
+    same(&rt, right.check_crc(b""), Ok(()));
     let other = FrameHead {
         len: 0,
         cmd: 21,
@@ -55,15 +45,11 @@ fn frame_headers_are_read(rt: HostRuntime) -> Result<(), Fail> {
         stored: 1,
         computed: 0x9dc9_6c50,
     };
-    assert_eq!(rt; other.check_crc(b""), Err(differs));
-    assert_eq!(rt;
-        FrameHead::read(&[0, 0, 4, 0, 0, 0, 0, 0, 0, 0]).is_ok(),
-        true
-    );
-    assert_eq!(rt;
-        FrameHead::read(&[1, 0, 4, 0, 0, 0, 0, 0, 0, 0]),
-        Err(Refusal::LongCommand(262_145))
-    );
+    same(&rt, other.check_crc(b""), Err(differs));
+    let long = FrameHead::read(&[0, 0, 4, 0, 0, 0, 0, 0, 0, 0]);
+    same(&rt, long.is_ok(), true);
+    let longer = FrameHead::read(&[1, 0, 4, 0, 0, 0, 0, 0, 0, 0]);
+    same(&rt, longer, Err(Refusal::LongCommand(262_145)));
     Ok(())
 }
 
@@ -72,42 +58,62 @@ fn attributes_are_found(rt: HostRuntime) -> Result<(), Fail> {
     let table = attrs(WRITE_BODY, 1)
         .ok()
         .ok_or("the attributes are lawful")?;
-    assert_eq!(rt; table.get(15), Some(b"x".as_slice()));
-    assert_eq!(rt; table.get(18), Some([5, 0, 0, 0, 0, 0, 0, 0].as_slice()));
-    assert_eq!(rt; table.get(19), Some(b"hi".as_slice()));
-    assert_eq!(rt; table.place(19), Some(21));
-    assert_eq!(rt; table.get(16), None);
-    assert_eq!(rt; table.place(16), None);
-    assert_eq!(rt; table.get(700), None);
-    assert_eq!(rt; table.version(), 1);
+    same(&rt, table.get(15), Some(b"x".as_slice()));
+    same(
+        &rt,
+        table.get(18),
+        Some([5, 0, 0, 0, 0, 0, 0, 0].as_slice()),
+    );
+    same(&rt, table.get(19), Some(b"hi".as_slice()));
+    same(&rt, table.place(19), Some(21));
+    same(&rt, table.get(16), None);
+    same(&rt, table.place(16), None);
+    same(&rt, table.get(700), None);
+    same(&rt, table.version(), 1);
+    Ok(())
+}
+
+// The number that the refusal of these attributes keeps, if they are refused.
+fn bad_attribute(read: Result<AttrTable<'_>, Refusal>) -> Option<u16> {
+    match read {
+        Err(Refusal::BadAttribute(kind)) => Some(kind),
+        _ => None,
+    }
+}
+
+// Bodies in version 2, with the place of their data, and the data; and bodies that are refused, with what their refusal keeps.
+const WITH_DATA: &[(&[u8], usize, &[u8])] = &[
+    (b"\x0f\x00\x01\x00x\x13\x00hi", 7, b"hi"),
+    (b"\x13\x00", 2, b""),
+    (
+        b"\x19\x00\x04\x00\x03\x00\x00\x00\x13\x00\x13\x00\x0f\x00\x01\x00x",
+        10,
+        b"\x13\x00\x0f\x00\x01\x00x",
+    ),
+];
+
+const BAD_IN_SECOND: &[(&[u8], u16)] = &[
+    (b"\x0f\x00\x01\x00x\x13", 0),
+    (b"\x20\x00\x01\x00x", 32),
+    (b"\x0f\x00", 15),
+    (b"\x0f\x00\x01\x00x\x0f\x00\x01\x00x\x13\x00", 15),
+];
+
+fn has_data(rt: &impl Abort, body: &[u8], place: usize, data: &[u8]) -> Result<(), Fail> {
+    let table = attrs(body, 2).ok().ok_or("the attributes are lawful")?;
+    same(rt, table.get(19), Some(data));
+    same(rt, table.place(19), Some(place));
+    same(rt, table.version(), 2);
     Ok(())
 }
 
 #[test]
 fn data_of_version_two_has_no_length(rt: HostRuntime) -> Result<(), Fail> {
-    let bodies: [(&[u8], usize, &[u8]); 3] = [
-        (b"\x0f\x00\x01\x00x\x13\x00hi", 7, b"hi"),
-        (b"\x13\x00", 2, b""),
-        (
-            b"\x19\x00\x04\x00\x03\x00\x00\x00\x13\x00\x13\x00\x0f\x00\x01\x00x",
-            10,
-            b"\x13\x00\x0f\x00\x01\x00x",
-        ),
-    ];
-    for (body, place, data) in bodies {
-        let table = attrs(body, 2).ok().ok_or("the attributes are lawful")?;
-        assert_eq!(rt; table.get(19), Some(data));
-        assert_eq!(rt; table.place(19), Some(place));
-        assert_eq!(rt; table.version(), 2);
+    for &(body, place, data) in WITH_DATA {
+        has_data(&rt, body, place, data)?;
     }
-    let refused: [(&[u8], u16); 4] = [
-        (b"\x0f\x00\x01\x00x\x13", 0),
-        (b"\x20\x00\x01\x00x", 32),
-        (b"\x0f\x00", 15),
-        (b"\x0f\x00\x01\x00x\x0f\x00\x01\x00x\x13\x00", 15),
-    ];
-    for (body, kind) in refused {
-        assert_eq!(rt; bad_attribute(attrs(body, 2)), Some(kind));
+    for &(body, kind) in BAD_IN_SECOND {
+        same(&rt, bad_attribute(attrs(body, 2)), Some(kind));
     }
     Ok(())
 }
@@ -121,43 +127,40 @@ fn frames_of_version_two_are_written(rt: HostRuntime) -> Result<(), Fail> {
     writer.attr_u64(&mut to, 18, 5)?;
     writer.attr_data(&mut to, b"hi")?;
     writer.finish(&mut to);
-    assert_eq!(rt; to.as_slice(), WRITE_OF_VERSION_2);
+    same(&rt, to.as_slice(), WRITE_OF_VERSION_2);
     Ok(())
 }
 
-// The number that the refusal of these attributes keeps, if they are refused.
-fn bad_attribute(read: Result<AttrTable<'_>, Refusal>) -> Option<u16> {
-    match read {
-        Err(Refusal::BadAttribute(kind)) => Some(kind),
-        _ => None,
-    }
-}
+const BAD: &[(&str, &[u8], u16)] = &[
+    ("one byte", b"\x0f", 0),
+    ("a number and no length", b"\x0f\x00", 15),
+    ("no number of the protocol, zero", b"\x00\x00\x01\x00a", 0),
+    (
+        "a number above the last",
+        b"\x0f\x00\x01\x00x\x19\x00\x01\x00a",
+        25,
+    ),
+    (
+        "the same number twice",
+        b"\x0f\x00\x01\x00x\x03\x00\x08\x00\x01\x01\x00\x00\x00\x00\x00\x00\x0f\x00\x01\x00y",
+        15,
+    ),
+    ("a length past the end", b"\x0f\x00\x01\x00", 15),
+    (
+        "a length past the end, after another",
+        b"\x0f\x00\x01\x00x\x03\x00\x08\x00\x01\x01\x00\x00\x00\x00\x00",
+        3,
+    ),
+];
 
 #[test]
 fn the_first_breach_is_refused(rt: HostRuntime) {
-    let table: [(&str, &[u8], u16); 7] = [
-        ("one byte", b"\x0f", 0),
-        ("a number and no length", b"\x0f\x00", 15),
-        ("no number of the protocol, zero", b"\x00\x00\x01\x00a", 0),
-        (
-            "a number above the last",
-            b"\x0f\x00\x01\x00x\x19\x00\x01\x00a",
-            25,
-        ),
-        (
-            "the same number twice",
-            b"\x0f\x00\x01\x00x\x03\x00\x08\x00\x01\x01\x00\x00\x00\x00\x00\x00\x0f\x00\x01\x00y",
-            15,
-        ),
-        ("a length past the end", b"\x0f\x00\x01\x00", 15),
-        (
-            "a length past the end, after another",
-            b"\x0f\x00\x01\x00x\x03\x00\x08\x00\x01\x01\x00\x00\x00\x00\x00",
-            3,
-        ),
-    ];
-    for (what, body, kind) in table {
-        assert_eq!(rt; bad_attribute(attrs(body, 1)), Some(kind), "{what}");
+    for &(what, body, kind) in BAD {
+        same(
+            &rt,
+            (what, bad_attribute(attrs(body, 1))),
+            (what, Some(kind)),
+        );
     }
 }
 
@@ -170,9 +173,7 @@ fn frames_are_written(rt: HostRuntime) -> Result<(), Fail> {
     writer.attr_u64(&mut to, 18, 5)?;
     writer.attr_data(&mut to, b"hi")?;
     writer.finish(&mut to);
-    assert_eq!(rt;
-        to.as_slice().strip_prefix(WRITE_HEAD.as_slice()),
-        Some(WRITE_BODY)
-    );
+    let body = to.as_slice().strip_prefix(WRITE_HEAD.as_slice());
+    same(&rt, body, Some(WRITE_BODY));
     Ok(())
 }

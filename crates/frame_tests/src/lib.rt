@@ -18,3 +18,5 @@ mod layout_tests;
 mod path_tests;
 #[cfg(test)]
 mod reader_tests;
+#[cfg(test)]
+mod same;

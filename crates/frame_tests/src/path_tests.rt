@@ -1,5 +1,6 @@
 //! Names and paths at the edges of their rules.
 
+use crate::same::same;
 use path_rules::{name_ok, split};
 
 // How many names a path has, or None where it is no path.
@@ -10,23 +11,25 @@ fn count_names(path: &[u8]) -> Option<usize> {
     }
 }
 
+const NAMES: &[(&[u8], bool)] = &[
+    (b"", false),
+    (b".", false),
+    (b"..", false),
+    (b"...", true),
+    (b".profile", true),
+    (b"a/b", false),
+    (b"a\0", false),
+    (b"\xff\n ", true),
+];
+
 #[test]
 fn names(rt: HostRuntime) {
-    let long = [b'n'; 256];
-    for (name, wanted) in [
-        (b"".as_slice(), false),
-        (b".".as_slice(), false),
-        (b"..".as_slice(), false),
-        (b"...".as_slice(), true),
-        (b".profile".as_slice(), true),
-        (b"a/b".as_slice(), false),
-        (b"a\0".as_slice(), false),
-        (b"\xff\n ".as_slice(), true),
-        (&long[..255], true),
-        (&long[..], false),
-    ] {
-        assert_eq!(rt; name_ok(name), wanted, "the name {name:?}");
+    for &(name, wanted) in NAMES {
+        same(&rt, (name, name_ok(name)), (name, wanted));
     }
+    let long = [b'n'; 256];
+    same(&rt, name_ok(&long[..255]), true);
+    same(&rt, name_ok(&long[..]), false);
 }
 
 #[test]
@@ -52,18 +55,14 @@ fn paths(rt: HostRuntime) {
     }
 }
 
+const IN_ORDER: &[Option<&[u8]>] = &[Some(b"home"), Some(b"user"), Some(b"notes"), None, None];
+
 #[test]
 fn names_in_order(rt: HostRuntime) {
     let Ok(mut names) = split(b"home/user/notes") else {
         panic!(rt; "a path of three names was refused");
     };
-    for wanted in [
-        Some(b"home".as_slice()),
-        Some(b"user".as_slice()),
-        Some(b"notes".as_slice()),
-        None,
-        None,
-    ] {
-        assert_eq!(rt; names.next(), wanted);
+    for &wanted in IN_ORDER {
+        same(&rt, names.next(), wanted);
     }
 }

@@ -2,8 +2,11 @@
 ghost use Rattle.std.specs.Prelude.{None};
 ghost use Rattle.sx_base.specs.Again.{no_end};
 
+use crate::same::same;
 use cmd_reader::{CmdReader, Glance, ReadStop};
 use send_commands::Command;
+use std::alloc::{AllocError, Global};
+use std::process::Abort;
 use std::test::Fail;
 use sx_base::{Failed, Inputs, Lost, PlainInputs, Refusal, Verdict};
 
@@ -47,42 +50,82 @@ impl Inputs for CountedInputs {
     }
 }
 
-// The number, the offset and the place of the data of the next command.
-fn place(
-    reader: &mut CmdReader,
-    inputs: &mut CountedInputs,
-) -> Result<Option<(u64, u64, u64)>, ReadStop> {
+// Such files: one of them, which gives at most so many bytes at a time.
+fn counted(
+    alloc: Global,
+    name: &str,
+    bytes: &[u8],
+    most: usize,
+) -> Result<CountedInputs, AllocError> {
+    let mut files = PlainInputs::new(alloc);
+    files.add(name, bytes)?;
+    Ok(CountedInputs {
+        files,
+        most,
+        calls: 0,
+    })
+}
+
+// What the tests look at in the next command: its number, its offset and the place of its data; the transaction number if it
+// begins a part, and its version; and whether its frame is canonical.
+#[derive(Clone, Copy)]
+struct Shown {
+    place: (u64, u64, u64),
+    begun: (Option<u64>, u32),
+    canonical: bool,
+}
+
+// The transaction number of a command that begins a part.
+fn begun(c: &Command) -> Option<u64> {
+    match c {
+        Command::Subvol { ctransid, .. } => Some(*ctransid),
+        Command::Snapshot { ctransid, .. } => Some(*ctransid),
+        _ => None,
+    }
+}
+
+fn next(reader: &mut CmdReader, inputs: &mut CountedInputs) -> Result<Option<Shown>, ReadStop> {
     match reader.next(inputs) {
-        Ok(Some(item)) => Ok(Some((item.number, item.offset, item.data_at))),
+        Ok(Some(item)) => Ok(Some(Shown {
+            place: (item.number, item.offset, item.data_at),
+            begun: (begun(&item.command), item.version),
+            canonical: item.canonical,
+        })),
         Ok(None) => Ok(None),
         Err(stop) => Err(stop),
     }
 }
 
+// The number, the offset and the place of the data of the next command.
+fn place(
+    reader: &mut CmdReader,
+    inputs: &mut CountedInputs,
+) -> Result<Option<(u64, u64, u64)>, ReadStop> {
+    match next(reader, inputs)? {
+        Some(seen) => Ok(Some(seen.place)),
+        None => Ok(None),
+    }
+}
+
+const PLACES: &[(u64, u64, u64)] = &[(1, 17, 0), (2, 64, 0), (3, 79, 110), (4, 112, 0)];
+
 #[test]
 fn commands_have_their_places(rt: HostRuntime) -> Result<(), Fail> {
-    let mut inputs = CountedInputs {
-        files: PlainInputs::new(rt.alloc()),
-        most: 65_536,
-        calls: 0,
-    };
-    inputs.files.add("whole", FILE)?;
+    let mut inputs = counted(rt.alloc(), "whole", FILE, 65_536)?;
     let mut whole = CmdReader::new(rt.alloc(), 1, "whole")?;
-    for want in [(1, 17, 0), (2, 64, 0), (3, 79, 110), (4, 112, 0)] {
-        assert_eq!(rt; place(&mut whole, &mut inputs), Ok(Some(want)));
+    for &want in PLACES {
+        same(&rt, place(&mut whole, &mut inputs), Ok(Some(want)));
     }
-    assert_eq!(rt; place(&mut whole, &mut inputs), Ok(None));
-    assert_eq!(rt; inputs.calls, 2);
+    same(&rt, place(&mut whole, &mut inputs), Ok(None));
+    same(&rt, inputs.calls, 2);
     Ok(())
 }
 
 // How the reading of a file ends.
 fn ending(reader: &mut CmdReader, inputs: &mut CountedInputs) -> Result<u64, ReadStop> {
     for count in 0..100_000 {
-        match reader.next(inputs) {
-            Ok(Some(_)) => {}
-            Ok(None) => return Ok(count),
-            Err(stop) => return Err(stop),
+        if next(reader, inputs)?.is_none() {
+            return Ok(count);
         }
     }
     Ok(100_000)
@@ -99,45 +142,44 @@ fn cut_at(len: usize) -> (u64, u64) {
     }
 }
 
+fn truncated(len: usize) -> ReadStop {
+    let (command, offset) = cut_at(len);
+    ReadStop::Refused(Verdict {
+        file: 2,
+        command,
+        offset,
+        refusal: Refusal::Truncated,
+    })
+}
+
 #[test]
 fn a_file_that_is_cut_is_refused_at_its_place(rt: HostRuntime) -> Result<(), Fail> {
     for len in 0..FILE.len() {
-        let mut inputs = CountedInputs {
-            files: PlainInputs::new(rt.alloc()),
-            most: 3,
-            calls: 0,
-        };
-        inputs.files.add("cut", &FILE[..len])?;
+        let mut inputs = counted(rt.alloc(), "cut", &FILE[..len], 3)?;
         let mut reader = CmdReader::new(rt.alloc(), 2, "cut")?;
-        let (command, offset) = cut_at(len);
-        let refused = ReadStop::Refused(Verdict {
-            file: 2,
-            command,
-            offset,
-            refusal: Refusal::Truncated,
-        });
-        assert_eq!(rt; ending(&mut reader, &mut inputs), Err(refused));
+        same(&rt, ending(&mut reader, &mut inputs), Err(truncated(len)));
     }
     Ok(())
 }
 
-#[test]
-fn small_commands_are_read_in_few_calls(rt: HostRuntime) -> Result<(), Fail> {
-    let mut bytes = Vec::new(rt.alloc());
+// A file of many small commands.
+fn many(alloc: Global) -> Result<Vec<u8>, AllocError> {
+    let mut bytes = Vec::new(alloc);
     bytes.extend_from_slice(&FILE[..64])?;
     for _ in 0..10_000 {
         bytes.extend_from_slice(&FILE[64..79])?;
     }
     bytes.extend_from_slice(&FILE[112..])?;
-    let mut inputs = CountedInputs {
-        files: PlainInputs::new(rt.alloc()),
-        most: 65_536,
-        calls: 0,
-    };
-    inputs.files.add("many", &bytes)?;
+    Ok(bytes)
+}
+
+#[test]
+fn small_commands_are_read_in_few_calls(rt: HostRuntime) -> Result<(), Fail> {
+    let bytes = many(rt.alloc())?;
+    let mut inputs = counted(rt.alloc(), "many", &bytes, 65_536)?;
     let mut reader = CmdReader::new(rt.alloc(), 1, "many")?;
-    assert_eq!(rt; ending(&mut reader, &mut inputs), Ok(10_002));
-    assert_eq!(rt; inputs.calls, 4);
+    same(&rt, ending(&mut reader, &mut inputs), Ok(10_002));
+    same(&rt, inputs.calls, 4);
     Ok(())
 }
 
@@ -147,53 +189,40 @@ fn spelling(
     inputs: &mut CountedInputs,
     bytes: &[u8],
 ) -> Result<Option<(bool, bool)>, ReadStop> {
-    match reader.next(inputs) {
-        Ok(Some(item)) => Ok(Some((item.canonical, reader.last_frame() == bytes))),
-        Ok(None) => Ok(None),
-        Err(stop) => Err(stop),
+    match next(reader, inputs)? {
+        Some(seen) => Ok(Some((seen.canonical, reader.last_frame() == bytes))),
+        None => Ok(None),
     }
 }
 
+const SPELLINGS: &[(usize, usize, bool)] = &[
+    (17, 64, true),
+    (64, 91, false),
+    (91, 111, false),
+    (111, 138, true),
+    (138, 148, true),
+];
+
 #[test]
 fn frames_are_handed_out_as_they_stand(rt: HostRuntime) -> Result<(), Fail> {
-    let mut inputs = CountedInputs {
-        files: PlainInputs::new(rt.alloc()),
-        most: 65_536,
-        calls: 0,
-    };
-    inputs.files.add("spelled", SPELLED)?;
+    let mut inputs = counted(rt.alloc(), "spelled", SPELLED, 65_536)?;
     let mut reader = CmdReader::new(rt.alloc(), 1, "spelled")?;
-    for (from, to, canonical) in [
-        (17, 64, true),
-        (64, 91, false),
-        (91, 111, false),
-        (111, 138, true),
-        (138, 148, true),
-    ] {
-        let read = spelling(&mut reader, &mut inputs, &SPELLED[from..to]);
-        assert_eq!(rt; read, Ok(Some((canonical, true))));
+    for &(from, to, canonical) in SPELLINGS {
+        let bytes = SPELLED.get(from..to).ok_or("the frame is there")?;
+        let read = spelling(&mut reader, &mut inputs, bytes);
+        same(&rt, read, Ok(Some((canonical, true))));
     }
     Ok(())
 }
 
-// The transaction number of a command that begins a part.
-fn begun(c: &Command) -> Option<u64> {
-    match c {
-        Command::Subvol { ctransid, .. } => Some(*ctransid),
-        Command::Snapshot { ctransid, .. } => Some(*ctransid),
-        _ => None,
-    }
-}
-
-// The same of the next command, and its version.
+// The transaction number of the next command if it begins a part, and its version.
 fn given(
     reader: &mut CmdReader,
     inputs: &mut CountedInputs,
 ) -> Result<Option<(Option<u64>, u32)>, ReadStop> {
-    match reader.next(inputs) {
-        Ok(Some(item)) => Ok(Some((begun(&item.command), item.version))),
-        Ok(None) => Ok(None),
-        Err(stop) => Err(stop),
+    match next(reader, inputs)? {
+        Some(seen) => Ok(Some(seen.begun)),
+        None => Ok(None),
     }
 }
 
@@ -216,56 +245,69 @@ fn seen(
     }
 }
 
-#[test]
-fn a_glance_goes_past_what_next_gives(rt: HostRuntime) -> Result<(), Fail> {
-    let mut inputs = CountedInputs {
-        files: PlainInputs::new(rt.alloc()),
-        most: 7,
-        calls: 0,
-    };
-    inputs.files.add("parts", FILE)?;
-    let mut glances = CmdReader::new(rt.alloc(), 1, "parts")?;
-    let mut items = CmdReader::new(rt.alloc(), 1, "parts")?;
-    for head in [Some(1), None, None, None] {
-        assert_eq!(rt; seen(&mut glances, &mut inputs), Ok(Some((head, 1))));
-        assert_eq!(rt; given(&mut items, &mut inputs), Ok(Some((head, 1))));
-    }
-    assert_eq!(rt; seen(&mut glances, &mut inputs), Ok(None));
-    assert_eq!(rt; given(&mut items, &mut inputs), Ok(None));
-    Ok(())
+// What a glance and the next command say at the same place.
+fn both_say(
+    rt: &impl Abort,
+    glances: &mut CmdReader,
+    items: &mut CmdReader,
+    inputs: &mut CountedInputs,
+    want: Result<Option<(Option<u64>, u32)>, ReadStop>,
+) {
+    same(rt, seen(glances, inputs), want);
+    same(rt, given(items, inputs), want);
 }
 
 #[test]
-fn a_glance_is_refused_where_next_is(rt: HostRuntime) -> Result<(), Fail> {
-    let mut bytes = Vec::new(rt.alloc());
+fn a_glance_goes_past_what_next_gives(rt: HostRuntime) -> Result<(), Fail> {
+    let mut inputs = counted(rt.alloc(), "parts", FILE, 7)?;
+    let mut glances = CmdReader::new(rt.alloc(), 1, "parts")?;
+    let mut items = CmdReader::new(rt.alloc(), 1, "parts")?;
+    for head in [Some(1), None, None, None] {
+        both_say(
+            &rt,
+            &mut glances,
+            &mut items,
+            &mut inputs,
+            Ok(Some((head, 1))),
+        );
+    }
+    both_say(&rt, &mut glances, &mut items, &mut inputs, Ok(None));
+    Ok(())
+}
+
+// The two files as one.
+fn file_and_lacking(alloc: Global) -> Result<Vec<u8>, AllocError> {
+    let mut bytes = Vec::new(alloc);
     bytes.extend_from_slice(FILE)?;
     bytes.extend_from_slice(LACKING)?;
-    let mut inputs = CountedInputs {
-        files: PlainInputs::new(rt.alloc()),
-        most: 65_536,
-        calls: 0,
-    };
-    inputs.files.add("parts", &bytes)?;
+    Ok(bytes)
+}
+
+const HEADS: &[(Option<u64>, u32)] = &[
+    (Some(1), 1),
+    (None, 1),
+    (None, 1),
+    (None, 1),
+    (Some(2), 2),
+    (None, 2),
+];
+
+const LACKS_PATH: ReadStop = ReadStop::Refused(Verdict {
+    file: 3,
+    command: 7,
+    offset: 233,
+    refusal: Refusal::MissingAttribute(15),
+});
+
+#[test]
+fn a_glance_is_refused_where_next_is(rt: HostRuntime) -> Result<(), Fail> {
+    let bytes = file_and_lacking(rt.alloc())?;
+    let mut inputs = counted(rt.alloc(), "parts", &bytes, 65_536)?;
     let mut glances = CmdReader::new(rt.alloc(), 3, "parts")?;
     let mut items = CmdReader::new(rt.alloc(), 3, "parts")?;
-    for (head, version) in [
-        (Some(1), 1),
-        (None, 1),
-        (None, 1),
-        (None, 1),
-        (Some(2), 2),
-        (None, 2),
-    ] {
-        assert_eq!(rt; seen(&mut glances, &mut inputs), Ok(Some((head, version))));
-        assert_eq!(rt; given(&mut items, &mut inputs), Ok(Some((head, version))));
+    for &head in HEADS {
+        both_say(&rt, &mut glances, &mut items, &mut inputs, Ok(Some(head)));
     }
-    let refused = ReadStop::Refused(Verdict {
-        file: 3,
-        command: 7,
-        offset: 233,
-        refusal: Refusal::MissingAttribute(15),
-    });
-    assert_eq!(rt; seen(&mut glances, &mut inputs), Err(refused));
-    assert_eq!(rt; given(&mut items, &mut inputs), Err(refused));
+    both_say(&rt, &mut glances, &mut items, &mut inputs, Err(LACKS_PATH));
     Ok(())
 }

@@ -3,17 +3,18 @@ ghost use Rattle.std.specs.Prelude.{IfOk, IfSome, OnOk};
 ghost use Rattle.group_log.specs.Journal.{IsAtRest};
 
 use crate::client::{publish_all, publish_and_read};
+use crate::same::same;
 use disk_model::{FlakyDisk, FuseDisk, MemDisk};
 use group_log::{GroupPlace, Log, LogStop};
 use std::alloc::Global;
 use std::process::Abort;
 use std::test::Fail;
-use sx_base::Disk;
+use sx_base::{Disk, Failed};
 
-const NEW: [u8; 21] = *b"sndstore\x02\0\0\0\0\0\0\0\0\x01\0\0\0";
+const NEW: &[u8; 21] = b"sndstore\x02\0\0\0\0\0\0\0\0\x01\0\0\0";
 
 // A store of the first format with a group that has no checksum.
-const FIRST: [u8; 32] = *b"sndstore\x01\0\0\0\0\0\0\0\0\x01\0\0\x01\x02\0\0\0\0\0\0\0ab\0";
+const FIRST: &[u8; 32] = b"sndstore\x01\0\0\0\0\0\0\0\0\x01\0\0\x01\x02\0\0\0\0\0\0\0ab\0";
 
 // The log at its end, and how many groups it has.
 fn at_end<D: Disk>(disk: &mut D) -> Result<Option<(Log, u64)>, LogStop>
@@ -73,10 +74,8 @@ fn expect_groups(
     for choice in 0..16 {
         let mut left = disk.crash(alloc, choice)?;
         let found = at_end(&mut left)?.map_or(99, |end| end.1);
-        assert!(rt;
-            least <= found && found <= most,
-            "choice {choice}: {found} groups"
-        );
+        same(rt, (choice, found < least), (choice, false));
+        same(rt, (choice, most < found), (choice, false));
     }
     Ok(())
 }
@@ -97,19 +96,19 @@ fn crash_at_each_call(
         whole = matches!(outcome, Ok(true));
         expect_groups(rt, alloc, &fuse.into_inner(), done, begun)?;
         if whole {
-            assert_eq!(rt; done, groups.saturating_add(2));
+            same(rt, done, groups.saturating_add(2));
             break;
         }
     }
-    assert!(rt; whole);
+    same(rt, whole, true);
     Ok(())
 }
 
 #[test]
 fn a_crash_leaves_whole_groups(rt: HostRuntime) -> Result<(), Fail> {
     let alloc = rt.alloc();
-    crash_at_each_call(&rt, alloc, &NEW, 0)?;
-    crash_at_each_call(&rt, alloc, &FIRST, 1)
+    crash_at_each_call(&rt, alloc, NEW, 0)?;
+    crash_at_each_call(&rt, alloc, FIRST, 1)
 }
 
 // Publishes two groups with each call alone that fails, and opens the log again on the disk that goes on.
@@ -128,25 +127,23 @@ fn fault_at_each_call(
         let outcome = publish_two(&mut flaky, &mut begun, &mut done);
         whole = matches!(outcome, Ok(true));
         if whole {
-            assert_eq!(rt; done, groups.saturating_add(2));
+            same(rt, done, groups.saturating_add(2));
             break;
         }
         let found = at_end(&mut flaky)?.map_or(99, |end| end.1);
-        assert!(rt;
-            done <= found && found <= begun,
-            "call {call}: {found} groups"
-        );
+        same(rt, (call, found < done), (call, false));
+        same(rt, (call, begun < found), (call, false));
         expect_groups(rt, alloc, &flaky.into_inner(), found, found)?;
     }
-    assert!(rt; whole);
+    same(rt, whole, true);
     Ok(())
 }
 
 #[test]
 fn a_fault_leaves_whole_groups(rt: HostRuntime) -> Result<(), Fail> {
     let alloc = rt.alloc();
-    fault_at_each_call(&rt, alloc, &NEW, 0)?;
-    fault_at_each_call(&rt, alloc, &FIRST, 1)
+    fault_at_each_call(&rt, alloc, NEW, 0)?;
+    fault_at_each_call(&rt, alloc, FIRST, 1)
 }
 
 // The group at fault, or how many groups there are.
@@ -159,52 +156,60 @@ fn judged(alloc: Global, bytes: &[u8]) -> Result<Result<u64, u64>, Fail> {
     }
 }
 
+// Headers that are cut short, or have another text or format.
+const HEADERS: &[&[u8]] = &[
+    b"",
+    b"sndstore\x02\0\0\0\0\0\0\0\0\x01\0",
+    b"sndstorf\x02\0\0\0\0\0\0\0\0\x01\0\0\0",
+    b"sndstore\0\0\0\0\0\0\0\0\0\x01\0\0\0",
+    b"sndstore\x03\0\0\0\0\0\0\0\0\x01\0\0\0",
+    b"sndstore\x02\0\0\x01\0\0\0\0\0\x01\0\0\0",
+];
+
 #[test]
 fn each_fault_of_a_header_is_that_of_group_0(rt: HostRuntime) -> Result<(), Fail> {
-    let alloc = rt.alloc();
-    // One that is cut short, or has another text or format.
-    for bytes in [
-        b"".as_slice(),
-        b"sndstore\x02\0\0\0\0\0\0\0\0\x01\0".as_slice(),
-        b"sndstorf\x02\0\0\0\0\0\0\0\0\x01\0\0\0".as_slice(),
-        b"sndstore\0\0\0\0\0\0\0\0\0\x01\0\0\0".as_slice(),
-        b"sndstore\x03\0\0\0\0\0\0\0\0\x01\0\0\0".as_slice(),
-        b"sndstore\x02\0\0\x01\0\0\0\0\0\x01\0\0\0".as_slice(),
-    ] {
-        assert_eq!(rt; judged(alloc, bytes)?, Err(0));
+    for bytes in HEADERS {
+        same(&rt, judged(rt.alloc(), bytes)?, Err(0));
     }
     Ok(())
 }
 
+// What stands behind the header.
+const JOURNALS: &[(&[u8], Result<u64, u64>)] = &[
+    (b"", Err(1)),
+    (b"\0", Ok(0)),
+    (b"\x07", Ok(0)),
+    (b"\xff\x01\x02", Ok(0)),
+    (b"\x01", Err(1)),
+    (b"\x01\x02\0\0\0\0\0\0", Err(1)),
+    (b"\x01\x02\0\0\0\0\0\0\0a", Err(1)),
+    (b"\x01\xff\xff\xff\xff\xff\xff\xff\xffab", Err(1)),
+    (b"\x01\x02\0\0\0\0\0\0\0ab", Err(2)),
+    (b"\x01\x02\0\0\0\0\0\0\0ab\0", Ok(1)),
+    (b"\x01\x02\0\0\0\0\0\0\0ab\x01\0\0\0\0\0\0\0\0\0", Ok(2)),
+    (b"\x01\0\0\0\0\0\0\0\0\x01\x01\0\0\0\0\0\0", Err(2)),
+];
+
+// The verdict on a journal behind a header.
+fn judged_behind(alloc: Global, header: &[u8], journal: &[u8]) -> Result<Result<u64, u64>, Fail> {
+    let mut bytes = header.to_vec(alloc)?;
+    bytes.extend_from_slice(journal)?;
+    judged(alloc, &bytes)
+}
+
 #[test]
 fn each_fault_of_a_group_has_its_number(rt: HostRuntime) -> Result<(), Fail> {
-    let alloc = rt.alloc();
-    // What stands behind the header.
-    for (journal, verdict) in [
-        (b"".as_slice(), Err(1)),
-        (b"\0".as_slice(), Ok(0)),
-        (b"\x07".as_slice(), Ok(0)),
-        (b"\xff\x01\x02".as_slice(), Ok(0)),
-        (b"\x01".as_slice(), Err(1)),
-        (b"\x01\x02\0\0\0\0\0\0".as_slice(), Err(1)),
-        (b"\x01\x02\0\0\0\0\0\0\0a".as_slice(), Err(1)),
-        (b"\x01\xff\xff\xff\xff\xff\xff\xff\xffab".as_slice(), Err(1)),
-        (b"\x01\x02\0\0\0\0\0\0\0ab".as_slice(), Err(2)),
-        (b"\x01\x02\0\0\0\0\0\0\0ab\0".as_slice(), Ok(1)),
-        (
-            b"\x01\x02\0\0\0\0\0\0\0ab\x01\0\0\0\0\0\0\0\0\0".as_slice(),
-            Ok(2),
-        ),
-        (
-            b"\x01\0\0\0\0\0\0\0\0\x01\x01\0\0\0\0\0\0".as_slice(),
-            Err(2),
-        ),
-    ] {
-        for header in [&NEW[..20], &FIRST[..20]] {
-            let mut bytes = header.to_vec(alloc)?;
-            bytes.extend_from_slice(journal)?;
-            assert_eq!(rt; judged(alloc, &bytes)?, verdict);
-        }
+    for &(journal, verdict) in JOURNALS {
+        same(
+            &rt,
+            judged_behind(rt.alloc(), &NEW[..20], journal)?,
+            verdict,
+        );
+        same(
+            &rt,
+            judged_behind(rt.alloc(), &FIRST[..20], journal)?,
+            verdict,
+        );
     }
     Ok(())
 }
@@ -229,81 +234,113 @@ fn added(
     Ok(first.map(|place| (log.format(), place)))
 }
 
+// Whether the format is this, and the first group so long and at its place behind the header.
+fn is_first(added: Result<Option<(u32, GroupPlace)>, LogStop>, format: u32, len: u64) -> bool {
+    let first = GroupPlace {
+        number: 1,
+        at: 29,
+        len,
+    };
+    matches!(added, Ok(Some((of, place))) if of == format && place == first)
+}
+
+// Whether making a store over another is answered by the size of that one.
+fn is_there(made: Result<(), LogStop>, size_there: u64) -> bool {
+    matches!(made, Err(LogStop::StoreThere { size }) if size == size_there)
+}
+
+// The checksum of "ab\xff" behind these bytes, taken bit by bit.
+const ADDED: &[u8; 7] = b"ab\xff\x0a\xaf\xc4\x89";
+
 #[test]
 fn a_new_store_takes_a_group(rt: HostRuntime) -> Result<(), Fail> {
     let mut disk = MemDisk::new(rt.alloc(), b"")?;
     let mut back = [0; 7];
-    assert!(rt; matches!(Log::create(&mut disk), Ok(())));
-    let first = GroupPlace {
-        number: 1,
-        at: 29,
-        len: 7,
-    };
-    assert!(rt; matches!(added(&mut disk, 29, &mut back), Ok(Some((2, place))) if place == first));
-    // The checksum of "ab\xff", taken bit by bit.
-    assert_eq!(rt; back, *b"ab\xff\x0a\xaf\xc4\x89");
-    assert_eq!(rt; disk.size()?, 37);
-    assert!(rt;
-        matches!(
-            Log::create(&mut disk),
-            Err(LogStop::StoreThere { size: 37 })
-        )
-    );
-    assert_eq!(rt; disk.refused(), 0);
+    same(&rt, Log::create(&mut disk).is_ok(), true);
+    same(&rt, is_first(added(&mut disk, 29, &mut back), 2, 7), true);
+    same(&rt, back, *ADDED);
+    same(&rt, disk.size(), Ok(37));
+    same(&rt, is_there(Log::create(&mut disk), 37), true);
+    same(&rt, disk.refused(), 0);
     Ok(())
+}
+
+// The first bytes of an image.
+fn read_first(disk: &mut MemDisk) -> Result<(usize, [u8; 32]), Failed> {
+    let mut image = [0; 32];
+    let count = disk.read(0, &mut image)?;
+    Ok((count, image))
 }
 
 #[test]
 fn a_store_is_not_made_over_another(rt: HostRuntime) -> Result<(), Fail> {
-    let alloc = rt.alloc();
     // Where even the size is not told, the store must stay.
     for calls in 0..5 {
-        let mut fuse = FuseDisk::new(MemDisk::new(alloc, &FIRST)?, calls);
-        assert!(rt; Log::create(&mut fuse).is_err());
+        let mut fuse = FuseDisk::new(MemDisk::new(rt.alloc(), FIRST)?, calls);
+        same(&rt, Log::create(&mut fuse).is_err(), true);
         let disk = fuse.into_inner();
         for choice in 0..4 {
-            let mut image = [0; 32];
-            assert_eq!(rt; disk.crash(alloc, choice)?.read(0, &mut image)?, 32);
-            assert_eq!(rt; image, FIRST);
+            let mut image = disk.crash(rt.alloc(), choice)?;
+            same(&rt, read_first(&mut image), Ok((32, *FIRST)));
         }
     }
     Ok(())
 }
 
-#[test]
-fn a_store_of_the_first_format_takes_a_group(rt: HostRuntime) -> Result<(), Fail> {
-    let mut disk = MemDisk::new(rt.alloc(), &FIRST)?;
-    let mut back = [0; 7];
-    let first = GroupPlace {
-        number: 1,
-        at: 29,
-        len: 2,
-    };
-    assert!(rt; matches!(added(&mut disk, 40, &mut back), Ok(Some((1, place))) if place == first));
-    assert_eq!(rt; back, *b"ab\xff\x0a\xaf\xc4\x89");
-    let mut before = [0; 31];
-    assert_eq!(rt; disk.read(0, &mut before)?, 31);
-    assert_eq!(rt;
-        &before,
-        b"sndstore\x01\0\0\0\0\0\0\0\0\x01\0\0\x01\x02\0\0\0\0\0\0\0ab"
-    );
-    let mut more = [0; 17];
-    assert_eq!(rt; disk.read(31, &mut more)?, 17);
-    assert_eq!(rt; &more, b"\x01\x07\0\0\0\0\0\0\0ab\xff\x0a\xaf\xc4\x89\0");
+// What a read of the bytes from a place on gives, if there are as many.
+fn expect_at<const N: usize>(
+    rt: &impl Abort,
+    disk: &mut MemDisk,
+    at: u64,
+    bytes: &[u8; N],
+) -> Result<(), Failed> {
+    let mut buf = [0; N];
+    same(rt, disk.read(at, &mut buf)?, N);
+    same(rt, buf.as_slice(), bytes.as_slice());
     Ok(())
 }
 
 #[test]
+fn a_store_of_the_first_format_takes_a_group(rt: HostRuntime) -> Result<(), Fail> {
+    let mut disk = MemDisk::new(rt.alloc(), FIRST)?;
+    let mut back = [0; 7];
+    same(&rt, is_first(added(&mut disk, 40, &mut back), 1, 2), true);
+    same(&rt, back, *ADDED);
+    expect_at(
+        &rt,
+        &mut disk,
+        0,
+        b"sndstore\x01\0\0\0\0\0\0\0\0\x01\0\0\x01\x02\0\0\0\0\0\0\0ab",
+    )?;
+    expect_at(
+        &rt,
+        &mut disk,
+        31,
+        b"\x01\x07\0\0\0\0\0\0\0ab\xff\x0a\xaf\xc4\x89\0",
+    )?;
+    Ok(())
+}
+
+// How many groups there are.
+fn count(disk: &mut MemDisk) -> Result<u64, LogStop> {
+    Ok(at_end(disk)?.map_or(99, |end| end.1))
+}
+
+// A new store with a group behind it that was not synced.
+fn written_behind(alloc: Global) -> Result<MemDisk, Fail> {
+    let mut disk = MemDisk::new(alloc, NEW)?;
+    let group = FIRST;
+    disk.write_at(20, &group[20..])?;
+    Ok(disk)
+}
+
+#[test]
 fn what_an_open_log_reads_is_stable(rt: HostRuntime) -> Result<(), Fail> {
-    let alloc = rt.alloc();
-    let mut disk = MemDisk::new(alloc, &NEW)?;
-    disk.write_at(20, &FIRST[20..])?;
-    let lost = at_end(&mut disk.crash(alloc, 1)?)?;
-    assert_eq!(rt; lost.map_or(99, |end| end.1), 0);
+    let mut disk = written_behind(rt.alloc())?;
+    same(&rt, count(&mut disk.crash(rt.alloc(), 1)?)?, 0);
     for _ in 0..2 {
-        let kept = at_end(&mut disk)?;
-        assert_eq!(rt; kept.map_or(99, |end| end.1), 1);
-        disk = disk.crash(alloc, 1)?;
+        same(&rt, count(&mut disk)?, 1);
+        disk = disk.crash(rt.alloc(), 1)?;
     }
     Ok(())
 }
@@ -322,31 +359,33 @@ fn filled(disk: &mut MemDisk, bytes: &[u8]) -> Result<u64, LogStop> {
     Ok(end)
 }
 
+// The end, what was wanted and the limit of a log that is full.
+fn full(filled: Result<u64, LogStop>) -> Option<(u64, u64, u64)> {
+    match filled {
+        Err(LogStop::LogFull { end, wanted, limit }) => Some((end, wanted, limit)),
+        _ => None,
+    }
+}
+
+// The limit, how many bytes are added, and where the log is full.
+const FULL: &[(u8, usize, u64, u64)] = &[
+    (40, 6, 39, 9),
+    (40, 7, 29, 7),
+    (34, 0, 33, 9),
+    (34, 1, 29, 1),
+    (33, 0, 20, 9),
+];
+
 #[test]
 fn a_full_log_says_where_it_ends(rt: HostRuntime) -> Result<(), Fail> {
-    let alloc = rt.alloc();
-    // The limit, how many bytes are added, and where the log is full.
-    for (limit, count, end, wanted) in [
-        (40, 6, 39, 9),
-        (40, 7, 29, 7),
-        (34, 0, 33, 9),
-        (34, 1, 29, 1),
-        (33, 0, 20, 9),
-    ] {
-        let mut header = NEW;
+    for &(limit, count, end, wanted) in FULL {
+        let mut header = *NEW;
         header[12] = limit;
         header[17] = 0;
-        let mut disk = MemDisk::new(alloc, &header)?;
-        match filled(&mut disk, &[1; 7][..count]) {
-            Err(
-                LogStop::LogFull {
-                    end: place,
-                    wanted: more,
-                    limit: most,
-                },
-            ) => assert_eq!(rt; (place, more, most), (end, wanted, limit as u64)),
-            _ => assert!(rt; false, "limit {limit}: not full"),
-        }
+        let mut disk = MemDisk::new(rt.alloc(), &header)?;
+        let bytes = [1; 7];
+        let filled = filled(&mut disk, &bytes[..count.min(7)]);
+        same(&rt, full(filled), Some((end, wanted, limit as u64)));
     }
     Ok(())
 }
@@ -374,10 +413,8 @@ fn publish_groups(
     Ok(at_end(disk)?.map(|end| end.1))
 }
 
-#[test]
-fn groups_of_several_pieces_are_published(rt: HostRuntime) -> Result<(), Fail> {
-    let alloc = rt.alloc();
-    let mut disk = MemDisk::new(alloc, &NEW)?;
+// Groups of no piece up to three, each of three bytes.
+fn four_groups(alloc: Global) -> Result<Vec<Vec<Vec<u8>>>, Fail> {
     let mut groups = Vec::new(alloc);
     for count in 0..4_u8 {
         let mut pieces = Vec::new(alloc);
@@ -386,10 +423,26 @@ fn groups_of_several_pieces_are_published(rt: HostRuntime) -> Result<(), Fail> {
         }
         groups.push(pieces)?;
     }
+    Ok(groups)
+}
+
+// How many groups there are where all are published; none where they are not.
+fn published(answer: Result<Option<u64>, LogStop>) -> Option<u64> {
+    match answer {
+        Ok(count) => count,
+        Err(_) => None,
+    }
+}
+
+#[test]
+fn groups_of_several_pieces_are_published(rt: HostRuntime) -> Result<(), Fail> {
+    let groups = four_groups(rt.alloc())?;
+    let mut disk = MemDisk::new(rt.alloc(), NEW)?;
     let mut back = [7; 3];
-    assert!(rt; matches!(publish_groups(&mut disk, &groups, &mut back), Ok(Some(5))));
-    assert_eq!(rt; back, [0; 3]);
+    let answer = publish_groups(&mut disk, &groups, &mut back);
+    same(&rt, published(answer), Some(5));
+    same(&rt, back, [0; 3]);
     // Five groups with their gates, lengths and checksums, and the pieces in them.
-    assert_eq!(rt; disk.size()?, 20 + 5 * 13 + 3 * (1 + 2 + 3 + 3) + 1);
+    same(&rt, disk.size(), Ok(20 + 5 * 13 + 3 * (1 + 2 + 3 + 3) + 1));
     Ok(())
 }

@@ -9,3 +9,5 @@ mod disk_tests;
 mod file_tests;
 #[cfg(test)]
 mod journal_tests;
+#[cfg(test)]
+mod same;

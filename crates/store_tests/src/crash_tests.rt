@@ -1,4 +1,5 @@
 // What no clause says: what crashes and faults leave of parts that are received and of a name that is dropped.
+use crate::same::same;
 use crate::streams::{NEW, OLD, key, receive_a, receive_b};
 use disk_model::{FlakyDisk, FuseDisk, MemDisk};
 use group_log::LogStop;
@@ -52,10 +53,8 @@ fn expect_stores(
     for choice in 0..16 {
         let mut left = disk.crash(alloc, choice)?;
         let found = found_in(&Store::open(&mut left, alloc)?);
-        assert!(rt;
-            least <= found && found <= most,
-            "choice {choice}: {found} of {least} to {most}"
-        );
+        same(rt, (choice, found, found < least), (choice, found, false));
+        same(rt, (choice, found, most < found), (choice, found, false));
     }
     Ok(())
 }
@@ -74,7 +73,7 @@ fn crash_at_each_call(rt: &impl Abort, alloc: Global, image: &[u8]) -> Result<()
             done.saturating_add(1).min(3),
         )?;
         if whole {
-            assert_eq!(rt; done, 3);
+            same(rt, done, 3);
             return Ok(());
         }
     }
@@ -85,8 +84,8 @@ fn crash_at_each_call(rt: &impl Abort, alloc: Global, image: &[u8]) -> Result<()
 #[test]
 fn a_crash_leaves_a_store(rt: HostRuntime) -> Result<(), Fail> {
     let alloc = rt.alloc();
-    crash_at_each_call(&rt, alloc, &NEW)?;
-    crash_at_each_call(&rt, alloc, &OLD)
+    crash_at_each_call(&rt, alloc, NEW)?;
+    crash_at_each_call(&rt, alloc, OLD)
 }
 
 // Makes the changes with each call alone that fails, and opens the store again on the disk that goes on.
@@ -98,17 +97,16 @@ fn fault_at_each_call(rt: &impl Abort, alloc: Global, image: &[u8]) -> Result<()
         let mut done = 0;
         match change_store(rt, alloc, &mut flaky, &mut done) {
             Ok(()) => {
-                assert_eq!(rt; done, 3);
+                same(rt, done, 3);
                 return Ok(());
             }
             Err(StoreStop::Log(LogStop::DiskFault)) => {}
             Err(_) => assert!(rt; false, "call {call}: no fault of the disk"),
         }
         let found = found_in(&Store::open(&mut flaky, alloc)?);
-        assert!(rt;
-            done <= found && found <= done.saturating_add(1),
-            "call {call}: {found} of {done}"
-        );
+        same(rt, (call, found, found < done), (call, found, false));
+        let more = done.saturating_add(1) < found;
+        same(rt, (call, found, more), (call, found, false));
         expect_stores(rt, alloc, &flaky.into_inner(), found, found)?;
     }
     assert!(rt; false, "more calls than are tried");
@@ -118,6 +116,6 @@ fn fault_at_each_call(rt: &impl Abort, alloc: Global, image: &[u8]) -> Result<()
 #[test]
 fn a_fault_leaves_a_store(rt: HostRuntime) -> Result<(), Fail> {
     let alloc = rt.alloc();
-    fault_at_each_call(&rt, alloc, &NEW)?;
-    fault_at_each_call(&rt, alloc, &OLD)
+    fault_at_each_call(&rt, alloc, NEW)?;
+    fault_at_each_call(&rt, alloc, OLD)
 }

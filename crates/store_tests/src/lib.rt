@@ -10,6 +10,8 @@ mod made_tests;
 #[cfg(test)]
 mod opened_tests;
 #[cfg(test)]
+mod same;
+#[cfg(test)]
 mod scrub_tests;
 #[cfg(test)]
 mod sparse_tests;

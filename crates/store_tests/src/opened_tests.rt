@@ -4,6 +4,7 @@ ghost use Rattle.store_journal.specs.Reading.{HasSize};
 ghost use Rattle.store_journal.specs.Shown.{IsIdle};
 
 use crate::client::{open_again, read_back};
+use crate::same::same;
 use crate::streams::{FILE, NEW, OLD, image, judged, key, receive_a, receive_b, with_a};
 use disk_model::MemDisk;
 use group_log::LogStop;
@@ -29,8 +30,8 @@ fn expect_range<D: Disk>(
     let mut buf = [7; 16];
     assert!(rt; bytes.len() <= 16);
     let back = &mut buf[..bytes.len()];
-    assert!(rt; read_back(store, disk, key, FILE, at, back)?);
-    assert_eq!(rt; &*back, bytes);
+    same(rt, read_back(store, disk, key, FILE, at, back)?, true);
+    same(rt, &*back, bytes);
     Ok(())
 }
 
@@ -42,8 +43,10 @@ fn expect_a<D: Disk>(rt: &impl Abort, store: &Store, disk: &mut D) -> Result<(),
     expect_range(rt, store, disk, key(b'A', 1), 0, b"\0\0\0hi\0\0")?;
     expect_range(rt, store, disk, key(b'A', 1), 4094, b"\0\0end\0")?;
     expect_range(rt, store, disk, key(b'A', 1), 4998, b"\0\0")?;
-    assert!(rt; !read_back(store, disk, key(b'A', 1), FILE, 4999, &mut [0; 2])?);
-    assert!(rt; !read_back(store, disk, key(b'A', 2), FILE, 0, &mut [0; 1])?);
+    let past = read_back(store, disk, key(b'A', 1), FILE, 4999, &mut [0; 2])?;
+    same(rt, past, false);
+    let other = read_back(store, disk, key(b'A', 2), FILE, 0, &mut [0; 1])?;
+    same(rt, other, false);
     Ok(())
 }
 
@@ -84,11 +87,11 @@ fn drop_one<D: Disk>(
 ) -> Result<(), StoreStop>
     requires { IsIdle (D.len disk.old) store.old }
 {
-    assert_eq!(rt; store.core().catalog().len(), 2);
-    assert!(rt; store.drop_name(disk, b"a")?);
-    assert!(rt; !store.drop_name(disk, b"a")?);
+    same(rt, store.core().catalog().len(), 2);
+    same(rt, store.drop_name(disk, b"a")?, true);
+    same(rt, store.drop_name(disk, b"a")?, false);
     let last = open_again(disk, alloc, store)?;
-    assert_eq!(rt; last.core().catalog().len(), 1);
+    same(rt, last.core().catalog().len(), 1);
     expect_b(rt, &last, disk)?;
     Ok(())
 }
@@ -107,8 +110,8 @@ fn receive_and_open(rt: &impl Abort, alloc: Global, start: &[u8]) -> Result<(), 
 #[test]
 fn two_parts_are_read_again(rt: HostRuntime) -> Result<(), Fail> {
     let alloc = rt.alloc();
-    receive_and_open(&rt, alloc, &NEW)?;
-    receive_and_open(&rt, alloc, &OLD)
+    receive_and_open(&rt, alloc, NEW)?;
+    receive_and_open(&rt, alloc, OLD)
 }
 
 // How many entries the store with these bytes has, or the group at fault.
@@ -122,39 +125,45 @@ fn judged_cut(alloc: Global, bytes: &[u8], len: usize) -> Result<Result<u64, u64
     judged_bytes(alloc, &bytes[..len.min(bytes.len())])
 }
 
+const CUTS: &[(usize, Result<u64, u64>)] = &[
+    (221, Err(3)),
+    (200, Err(2)),
+    (20, Err(1)),
+    (19, Err(0)),
+];
+
 #[test]
 fn the_first_group_at_fault_is_named(rt: HostRuntime) -> Result<(), Fail> {
     let alloc = rt.alloc();
     let mut bytes = with_a(&rt, alloc)?;
     let len = bytes.len();
     assert!(rt; len == 222);
-    assert_eq!(rt; judged_bytes(alloc, &bytes)?, Ok(1));
-    assert_eq!(rt; judged_cut(alloc, &bytes, 221)?, Err(3));
-    assert_eq!(rt; judged_cut(alloc, &bytes, 200)?, Err(2));
-    assert_eq!(rt; judged_cut(alloc, &bytes, 20)?, Err(1));
-    assert_eq!(rt; judged_cut(alloc, &bytes, 19)?, Err(0));
+    same(&rt, judged_bytes(alloc, &bytes)?, Ok(1));
+    for &(len, verdict) in CUTS {
+        same(&rt, judged_cut(alloc, &bytes, len)?, verdict);
+    }
     bytes[200] = bytes[200] ^ 1;
-    assert_eq!(rt; judged_bytes(alloc, &bytes)?, Err(2));
+    same(&rt, judged_bytes(alloc, &bytes)?, Err(2));
     bytes[30] = 3;
-    assert_eq!(rt; judged_bytes(alloc, &bytes)?, Err(1));
+    same(&rt, judged_bytes(alloc, &bytes)?, Err(1));
     Ok(())
 }
 
 // Where the gates stand of a store that has received `a` and `b` and dropped `a`, and how many entries the groups before each make.
-const GATES: [(usize, u64); 6] = [(20, 0), (81, 1), (221, 1), (314, 2), (375, 2), (390, 1)];
+const GATES: &[(usize, u64)] = &[(20, 0), (81, 1), (221, 1), (314, 2), (375, 2), (390, 1)];
 
 // The bytes of such a store, made of one with these bytes.
 fn with_five_groups(rt: &impl Abort, alloc: Global, start: &[u8]) -> Result<Vec<u8>, Fail> {
     let mut disk = MemDisk::new(alloc, start)?;
     let mut store = receive_two(rt, alloc, &mut disk)?;
-    assert!(rt; store.drop_name(&mut disk, b"a")?);
+    same(rt, store.drop_name(&mut disk, b"a")?, true);
     image(alloc, &mut disk)
 }
 
 // The group in which a place stands, 0 in front of all.
 fn group_at(place: usize) -> u64 {
     let mut group: u64 = 0;
-    for (gate, _) in GATES {
+    for &(gate, _) in GATES {
         if gate <= place {
             group = group.saturating_add(1);
         }
@@ -162,28 +171,28 @@ fn group_at(place: usize) -> u64 {
     group
 }
 
-#[test]
-fn a_store_that_is_cut_is_none(rt: HostRuntime) -> Result<(), Fail> {
-    let alloc = rt.alloc();
-    for start in [NEW, OLD] {
-        let bytes = with_five_groups(&rt, alloc, &start)?;
-        assert_eq!(rt; bytes.len(), 391);
-        assert_eq!(rt; judged_bytes(alloc, &bytes)?, Ok(1));
-        for len in 0..bytes.len() {
-            assert_eq!(rt;
-                judged_cut(alloc, &bytes, len)?,
-                Err(group_at(len)),
-                "{len}"
-            );
-        }
+// A store that is cut is none, wherever.
+fn cuts_are_none(rt: &impl Abort, alloc: Global, start: &[u8]) -> Result<(), Fail> {
+    let bytes = with_five_groups(rt, alloc, start)?;
+    same(rt, bytes.len(), 391);
+    same(rt, judged_bytes(alloc, &bytes)?, Ok(1));
+    for len in 0..bytes.len() {
+        let judged = judged_cut(alloc, &bytes, len)?;
+        same(rt, (len, judged), (len, Err(group_at(len))));
     }
     Ok(())
+}
+
+#[test]
+fn a_store_that_is_cut_is_none(rt: HostRuntime) -> Result<(), Fail> {
+    cuts_are_none(&rt, rt.alloc(), NEW)?;
+    cuts_are_none(&rt, rt.alloc(), OLD)
 }
 
 // What a byte that has changed makes of such a store: a gate that is closed then ends it, an open last one wants a group behind it,
 // the limit says nothing of the groups, and else the group is at fault in which the byte stands.
 fn verdict_at(place: usize, byte: u8) -> Result<u64, u64> {
-    for (gate, entries) in GATES {
+    for &(gate, entries) in GATES {
         if gate == place && byte != 1 {
             return Ok(entries);
         }
@@ -203,38 +212,38 @@ fn with_change(alloc: Global, bytes: &[u8], place: usize, change: u8) -> Result<
     Ok(changed)
 }
 
-#[test]
-fn a_byte_that_has_changed_is_found(rt: HostRuntime) -> Result<(), Fail> {
-    let alloc = rt.alloc();
-    for start in [NEW, OLD] {
-        let bytes = with_five_groups(&rt, alloc, &start)?;
-        for place in 0..bytes.len() {
-            for change in [1, 0x10, 0x80, 0xff] {
-                let changed = with_change(alloc, &bytes, place, change)?;
-                let verdict = verdict_at(place, bytes[place] ^ change);
-                assert_eq!(rt;
-                    judged_bytes(alloc, &changed)?,
-                    verdict,
-                    "{place}, {change}"
-                );
-            }
+// A change of one byte of a store is found, wherever.
+fn changes_are_found(rt: &impl Abort, alloc: Global, start: &[u8]) -> Result<(), Fail> {
+    let bytes = with_five_groups(rt, alloc, start)?;
+    for place in 0..bytes.len() {
+        for change in [1, 0x10, 0x80, 0xff] {
+            let changed = with_change(alloc, &bytes, place, change)?;
+            let verdict = verdict_at(place, bytes[place] ^ change);
+            let judged = judged_bytes(alloc, &changed)?;
+            same(rt, (place, change, judged), (place, change, verdict));
         }
     }
     Ok(())
 }
 
 #[test]
+fn a_byte_that_has_changed_is_found(rt: HostRuntime) -> Result<(), Fail> {
+    changes_are_found(&rt, rt.alloc(), NEW)?;
+    changes_are_found(&rt, rt.alloc(), OLD)
+}
+
+// Whether the name of a part is there.
+fn is_there(answer: Result<(), StoreStop>) -> bool {
+    matches!(answer, Err(StoreStop::Refused(Refusal::NameThere)))
+}
+
+#[test]
 fn a_part_whose_name_is_there_is_refused(rt: HostRuntime) -> Result<(), Fail> {
-    let alloc = rt.alloc();
-    let mut disk = MemDisk::new(alloc, &NEW)?;
-    let mut store = Store::open(&mut disk, alloc)?;
-    receive_a(&rt, alloc, &mut store, &mut disk)?;
-    assert!(rt;
-        matches!(
-            receive_a(&rt, alloc, &mut store, &mut disk),
-            Err(StoreStop::Refused(Refusal::NameThere))
-        )
-    );
-    assert!(rt; store.live());
+    let mut disk = MemDisk::new(rt.alloc(), NEW)?;
+    let mut store = Store::open(&mut disk, rt.alloc())?;
+    receive_a(&rt, rt.alloc(), &mut store, &mut disk)?;
+    let again = receive_a(&rt, rt.alloc(), &mut store, &mut disk);
+    same(&rt, is_there(again), true);
+    same(&rt, store.live(), true);
     Ok(())
 }

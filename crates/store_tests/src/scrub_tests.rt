@@ -1,4 +1,5 @@
 // What no clause says: that calls succeed, and images made by hand with checksums from another program.
+use crate::same::same;
 use disk_model::{FlakyDisk, FuseDisk, MemDisk};
 use group_log::LogStop;
 use std::alloc::Global;
@@ -32,7 +33,7 @@ fn scrubbed<D: Disk>(disk: &mut D) -> Answer {
     }
 }
 
-const IMAGES: [(&str, &[u8], Answer); 39] = [
+const IMAGES: &[(&str, &[u8], Answer)] = &[
     (
         "no group, format 2",
         b"sndstore\x02\0\0\0\0\0\0\0\0\x01\0\0\0",
@@ -228,16 +229,16 @@ const IMAGES: [(&str, &[u8], Answer); 39] = [
 
 #[test]
 fn images_are_scrubbed(rt: HostRuntime) -> Result<(), Fail> {
-    for (what, image, answer) in IMAGES {
+    for &(what, image, answer) in IMAGES {
         let mut disk = MemDisk::new(rt.alloc(), image)?;
-        assert_eq!(rt; scrubbed(&mut disk), answer, "{what}");
+        same(&rt, (what, scrubbed(&mut disk)), (what, answer));
     }
     Ok(())
 }
 
 // The checksums of a byte 5 and as many letters `a` behind it that all are so many bytes: around one piece that is read at once, two
 // pieces, and the four bytes of a checksum behind them.
-const LENGTHS: [(usize, u32); 12] = [
+const LENGTHS: &[(usize, u32)] = &[
     (16_383, 0xdade_0ad9),
     (16_384, 0x3816_f40c),
     (16_385, 0xded6_c945),
@@ -266,20 +267,21 @@ fn long_image(alloc: Global, len: usize, sum: u32) -> Result<Vec<u8>, Fail> {
     Ok(image)
 }
 
+// What a scrub comes to of such an image.
+fn scrubbed_long(alloc: Global, len: usize, sum: u32) -> Result<Answer, Fail> {
+    let image = long_image(alloc, len, sum)?;
+    let mut disk = MemDisk::new(alloc, image.as_slice())?;
+    Ok(scrubbed(&mut disk))
+}
+
 #[test]
 fn long_groups_are_summed(rt: HostRuntime) -> Result<(), Fail> {
-    for (len, sum) in LENGTHS {
-        let image = long_image(rt.alloc(), len, sum)?;
-        let mut disk = MemDisk::new(rt.alloc(), image.as_slice())?;
-        assert_eq!(rt; scrubbed(&mut disk), Answer::Found(1, 0), "{len}");
+    for &(len, sum) in LENGTHS {
+        let right = scrubbed_long(rt.alloc(), len, sum)?;
+        same(&rt, (len, right), (len, Answer::Found(1, 0)));
         let other = sum ^ 0x8000;
-        let image = long_image(rt.alloc(), len, other)?;
-        let mut disk = MemDisk::new(rt.alloc(), image.as_slice())?;
-        assert_eq!(rt;
-            scrubbed(&mut disk),
-            Answer::Damaged(1, other, sum),
-            "{len}"
-        );
+        let wrong = scrubbed_long(rt.alloc(), len, other)?;
+        same(&rt, (len, wrong), (len, Answer::Damaged(1, other, sum)));
     }
     Ok(())
 }
@@ -291,39 +293,46 @@ const TWO: &[u8] =
 // A scrub asks the disk four times for the header, once for each gate, once for each length, and twice for each short body.
 const CALLS: u64 = 4 + 3 + 2 + 2 * 2;
 
-#[test]
-fn a_disk_that_fails_is_a_fault(rt: HostRuntime) -> Result<(), Fail> {
-    let alloc = rt.alloc();
-    for calls in 0..CALLS {
-        let mut fuse = FuseDisk::new(MemDisk::new(alloc, TWO)?, calls);
-        assert_eq!(rt; scrubbed(&mut fuse), Answer::Fault, "{calls}");
-        let mut failing = Vec::new(alloc);
-        failing.push(calls.saturating_add(1))?;
-        let mut flaky = FlakyDisk::new(MemDisk::new(alloc, TWO)?, failing);
-        assert_eq!(rt; scrubbed(&mut flaky), Answer::Fault, "{calls}");
-    }
-    let mut fuse = FuseDisk::new(MemDisk::new(alloc, TWO)?, CALLS);
-    assert_eq!(rt; scrubbed(&mut fuse), Answer::Found(2, 1));
-    Ok(())
+// What a scrub comes to on a disk that stops after so many calls, and on one of which the next call alone fails.
+fn scrubbed_failing(alloc: Global, calls: u64) -> Result<(Answer, Answer), Fail> {
+    let mut fuse = FuseDisk::new(MemDisk::new(alloc, TWO)?, calls);
+    let mut failing = Vec::new(alloc);
+    failing.push(calls.saturating_add(1))?;
+    let mut flaky = FlakyDisk::new(MemDisk::new(alloc, TWO)?, failing);
+    Ok((scrubbed(&mut fuse), scrubbed(&mut flaky)))
 }
 
 #[test]
+fn a_disk_that_fails_is_a_fault(rt: HostRuntime) -> Result<(), Fail> {
+    for calls in 0..CALLS {
+        let (stopped, flaky) = scrubbed_failing(rt.alloc(), calls)?;
+        same(&rt, (calls, stopped), (calls, Answer::Fault));
+        same(&rt, (calls, flaky), (calls, Answer::Fault));
+    }
+    let mut fuse = FuseDisk::new(MemDisk::new(rt.alloc(), TWO)?, CALLS);
+    same(&rt, scrubbed(&mut fuse), Answer::Found(2, 1));
+    Ok(())
+}
+
+const FIRST_BYTES: &[(u32, u8, Option<(GroupKind, bool)>)] = &[
+    (1, 0, None),
+    (1, 1, Some((GroupKind::Mark, false))),
+    (1, 2, Some((GroupKind::Edits, false))),
+    (1, 3, Some((GroupKind::Drop, false))),
+    (1, 4, Some((GroupKind::Mark, true))),
+    (2, 1, None),
+    (2, 2, None),
+    (2, 3, None),
+    (2, 4, Some((GroupKind::Mark, true))),
+    (2, 5, Some((GroupKind::Edits, true))),
+    (2, 6, Some((GroupKind::Drop, true))),
+    (2, 7, None),
+    (2, 255, None),
+];
+
+#[test]
 fn a_first_byte_says_the_kind(rt: HostRuntime) {
-    for (format, first, kind) in [
-        (1, 0, None),
-        (1, 1, Some((GroupKind::Mark, false))),
-        (1, 2, Some((GroupKind::Edits, false))),
-        (1, 3, Some((GroupKind::Drop, false))),
-        (1, 4, Some((GroupKind::Mark, true))),
-        (2, 1, None),
-        (2, 2, None),
-        (2, 3, None),
-        (2, 4, Some((GroupKind::Mark, true))),
-        (2, 5, Some((GroupKind::Edits, true))),
-        (2, 6, Some((GroupKind::Drop, true))),
-        (2, 7, None),
-        (2, 255, None),
-    ] {
-        assert_eq!(rt; kind_of(format, first), kind);
+    for &(format, first, kind) in FIRST_BYTES {
+        same(&rt, kind_of(format, first), kind);
     }
 }

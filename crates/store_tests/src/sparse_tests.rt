@@ -1,4 +1,5 @@
 // What no clause says: that images of 2^40 bytes and more are judged at once. They are files with a hole behind their first bytes.
+use crate::same::same;
 use crate::streams::{NEW, OLD, judged, with_a};
 use file_disk::FileDisk;
 use std::fs;
@@ -34,10 +35,10 @@ fn with_group(rt: &HostRuntime, start: &[u8], len: u64, body: &[u8]) -> Result<V
 fn a_store_may_have_a_hole_behind_it(rt: HostRuntime) -> Result<(), Fail> {
     let with_a = with_a(&rt, rt.alloc())?;
     for len in [1 << 40, (1 << 40) + 21, 1 << 41] {
-        assert_eq!(rt; judged_sparse(&rt, b"", len)?, Err(0));
-        assert_eq!(rt; judged_sparse(&rt, &NEW, len)?, Ok(0));
-        assert_eq!(rt; judged_sparse(&rt, &OLD[..20], len)?, Ok(0));
-        assert_eq!(rt; judged_sparse(&rt, &with_a, len)?, Ok(1));
+        same(&rt, judged_sparse(&rt, b"", len)?, Err(0));
+        same(&rt, judged_sparse(&rt, NEW, len)?, Ok(0));
+        same(&rt, judged_sparse(&rt, &OLD[..20], len)?, Ok(0));
+        same(&rt, judged_sparse(&rt, &with_a, len)?, Ok(1));
     }
     Ok(())
 }
@@ -61,20 +62,20 @@ fn is_at_fault(rt: &HostRuntime, start: &[u8], group: u64, kind: u8) -> Result<b
 #[test]
 fn a_group_of_a_terabyte_is_at_fault_at_once(rt: HostRuntime) -> Result<(), Fail> {
     let with_a = with_a(&rt, rt.alloc())?;
-    assert!(rt; with_a.len() > 81);
+    same(&rt, with_a.len() > 81, true);
+    let head = &with_a[..with_a.len().min(81)];
     for kind in 0..8 {
-        assert!(rt;
-            is_at_fault(&rt, &OLD[..20], 1, kind)?,
-            "kind {kind} in format 1"
+        same(
+            &rt,
+            (kind, is_at_fault(&rt, &OLD[..20], 1, kind)?),
+            (kind, true),
         );
-        assert!(rt;
-            is_at_fault(&rt, &NEW[..20], 1, kind)?,
-            "kind {kind} in format 2"
+        same(
+            &rt,
+            (kind, is_at_fault(&rt, &NEW[..20], 1, kind)?),
+            (kind, true),
         );
-        assert!(rt;
-            is_at_fault(&rt, &with_a[..with_a.len().min(81)], 2, kind)?,
-            "kind {kind} behind a head"
-        );
+        same(&rt, (kind, is_at_fault(&rt, head, 2, kind)?), (kind, true));
     }
     Ok(())
 }

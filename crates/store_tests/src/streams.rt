@@ -14,9 +14,45 @@ use sx_base::Disk;
 use uuid::Uuid;
 
 /// A store of the second format without groups, and one of the first.
-pub(crate) const NEW: [u8; 21] = *b"sndstore\x02\0\0\0\0\0\0\0\0\x01\0\0\0";
+pub(crate) const NEW: &[u8; 21] = b"sndstore\x02\0\0\0\0\0\0\0\0\x01\0\0\0";
 
-pub(crate) const OLD: [u8; 21] = *b"sndstore\x01\0\0\0\0\0\0\0\0\x01\0\0\0";
+pub(crate) const OLD: &[u8; 21] = b"sndstore\x01\0\0\0\0\0\0\0\0\x01\0\0\0";
+
+// The frames of `a`.
+const HEAD_A: &Frame<'static> = &Frame {
+    cmd: 1,
+    body: b"\x01\0\x10\0AAAAAAAAAAAAAAAA\x02\0\x08\0\x01\0\0\0\0\0\0\0\x0f\0\x01\0a",
+};
+
+const EDITS_A: &[Frame<'static>] = &[
+    Frame {
+        cmd: 3,
+        body: b"\x0f\0\x01\0x",
+    },
+    Frame {
+        cmd: 15,
+        body: b"\x0f\0\x01\0x\x12\0\x08\0\x03\0\0\0\0\0\0\0\x13\0\x02\0hi",
+    },
+    Frame {
+        cmd: 15,
+        body: b"\x0f\0\x01\0x\x12\0\x08\0\0\x10\0\0\0\0\0\0\x13\0\x03\0end",
+    },
+    Frame {
+        cmd: 17,
+        body: b"\x04\0\x08\0\x88\x13\0\0\0\0\0\0\x0f\0\x01\0x",
+    },
+];
+
+// The frames of `b`.
+const HEAD_B: &Frame<'static> = &Frame {
+    cmd: 2,
+    body: b"\x01\0\x10\0BBBBBBBBBBBBBBBB\x02\0\x08\0\x02\0\0\0\0\0\0\0\x0f\0\x01\0b\x14\0\x10\0AAAAAAAAAAAAAAAA\x15\0\x08\0\x01\0\0\0\0\0\0\0",
+};
+
+const EDITS_B: &[Frame<'static>] = &[Frame {
+    cmd: 15,
+    body: b"\x0f\0\x01\0x\x12\0\x08\0\x02\0\0\0\0\0\0\0\x13\0!",
+}];
 
 /// The inode of the first file of a subvolume.
 pub(crate) const FILE: u64 = 257;
@@ -56,29 +92,7 @@ pub(crate) fn receive_a<D: Disk>(
     requires { IsIdle (D.len disk.old) store.old }
     ensures { OnOk result (IsIdle (D.len disk.new) store.new) }
 {
-    let head = Frame {
-        cmd: 1,
-        body: b"\x01\0\x10\0AAAAAAAAAAAAAAAA\x02\0\x08\0\x01\0\0\0\0\0\0\0\x0f\0\x01\0a",
-    };
-    let edits = [
-        Frame {
-            cmd: 3,
-            body: b"\x0f\0\x01\0x",
-        },
-        Frame {
-            cmd: 15,
-            body: b"\x0f\0\x01\0x\x12\0\x08\0\x03\0\0\0\0\0\0\0\x13\0\x02\0hi",
-        },
-        Frame {
-            cmd: 15,
-            body: b"\x0f\0\x01\0x\x12\0\x08\0\0\x10\0\0\0\0\0\0\x13\0\x03\0end",
-        },
-        Frame {
-            cmd: 17,
-            body: b"\x04\0\x08\0\x88\x13\0\0\0\0\0\0\x0f\0\x01\0x",
-        },
-    ];
-    receive_one(rt, alloc, store, disk, 1, &head, &edits)
+    receive_one(rt, alloc, store, disk, 1, HEAD_A, EDITS_A)
 }
 
 /// Receives `b`, a snapshot of `a`, in version 2: "!" over the file at 2.
@@ -91,15 +105,7 @@ pub(crate) fn receive_b<D: Disk>(
     requires { IsIdle (D.len disk.old) store.old }
     ensures { OnOk result (IsIdle (D.len disk.new) store.new) }
 {
-    let head = Frame {
-        cmd: 2,
-        body: b"\x01\0\x10\0BBBBBBBBBBBBBBBB\x02\0\x08\0\x02\0\0\0\0\0\0\0\x0f\0\x01\0b\x14\0\x10\0AAAAAAAAAAAAAAAA\x15\0\x08\0\x01\0\0\0\0\0\0\0",
-    };
-    let edits = [Frame {
-        cmd: 15,
-        body: b"\x0f\0\x01\0x\x12\0\x08\0\x02\0\0\0\0\0\0\0\x13\0!",
-    }];
-    receive_one(rt, alloc, store, disk, 2, &head, &edits)
+    receive_one(rt, alloc, store, disk, 2, HEAD_B, EDITS_B)
 }
 
 /// The bytes of a store that has `a`.
