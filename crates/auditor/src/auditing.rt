@@ -12,7 +12,7 @@ use crate::following::Follower;
 use clone_resolve::EditCore;
 use extent_map::Origin;
 use guard_rules::Guard;
-use part_names::PartNames;
+use part_names::NamedFiles;
 use std::alloc::{AllocError, Global};
 use sx_base::{Inputs, Outcome, Sink, write_whole};
 
@@ -22,12 +22,10 @@ use sx_base::{Inputs, Outcome, Sink, write_whole};
 /// COMMANDS`, counted over all files with END among the commands; and else nothing. `blank` is the origin of every WRITE; nobody
 /// looks at it. `InputTooLong` comes where a file is too long and no command before its end is refused.
 pub fn audit<R: Origin, I: Inputs, O: Sink>(
-    alloc: Global,
+    given: &NamedFiles<'_>,
     core: EditCore<R>,
     blank: R,
     inputs: &mut I,
-    files: &[String],
-    names: &PartNames,
     guards: &mut [Box<dyn Guard>],
     out: &mut O,
 ) -> Outcome
@@ -39,13 +37,13 @@ pub fn audit<R: Origin, I: Inputs, O: Sink>(
     ensures cause { Caused (I.faults inputs.old) (I.faults inputs.new)
         (O.faults out.old) (O.faults out.new) result }
     ensures audited { (store : meant.Store ℕ) → HaveSameShape core store
-        → IfAllTold (I.told inputs.old) (map string_bytes files.now)
+        → IfAllTold (I.told inputs.old) (map string_bytes given.now.files.now)
         (λ files. Wrote (O.taken out.old) (O.taken out.new)
-        (AuditEnds store (map (λ g. kept g) guards.old) names.now files result)) }
+        (AuditEnds store (map (λ g. kept g) guards.old) given.now.names.now files result)) }
 {
     let mut follower = Follower::new(core, blank);
-    match follow_files(alloc, &mut follower, guards, inputs, files, names) {
-        Ok(totals) => write_accepted(alloc, totals, out),
+    match follow_files(given, &mut follower, guards, inputs) {
+        Ok(totals) => write_accepted(given.alloc, totals, out),
         Err(outcome) => outcome,
     }
 }

@@ -16,11 +16,10 @@ use cmd_reader::Item;
 use extent_map::Origin;
 use guard_rules::{Guard, look_all};
 use inode_tree::Tree;
-use part_names::rename;
+use part_names::{NamedFile, rename};
 use send_commands::Command;
-use std::alloc::Global;
 use std::marker::Model;
-use sx_base::{Blob, Outcome, Refusal, Stop, Verdict};
+use sx_base::{Outcome, Refusal, Stop, Verdict};
 
 /// The subvolumes and the part so far, seen without their cells, and the origin of every WRITE.
 #[derive(Drop)]
@@ -133,22 +132,20 @@ fn follow_item<R: Origin>(
 
 // The same, with the name that is given for the parts of the file.
 pub(crate) fn follow_named<R: Origin>(
-    alloc: Global,
+    file: &NamedFile<'_>,
     follower: &mut Follower<R>,
     guards: &mut [Box<dyn Guard>],
-    file: u64,
-    new_name: Option<&Blob>,
     item: Item,
 ) -> Result<Done, Outcome>
     requires short { data_len (meaning_of item.command) ≤ 2 ^ 18 }
-    requires name_fits { IfSome (option_copied new_name) IsShort }
+    requires name_fits { IfSome (option_copied file.now.new_name) IsShort }
     ensures stops { IfErr result IsStop }
     ensures followed { ItemEnds (beside (map (λ g. kept g) guards.old) follower.old)
         (beside (map (λ g. kept g) guards.new) follower.new)
-        (named_as (option_copied new_name.entry) (item_of file item)) result }
+        (named_as (option_copied file.now.new_name) (item_of file.now.number item)) result }
 {
-    match rename(alloc, new_name, item) {
-        Ok(item) => follow_item(follower, guards, file, &item),
+    match rename(file.alloc, file.new_name, item) {
+        Ok(item) => follow_item(follower, guards, file.number, &item),
         Err(_) => Err(Outcome::NoMemory),
     }
 }

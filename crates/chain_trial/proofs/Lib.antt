@@ -1,6 +1,9 @@
 pub mod SpelledChains
 pub mod ReadChains
 pub mod SameCommands
+pub mod ChainSizes
 pub mod Numbers
+pub mod DueChains
+pub mod ComposedChains
 pub mod FileCounting
 pub mod Trials

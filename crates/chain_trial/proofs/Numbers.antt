@@ -61,18 +61,18 @@ module _ (seed count : ℕ) (some : 1 ≤ count) (few : count ≤ 4_096) where
   items : List Item
   items = (reads 1 (chain_of seed count)).items
 
-  read_alone : input (chain_of seed count ∷ []) ≡ reads 1 (chain_of seed count)
+  pub read_alone : input (chain_of seed count ∷ []) ≡ reads 1 (chain_of seed count)
   unfolding input input_from
   read_alone = alone (reads 1 (chain_of seed count)) read.whole
 
-  are_placed : chain_items seed count ≡ placed_all (reads 1 (chain_of seed count)).items
+  pub are_placed : chain_items seed count ≡ placed_all (reads 1 (chain_of seed count)).items
   are_placed = ap (map placed) (sym read.commands)
 
-  composed_are : trial_composed seed count ≡ composed_of [] (reads 1 (chain_of seed count)).items
+  pub composed_are : trial_composed seed count ≡ composed_of [] (reads 1 (chain_of seed count)).items
   unfolding trial_composed
   composed_are = ap (composed_of []) are_placed ∙ composed_placed [] (reads 1 (chain_of seed count)).items
 
-  version_is : version_of (reads 1 (chain_of seed count)).items ≡ 1
+  pub version_is : version_of (reads 1 (chain_of seed count)).items ≡ 1
   unfolding version_of
   version_is = ap (λ (b : Bool). if b then 2 else 1) (first_version (reads 1 (chain_of seed count)).items read.first)
 

@@ -21,7 +21,7 @@ commands_placed : (cs : List Command) → commands_of (map placed cs) ≡ cs
 commands_placed [] = refl
 commands_placed (c ∷ cs) = ap (λ (ds : List Command). c ∷ ds) (commands_placed cs)
 
-heads_placed : (items : List Item) → heads (placed_all items) ≡ heads items
+pub heads_placed : (items : List Item) → heads (placed_all items) ≡ heads items
 heads_placed items = ap heads_of (commands_placed (commands_of items))
 
 uuids_placed : (items : List Item) → part_uuids (placed_all items) ≡ part_uuids items

@@ -1,10 +1,12 @@
 -- What a trial says of a chain.
-use Rattle.std.specs.Prelude.{◌≡◌, ⊤, ℕ, List, [], ◌∷◌, ◌++◌, length, codes, Option, None, Some}
+use Rattle.std.specs.Prelude.{◌≡◌, ⊤, ℕ, List, [], ◌∷◌, ◌++◌, length, codes}
 use Rattle.std.specs.Fmt.{decimal}
 use Rattle.send_model.specs.Spelling.{stream_header, canonical_all}
 use Rattle.send_model.specs.Provenance.{ranges_of, uncarried_in}
 use Rattle.send_model.specs.Counts.{clones}
 use Rattle.send_model.specs.Generated.{chain_of, chain_items, trial_composed}
+use Rattle.sx_base.specs.declared.outcome.Outcome.{Outcome}
+use Rattle.sx_base.specs.declared.outcome.Outcome.TheVariants as ended
 use Rattle.chain_trial.specs.declared.trying.Numbers.{Numbers}
 
 -- The numbers of the chain, and of what it is composed to.
@@ -15,9 +17,16 @@ pub record AreNumbers (seed count : ℕ) (numbers : Numbers) : Type 0 where
   pub clones_are : numbers.clones ≡ clones (trial_composed seed count)
   pub redirected : numbers.redirected ≡ uncarried_in [] (ranges_of [] (chain_items seed count))
 
-abbrev pub IfTried : ℕ → ℕ → Option Numbers → Type 0
-IfTried seed count None = ⊤
-IfTried seed count (Some numbers) = AreNumbers seed count numbers
+-- A call whose output stands in memory has done all, or there was no memory: nothing else stops it, and the output fails for this alone.
+abbrev pub EndsInMemory : Outcome → Type 0
+EndsInMemory ended.Done = ⊤
+EndsInMemory ended.NoMemory = ⊤
+EndsInMemory ended.OutputFault = ⊤
+EndsInMemory (ended.Refused verdict) = ⊥
+EndsInMemory ended.InputFault = ⊥
+EndsInMemory (ended.InputTooLong file) = ⊥
+EndsInMemory (ended.TooMuch sum) = ⊥
+EndsInMemory (ended.InputChanged file place) = ⊥
 
 -- The line of some numbers.
 abbrev pub line_text : ℕ → Numbers → List ℕ

@@ -1,15 +1,15 @@
 // Counting the commands of a file.
-ghost use Rattle.std.specs.Prelude.{◌≡◌, ◌+◌, length, cond, IfSome};
+ghost use Rattle.std.specs.Prelude.{◌≡◌, ◌+◌, ◌<◌, ◌^◌, length, cond, IfOk};
 ghost use Rattle.send_model.specs.Receive.{bytes_of};
 ghost use Rattle.send_model.specs.Counts.{is_clone};
 ghost use Rattle.send_commands.specs.Meaning.{meaning_of};
-ghost use Rattle.cmd_reader.specs.Places.{IfTold};
-ghost use Rattle.chain_trial.specs.Counting.{IfCounted};
+ghost use Rattle.sx_base.specs.Outside.{file_at};
+ghost use Rattle.chain_trial.specs.Counting.{FileCounted, IsCountable, IsNoMemory};
 
-use cmd_reader::CmdReader;
+use cmd_reader::{CmdReader, ReadStop};
 use send_commands::Command;
-use std::alloc::Global;
-use sx_base::Inputs;
+use std::alloc::{AllocError, Global};
+use sx_base::PlainInputs;
 
 /// How many commands a file has, how many of them are clones, and how many bytes its writes carry.
 #[derive(Clone, Copy)]
@@ -33,19 +33,22 @@ impl Counted {
         }
     }
 
-    // Those of one more command. None where a number outgrows 64 bits, which no file is long enough for.
-    fn with(self, command: &Command) -> Option<Counted>
-        ensures commands { IfSome result (λ more. more.commands ≡ self.commands + 1) }
-        ensures clones { IfSome result
-            (λ more. more.clones ≡ self.clones + cond (is_clone (meaning_of command.now)) 1 0) }
-        ensures literal { IfSome result
-            (λ more. more.literal ≡ self.literal + length (bytes_of (meaning_of command.now))) }
+    // Those of one more command, where each number has room for it.
+    fn with(self, command: &Command) -> Counted
+        requires commands { self.commands + 1 < 2 ^ 64 }
+        requires clones { self.clones + cond (is_clone (meaning_of command.now)) 1 0 < 2 ^ 64 }
+        requires literal { self.literal + length (bytes_of (meaning_of command.now)) < 2 ^ 64 }
+        ensures commands { result.commands ≡ self.commands + 1 }
+        ensures clones { result.clones
+            ≡ self.clones + cond (is_clone (meaning_of command.now)) 1 0 }
+        ensures literal { result.literal
+            ≡ self.literal + length (bytes_of (meaning_of command.now)) }
     {
-        Some(Counted {
-            commands: self.commands.checked_add(1)?,
-            clones: self.clones.checked_add(clones_in(command))?,
-            literal: self.literal.checked_add(bytes_in(command))?,
-        })
+        Counted {
+            commands: self.commands + 1,
+            clones: self.clones + clones_in(command),
+            literal: self.literal + bytes_in(command),
+        }
     }
 }
 
@@ -69,28 +72,40 @@ fn bytes_in(command: &Command) -> u64
     }
 }
 
-/// Counts the commands of a file that can be read to a whole end. None where it can not be, where the inputs fail, or where there
-/// is no memory.
-pub(crate) fn count_file<I: Inputs>(alloc: Global, inputs: &mut I, name: &str) -> Option<Counted>
-    ensures same { I.told inputs.new ≡ I.told inputs.old }
-    ensures counted { IfTold (I.told inputs.old) name.now (IfCounted result) }
+/// Counts the commands of a file in memory that can be read to a whole end. An error is for want of memory.
+pub(crate) fn count_file(
+    alloc: Global,
+    inputs: &mut PlainInputs,
+    name: &str,
+) -> Result<Counted, AllocError>
+    requires countable { IsCountable (file_at inputs.old name.now) }
+    ensures same { inputs.new ≡ inputs.old }
+    ensures counted { IfOk result
+        (λ counted. FileCounted counted (file_at inputs.old name.now)) }
 {
-    let Ok(mut reader) = CmdReader::new(alloc, 1, name) else {
-        return None;
-    };
+    let mut reader = CmdReader::new(alloc, 1, name)?;
     let mut counted = Counted::none();
     loop {
         match reader.next(inputs) {
-            Ok(None) => return Some(counted),
+            Ok(None) => return Ok(counted),
             Ok(Some(item)) => {
                 let more = counted.with(&item.command);
                 drop(item);
-                match more {
-                    Some(more) => counted = more,
-                    None => return None,
-                }
+                counted = more;
             }
-            Err(_) => return None,
+            Err(stop) => return Err(lack_of(stop)),
         }
+    }
+}
+
+// Why a file in memory that can be read to a whole end is not read: there is no memory.
+fn lack_of(stop: ReadStop) -> AllocError
+    requires { IsNoMemory stop }
+{
+    match stop {
+        ReadStop::NoMemory => AllocError,
+        ReadStop::Refused(_) => unreachable!(),
+        ReadStop::InputFault => unreachable!(),
+        ReadStop::InputTooLong => unreachable!(),
     }
 }

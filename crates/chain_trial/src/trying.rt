@@ -1,10 +1,11 @@
 // Composing a generated chain, and the line that says what came of it.
-ghost use Rattle.std.specs.Prelude.{◌≡◌, ◌≤◌, [], ◌∷◌, ◌++◌, map, codes, IfSome, IfOk, OnOk};
+ghost use Rattle.std.specs.Prelude.{◌≡◌, ◌≤◌, [], ◌∷◌, ◌++◌, map, codes, IfOk, OnOk};
 ghost use Rattle.std.specs.String.{string_bytes};
 ghost use Rattle.std.specs.Fmt.{decimal};
 ghost use Rattle.send_model.specs.Words.{Trial};
 ghost use Rattle.sx_base.specs.Calls.{Caused, Wrote, Ends, SteadyIfDone};
-ghost use Rattle.chain_trial.specs.Trying.{IfTried, line_text};
+ghost use Rattle.sx_base.specs.declared.outcome.Outcome.TheVariants as ended;
+ghost use Rattle.chain_trial.specs.Trying.{AreNumbers, EndsInMemory, line_text};
 
 use crate::counting::count_file;
 use composer::compose;
@@ -39,7 +40,7 @@ pub fn write_trial<O: Sink>(alloc: Global, count: u64, seed: u64, out: &mut O) -
     ensures written { Wrote (O.taken out.old) (O.taken out.new)
         (λ written. Ends (Trial count seed) [] [] result written) }
 {
-    let Some(numbers) = numbers_of(alloc, count, seed) else {
+    let Ok(numbers) = numbers_of(alloc, count, seed) else {
         return Outcome::NoMemory;
     };
     let Ok(line) = line_of(alloc, count, numbers) else {
@@ -83,28 +84,23 @@ fn push_number(number: u64, line: &mut Blob) -> Result<(), AllocError>
     line.push_all(buffer.format(number).as_bytes())
 }
 
-// Composes a chain and counts. None where there is no memory: a chain is lawful, and neither the inputs nor the outputs here are
-// set to fail, so nothing else stops it.
-fn numbers_of(alloc: Global, count: u64, seed: u64) -> Option<Numbers>
+// Composes a chain and counts. An error is for want of memory.
+fn numbers_of(alloc: Global, count: u64, seed: u64) -> Result<Numbers, AllocError>
     requires some { 1 ≤ count }
     requires few { count ≤ 4_096 }
-    ensures numbers { IfTried seed count result }
+    ensures numbers { IfOk result (AreNumbers seed count) }
 {
     let mut chain = MemSink::new(alloc);
-    let Outcome::Done = write_chain(alloc, count, seed, &mut chain) else {
-        return None;
-    };
+    all_done(write_chain(alloc, count, seed, &mut chain))?;
     let mut inputs = file_of(alloc, chain.bytes())?;
     let names = names_of(alloc)?;
     let mut composed = MemSink::new(alloc);
     let kept = PartNames::none(alloc);
-    let Outcome::Done = compose(alloc, &mut inputs, &names, &kept, &mut composed) else {
-        return None;
-    };
+    all_done(compose(alloc, &mut inputs, &names, &kept, &mut composed))?;
     let read = count_file(alloc, &mut inputs, NAME)?;
     let mut outputs = file_of(alloc, composed.bytes())?;
     let written = count_file(alloc, &mut outputs, NAME)?;
-    Some(Numbers {
+    Ok(Numbers {
         commands: read.commands,
         input: chain.bytes().len() as u64,
         output: composed.bytes().len() as u64,
@@ -113,20 +109,38 @@ fn numbers_of(alloc: Global, count: u64, seed: u64) -> Option<Numbers>
     })
 }
 
+// Whether all was done. A chain is lawful and short, files in memory do not fail, and an output in memory of which no call is to fail
+// does so for want of memory alone.
+fn all_done(outcome: Outcome) -> Result<(), AllocError>
+    requires { EndsInMemory outcome }
+    ensures { OnOk result (outcome ≡ ended.Done) }
+{
+    match outcome {
+        Outcome::Done => Ok(()),
+        Outcome::NoMemory => Err(AllocError),
+        Outcome::OutputFault => Err(AllocError),
+        Outcome::Refused(_) => unreachable!(),
+        Outcome::InputFault => unreachable!(),
+        Outcome::InputTooLong { .. } => unreachable!(),
+        Outcome::TooMuch { .. } => unreachable!(),
+        Outcome::InputChanged { .. } => unreachable!(),
+    }
+}
+
 // Inputs of one file.
-fn file_of(alloc: Global, bytes: &[u8]) -> Option<PlainInputs>
-    ensures file { IfSome result (λ inputs. inputs ≡ (codes "chain", bytes.now) ∷ []) }
+fn file_of(alloc: Global, bytes: &[u8]) -> Result<PlainInputs, AllocError>
+    ensures file { IfOk result (λ inputs. inputs ≡ (codes "chain", bytes.now) ∷ []) }
 {
     let mut inputs = PlainInputs::new(alloc);
-    inputs.add(NAME, bytes).ok()?;
-    Some(inputs)
+    inputs.add(NAME, bytes)?;
+    Ok(inputs)
 }
 
 // The names of its files.
-fn names_of(alloc: Global) -> Option<Vec<String>>
-    ensures names { IfSome result (λ names. map string_bytes names.items ≡ codes "chain" ∷ []) }
+fn names_of(alloc: Global) -> Result<Vec<String>, AllocError>
+    ensures names { IfOk result (λ names. map string_bytes names.items ≡ codes "chain" ∷ []) }
 {
     let mut names = Vec::new(alloc);
-    names.push(String::from_str(alloc, NAME).ok()?).ok()?;
-    Some(names)
+    names.push(String::from_str(alloc, NAME)?)?;
+    Ok(names)
 }

@@ -4,7 +4,7 @@ use Rattle.std.specs.Io.KnownBytes.{Appends}
 use Rattle.std.proofs.Common.{sym, ap, subst, ◌∙◌, arith, append_assoc, append-nil, length-append}
 use Rattle.std.proofs.KnownBytes.{Appends-nil, Appends-trans}
 use Rattle.std.proofs.Math.Seq.{take-append-add, take-append-le}
-use Rattle.clone_pieces.specs.Sending.{GoesOut, AppendsFront, PutEnd}
+use Rattle.clone_pieces.specs.Sending.{GoesOut, AppendsFront, Output, PutEnd}
 use Rattle.clone_pieces.specs.Redirecting.{RedirectEnd}
 use Rattle.clone_pieces.specs.declared.stops.SendStop.{SendStop}
 use Rattle.clone_pieces.specs.declared.stops.SendStop.TheVariants as stop
@@ -45,9 +45,9 @@ stops_then a b c old mid new other x y z all stop.NoMemory is g f = subst (λ (l
 stops_then a b c old mid new other x y z all (stop.InputChanged file place) is g f = absurd f
 
 -- What was put is what a redirected clone may end with.
-pub put_ends : (a b : Option (List ℕ)) (old new bytes : List ℕ) (before now : ℕ) (result : Result (Unit {0}) SendStop) → PutEnd a b old new bytes before now result → RedirectEnd a b old new bytes result
-put_ends a b old new bytes before now (Ok done) p = p
-put_ends a b old new bytes before now (Err stop.OutputFault) p = p.1
-put_ends a b old new bytes before now (Err stop.NoMemory) p = p
-put_ends a b old new bytes before now (Err stop.InputFault) p = absurd p
-put_ends a b old new bytes before now (Err (stop.InputChanged file place)) p = absurd p
+pub put_ends : (old new : Output) (bytes : List ℕ) (result : Result (Unit {0}) SendStop) → PutEnd old new bytes result → RedirectEnd old.taken new.taken old.pending new.pending bytes result
+put_ends old new bytes (Ok done) p = p
+put_ends old new bytes (Err stop.OutputFault) p = p.1
+put_ends old new bytes (Err stop.NoMemory) p = p
+put_ends old new bytes (Err stop.InputFault) p = absurd p
+put_ends old new bytes (Err (stop.InputChanged file place)) p = absurd p

@@ -23,7 +23,7 @@ use Rattle.provenance.specs.Traces.{place_of}
 use Rattle.provenance.specs.Cuts.{Cut, Run, Rest, AreEndsOf, IsCutAsMeant}
 use Rattle.clone_pieces.specs.Origins.{outside_cells, byte_of_trace, IsHad, IsInInput, AreAsLong, AreHeld}
 use Rattle.clone_pieces.specs.Seen.{seen}
-use Rattle.clone_pieces.specs.Sending.{GoesOut, PutEnd}
+use Rattle.clone_pieces.specs.Sending.{GoesOut, Output, PutEnd}
 use Rattle.clone_pieces.specs.Filling.{byte_in, IsHadIn}
 use Rattle.clone_pieces.specs.Cutting.{cut_len, rest_cells, cut_commands, all_commands}
 use Rattle.clone_pieces.specs.Redirecting.{seen_cells, pieces_spelled, RedirectEnd}
@@ -39,15 +39,16 @@ use Rattle.clone_pieces.proofs.Rows.{InRow, pieces_row, CutRow, cut_end, seen_pl
 -- ---- a run
 
 pub run_put : (told : Option (List (List ℕ × List ℕ))) (names : List (List ℕ)) (base : Store ℕ) (held : meant.Key → ℕ → List ℕ) (contents : List (Option Trace)) (version : ℕ) (path : List ℕ) (offset : ℕ) (plan : Plan) (key : Key) (ino from len : ℕ)
-    (out_old out_new : Option (List ℕ)) (old new : List ℕ) (before now : ℕ) (result : Result (Unit {0}) SendStop) → plan ≡ Carry key ino from len
-    → PutEnd out_old out_new old new (canonical version (Clone path offset key.uuid key.ctransid (path_of base (record { key = key_of key; ino = ino; offset = from })) from len)) before now result
-    → IfAllTold told names (λ files. RedirectEnd out_old out_new old new (canonical_all version (cut_commands base (byte_in held files) contents path offset (planned plan))) result)
+    (old new : Output) (result : Result (Unit {0}) SendStop) → plan ≡ Carry key ino from len
+    → PutEnd old new (canonical version (Clone path offset key.uuid key.ctransid (path_of base (record { key = key_of key; ino = ino; offset = from })) from len)) result
+    → IfAllTold told names (λ files. RedirectEnd old.taken new.taken old.pending new.pending (canonical_all version (cut_commands base (byte_in held files) contents path offset (planned plan))) result)
 unfolding canonical_all
-run_put told names base held contents version path offset plan key ino from len out_old out_new old new before now result is put =
+run_put told names base held contents version path offset plan key ino from len old new result is put =
+    let E : List ℕ → Type 0 = λ bytes. RedirectEnd old.taken new.taken old.pending new.pending bytes result in
     let one : List ℕ = canonical version (Clone path offset key.uuid key.ctransid (path_of base (record { key = key_of key; ino = ino; offset = from })) from len) in
-    all_always told names (λ files. RedirectEnd out_old out_new old new (canonical_all version (cut_commands base (byte_in held files) contents path offset (planned plan))) result)
-    (λ files. subst (λ (p : Plan). RedirectEnd out_old out_new old new (canonical_all version (cut_commands base (byte_in held files) contents path offset (planned p))) result) (sym is)
-    (subst (λ (l : List ℕ). RedirectEnd out_old out_new old new l result) (sym (append-nil one)) (put_ends out_old out_new old new one before now result put)))
+    all_always told names (λ files. E (canonical_all version (cut_commands base (byte_in held files) contents path offset (planned plan))))
+    (λ files. subst (λ (p : Plan). E (canonical_all version (cut_commands base (byte_in held files) contents path offset (planned p)))) (sym is)
+    (subst E (sym (append-nil one)) (put_ends old new one result put)))
 
 -- ---- cells that are had
 

@@ -1,5 +1,6 @@
 pub mod Origins
 pub mod Seen
+pub mod Later
 pub mod Stopping
 pub mod Sending
 pub mod Redirecting

@@ -11,6 +11,7 @@ use Rattle.provenance.specs.declared.trace.Trace.{Trace}
 use Rattle.provenance.specs.Traces.{place_of}
 use Rattle.clone_pieces.specs.Origins.{byte_of_trace}
 use Rattle.clone_pieces.specs.Seen.{seen}
+use Rattle.sx_base.specs.Causes.{Counts}
 use Rattle.clone_pieces.specs.Stopping.{outcome_with}
 use Rattle.clone_pieces.specs.Sending.{GoesOut, AppendsFront}
 use Rattle.clone_pieces.specs.declared.stops.SendStop.{SendStop}
@@ -34,9 +35,9 @@ RedirectEnd out_old out_new old new bytes (Err stop.NoMemory) = AppendsFront out
 RedirectEnd out_old out_new old new bytes (Err (stop.InputChanged file place)) = ⊥
 
 -- A fault is the cause only where the count of its object rose, and an input is found changed only where the count of ends rose.
-abbrev pub RedirectCaused : (ends_before ends_now inputs_before inputs_now out_before out_now : ℕ) → Result (Unit {0}) SendStop → Type 0
-RedirectCaused ends_before ends_now inputs_before inputs_now out_before out_now (Ok done) = ⊤
-RedirectCaused ends_before ends_now inputs_before inputs_now out_before out_now (Err why) = CausedAgain ends_before ends_now inputs_before inputs_now out_before out_now (outcome_with why)
+abbrev pub RedirectCaused : (before now : Counts) → Result (Unit {0}) SendStop → Type 0
+RedirectCaused before now (Ok done) = ⊤
+RedirectCaused before now (Err why) = CausedAgain before now (outcome_with why)
 
 -- An input that was found changed is the file of the last end, with the place where it ended.
 abbrev pub RedirectChanged : (names : List (List ℕ)) (last : EarlyEnd) → Result (Unit {0}) SendStop → Type 0

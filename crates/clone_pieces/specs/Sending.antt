@@ -4,6 +4,7 @@ use Rattle.std.specs.Io.KnownBytes.{Appends}
 use Rattle.sx_base.specs.Causes.{Rose}
 use Rattle.sx_base.specs.Outside.{AppendsPart}
 use Rattle.sx_base.specs.declared.failed.Failed.{Failed}
+use Rattle.sx_base.specs.declared.sink.Sink as writing
 use Rattle.clone_pieces.specs.declared.stops.SendStop.{SendStop}
 use Rattle.clone_pieces.specs.declared.stops.SendStop.TheVariants as stop
 
@@ -19,15 +20,24 @@ pub record AppendsFront (old new : Option (List ℕ)) (bytes : List ℕ) : Type 
   pub within : count ≤ length bytes
   pub appends : Appends old new (take count bytes)
 
+-- An output: the bytes that it took, where it tells, those that are pending, and the count of its faults.
+pub record Output : Type 0 where
+  pub taken : Option (List ℕ)
+  pub pending : List ℕ
+  pub faults : ℕ
+
+abbrev pub output : {O : Type 0} → writing.Ghosts O → O → List ℕ → Output
+output out now pending = record { taken = out.taken now; pending = pending; faults = out.faults now }
+
 -- Bytes go out, or the output failed, or there is no memory; then a front part of what was pending and of them was written.
-abbrev pub PutEnd : Option (List ℕ) → Option (List ℕ) → (old new bytes : List ℕ) → (before now : ℕ) → Result (Unit {0}) SendStop → Type 0
-PutEnd out_old out_new old new bytes before now (Ok done) = GoesOut out_old out_new old new bytes
-PutEnd out_old out_new old new bytes before now (Err stop.OutputFault) = Rose before now × AppendsFront out_old out_new (old ++ bytes)
-PutEnd out_old out_new old new bytes before now (Err stop.NoMemory) = AppendsFront out_old out_new (old ++ bytes)
-PutEnd out_old out_new old new bytes before now (Err stop.InputFault) = ⊥
-PutEnd out_old out_new old new bytes before now (Err (stop.InputChanged file place)) = ⊥
+abbrev pub PutEnd : (old new : Output) (bytes : List ℕ) → Result (Unit {0}) SendStop → Type 0
+PutEnd old new bytes (Ok done) = GoesOut old.taken new.taken old.pending new.pending bytes
+PutEnd old new bytes (Err stop.OutputFault) = Rose old.faults new.faults × AppendsFront old.taken new.taken (old.pending ++ bytes)
+PutEnd old new bytes (Err stop.NoMemory) = AppendsFront old.taken new.taken (old.pending ++ bytes)
+PutEnd old new bytes (Err stop.InputFault) = ⊥
+PutEnd old new bytes (Err (stop.InputChanged file place)) = ⊥
 
 -- All that was pending was written, or a proper front part of it, where the output failed.
-abbrev pub SendEnd : Option (List ℕ) → Option (List ℕ) → (old new : List ℕ) → (before now : ℕ) → Result (Unit {0}) Failed → Type 0
-SendEnd out_old out_new old new before now (Ok done) = (new ≡ []) × Appends out_old out_new old
-SendEnd out_old out_new old new before now (Err failed) = Rose before now × AppendsPart out_old out_new old × (new ≡ old)
+abbrev pub SendEnd : (old new : Output) → Result (Unit {0}) Failed → Type 0
+SendEnd old new (Ok done) = (new.pending ≡ []) × Appends old.taken new.taken old.pending
+SendEnd old new (Err failed) = Rose old.faults new.faults × AppendsPart old.taken new.taken old.pending × (new.pending ≡ old.pending)

@@ -4,11 +4,13 @@ ghost use Rattle.std.specs.List.{AllByRecursion};
 ghost use Rattle.std.specs.String.{string_bytes};
 ghost use Rattle.sx_base.specs.Again.{LiesIn, FillsFrom};
 ghost use Rattle.sx_base.specs.Calls.{IfAllTold};
-ghost use Rattle.sx_base.specs.Causes.{Steady};
 ghost use Rattle.extent_map.specs.Cells.{cells_between};
 ghost use Rattle.extent_map.specs.Pieces.{piece_cells};
 ghost use Rattle.provenance.specs.Traces.{advanced_by};
-ghost use Rattle.clone_pieces.specs.Origins.{IsInInput, AreAsLong};
+ghost use Rattle.clone_pieces.specs.Origins.{IsInInput};
+ghost use Rattle.clone_pieces.specs.Later.{BytesLater};
+ghost use Rattle.sx_base.specs.Later.{InputsLater};
+ghost use Rattle.sx_base.specs.Causes.{counts};
 ghost use Rattle.clone_pieces.specs.Filling.{IsHadIn, PieceHad, PieceThere, FillEnd, AgainEnd};
 ghost use Rattle.clone_pieces.specs.Redirecting.{RedirectCaused, RedirectChanged};
 
@@ -33,18 +35,11 @@ pub(crate) fn fill_cells<I: Inputs, B: OutsideBytes>(
     requires there { IfAllTold (I.told inputs.old) (map string_bytes files.now)
         (λ files. AllByRecursion (IsInInput files)
         (cells_between from (length buf.old) contents.now)) }
-    ensures same { I.told inputs.new ≡ I.told inputs.old }
-    ensures sizes { AreAsLong (B.held bytes.new) (B.held bytes.old) }
-    ensures held { B.tells → B.held bytes.new ≡ B.held bytes.old }
-    ensures later { I.faults inputs.old ≤ I.faults inputs.new }
-    ensures steady { Steady (I.faults inputs.old) (I.faults inputs.new) result }
-    ensures ends_later { I.ends inputs.old ≤ I.ends inputs.new }
-    ensures ends_steady { Steady (I.ends inputs.old) (I.ends inputs.new) result }
-    ensures bytes_later { B.faults bytes.old ≤ B.faults bytes.new }
-    ensures bytes_steady { Steady (B.faults bytes.old) (B.faults bytes.new) result }
-    ensures cause { RedirectCaused (I.ends inputs.old) (I.ends inputs.new)
-        (I.faults inputs.old + B.faults bytes.old) (I.faults inputs.new + B.faults bytes.new) 0 0
-        result }
+    ensures inputs { InputsLater I.Inputs inputs.old inputs.new result }
+    ensures bytes { BytesLater B.OutsideBytes bytes.old bytes.new result }
+    ensures cause { RedirectCaused
+        (counts (I.ends inputs.old) (I.faults inputs.old + B.faults bytes.old) 0)
+        (counts (I.ends inputs.new) (I.faults inputs.new + B.faults bytes.new) 0) result }
     ensures changed { RedirectChanged (map string_bytes files.now) (I.last_end inputs.new) result }
     ensures filled { B.tells → IfAllTold (I.told inputs.old) (map string_bytes files.now)
         (FillEnd (B.held bytes.old) (cells_between from (length buf.old) contents.now) buf.new
@@ -72,18 +67,11 @@ fn fill_piece<I: Inputs, B: OutsideBytes>(
     requires had { PieceHad (length files.now) (B.held bytes.old) origin (length buf.old) }
     requires there { IfAllTold (I.told inputs.old) (map string_bytes files.now)
         (PieceThere origin (length buf.old)) }
-    ensures same { I.told inputs.new ≡ I.told inputs.old }
-    ensures sizes { AreAsLong (B.held bytes.new) (B.held bytes.old) }
-    ensures held { B.tells → B.held bytes.new ≡ B.held bytes.old }
-    ensures later { I.faults inputs.old ≤ I.faults inputs.new }
-    ensures steady { Steady (I.faults inputs.old) (I.faults inputs.new) result }
-    ensures ends_later { I.ends inputs.old ≤ I.ends inputs.new }
-    ensures ends_steady { Steady (I.ends inputs.old) (I.ends inputs.new) result }
-    ensures bytes_later { B.faults bytes.old ≤ B.faults bytes.new }
-    ensures bytes_steady { Steady (B.faults bytes.old) (B.faults bytes.new) result }
-    ensures cause { RedirectCaused (I.ends inputs.old) (I.ends inputs.new)
-        (I.faults inputs.old + B.faults bytes.old) (I.faults inputs.new + B.faults bytes.new) 0 0
-        result }
+    ensures inputs { InputsLater I.Inputs inputs.old inputs.new result }
+    ensures bytes { BytesLater B.OutsideBytes bytes.old bytes.new result }
+    ensures cause { RedirectCaused
+        (counts (I.ends inputs.old) (I.faults inputs.old + B.faults bytes.old) 0)
+        (counts (I.ends inputs.new) (I.faults inputs.new + B.faults bytes.new) 0) result }
     ensures changed { RedirectChanged (map string_bytes files.now) (I.last_end inputs.new) result }
     ensures filled { B.tells → IfAllTold (I.told inputs.old) (map string_bytes files.now)
         (FillEnd (B.held bytes.old) (piece_cells advanced_by origin (length buf.old)) buf.new
@@ -116,13 +104,9 @@ fn read_part<I: Inputs>(
 ) -> Result<(), SendStop>
     requires range { LiesIn (I.told inputs.old) name.now at (length buf.old) }
     requires number { file + 1 < 2 ^ 64 }
-    ensures same { I.told inputs.new ≡ I.told inputs.old }
-    ensures later { I.faults inputs.old ≤ I.faults inputs.new }
-    ensures steady { Steady (I.faults inputs.old) (I.faults inputs.new) result }
-    ensures ends_later { I.ends inputs.old ≤ I.ends inputs.new }
-    ensures ends_steady { Steady (I.ends inputs.old) (I.ends inputs.new) result }
-    ensures cause { RedirectCaused (I.ends inputs.old) (I.ends inputs.new)
-        (I.faults inputs.old) (I.faults inputs.new) 0 0 result }
+    ensures inputs { InputsLater I.Inputs inputs.old inputs.new result }
+    ensures cause { RedirectCaused (counts (I.ends inputs.old) (I.faults inputs.old) 0)
+        (counts (I.ends inputs.new) (I.faults inputs.new) 0) result }
     ensures changed { (names : List (List ℕ)) → file < length names
         → name.now ≡ get_or names file [] → RedirectChanged names (I.last_end inputs.new) result }
     ensures filled { AgainEnd (I.told inputs.old) name.now at buf.new result }

@@ -5,12 +5,14 @@ mod filling;
 mod literal;
 mod no_base;
 mod outside;
+mod ranges;
 mod redirecting;
 mod sending;
 mod stops;
 
 pub use no_base::NoBase;
 pub use outside::{Known, OutsideBytes};
+pub use ranges::{CellRange, Sources, Target};
 pub use redirecting::{redirect, uncarried};
 pub use sending::{put, put_bytes, send};
 pub use stops::SendStop;

@@ -6,19 +6,20 @@ ghost use Rattle.send_model.specs.Command.{Write};
 ghost use Rattle.send_model.specs.Spelling.{canonical, canonical_all};
 ghost use Rattle.send_model.specs.Composed.{writes_from};
 ghost use Rattle.sx_base.specs.Calls.{IfAllTold};
-ghost use Rattle.sx_base.specs.Causes.{Steady};
 ghost use Rattle.extent_map.specs.Cells.{cells_between};
-ghost use Rattle.clone_pieces.specs.Origins.{IsInInput, AreAsLong};
+ghost use Rattle.clone_pieces.specs.Origins.{IsInInput};
+ghost use Rattle.clone_pieces.specs.Later.{BytesLater};
+ghost use Rattle.sx_base.specs.Later.{InputsLater, OutputLater};
+ghost use Rattle.sx_base.specs.Causes.{counts};
 ghost use Rattle.clone_pieces.specs.Filling.{byte_in, IsHadIn};
 ghost use Rattle.clone_pieces.specs.Redirecting.{RedirectEnd, RedirectCaused, RedirectChanged};
-ghost use Rattle.clone_pieces.specs.Sending.{PutEnd};
+ghost use Rattle.clone_pieces.specs.Sending.{output, PutEnd};
 
 use crate::filling::fill_cells;
 use crate::outside::OutsideBytes;
+use crate::ranges::{CellRange, Sources, Target};
 use crate::sending::put;
 use crate::stops::SendStop;
-use extent_map::Extents;
-use provenance::Trace;
 use send_commands::Command;
 use std::alloc::{AllocError, Global};
 use sx_base::{Blob, Inputs, Sink};
@@ -26,69 +27,57 @@ use sx_base::{Blob, Inputs, Sink};
 // How many bytes one WRITE carries at the most.
 const MOST: u64 = 49_152;
 
-/// Writes the bytes of `len` cells of the contents from `from` on, to `path` at `offset`.
-pub(crate) fn write_cells<I: Inputs, B: OutsideBytes, O: Sink>(
-    alloc: Global,
-    path: &[u8],
-    offset: u64,
-    contents: &Extents<Trace>,
-    from: u64,
-    len: u64,
-    version: u32,
-    files: &[String],
+/// Writes the bytes of the cells of a range.
+pub(crate) fn write_cells<I: Inputs, E, B: OutsideBytes, O: Sink>(
+    range: &CellRange<'_>,
+    sources: &Sources<'_, E>,
     inputs: &mut I,
     bytes: &mut B,
     pending: &mut Blob,
     out: &mut O,
 ) -> Result<(), SendStop>
-    requires version { (version ≡ 1) ⊎ (version ≡ 2) }
-    requires path { length path.now < 2 ^ 16 }
-    requires within { from + len ≤ length contents.now }
-    requires end { offset + len < 2 ^ 63 }
-    requires had { AllByRecursion (IsHadIn (length files.now) (B.held bytes.old))
-        (cells_between from len contents.now) }
-    requires there { IfAllTold (I.told inputs.old) (map string_bytes files.now)
-        (λ files. AllByRecursion (IsInInput files) (cells_between from len contents.now)) }
-    ensures same { I.told inputs.new ≡ I.told inputs.old }
-    ensures sizes { AreAsLong (B.held bytes.new) (B.held bytes.old) }
-    ensures held { B.tells → B.held bytes.new ≡ B.held bytes.old }
-    ensures later { I.faults inputs.old ≤ I.faults inputs.new }
-    ensures steady { Steady (I.faults inputs.old) (I.faults inputs.new) result }
-    ensures ends_later { I.ends inputs.old ≤ I.ends inputs.new }
-    ensures ends_steady { Steady (I.ends inputs.old) (I.ends inputs.new) result }
-    ensures bytes_later { B.faults bytes.old ≤ B.faults bytes.new }
-    ensures bytes_steady { Steady (B.faults bytes.old) (B.faults bytes.new) result }
-    ensures out_later { O.faults out.old ≤ O.faults out.new }
-    ensures out_steady { Steady (O.faults out.old) (O.faults out.new) result }
-    ensures cause { RedirectCaused (I.ends inputs.old) (I.ends inputs.new)
-        (I.faults inputs.old + B.faults bytes.old) (I.faults inputs.new + B.faults bytes.new)
-        (O.faults out.old) (O.faults out.new) result }
-    ensures changed { RedirectChanged (map string_bytes files.now) (I.last_end inputs.new) result }
-    ensures written { B.tells → IfAllTold (I.told inputs.old) (map string_bytes files.now)
+    requires version { (range.now.to.version ≡ 1) ⊎ (range.now.to.version ≡ 2) }
+    requires path { length range.now.to.path.now < 2 ^ 16 }
+    requires within { range.now.from + range.now.len ≤ length range.now.contents.now }
+    requires end { range.now.to.offset + range.now.len < 2 ^ 63 }
+    requires had { AllByRecursion (IsHadIn (length sources.now.files.now) (B.held bytes.old))
+        (cells_between range.now.from range.now.len range.now.contents.now) }
+    requires there { IfAllTold (I.told inputs.old) (map string_bytes sources.now.files.now)
+        (λ files. AllByRecursion (IsInInput files)
+        (cells_between range.now.from range.now.len range.now.contents.now)) }
+    ensures inputs { InputsLater I.Inputs inputs.old inputs.new result }
+    ensures bytes { BytesLater B.OutsideBytes bytes.old bytes.new result }
+    ensures out { OutputLater O.Sink out.old out.new result }
+    ensures cause { RedirectCaused
+        (counts (I.ends inputs.old) (I.faults inputs.old + B.faults bytes.old) (O.faults out.old))
+        (counts (I.ends inputs.new) (I.faults inputs.new + B.faults bytes.new) (O.faults out.new))
+        result }
+    ensures changed { RedirectChanged (map string_bytes sources.now.files.now)
+        (I.last_end inputs.new) result }
+    ensures written { B.tells
+        → IfAllTold (I.told inputs.old) (map string_bytes sources.now.files.now)
         (λ files. RedirectEnd (O.taken out.old) (O.taken out.new) pending.old pending.new
-        (canonical_all version
-        (writes_from len path.now offset
-        (map (byte_in (B.held bytes.old) files) (cells_between from len contents.now)))) result) }
+        (canonical_all range.now.to.version
+        (writes_from range.now.len range.now.to.path.now range.now.to.offset
+        (map (byte_in (B.held bytes.old) files)
+        (cells_between range.now.from range.now.len range.now.contents.now)))) result) }
 {
     // Places in the contents are below this size, which is below 2^63.
-    let _size = contents.size();
+    let _size = range.contents.size();
     let mut done = 0;
-    while done < len {
-        let count = (len - done).min(MOST);
-        match write_some(
-            alloc,
-            path,
-            offset + done,
-            contents,
-            from + done,
-            count,
-            version,
-            files,
-            inputs,
-            bytes,
-            pending,
-            out,
-        ) {
+    while done < range.len {
+        let count = (range.len - done).min(MOST);
+        let part = CellRange {
+            to: Target {
+                path: range.to.path,
+                offset: range.to.offset + done,
+                version: range.to.version,
+            },
+            contents: range.contents,
+            from: range.from + done,
+            len: count,
+        };
+        match write_some(&part, sources, inputs, bytes, pending, out) {
             Ok(()) => done += count,
             Err(stop) => return Err(stop),
         }
@@ -97,54 +86,53 @@ pub(crate) fn write_cells<I: Inputs, B: OutsideBytes, O: Sink>(
 }
 
 // Writes the bytes of some cells with one command.
-fn write_some<I: Inputs, B: OutsideBytes, O: Sink>(
-    alloc: Global,
-    path: &[u8],
-    offset: u64,
-    contents: &Extents<Trace>,
-    from: u64,
-    len: u64,
-    version: u32,
-    files: &[String],
+fn write_some<I: Inputs, E, B: OutsideBytes, O: Sink>(
+    range: &CellRange<'_>,
+    sources: &Sources<'_, E>,
     inputs: &mut I,
     bytes: &mut B,
     pending: &mut Blob,
     out: &mut O,
 ) -> Result<(), SendStop>
-    requires version { (version ≡ 1) ⊎ (version ≡ 2) }
-    requires path { length path.now < 2 ^ 16 }
-    requires most { len ≤ 49_152 }
-    requires within { from + len ≤ length contents.now }
-    requires had { AllByRecursion (IsHadIn (length files.now) (B.held bytes.old))
-        (cells_between from len contents.now) }
-    requires there { IfAllTold (I.told inputs.old) (map string_bytes files.now)
-        (λ files. AllByRecursion (IsInInput files) (cells_between from len contents.now)) }
-    ensures same { I.told inputs.new ≡ I.told inputs.old }
-    ensures sizes { AreAsLong (B.held bytes.new) (B.held bytes.old) }
-    ensures held { B.tells → B.held bytes.new ≡ B.held bytes.old }
-    ensures later { I.faults inputs.old ≤ I.faults inputs.new }
-    ensures steady { Steady (I.faults inputs.old) (I.faults inputs.new) result }
-    ensures ends_later { I.ends inputs.old ≤ I.ends inputs.new }
-    ensures ends_steady { Steady (I.ends inputs.old) (I.ends inputs.new) result }
-    ensures bytes_later { B.faults bytes.old ≤ B.faults bytes.new }
-    ensures bytes_steady { Steady (B.faults bytes.old) (B.faults bytes.new) result }
-    ensures out_later { O.faults out.old ≤ O.faults out.new }
-    ensures out_steady { Steady (O.faults out.old) (O.faults out.new) result }
-    ensures cause { RedirectCaused (I.ends inputs.old) (I.ends inputs.new)
-        (I.faults inputs.old + B.faults bytes.old) (I.faults inputs.new + B.faults bytes.new)
-        (O.faults out.old) (O.faults out.new) result }
-    ensures changed { RedirectChanged (map string_bytes files.now) (I.last_end inputs.new) result }
-    ensures written { B.tells → IfAllTold (I.told inputs.old) (map string_bytes files.now)
+    requires version { (range.now.to.version ≡ 1) ⊎ (range.now.to.version ≡ 2) }
+    requires path { length range.now.to.path.now < 2 ^ 16 }
+    requires most { range.now.len ≤ 49_152 }
+    requires within { range.now.from + range.now.len ≤ length range.now.contents.now }
+    requires had { AllByRecursion (IsHadIn (length sources.now.files.now) (B.held bytes.old))
+        (cells_between range.now.from range.now.len range.now.contents.now) }
+    requires there { IfAllTold (I.told inputs.old) (map string_bytes sources.now.files.now)
+        (λ files. AllByRecursion (IsInInput files)
+        (cells_between range.now.from range.now.len range.now.contents.now)) }
+    ensures inputs { InputsLater I.Inputs inputs.old inputs.new result }
+    ensures bytes { BytesLater B.OutsideBytes bytes.old bytes.new result }
+    ensures out { OutputLater O.Sink out.old out.new result }
+    ensures cause { RedirectCaused
+        (counts (I.ends inputs.old) (I.faults inputs.old + B.faults bytes.old) (O.faults out.old))
+        (counts (I.ends inputs.new) (I.faults inputs.new + B.faults bytes.new) (O.faults out.new))
+        result }
+    ensures changed { RedirectChanged (map string_bytes sources.now.files.now)
+        (I.last_end inputs.new) result }
+    ensures written { B.tells
+        → IfAllTold (I.told inputs.old) (map string_bytes sources.now.files.now)
         (λ files. RedirectEnd (O.taken out.old) (O.taken out.new) pending.old pending.new
-        (canonical version
-        (Write path.now offset
-        (map (byte_in (B.held bytes.old) files) (cells_between from len contents.now)))) result) }
+        (canonical range.now.to.version
+        (Write range.now.to.path.now range.now.to.offset
+        (map (byte_in (B.held bytes.old) files)
+        (cells_between range.now.from range.now.len range.now.contents.now)))) result) }
 {
-    let Ok(mut row) = Vec::from_elem(alloc, 0, len as usize) else {
+    let Ok(mut row) = Vec::from_elem(sources.alloc, 0, range.len as usize) else {
         return Err(SendStop::NoMemory);
     };
-    match fill_cells(contents, from, files, inputs, bytes, row.as_mut_slice()) {
-        Ok(()) => put_write(alloc, path, offset, row, version, pending, out),
+    let buf = row.as_mut_slice();
+    match fill_cells(
+        range.contents,
+        range.from,
+        sources.files,
+        inputs,
+        bytes,
+        buf,
+    ) {
+        Ok(()) => put_write(sources.alloc, &range.to, row, pending, out),
         Err(stop) => Err(stop),
     }
 }
@@ -152,31 +140,27 @@ fn write_some<I: Inputs, B: OutsideBytes, O: Sink>(
 // Puts one WRITE command.
 fn put_write<O: Sink>(
     alloc: Global,
-    path: &[u8],
-    offset: u64,
+    to: &Target<'_>,
     row: Vec<u8>,
-    version: u32,
     pending: &mut Blob,
     out: &mut O,
 ) -> Result<(), SendStop>
-    requires version { (version ≡ 1) ⊎ (version ≡ 2) }
-    requires path { length path.now < 2 ^ 16 }
+    requires version { (to.now.version ≡ 1) ⊎ (to.now.version ≡ 2) }
+    requires path { length to.now.path.now < 2 ^ 16 }
     requires most { length row.items ≤ 49_152 }
-    ensures out_later { O.faults out.old ≤ O.faults out.new }
-    ensures out_steady { Steady (O.faults out.old) (O.faults out.new) result }
-    ensures put { PutEnd (O.taken out.old) (O.taken out.new) pending.old pending.new
-        (canonical version (Write path.now offset row.items)) (O.faults out.old) (O.faults out.new)
-        result }
+    ensures out { OutputLater O.Sink out.old out.new result }
+    ensures put { PutEnd (output O.Sink out.old pending.old) (output O.Sink out.new pending.new)
+        (canonical to.now.version (Write to.now.path.now to.now.offset row.items)) result }
 {
-    let Ok(path) = blob_of(alloc, path) else {
+    let Ok(path) = blob_of(alloc, to.path) else {
         return Err(SendStop::NoMemory);
     };
     let command = Command::Write {
         path,
-        offset,
+        offset: to.offset,
         bytes: Blob::from(row),
     };
-    put(&command, version, pending, out)
+    put(&command, to.version, pending, out)
 }
 
 /// A blob of these bytes.

@@ -7,25 +7,27 @@ ghost use Rattle.send_model.specs.Spelling.{canonical, canonical_all};
 ghost use Rattle.send_model.specs.Provenance.{Traced, literal_len, pieces_of};
 ghost use Rattle.send_model.specs.Composed.{path_of};
 ghost use Rattle.sx_base.specs.Calls.{IfAllTold};
-ghost use Rattle.sx_base.specs.Causes.{Steady};
 ghost use Rattle.subvol_catalog.specs.Entries.{key_of};
 ghost use Rattle.extent_map.specs.Cells.{cells_between};
 ghost use Rattle.provenance.specs.Traces.{place_in};
 ghost use Rattle.provenance.specs.Plans.{planned};
 ghost use Rattle.clone_pieces.specs.Origins.{outside_cells, IsHad, IsInInput, AreAsLong, AreHeld};
+ghost use Rattle.clone_pieces.specs.Later.{BytesLater};
+ghost use Rattle.sx_base.specs.Later.{InputsLater, OutputLater};
+ghost use Rattle.sx_base.specs.Causes.{counts};
 ghost use Rattle.clone_pieces.specs.Filling.{byte_in, IsHadIn};
 ghost use Rattle.clone_pieces.specs.Cutting.{cut_len, rest_len, rest_cells, StandsIn, IsNamed, cut_commands};
 ghost use Rattle.clone_pieces.specs.Redirecting.{seen_cells, pieces_spelled, RedirectEnd, RedirectCaused, RedirectChanged};
-ghost use Rattle.clone_pieces.specs.Sending.{PutEnd};
+ghost use Rattle.clone_pieces.specs.Sending.{output, PutEnd};
 
 use crate::literal::{blob_of, write_cells};
 use crate::outside::{Known, OutsideBytes};
+use crate::ranges::{CellRange, Sources, Target};
 use crate::sending::put;
 use crate::stops::SendStop;
 use extent_map::Extents;
 use provenance::{Plan, Trace, cut_blocks};
 use send_commands::Command;
-use std::alloc::Global;
 use subvol_catalog::Key;
 use sx_base::{Blob, Inputs, Sink};
 
@@ -49,6 +51,23 @@ pub fn uncarried<'a, E: Known>(
     sum
 }
 
+// A piece of a clone, and where it goes.
+#[derive(Clone, Copy)]
+struct Piece<'a> {
+    to: Target<'a>,
+    contents: &'a Extents<Trace>,
+    plan: Plan,
+}
+
+// A run of carried blocks: so many cells of a file of a subvolume outside, from a place on.
+#[derive(Clone, Copy)]
+struct CarriedRun {
+    key: Key,
+    ino: u64,
+    from: u64,
+    len: u64,
+}
+
 // How many cells of a plan stand in no carried block.
 fn literal_len_of(plan: Plan) -> u64
     ensures { result ≡ rest_len (planned plan) }
@@ -68,70 +87,56 @@ fn len_of(plan: &Plan) -> u64
     }
 }
 
-/// Writes what stands for a clone of `len` cells of `contents` from `from` on, to `path` at `offset`. Which bytes these are
-/// is said where `bytes` tells.
+/// Writes what stands for a clone of the cells of a range. Which bytes these are is said where `bytes` tells.
 pub fn redirect<'a, I: Inputs, E: Known, B: OutsideBytes, O: Sink>(
-    alloc: Global,
-    path: &[u8],
-    offset: u64,
-    contents: &'a Extents<Trace>,
-    from: u64,
-    len: u64,
-    version: u32,
-    files: &[String],
+    range: &CellRange<'a>,
+    sources: &Sources<'a, E>,
     inputs: &mut I,
-    known: &'a E,
     bytes: &mut B,
     pending: &mut Blob,
     out: &mut O,
 ) -> Result<(), SendStop>
-    requires version { (version ≡ 1) ⊎ (version ≡ 2) }
-    requires path { length path.now < 2 ^ 16 }
-    requires within { from + len ≤ length contents.now }
-    requires end { offset + len < 2 ^ 63 }
-    requires had { AllByRecursion (IsHad (length files.now) (E.base known.now))
-        (cells_between from len contents.now) }
-    requires sized { AreAsLong (B.held bytes.old) (outside_cells (E.base known.now)) }
-    requires held { B.tells → AreHeld (B.held bytes.old) (E.base known.now) }
-    requires there { IfAllTold (I.told inputs.old) (map string_bytes files.now)
-        (λ files. AllByRecursion (IsInInput files) (cells_between from len contents.now)) }
-    ensures same { I.told inputs.new ≡ I.told inputs.old }
-    ensures sizes { AreAsLong (B.held bytes.new) (B.held bytes.old) }
-    ensures held { B.tells → B.held bytes.new ≡ B.held bytes.old }
-    ensures later { I.faults inputs.old ≤ I.faults inputs.new }
-    ensures steady { Steady (I.faults inputs.old) (I.faults inputs.new) result }
-    ensures ends_later { I.ends inputs.old ≤ I.ends inputs.new }
-    ensures ends_steady { Steady (I.ends inputs.old) (I.ends inputs.new) result }
-    ensures bytes_later { B.faults bytes.old ≤ B.faults bytes.new }
-    ensures bytes_steady { Steady (B.faults bytes.old) (B.faults bytes.new) result }
-    ensures out_later { O.faults out.old ≤ O.faults out.new }
-    ensures out_steady { Steady (O.faults out.old) (O.faults out.new) result }
-    ensures cause { RedirectCaused (I.ends inputs.old) (I.ends inputs.new)
-        (I.faults inputs.old + B.faults bytes.old) (I.faults inputs.new + B.faults bytes.new)
-        (O.faults out.old) (O.faults out.new) result }
-    ensures changed { RedirectChanged (map string_bytes files.now) (I.last_end inputs.new) result }
-    ensures redirected { B.tells → IfAllTold (I.told inputs.old) (map string_bytes files.now)
+    requires version { (range.now.to.version ≡ 1) ⊎ (range.now.to.version ≡ 2) }
+    requires path { length range.now.to.path.now < 2 ^ 16 }
+    requires within { range.now.from + range.now.len ≤ length range.now.contents.now }
+    requires end { range.now.to.offset + range.now.len < 2 ^ 63 }
+    requires had { AllByRecursion
+        (IsHad (length sources.now.files.now) (E.base sources.now.known.now))
+        (cells_between range.now.from range.now.len range.now.contents.now) }
+    requires sized { AreAsLong (B.held bytes.old) (outside_cells (E.base sources.now.known.now)) }
+    requires held { B.tells → AreHeld (B.held bytes.old) (E.base sources.now.known.now) }
+    requires there { IfAllTold (I.told inputs.old) (map string_bytes sources.now.files.now)
+        (λ files. AllByRecursion (IsInInput files)
+        (cells_between range.now.from range.now.len range.now.contents.now)) }
+    ensures inputs { InputsLater I.Inputs inputs.old inputs.new result }
+    ensures bytes { BytesLater B.OutsideBytes bytes.old bytes.new result }
+    ensures out { OutputLater O.Sink out.old out.new result }
+    ensures cause { RedirectCaused
+        (counts (I.ends inputs.old) (I.faults inputs.old + B.faults bytes.old) (O.faults out.old))
+        (counts (I.ends inputs.new) (I.faults inputs.new + B.faults bytes.new) (O.faults out.new))
+        result }
+    ensures changed { RedirectChanged (map string_bytes sources.now.files.now)
+        (I.last_end inputs.new) result }
+    ensures redirected { B.tells
+        → IfAllTold (I.told inputs.old) (map string_bytes sources.now.files.now)
         (λ told. RedirectEnd (O.taken out.old) (O.taken out.new) pending.old pending.new
-        (pieces_spelled version (E.base known.now) path.now offset
-        (seen_cells told (E.base known.now) (cells_between from len contents.now))) result) }
+        (pieces_spelled range.now.to.version (E.base sources.now.known.now) range.now.to.path.now
+        range.now.to.offset (seen_cells told (E.base sources.now.known.now)
+        (cells_between range.now.from range.now.len range.now.contents.now))) result) }
 {
     let mut done = 0;
-    for plan in cut_blocks(contents, from, len, known) {
+    for plan in cut_blocks(range.contents, range.from, range.len, sources.known) {
         let count = len_of(&plan);
-        match write_plan(
-            alloc,
-            path,
-            offset + done,
-            contents,
+        let piece = Piece {
+            to: Target {
+                path: range.to.path,
+                offset: range.to.offset + done,
+                version: range.to.version,
+            },
+            contents: range.contents,
             plan,
-            version,
-            files,
-            inputs,
-            known,
-            bytes,
-            pending,
-            out,
-        ) {
+        };
+        match write_piece(&piece, sources, inputs, bytes, pending, out) {
             Ok(()) => done += count,
             Err(stop) => return Err(stop),
         }
@@ -140,107 +145,106 @@ pub fn redirect<'a, I: Inputs, E: Known, B: OutsideBytes, O: Sink>(
 }
 
 // Writes what stands for a piece of a clone.
-fn write_plan<I: Inputs, E: Known, B: OutsideBytes, O: Sink>(
-    alloc: Global,
-    path: &[u8],
-    offset: u64,
-    contents: &Extents<Trace>,
-    plan: Plan,
-    version: u32,
-    files: &[String],
+fn write_piece<I: Inputs, E: Known, B: OutsideBytes, O: Sink>(
+    piece: &Piece<'_>,
+    sources: &Sources<'_, E>,
     inputs: &mut I,
-    known: &E,
     bytes: &mut B,
     pending: &mut Blob,
     out: &mut O,
 ) -> Result<(), SendStop>
-    requires version { (version ≡ 1) ⊎ (version ≡ 2) }
-    requires path { length path.now < 2 ^ 16 }
-    requires end { offset + cut_len (planned plan) < 2 ^ 63 }
-    requires named { IsNamed (E.Ends.ends known.now) (planned plan) }
-    requires within { StandsIn (length contents.now) (planned plan) }
-    requires had { AllByRecursion (IsHadIn (length files.now) (B.held bytes.old))
-        (rest_cells contents.now (planned plan)) }
-    requires there { IfAllTold (I.told inputs.old) (map string_bytes files.now)
-        (λ files. AllByRecursion (IsInInput files) (rest_cells contents.now (planned plan))) }
-    ensures same { I.told inputs.new ≡ I.told inputs.old }
-    ensures sizes { AreAsLong (B.held bytes.new) (B.held bytes.old) }
-    ensures held { B.tells → B.held bytes.new ≡ B.held bytes.old }
-    ensures later { I.faults inputs.old ≤ I.faults inputs.new }
-    ensures steady { Steady (I.faults inputs.old) (I.faults inputs.new) result }
-    ensures ends_later { I.ends inputs.old ≤ I.ends inputs.new }
-    ensures ends_steady { Steady (I.ends inputs.old) (I.ends inputs.new) result }
-    ensures bytes_later { B.faults bytes.old ≤ B.faults bytes.new }
-    ensures bytes_steady { Steady (B.faults bytes.old) (B.faults bytes.new) result }
-    ensures out_later { O.faults out.old ≤ O.faults out.new }
-    ensures out_steady { Steady (O.faults out.old) (O.faults out.new) result }
-    ensures cause { RedirectCaused (I.ends inputs.old) (I.ends inputs.new)
-        (I.faults inputs.old + B.faults bytes.old) (I.faults inputs.new + B.faults bytes.new)
-        (O.faults out.old) (O.faults out.new) result }
-    ensures changed { RedirectChanged (map string_bytes files.now) (I.last_end inputs.new) result }
-    ensures written { B.tells → IfAllTold (I.told inputs.old) (map string_bytes files.now)
+    requires version { (piece.now.to.version ≡ 1) ⊎ (piece.now.to.version ≡ 2) }
+    requires path { length piece.now.to.path.now < 2 ^ 16 }
+    requires end { piece.now.to.offset + cut_len (planned piece.now.plan) < 2 ^ 63 }
+    requires named { IsNamed (E.Ends.ends sources.now.known.now) (planned piece.now.plan) }
+    requires within { StandsIn (length piece.now.contents.now) (planned piece.now.plan) }
+    requires had { AllByRecursion (IsHadIn (length sources.now.files.now) (B.held bytes.old))
+        (rest_cells piece.now.contents.now (planned piece.now.plan)) }
+    requires there { IfAllTold (I.told inputs.old) (map string_bytes sources.now.files.now)
+        (λ files. AllByRecursion (IsInInput files)
+        (rest_cells piece.now.contents.now (planned piece.now.plan))) }
+    ensures inputs { InputsLater I.Inputs inputs.old inputs.new result }
+    ensures bytes { BytesLater B.OutsideBytes bytes.old bytes.new result }
+    ensures out { OutputLater O.Sink out.old out.new result }
+    ensures cause { RedirectCaused
+        (counts (I.ends inputs.old) (I.faults inputs.old + B.faults bytes.old) (O.faults out.old))
+        (counts (I.ends inputs.new) (I.faults inputs.new + B.faults bytes.new) (O.faults out.new))
+        result }
+    ensures changed { RedirectChanged (map string_bytes sources.now.files.now)
+        (I.last_end inputs.new) result }
+    ensures written { B.tells
+        → IfAllTold (I.told inputs.old) (map string_bytes sources.now.files.now)
         (λ told. RedirectEnd (O.taken out.old) (O.taken out.new) pending.old pending.new
-        (canonical_all version
-        (cut_commands (E.base known.now) (byte_in (B.held bytes.old) told) contents.now path.now
-        offset (planned plan))) result) }
+        (canonical_all piece.now.to.version
+        (cut_commands (E.base sources.now.known.now) (byte_in (B.held bytes.old) told)
+        piece.now.contents.now piece.now.to.path.now piece.now.to.offset
+        (planned piece.now.plan))) result) }
 {
-    match plan {
+    match piece.plan {
         Plan::Carry {
             key,
             ino,
             from,
             len,
-        } => clone_run(
-            alloc, path, offset, key, ino, from, len, version, known, pending, out,
-        ),
-        Plan::Literal { from, len } => write_cells(
-            alloc, path, offset, contents, from, len, version, files, inputs, bytes, pending, out,
-        ),
+        } => {
+            let run = CarriedRun {
+                key,
+                ino,
+                from,
+                len,
+            };
+            clone_run(&piece.to, &run, sources, pending, out)
+        }
+        Plan::Literal { from, len } => {
+            let range = CellRange {
+                to: piece.to,
+                contents: piece.contents,
+                from,
+                len,
+            };
+            write_cells(&range, sources, inputs, bytes, pending, out)
+        }
     }
 }
 
 // Puts the CLONE of a run of carried blocks.
 fn clone_run<E: Known, O: Sink>(
-    alloc: Global,
-    path: &[u8],
-    offset: u64,
-    key: Key,
-    ino: u64,
-    from: u64,
-    len: u64,
-    version: u32,
-    known: &E,
+    to: &Target<'_>,
+    run: &CarriedRun,
+    sources: &Sources<'_, E>,
     pending: &mut Blob,
     out: &mut O,
 ) -> Result<(), SendStop>
-    requires version { (version ≡ 1) ⊎ (version ≡ 2) }
-    requires path { length path.now < 2 ^ 16 }
-    requires named { IsTrue (is_some (E.Ends.ends known.now (key_of key) ino)) }
-    ensures out_later { O.faults out.old ≤ O.faults out.new }
-    ensures out_steady { Steady (O.faults out.old) (O.faults out.new) result }
-    ensures put { PutEnd (O.taken out.old) (O.taken out.new) pending.old pending.new
-        (canonical version
-        (Clone path.now offset key.uuid key.ctransid
-        (path_of (E.base known.now) (record { key = key_of key; ino = ino; offset = from })) from
-        len)) (O.faults out.old) (O.faults out.new) result }
+    requires version { (to.now.version ≡ 1) ⊎ (to.now.version ≡ 2) }
+    requires path { length to.now.path.now < 2 ^ 16 }
+    requires named { IsTrue
+        (is_some (E.Ends.ends sources.now.known.now (key_of run.now.key) run.now.ino)) }
+    ensures out { OutputLater O.Sink out.old out.new result }
+    ensures put { PutEnd (output O.Sink out.old pending.old) (output O.Sink out.new pending.new)
+        (canonical to.now.version
+        (Clone to.now.path.now to.now.offset run.now.key.uuid run.now.key.ctransid
+        (path_of (E.base sources.now.known.now)
+        (record { key = key_of run.now.key; ino = run.now.ino; offset = run.now.from }))
+        run.now.from run.now.len)) result }
 {
+    let key = run.key;
     let clone_uuid = key.uuid;
     let _bytes: &[u8] = clone_uuid.as_bytes();
     let clone_ctransid = key.ctransid;
-    let Ok(Some(clone_path)) = known.first_path(alloc, key, ino) else {
+    let Ok(Some(clone_path)) = sources.known.first_path(sources.alloc, key, run.ino) else {
         return Err(SendStop::NoMemory);
     };
-    let Ok(path) = blob_of(alloc, path) else {
+    let Ok(path) = blob_of(sources.alloc, to.path) else {
         return Err(SendStop::NoMemory);
     };
     let command = Command::Clone {
         path,
-        offset,
+        offset: to.offset,
         clone_uuid,
         clone_ctransid,
         clone_path,
-        clone_offset: from,
-        clone_len: len,
+        clone_offset: run.from,
+        clone_len: run.len,
     };
-    put(&command, version, pending, out)
+    put(&command, to.version, pending, out)
 }

@@ -4,7 +4,7 @@ ghost use Rattle.send_model.specs.Spelling.{canonical};
 ghost use Rattle.send_commands.specs.Meaning.{meaning_of};
 ghost use Rattle.send_commands.specs.Writing.{IsWritable, IsShortEnough};
 ghost use Rattle.sx_base.specs.Causes.{Steady};
-ghost use Rattle.clone_pieces.specs.Sending.{PutEnd, SendEnd};
+ghost use Rattle.clone_pieces.specs.Sending.{output, PutEnd, SendEnd};
 
 use crate::stops::SendStop;
 use send_commands::{Command, encode};
@@ -24,8 +24,8 @@ pub fn put<O: Sink>(
     requires short { IsShortEnough version (meaning_of c.now) }
     ensures later { O.faults out.old ≤ O.faults out.new }
     ensures steady { Steady (O.faults out.old) (O.faults out.new) result }
-    ensures put { PutEnd (O.taken out.old) (O.taken out.new) pending.old pending.new
-        (canonical version (meaning_of c.now)) (O.faults out.old) (O.faults out.new) result }
+    ensures put { PutEnd (output O.Sink out.old pending.old) (output O.Sink out.new pending.new)
+        (canonical version (meaning_of c.now)) result }
 {
     if encode(c, version, pending).is_err() {
         return Err(SendStop::NoMemory);
@@ -43,8 +43,8 @@ pub fn put<O: Sink>(
 pub fn put_bytes<O: Sink>(bytes: &[u8], pending: &mut Blob, out: &mut O) -> Result<(), SendStop>
     ensures later { O.faults out.old ≤ O.faults out.new }
     ensures steady { Steady (O.faults out.old) (O.faults out.new) result }
-    ensures put { PutEnd (O.taken out.old) (O.taken out.new) pending.old pending.new bytes.now
-        (O.faults out.old) (O.faults out.new) result }
+    ensures put { PutEnd (output O.Sink out.old pending.old) (output O.Sink out.new pending.new)
+        bytes.now result }
 {
     if pending.push_all(bytes).is_err() {
         return Err(SendStop::NoMemory);
@@ -62,8 +62,8 @@ pub fn put_bytes<O: Sink>(bytes: &[u8], pending: &mut Blob, out: &mut O) -> Resu
 pub fn send<O: Sink>(pending: &mut Blob, out: &mut O) -> Result<(), Failed>
     ensures later { O.faults out.old ≤ O.faults out.new }
     ensures steady { Steady (O.faults out.old) (O.faults out.new) result }
-    ensures sent { SendEnd (O.taken out.old) (O.taken out.new) pending.old pending.new
-        (O.faults out.old) (O.faults out.new) result }
+    ensures sent { SendEnd (output O.Sink out.old pending.old) (output O.Sink out.new pending.new)
+        result }
 {
     if write_whole(out, pending.as_slice()).is_err() {
         return Err(Failed);

@@ -23,18 +23,16 @@ use path_rules::split;
 use send_commands::Command;
 use std::alloc::{AllocError, Global};
 use std::marker::Model;
-use subvol::Subvol;
+use subvol::{SourceRange, Subvol};
 use subvol_catalog::{Catalog, Entry, Key};
 use sx_base::{Blob, Refusal, Stop};
 use uuid::Uuid;
 
-// What a CLONE takes: so many bytes from a place of a file on, of the subvolume of a key.
+// What a CLONE takes: a range of a file of the subvolume of a key.
 #[derive(Clone, Copy)]
 struct Source<'a> {
     key: Key,
-    path: &'a [u8],
-    offset: u64,
-    len: u64,
+    range: SourceRange<'a>,
 }
 
 /// The subvolumes that were received, in the order in which they began, seen as the store of the definitions over cells that are
@@ -129,7 +127,7 @@ impl<O: Origin> EditCore<O> {
             (λ h. Begins result h self.old self.new) }
     {
         let Some(head) = head_of(head) else {
-            return Err(Stop::NoMemory);
+            unreachable!()
         };
         self.begin_head(&head)
     }
@@ -201,9 +199,11 @@ impl<O: Origin> EditCore<O> {
             } => {
                 let source = Source {
                     key: key_with(*clone_uuid, *clone_ctransid),
-                    path: clone_path.as_slice(),
-                    offset: *clone_offset,
-                    len: *clone_len,
+                    range: SourceRange {
+                        path: clone_path.as_slice(),
+                        from: *clone_offset,
+                        len: *clone_len,
+                    },
                 };
                 self.clone_range(part, path.as_slice(), *offset, &source)
             }
@@ -222,25 +222,22 @@ impl<O: Origin> EditCore<O> {
         ensures key { part.new.key ≡ part.old.key }
         ensures cloned { MayChange result part.old.subvolume part.new.subvolume
             (clone None part.old.subvolume (clone_source self.now part.old (key_of source.now.key))
-            (bytes_eq source.now.key.uuid part.old.key.uuid) path.now at source.now.path.now
-            source.now.offset source.now.len) }
+            (bytes_eq source.now.key.uuid part.old.key.uuid) path.now at
+            source.now.range.path.now source.now.range.from source.now.range.len) }
     {
         if source.key.uuid == part.key.uuid {
-            return part
-                .sub
-                .clone_here(path, at, source.path, source.offset, source.len);
+            return part.sub.clone_here(path, at, &source.range);
         }
         let Ok(_names) = split(path) else {
             return Err(Stop::Refused(Refusal::BadPath));
         };
-        let Ok(_names) = split(source.path) else {
+        let Ok(_names) = split(source.range.path) else {
             return Err(Stop::Refused(Refusal::BadPath));
         };
         let Some(other) = self.catalog.by_key(source.key) else {
             return Err(Stop::Refused(Refusal::NoSource));
         };
-        part.sub
-            .clone_from(path, at, other, source.path, source.offset, source.len)
+        part.sub.clone_from(path, at, other, &source.range)
     }
 
     /// The entry of the part's UUID takes its subvolume, and is complete; where there is none, nothing changes. Takes no memory.
@@ -260,7 +257,7 @@ impl<O: Origin> EditCore<O> {
             (λ entry. Resumes result entry self.now) }
     {
         let Some(entry) = self.unfinished_at(uuid) else {
-            return Err(Stop::NoMemory);
+            unreachable!()
         };
         let Some(sub) = self.start(entry.parent)? else {
             return Err(Stop::Refused(Refusal::NoParent));

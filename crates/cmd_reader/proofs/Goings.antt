@@ -33,7 +33,8 @@ use Rattle.cmd_reader.specs.declared.fault.Fault.{Fault}
 use Rattle.cmd_reader.specs.declared.fault.Fault.TheVariants as fault
 use Rattle.cmd_reader.specs.Places.{IfTold}
 use Rattle.cmd_reader.specs.Fronts.{IsRefused, IsLongAt}
-use Rattle.cmd_reader.specs.Sources.{HasPassed, StandsThere, HasStayed, IsCutShort, NotThere, BadThere, PassSays}
+use Rattle.cmd_reader.specs.Sources.{HasPassed, StandsThere, HasStayed, IsCutShort, NotThere, BadThere}
+use Rattle.cmd_reader.proofs.Passes.{PassSays}
 use Rattle.cmd_reader.specs.Left.{Reader, left, left_from, HasAhead}
 use Rattle.cmd_reader.specs.Commands.{body_read}
 use Rattle.cmd_reader.specs.Next.{item_of, is_last, HasBegun, BeginsAt, HasEnded, OnlyEnds, GoesOn, IsNext, IsFaulty, Says, NextSays, ItemFits, IfItem, EndsAfterEnd, HasRead}

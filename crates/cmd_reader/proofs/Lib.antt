@@ -5,6 +5,7 @@ mod Alone
 pub mod LastFrames
 pub mod CommandFacts
 mod MentionFacts
+mod Passes
 mod Sourcing
 mod Goings
 mod Steps

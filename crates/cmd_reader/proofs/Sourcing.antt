@@ -19,7 +19,8 @@ use Rattle.cmd_reader.specs.Places.{IfTold}
 use Rattle.cmd_reader.specs.Fronts.{IsLongAt}
 use Rattle.cmd_reader.specs.declared.fault.Fault.{Fault}
 use Rattle.cmd_reader.specs.declared.fault.Fault.TheVariants as fault
-use Rattle.cmd_reader.specs.Sources.{IsSource, IsAhead, unit_len, EndsThere, HasPassed, StandsThere, HasStayed, IsCutShort, NotThere, BadThere, MoreSays, PassSays}
+use Rattle.cmd_reader.specs.Sources.{IsSource, IsAhead, unit_len, EndsThere, HasPassed, StandsThere, HasStayed, IsCutShort, NotThere, BadThere, MoreSays}
+use Rattle.cmd_reader.proofs.Passes.{PassSays}
 use Rattle.std.specs.String.{string_bytes}
 use Rattle.cmd_reader.proofs.Told.{Here, told_map, told_here, told_moved}
 

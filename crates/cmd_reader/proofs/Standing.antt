@@ -11,7 +11,8 @@ use Rattle.cmd_reader.specs.declared.item.ReadStop.TheVariants as stop
 use Rattle.cmd_reader.specs.declared.fault.Fault.{Fault}
 use Rattle.cmd_reader.specs.declared.fault.Fault.TheVariants as fault
 use Rattle.tlv_frame.specs.declared.feed.Passed.{Passed}
-use Rattle.cmd_reader.specs.Sources.{HasStayed, PassSays}
+use Rattle.cmd_reader.specs.Sources.{HasStayed}
+use Rattle.cmd_reader.proofs.Passes.{PassSays}
 use Rattle.cmd_reader.specs.Left.{Reader}
 use Rattle.cmd_reader.specs.Next.{HasBegun}
 use Rattle.cmd_reader.specs.Stands.{HasPassedFrame, Stands, NextStands, GlanceStands}

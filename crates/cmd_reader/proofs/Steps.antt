@@ -13,7 +13,7 @@ use Rattle.cmd_reader.specs.declared.front.FrameAt.{FrameAt}
 use Rattle.cmd_reader.specs.declared.item.ReadStop.{ReadStop}
 use Rattle.cmd_reader.specs.declared.fault.Fault.{Fault}
 use Rattle.cmd_reader.specs.declared.fault.Fault.TheVariants as fault
-use Rattle.cmd_reader.specs.Sources.{PassSays}
+use Rattle.cmd_reader.proofs.Passes.{PassSays}
 use Rattle.cmd_reader.specs.Left.{Reader}
 use Rattle.cmd_reader.specs.Frames.{frame_here, HasGonePast, StepSays}
 use Rattle.cmd_reader.specs.Items.{StopAt}

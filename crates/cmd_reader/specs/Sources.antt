@@ -95,25 +95,35 @@ NotThere at due refusal file = handed due (drop at file) ≡ Err refusal
 abbrev pub BadThere : ℕ → Due → meant.Refusal → List ℕ → Type 0
 BadThere at due refusal file = NotThere at due refusal file × (is_truncated refusal ≡ false)
 
+-- A file by its name, where the inputs tell it, and a place in it with a feed there, before and after.
+pub record Pass : Type 0 where
+  pub told : Option (List (List ℕ × List ℕ))
+  pub name : List ℕ
+  pub at : ℕ
+  pub feed : Fed
+  pub next : ℕ
+  pub new : Fed
+
 -- A header or frame was gone past, and it is the one that stands in the file.
-abbrev pub GoesPast : Option (List (List ℕ × List ℕ)) → List ℕ → ℕ → Fed → ℕ → Fed → Passed → Type 0
-GoesPast told name at feed next new unit = (h : Handed) × (HasPassed at feed next new unit h × IfTold told name (StandsThere at feed next new h))
+abbrev pub GoesPast : Pass → Passed → Type 0
+GoesPast p unit = (h : Handed) × (HasPassed p.at p.feed p.next p.new unit h × IfTold p.told p.name (StandsThere p.at p.feed p.next p.new h))
 
 -- None was, and this holds of the file.
-abbrev pub Stays : Option (List (List ℕ × List ℕ)) → List ℕ → ℕ → Fed → ℕ → Fed → (List ℕ → Type 0) → Type 0
-Stays told name at feed next new P = HasStayed at feed next new × IfTold told name P
+abbrev pub Stays : Pass → (List ℕ → Type 0) → Type 0
+Stays p P = HasStayed p.at p.feed p.next p.new × IfTold p.told p.name P
 
-abbrev pub PassSays : Option (List (List ℕ × List ℕ)) → List ℕ → ℕ → Fed → ℕ → Fed → ℕ → ℕ → Result (Option Passed) Fault → Type 0
-PassSays told name at feed next new before now (Ok (Some unit)) = GoesPast told name at feed next new unit
-PassSays told name at feed next new before now (Ok None) = Stays told name at feed next new (IsCutShort next new)
-PassSays told name at feed next new before now (Err (fault.Refused refusal)) = Stays told name at feed next new (BadThere at feed.due (refusal_of refusal))
-PassSays told name at feed next new before now (Err fault.NoMemory) = ⊥
-PassSays told name at feed next new before now (Err fault.InputFault) = HasStayed at feed next new × Rose before now
-PassSays told name at feed next new before now (Err fault.InputTooLong) = Stays told name at feed next new (IsLongAt at (NotThere at feed.due meant.Truncated))
+abbrev pub PassSays : Pass → (before now : ℕ) → Result (Option Passed) Fault → Type 0
+PassSays p before now (Ok (Some unit)) = GoesPast p unit
+PassSays p before now (Ok None) = Stays p (IsCutShort p.next p.new)
+PassSays p before now (Err (fault.Refused refusal)) = Stays p (BadThere p.at p.feed.due (refusal_of refusal))
+PassSays p before now (Err fault.NoMemory) = ⊥
+PassSays p before now (Err fault.InputFault) = HasStayed p.at p.feed p.next p.new × Rose before now
+PassSays p before now (Err fault.InputTooLong) = Stays p (IsLongAt p.at (NotThere p.at p.feed.due meant.Truncated))
 
 -- The same of a source.
 abbrev pub SourcePasses : Option (List (List ℕ × List ℕ)) → Source → Source → ℕ → ℕ → Result (Option Passed) Fault → Type 0
-SourcePasses told old new before now result = PassSays told (string_bytes old.name) old.at old.feed new.at new.feed before now result
+SourcePasses told old new before now result =
+    PassSays (record { told = told; name = string_bytes old.name; at = old.at; feed = old.feed; next = new.at; new = new.feed }) before now result
 
 -- Where the inputs tell, the source's bytes are those of its file.
 abbrev pub SourceAhead : Option (List (List ℕ × List ℕ)) → Source → Type 0

@@ -6,7 +6,7 @@ ghost use Rattle.clone_pieces.specs.Origins.{IsHad};
 ghost use Rattle.sx_base.specs.Again.{no_end};
 
 use crate::same::same;
-use clone_pieces::{NoBase, put, redirect, send, uncarried};
+use clone_pieces::{CellRange, NoBase, Sources, Target, put, redirect, send, uncarried};
 use extent_map::Extents;
 use provenance::Trace;
 use send_commands::Command;
@@ -71,21 +71,22 @@ fn write_clone(
     same(rt, uncarried(&contents, 0, len, &NoBase), 100_000);
     let files = [String::from_str(alloc, "a")?];
     let mut bytes = NoBase;
-    let done = redirect(
-        alloc,
-        b"f",
-        8_192,
-        &contents,
-        0,
+    let range = CellRange {
+        to: Target {
+            path: b"f",
+            offset: 8_192,
+            version: 1,
+        },
+        contents: &contents,
+        from: 0,
         len,
-        1,
-        &files,
-        &mut Remainders,
-        &NoBase,
-        &mut bytes,
-        pending,
-        out,
-    );
+    };
+    let sources = Sources {
+        alloc,
+        files: &files,
+        known: &NoBase,
+    };
+    let done = redirect(&range, &sources, &mut Remainders, &mut bytes, pending, out);
     same(rt, done, Ok(()));
     Ok(())
 }

@@ -10,6 +10,7 @@ ghost use Rattle.clone_resolve.specs.Steps.{data_len, Fits};
 ghost use Rattle.clone_pieces.specs.Origins.{IsHad};
 ghost use Rattle.file_survey.specs.Findings.{SurveyEnd};
 ghost use Rattle.sx_base.specs.Calls.{IfAllTold, CausedAgain, SteadyIfDone};
+ghost use Rattle.sx_base.specs.Causes.{counts};
 ghost use Rattle.compose_tests.specs.Silent.{held_store};
 
 use crate::same::same;
@@ -17,7 +18,7 @@ use crate::streams::{CLONE_FROM_B, END, HEADER, MKFILE_Y, SNAPSHOT_B, WRITE_Y_HI
 use crate::values::{key, two_names};
 use clone_pieces::{Known, OutsideBytes};
 use clone_resolve::{EditCore, Part};
-use composer::compose_over;
+use composer::{Task, compose_over};
 use file_survey::{Survey, survey};
 use part_names::PartNames;
 use provenance::{Ends, Trace};
@@ -170,28 +171,41 @@ fn copied(alloc: Global, bytes: &[u8]) -> Result<Blob, AllocError> {
     Ok(Blob::from(Vec::from_slice(alloc, bytes)?))
 }
 
+// The names of the files, and what was found in them.
+#[derive(Clone, Copy)]
+struct Found<'a> {
+    alloc: Global,
+    files: &'a [String],
+    survey: &'a Survey,
+}
+
 // Composes over the base. Where all is done no read of it failed, and each failure has its cause.
 fn over(
-    alloc: Global,
-    seen: &Survey,
+    found: &Found<'_>,
     core: EditCore<Trace>,
     bytes: &mut SilentBytes,
     inputs: &mut MemInputs,
-    files: &[String],
     out: &mut MemSink,
 ) -> Outcome
-    requires some { files.now ≢ [] }
-    requires surveyed { IfAllTold (Some inputs.old.files) (map string_bytes files.now)
-        (SurveyEnd [] (Ok seen.now)) }
+    requires some { found.now.files.now ≢ [] }
+    requires surveyed { IfAllTold (Some inputs.old.files) (map string_bytes found.now.files.now)
+        (SurveyEnd [] (Ok found.now.survey.now)) }
     requires had { AllCells (IsHad 0 (held_store (key_of bytes.old.key))) (start_of core) }
-    requires apart { is_among seen.now.parts bytes.old.key.uuid ≡ false }
+    requires apart { is_among found.now.survey.now.parts bytes.old.key.uuid ≡ false }
     ensures steady { SteadyIfDone bytes.old.faults bytes.new.faults result }
-    ensures cause { CausedAgain 0 0 (inputs.old.faults + bytes.old.faults)
-        (inputs.new.faults + bytes.new.faults) out.old.faults out.new.faults result }
+    ensures cause { CausedAgain (counts 0 (inputs.old.faults + bytes.old.faults) out.old.faults)
+        (counts 0 (inputs.new.faults + bytes.new.faults) out.new.faults) result }
 {
     let known = Silent { key: bytes.key };
-    let own = PartNames::none(alloc);
-    compose_over(alloc, seen, core, &known, bytes, inputs, files, &own, out)
+    let own = PartNames::none(found.alloc);
+    let task = Task {
+        alloc: found.alloc,
+        files: found.files,
+        survey: found.survey,
+        names: &own,
+        known: &known,
+    };
+    compose_over(&task, core, bytes, inputs, out)
 }
 
 // The two files.
@@ -218,7 +232,12 @@ fn surveyed(
         panic!(rt; "the files are not surveyed")
     };
     assert!(rt; !seen.has_part(bytes.key.uuid));
-    Ok(over(alloc, &seen, core, bytes, inputs, &names, out))
+    let found = Found {
+        alloc,
+        files: &names,
+        survey: &seen,
+    };
+    Ok(over(&found, core, bytes, inputs, out))
 }
 
 // Composes the two files over the base, of whose reads one fails; gives the outcome, what is written, and how often the base was

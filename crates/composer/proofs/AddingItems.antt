@@ -28,15 +28,14 @@ use Rattle.send_model.specs.Cells.{AllCells}
 use Rattle.clone_resolve.proofs.TakenStates.{part_after_step, cells_found, cells_of_found, taken_from, range_taken}
 use Rattle.clone_pieces.specs.Origins.{byte_of_trace}
 use Rattle.clone_pieces.specs.Seen.{seen}
-use Rattle.clone_pieces.specs.Sending.{PutEnd}
 use Rattle.clone_pieces.specs.Redirecting.{seen_cells, pieces_spelled, RedirectEnd}
 use Rattle.clone_pieces.specs.declared.stops.SendStop.{SendStop}
 use Rattle.clone_pieces.specs.declared.stops.SendStop.TheVariants as stopped
 use Rattle.file_survey.specs.Findings.{Surveyed}
 use Rattle.composer.specs.OverBase.{Composing}
 use Rattle.composer.specs.Kept.{Kept, composing_of}
-use Rattle.composer.specs.Taking.{StopEnd}
-use Rattle.composer.specs.Adding.{Led, uncarried_by, Adds, AddsCommand, AddEnd, IsSourceOf, AddsRange}
+use Rattle.composer.specs.Adding.{Led, uncarried_by, IsSourceOf}
+use Rattle.composer.proofs.Unpacked.{PutEnd, StopEnd, Adds, AddsCommand, AddEnd, AddsRange}
 use Rattle.composer.proofs.HandedOn.{answer_with}
 use Rattle.composer.proofs.OverBaseAdds.{sum_redirected}
 

@@ -39,10 +39,11 @@ use Rattle.clone_pieces.specs.Sending.{AppendsFront}
 use Rattle.composer.specs.OverBase.{Plan, Composing, Halt, Refuses, Exceeds, advance, advance_all, unsent}
 use Rattle.send_model.specs.Cells.{AllCells}
 use Rattle.composer.specs.Kept.{Kept, composing_of}
-use Rattle.composer.specs.Taking.{AllOut, DataStand, ItemTaken, ItemWhy, AllWhereEnded, ItemStops, ItemKept, ItemEnd, StopEnd}
-use Rattle.composer.specs.Files.{IsPlace, IsLastPlace, FileTaken, NextHalts, FileWhy, FileStops}
+use Rattle.composer.specs.Taking.{DataStand, ItemTaken, ItemWhy, AllWhereEnded, ItemStops, ItemKept}
+use Rattle.composer.specs.Files.{IsPlace, IsLastPlace, NextHalts}
 use Rattle.clone_pieces.proofs.Told.{all_always, all_map, all_two}
 use Rattle.clone_pieces.proofs.Told as all
+use Rattle.composer.proofs.Unpacked.{AllOut, ItemEnd, StopEnd, FileTaken, FileWhy, FileStops}
 use Rattle.composer.proofs.AllTold.{told_file}
 use Rattle.composer.proofs.LastHeads.{latest_none, latest_more}
 use Rattle.composer.proofs.DataAhead.{data_left, data_stand}

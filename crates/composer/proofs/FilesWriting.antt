@@ -44,8 +44,9 @@ use Rattle.clone_pieces.specs.declared.stops.SendStop.TheVariants as stopped
 use Rattle.composer.specs.OverBase.{Plan, plan_for, Composing, at_start, Halt, Refuses, Exceeds, halt_due, advance, advance_all, unsent, AreReady}
 use Rattle.composer.specs.Kept.{Kept, composing_of}
 use Rattle.composer.specs.Taking.{AllWhereEnded, EndEnd, is_at_last}
-use Rattle.composer.specs.Files.{plan_with, IsLastPlace, FileTaken, NextHalts, NextAbove, FileWhy, FileStops, ComposeEnds, outcome_in}
+use Rattle.composer.specs.Files.{plan_with, IsLastPlace, NextHalts, NextAbove, ComposeEnds, outcome_in}
 use Rattle.clone_pieces.proofs.Told.{all_always, all_map, all_two}
+use Rattle.composer.proofs.Unpacked.{FileTaken, FileWhy, FileStops}
 use Rattle.composer.proofs.HandedOn.{answer_with}
 use Rattle.composer.proofs.NamedItem.{still_ends}
 use Rattle.composer.proofs.LastHeads.{latest_none, latest_append, latest_alone}

@@ -8,13 +8,13 @@ use Rattle.sx_base.specs.Calls.{ErrFoundChanged, IsStop}
 use Rattle.sx_base.specs.Causes.{Steady}
 use Rattle.sx_base.specs.declared.outcome.Outcome.{Outcome}
 use Rattle.clone_pieces.specs.Stopping.{outcome_with}
-use Rattle.clone_pieces.specs.Sending.{PutEnd}
-use Rattle.clone_pieces.specs.Redirecting.{RedirectCaused, RedirectChanged}
+use Rattle.clone_pieces.specs.Redirecting.{RedirectChanged}
 use Rattle.clone_pieces.specs.declared.stops.SendStop.{SendStop}
 use Rattle.clone_pieces.specs.declared.stops.SendStop.TheVariants as stopped
 use Rattle.sx_base.specs.declared.outcome.Outcome.TheVariants as over
 use Rattle.composer.specs.Kept.{Kept}
-use Rattle.composer.specs.Taking.{ErrCausedAgain, EndEnd, is_at_last}
+use Rattle.composer.specs.Taking.{EndEnd, is_at_last}
+use Rattle.composer.proofs.Unpacked.{PutEnd, RedirectCaused, ErrCausedAgain}
 
 abbrev pub answer_with : Result (Unit {0}) SendStop → Result (Unit {0}) Outcome
 answer_with (Ok done) = Ok done

@@ -19,5 +19,6 @@ pub mod OverBaseAdds
 pub mod OverBaseAnswers
 pub mod TakingItems
 pub mod EditSpelling
+pub mod Unpacked
 pub mod AddingItems
 pub mod HandedOn

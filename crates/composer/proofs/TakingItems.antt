@@ -37,8 +37,9 @@ use Rattle.clone_pieces.specs.Seen.{seen, seen_state}
 use Rattle.composer.specs.OverBase.{Plan, Composing, Halt, Refuses, Exceeds, begin_bytes, added_with, after_item, is_unforeseen, then_kept, advance, unsent}
 use Rattle.composer.specs.Kept.{Kept, composing_of}
 use Rattle.composer.specs.Files.{plan_with}
-use Rattle.composer.specs.Adding.{Led, stands_out, begun_with, uncarried_by, AddsCommand, AddEnd}
-use Rattle.composer.specs.Taking.{DataStand, ItemTaken, ItemWhy, AllWhereEnded, ItemStops, ItemEnd, StopEnd}
+use Rattle.composer.specs.Adding.{Led, stands_out, begun_with, uncarried_by}
+use Rattle.composer.specs.Taking.{DataStand, ItemTaken, ItemWhy, AllWhereEnded, ItemStops}
+use Rattle.composer.proofs.Unpacked.{AddsCommand, AddEnd, ItemEnd, StopEnd}
 use Rattle.composer.proofs.OverBaseAdds.{adds_head, sum_same}
 use Rattle.composer.proofs.OverBaseSeen.{IsSeenAs, answers_seen, put_seen, data_there, goes_on, stops_there}
 

@@ -16,9 +16,9 @@ use Rattle.sx_base.specs.declared.outcome.Outcome.TheVariants as ended
 use Rattle.provenance.specs.declared.trace.Trace.{Trace}
 use Rattle.clone_pieces.specs.Sending.{GoesOut, AppendsFront}
 use Rattle.clone_pieces.specs.Redirecting.{pieces_spelled}
-use Rattle.file_survey.specs.Findings.{Surveyed}
-use Rattle.composer.specs.OverBase.{begin_bytes, is_unforeseen, Composing}
-use Rattle.composer.specs.Kept.{Kept, composing_of}
+use Rattle.composer.specs.OverBase.{Plan, begin_bytes, is_unforeseen, Composing}
+use Rattle.composer.specs.Kept.{composing_of}
+use Rattle.composer.specs.Reached.{Over, Reached}
 
 -- A step over traces that was taken.
 abbrev pub Led : State (Option Trace) → State (Option Trace) → List (Option Trace) → Command → Type 0
@@ -37,29 +37,36 @@ begun_with version begun head (Some last) = begin_bytes version begun last (Some
 abbrev pub uncarried_by : Store ℕ → List (List ℕ) → State Traced → Option (List ℕ) → Command → ℕ
 uncarried_by base parts state current command = if is_redirected parts current command then uncarried_in base (clone_range state command ∷ []) else 0
 
--- Bytes go out of which so many are uncarried, and the sum of these is not too great; or it is, and only what was pending is written; or an
--- object of the outside failed or there is no memory, before a byte of them or in their middle.
-abbrev pub Adds : (more : ℕ) (bytes : List ℕ) (old new : Kept) (out_old out_new : Option (List ℕ)) → Result (Unit {0}) Outcome → Type 0
-Adds more bytes old new out_old out_new (Ok done) = GoesOut out_old out_new old.pending new.pending bytes × ((new.sum ≡ old.sum + more) × (new.sum ≤ most_literal))
-Adds more bytes old new out_old out_new (Err (ended.TooMuch sum)) = (sum ≡ old.sum + more) × ((most_literal < sum) × Appends out_old out_new old.pending)
-Adds more bytes old new out_old out_new (Err ended.OutputFault) = AppendsFront out_old out_new old.pending ⊎ ((old.sum + more ≤ most_literal) × AppendsFront out_old out_new (old.pending ++ bytes))
-Adds more bytes old new out_old out_new (Err ended.InputFault) = AppendsFront out_old out_new old.pending ⊎ ((old.sum + more ≤ most_literal) × AppendsFront out_old out_new (old.pending ++ bytes))
-Adds more bytes old new out_old out_new (Err ended.NoMemory) = AppendsFront out_old out_new old.pending ⊎ ((old.sum + more ≤ most_literal) × AppendsFront out_old out_new (old.pending ++ bytes))
-Adds more bytes old new out_old out_new (Err (ended.InputChanged file place)) = ⊥
-Adds more bytes old new out_old out_new (Err ended.Done) = ⊥
-Adds more bytes old new out_old out_new (Err (ended.Refused verdict)) = ⊥
-Adds more bytes old new out_old out_new (Err (ended.InputTooLong file)) = ⊥
+-- What is added: bytes, of which so many are uncarried.
+pub record Addition : Type 0 where
+  pub uncarried : ℕ
+  pub bytes : List ℕ
 
--- What a command adds, by the state before its step and the key of the last part.
-abbrev pub AddsCommand : Store ℕ → Surveyed → Key → Composing → Command → Kept → Kept → Option (List ℕ) → Option (List ℕ) → Result (Unit {0}) Outcome → Type 0
-AddsCommand base survey last now command old new out_old out_new result =
-    Adds (uncarried_by base survey.parts now.state now.current command)
-    (canonical_all survey.version (commands_for base survey.parts last now.state now.current command)) old new out_old out_new result
+-- It goes out, and the sum of uncarried bytes is not too great; or it is, and only what was pending is written; or an
+-- object of the outside failed or there is no memory, before a byte of it or in its middle.
+abbrev pub Adds : Addition → (old new : Reached) → Result (Unit {0}) Outcome → Type 0
+Adds it old new (Ok done) = GoesOut old.taken new.taken old.kept.pending new.kept.pending it.bytes × ((new.kept.sum ≡ old.kept.sum + it.uncarried) × (new.kept.sum ≤ most_literal))
+Adds it old new (Err (ended.TooMuch sum)) = (sum ≡ old.kept.sum + it.uncarried) × ((most_literal < sum) × Appends old.taken new.taken old.kept.pending)
+Adds it old new (Err ended.OutputFault) = AppendsFront old.taken new.taken old.kept.pending ⊎ ((old.kept.sum + it.uncarried ≤ most_literal) × AppendsFront old.taken new.taken (old.kept.pending ++ it.bytes))
+Adds it old new (Err ended.InputFault) = AppendsFront old.taken new.taken old.kept.pending ⊎ ((old.kept.sum + it.uncarried ≤ most_literal) × AppendsFront old.taken new.taken (old.kept.pending ++ it.bytes))
+Adds it old new (Err ended.NoMemory) = AppendsFront old.taken new.taken old.kept.pending ⊎ ((old.kept.sum + it.uncarried ≤ most_literal) × AppendsFront old.taken new.taken (old.kept.pending ++ it.bytes))
+Adds it old new (Err (ended.InputChanged file place)) = ⊥
+Adds it old new (Err ended.Done) = ⊥
+Adds it old new (Err (ended.Refused verdict)) = ⊥
+Adds it old new (Err (ended.InputTooLong file)) = ⊥
 
-abbrev pub AddEnd : List (List ℕ) → Store ℕ → Surveyed → Key → Kept → Kept → Command → Option (List ℕ) → Option (List ℕ) → Result (Unit {0}) Outcome → Type 0
-AddEnd files base survey last old new command out_old out_new result =
-    (before : State (Option Trace)) (put : List (Option Trace)) → Led before old.state put command
-    → AddsCommand base survey last (composing_of files base (record old { state = before })) command old new out_old out_new result
+-- What a command adds to what composing keeps before its step, where the key of the last part is given.
+abbrev pub addition : Plan → Key → Composing → Command → Addition
+addition plan last now command = record {
+  uncarried = uncarried_by plan.base plan.parts now.state now.current command;
+  bytes = canonical_all plan.version (commands_for plan.base plan.parts last now.state now.current command);
+}
+
+-- A command whose step was taken, from whichever state it was, adds what it does there.
+abbrev pub AddEnd : Over → (last : Key) → Command → (old new : Reached) → Result (Unit {0}) Outcome → Type 0
+AddEnd o last command old new result =
+    (before : State (Option Trace)) (put : List (Option Trace)) → Led before old.kept.state put command
+    → Adds (addition o.plan last (composing_of o.files o.plan.base (record old.kept { state = before })) command) old new result
 
 -- ---- redirected clones
 
@@ -73,6 +80,8 @@ pub record IsSourceOf (cells : List (Option Trace)) (state : State (Option Trace
   pub cells_are : cells ≡ cells_of source ino
 
 -- What stands for a clone of a range.
-abbrev pub AddsRange : Store ℕ → ℕ → List ℕ → ℕ → List Traced → Kept → Kept → Option (List ℕ) → Option (List ℕ) → Result (Unit {0}) Outcome → Type 0
-AddsRange base version path offset range old new out_old out_new result =
-    Adds (sum_by literal_len (pieces_of base range)) (pieces_spelled version base path offset range) old new out_old out_new result
+abbrev pub range_addition : Store ℕ → (version : ℕ) → (path : List ℕ) → (offset : ℕ) → List Traced → Addition
+range_addition base version path offset range = record {
+  uncarried = sum_by literal_len (pieces_of base range);
+  bytes = pieces_spelled version base path offset range;
+}

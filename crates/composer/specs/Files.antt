@@ -21,7 +21,8 @@ use Rattle.file_survey.specs.Ahead.{then_reading}
 use Rattle.file_survey.specs.declared.places.Place.{Place}
 use Rattle.clone_pieces.specs.Sending.{AppendsFront}
 use Rattle.composer.specs.OverBase.{Plan, Composing, Halt, Exceeds, halt_due, advance, advance_all, unsent}
-use Rattle.composer.specs.Kept.{Kept, composing_of}
+use Rattle.composer.specs.Kept.{composing_of}
+use Rattle.composer.specs.Reached.{Over, OneFile, Reached}
 use Rattle.composer.specs.Taking.{AllWhereEnded}
 
 -- The plan over a base, as the survey of the files has it.
@@ -43,15 +44,15 @@ IsLastPlace before place (Some item) = IsPlace place item
 
 -- All items of a file were taken, with the name that is given for it, and of the bytes that are then to be written some were. The file is
 -- not too long.
-pub record FileTaken (files : List (List ℕ)) (plan : Plan) (file : ℕ) (given : Option (List ℕ)) (old new : Kept) (out_old out_new : Option (List ℕ)) (before place : Place) (bytes : List ℕ) : Type 0 where
+pub record FileTaken (o : Over) (file : OneFile) (old new : Reached) (before place : Place) : Type 0 where
   pub items : List Item
   pub sent : List ℕ
-  pub read : reads file bytes ≡ record { items = items; end = Whole }
-  pub all : advance_all plan (composing_of files plan.base old) (map (named_as given) items) ≡ Ok (unsent sent (composing_of files plan.base new))
-  pub appends : Appends out_old out_new sent
+  pub read : reads file.number file.bytes ≡ record { items = items; end = Whole }
+  pub all : advance_all o.plan (composing_of o.files o.plan.base old.kept) (map (named_as file.given) items) ≡ Ok (unsent sent (composing_of o.files o.plan.base new.kept))
+  pub appends : Appends old.taken new.taken sent
   pub last : IsLastPlace before place (last_item items)
-  pub latest : new.latest ≡ first_of (last_head (heads (map (named_as given) items))) old.latest
-  pub fits : is_too_long file bytes ≡ false
+  pub latest : new.kept.latest ≡ first_of (last_head (heads (map (named_as file.given) items))) old.kept.latest
+  pub fits : is_too_long file.number file.bytes ≡ false
 
 -- The next item that is read is not taken, with the name that is given.
 pub record NextHalts (plan : Plan) (given : Option (List ℕ)) (now : Composing) (rest : Reading) (halt : Halt) (item : Item) : Type 0 where
@@ -67,33 +68,34 @@ pub record NextAbove (plan : Plan) (rest : Reading) : Type 0 where
   pub above : plan.version < item.version
 
 -- Why composing a file stopped before what is left of it.
-abbrev pub FileWhy : Plan → ℕ → Option (List ℕ) → Composing → Reading → Outcome → List ℕ → Type 0
-FileWhy plan file given now rest (ended.Refused verdict) bytes =
+abbrev pub FileWhy : Plan → OneFile → Composing → Reading → Outcome → Type 0
+FileWhy plan file now rest (ended.Refused verdict) =
     (rest ≡ record { items = []; end = Faulty (verdict_meant verdict) })
-    ⊎ (((item : Item) × (halt : Halt) × NextHalts plan given now rest halt item × (halt_due (named_as given item) halt ≡ RefusedAt (verdict_meant verdict))) ⊎ NextAbove plan rest)
-FileWhy plan file given now rest (ended.TooMuch sum) bytes = (item : Item) × NextHalts plan given now rest (Exceeds sum) item
-FileWhy plan file given now rest (ended.InputTooLong number) bytes = (number ≡ file) × (is_too_long file bytes ≡ true)
-FileWhy plan file given now rest ended.Done bytes = ⊥
-FileWhy plan file given now rest (ended.InputChanged number place) bytes = ⊥
-FileWhy plan file given now rest ended.InputFault bytes = ⊤
-FileWhy plan file given now rest ended.OutputFault bytes = ⊤
-FileWhy plan file given now rest ended.NoMemory bytes = ⊤
+    ⊎ (((item : Item) × (halt : Halt) × NextHalts plan file.given now rest halt item × (halt_due (named_as file.given item) halt ≡ RefusedAt (verdict_meant verdict))) ⊎ NextAbove plan rest)
+FileWhy plan file now rest (ended.TooMuch sum) = (item : Item) × NextHalts plan file.given now rest (Exceeds sum) item
+FileWhy plan file now rest (ended.InputTooLong number) = (number ≡ file.number) × (is_too_long file.number file.bytes ≡ true)
+FileWhy plan file now rest ended.Done = ⊥
+FileWhy plan file now rest (ended.InputChanged number place) = ⊥
+FileWhy plan file now rest ended.InputFault = ⊤
+FileWhy plan file now rest ended.OutputFault = ⊤
+FileWhy plan file now rest ended.NoMemory = ⊤
 
 -- Some items of the file were taken, and a front part of the bytes was written that were then to be written; all of them, where an object of
 -- the outside did not fail and there was memory.
-pub record FileStops (files : List (List ℕ)) (plan : Plan) (file : ℕ) (given : Option (List ℕ)) (old : Kept) (out_old out_new : Option (List ℕ)) (outcome : Outcome) (bytes : List ℕ) : Type 0 where
+pub record FileStops (o : Over) (file : OneFile) (old : Reached) (out_new : Option (List ℕ)) (outcome : Outcome) : Type 0 where
   pub items : List Item
   pub rest : Reading
   pub next : Composing
-  pub read : reads file bytes ≡ then_reading items rest
-  pub all : advance_all plan (composing_of files plan.base old) (map (named_as given) items) ≡ Ok next
-  pub front : AppendsFront out_old out_new next.pending
-  pub whole : AllWhereEnded outcome out_old out_new next.pending
-  pub why : FileWhy plan file given next rest outcome bytes
+  pub read : reads file.number file.bytes ≡ then_reading items rest
+  pub all : advance_all o.plan (composing_of o.files o.plan.base old.kept) (map (named_as file.given) items) ≡ Ok next
+  pub front : AppendsFront old.taken out_new next.pending
+  pub whole : AllWhereEnded outcome old.taken out_new next.pending
+  pub why : FileWhy o.plan file next rest outcome
 
-abbrev pub FileEnd : List (List ℕ) → Plan → ℕ → Option (List ℕ) → Kept → Kept → Option (List ℕ) → Option (List ℕ) → Place → Result Place Outcome → List ℕ → Type 0
-FileEnd files plan file given old new out_old out_new before (Ok place) bytes = FileTaken files plan file given old new out_old out_new before place bytes
-FileEnd files plan file given old new out_old out_new before (Err outcome) bytes = FileStops files plan file given old out_old out_new outcome bytes
+-- Composing a file that comes after the place before it.
+abbrev pub FileEnd : Over → OneFile → (before : Place) → (old new : Reached) → Result Place Outcome → Type 0
+FileEnd o file before old new (Ok place) = FileTaken o file old new before place
+FileEnd o file before old new (Err outcome) = FileStops o file old new.taken outcome
 
 -- ---- all files
 

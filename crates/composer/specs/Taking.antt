@@ -13,11 +13,13 @@ use Rattle.sx_base.specs.Refusals.{verdict_meant}
 use Rattle.sx_base.specs.declared.outcome.Verdict.{Verdict}
 use Rattle.sx_base.specs.declared.outcome.Outcome.{Outcome}
 use Rattle.sx_base.specs.declared.outcome.Outcome.TheVariants as ended
-use Rattle.clone_pieces.specs.Sending.{AppendsFront}
+use Rattle.sx_base.specs.Causes.{Counts}
+use Rattle.clone_pieces.specs.Sending.{AppendsFront, Output}
 use Rattle.clone_pieces.specs.declared.stops.SendStop.{SendStop}
 use Rattle.clone_pieces.specs.declared.stops.SendStop.TheVariants as stop
 use Rattle.composer.specs.OverBase.{Plan, Composing, Refuses, Exceeds, advance, unsent}
 use Rattle.composer.specs.Kept.{Kept, composing_of}
+use Rattle.composer.specs.Reached.{Over, Reached}
 
 -- The data of an item stand at its place in its file.
 pub record DataStand (files : List (List ℕ)) (item : Item) : Type 0 where
@@ -73,34 +75,34 @@ pub record ItemStops (plan : Plan) (old : Composing) (item : Item) (outcome : Ou
 abbrev pub ItemKept : Kept → Kept → Item → Type 0
 ItemKept old new item = new.latest ≡ first_of (head_of item.command) old.latest
 
-abbrev pub ItemEnd : List (List ℕ) → Plan → Kept → Kept → Item → Option (List ℕ) → Option (List ℕ) → Result (Unit {0}) Outcome → Type 0
-ItemEnd files plan old new item out_old out_new (Ok done) = ItemTaken plan (composing_of files plan.base old) (composing_of files plan.base new) item out_old out_new × ItemKept old new item
-ItemEnd files plan old new item out_old out_new (Err outcome) = ItemStops plan (composing_of files plan.base old) item outcome out_old out_new
+abbrev pub ItemEnd : Over → Item → (old new : Reached) → Result (Unit {0}) Outcome → Type 0
+ItemEnd o item old new (Ok done) = ItemTaken o.plan (composing_of o.files o.plan.base old.kept) (composing_of o.files o.plan.base new.kept) item old.taken new.taken × ItemKept old.kept new.kept item
+ItemEnd o item old new (Err outcome) = ItemStops o.plan (composing_of o.files o.plan.base old.kept) item outcome old.taken new.taken
 
 -- ---- causes
 
 -- An error has its cause.
-abbrev pub ErrCausedAgain : {T : Type 0} → (ends_before ends_now inputs_before inputs_now out_before out_now : ℕ) → Result T Outcome → Type 0
-ErrCausedAgain ends_before ends_now inputs_before inputs_now out_before out_now (Ok x) = ⊤
-ErrCausedAgain ends_before ends_now inputs_before inputs_now out_before out_now (Err outcome) = CausedAgain ends_before ends_now inputs_before inputs_now out_before out_now outcome
+abbrev pub ErrCausedAgain : {T : Type 0} → (before now : Counts) → Result T Outcome → Type 0
+ErrCausedAgain before now (Ok x) = ⊤
+ErrCausedAgain before now (Err outcome) = CausedAgain before now outcome
 
 -- ---- where composing ends
 
 -- All that was pending was written, and nothing is pending any more.
-pub record AllOut (pending left : List ℕ) (out_old out_new : Option (List ℕ)) (before now : ℕ) : Type 0 where
-  pub appends : Appends out_old out_new pending
-  pub none : left ≡ []
-  pub steady : now ≡ before
+pub record AllOut (old new : Output) : Type 0 where
+  pub appends : Appends old.taken new.taken old.pending
+  pub none : new.pending ≡ []
+  pub steady : new.faults ≡ old.faults
 
 -- The outcome stays, or what is pending was to be written first and the output failed; but where the inputs have failed, or
 -- there is no memory, nothing was, and nothing is asked of the output. Else a front part of what is pending was written: all of it, where
 -- the output did not fail then.
-pub record StopEnd (pending left : List ℕ) (out_old out_new : Option (List ℕ)) (before now : ℕ) (outcome result : Outcome) : Type 0 where
-  pub outcome_is : (result ≡ outcome) ⊎ ((result ≡ ended.OutputFault) × (outcome ≢ ended.InputFault) × (outcome ≢ ended.NoMemory) × Rose before now)
-  pub front : AppendsFront out_old out_new pending
+pub record StopEnd (old new : Output) (outcome result : Outcome) : Type 0 where
+  pub outcome_is : (result ≡ outcome) ⊎ ((result ≡ ended.OutputFault) × (outcome ≢ ended.InputFault) × (outcome ≢ ended.NoMemory) × Rose old.faults new.faults)
+  pub front : AppendsFront old.taken new.taken old.pending
   pub sent : outcome ≢ ended.InputFault → outcome ≢ ended.NoMemory
-      → ((result ≡ outcome) × AllOut pending left out_old out_new before now) ⊎ ((result ≡ ended.OutputFault) × (left ≡ pending) × Rose before now × AppendsPart out_old out_new pending)
-  pub quiet : (outcome ≡ ended.InputFault) ⊎ (outcome ≡ ended.NoMemory) → (result ≡ outcome) × (left ≡ pending) × (now ≡ before) × Appends out_old out_new []
+      → ((result ≡ outcome) × AllOut old new) ⊎ ((result ≡ ended.OutputFault) × (new.pending ≡ old.pending) × Rose old.faults new.faults × AppendsPart old.taken new.taken old.pending)
+  pub quiet : (outcome ≡ ended.InputFault) ⊎ (outcome ≡ ended.NoMemory) → (result ≡ outcome) × (new.pending ≡ old.pending) × (new.faults ≡ old.faults) × Appends old.taken new.taken []
 
 -- All that was pending with END was written, or a proper front part of it, where the output failed.
 abbrev pub EndEnd : List ℕ → Option (List ℕ) → Option (List ℕ) → ℕ → ℕ → Result (Unit {0}) SendStop → Type 0

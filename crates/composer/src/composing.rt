@@ -12,7 +12,7 @@ ghost use Rattle.send_model.specs.Spelling.{canonical};
 ghost use Rattle.send_model.specs.Laws.{CanWrite};
 ghost use Rattle.send_model.specs.Lengths.{limit};
 ghost use Rattle.sx_base.specs.Calls.{IfAllTold, ErrFoundChanged, IsStop};
-ghost use Rattle.sx_base.specs.Causes.{Steady};
+ghost use Rattle.sx_base.specs.Causes.{Steady, counts};
 ghost use Rattle.sx_base.specs.Refusals.{refusal_of, verdict_meant};
 ghost use Rattle.sx_base.specs.declared.outcome.Outcome.TheVariants as ended;
 ghost use Rattle.send_commands.specs.Meaning.{meaning_of};
@@ -24,14 +24,21 @@ ghost use Rattle.provenance.specs.declared.trace.Trace.{Trace};
 ghost use Rattle.clone_resolve.specs.Taken.{TakenFrom};
 ghost use Rattle.send_model.specs.Cells.{AllCells};
 ghost use Rattle.clone_pieces.specs.Origins.{outside_cells, IsHad, IsInInput, AreAsLong, AreHeld};
-ghost use Rattle.clone_pieces.specs.Sending.{PutEnd};
+ghost use Rattle.clone_pieces.specs.Later.{BytesLater};
+ghost use Rattle.sx_base.specs.Later.{InputsLater, OutputLater};
+ghost use Rattle.clone_pieces.specs.Sending.{output, PutEnd};
 ghost use Rattle.clone_pieces.specs.Redirecting.{seen_cells};
 ghost use Rattle.composer.specs.Kept.{kept_at_start};
+ghost use Rattle.composer.specs.Reached.{over, reached};
 ghost use Rattle.composer.specs.Files.{plan_with};
 ghost use Rattle.composer.specs.Taking.{DataStand, ItemEnd, ErrCausedAgain, StopEnd, EndEnd, is_at_last};
-ghost use Rattle.composer.specs.Adding.{Led, stands_out, begun_with, AddEnd, IsSourceOf, AddsRange};
+ghost use Rattle.composer.specs.Adding.{Led, stands_out, begun_with, AddEnd, IsSourceOf, Adds, range_addition};
 
-use clone_pieces::{Known, OutsideBytes, SendStop, put, put_bytes, redirect, send, uncarried};
+use crate::task::{ReadItem, Task};
+use clone_pieces::{
+    CellRange, Known, OutsideBytes, SendStop, Sources, Target, put, put_bytes, redirect, send,
+    uncarried,
+};
 use clone_resolve::{EditCore, Key, Part, head_of};
 use cmd_reader::Item;
 use extent_map::Extents;
@@ -45,6 +52,14 @@ use uuid::Uuid;
 
 // The most bytes of redirected clones that are written.
 const MOST_LITERAL: u64 = 1 << 40;
+
+// An edit or END whose step was taken, the bytes of its frame as they came, and the key of the last part.
+#[derive(Clone, Copy)]
+struct Edit<'a> {
+    item: &'a Item,
+    frame: &'a [u8],
+    last: Key,
+}
 
 // What a CLONE says: cells of a file of a subvolume go to a place of a file of the part.
 #[derive(Clone, Copy)]
@@ -101,8 +116,8 @@ impl Composer {
         }
     }
 
-    /// One item of the input file with this number, counted from 1, and the bytes of its frame as they came: where they are the
-    /// canonical spelling that is due, they go out as they are. What it adds is written where much is pending; of a clone from an
+    /// One item that was read of a file. Where the bytes of its frame are the canonical spelling that is due, they go out as they
+    /// are. What it adds is written where much is pending; of a clone from an
     /// earlier part what stands for it is written piece by piece, and the bytes of other pieces are read again. What is kept and
     /// written then is said where `bytes` tells; which head came last is said in any case.
     ///
@@ -112,64 +127,63 @@ impl Composer {
     /// outside subvolume, before any of the clone with which they are too many is written.
     pub fn take<I: Inputs, E: Known, B: OutsideBytes, O: Sink>(
         &mut self,
-        item: &Item,
-        frame: &[u8],
-        file: u64,
-        survey: &Survey,
-        files: &[String],
+        read: &ReadItem<'_>,
+        task: &Task<'_, E>,
         inputs: &mut I,
-        known: &E,
         bytes: &mut B,
         out: &mut O,
     ) -> Result<(), Outcome>
-        requires numbered { (1 ≤ file) × (file ≤ length files.now) }
-        requires frame { item.now.canonical ≡ true
-            → frame.now ≡ canonical item.now.version (meaning_of item.now.command) }
-        requires version { (item.now.version ≡ 1) ⊎ (item.now.version ≡ 2) }
-        requires fits { item.now.version ≤ survey.now.version }
-        requires can_write { CanWrite item.now.version (meaning_of item.now.command) }
-        requires payload { item.now.data_at + length (bytes_of (meaning_of item.now.command))
-            ≤ limit }
-        requires had { AllCells (IsHad (length files.now) (E.base known.now)) self.old.state }
-        requires sized { AreAsLong (B.held bytes.old) (outside_cells (E.base known.now)) }
-        requires held { B.tells → AreHeld (B.held bytes.old) (E.base known.now) }
-        requires there { IfAllTold (I.told inputs.old) (map string_bytes files.now)
+        requires numbered { (1 ≤ read.now.file) × (read.now.file ≤ length task.now.files.now) }
+        requires frame { read.now.item.now.canonical ≡ true
+            → read.now.frame.now ≡ canonical read.now.item.now.version
+            (meaning_of read.now.item.now.command) }
+        requires version { (read.now.item.now.version ≡ 1) ⊎ (read.now.item.now.version ≡ 2) }
+        requires fits { read.now.item.now.version ≤ task.now.survey.now.version }
+        requires can_write { CanWrite read.now.item.now.version
+            (meaning_of read.now.item.now.command) }
+        requires payload { read.now.item.now.data_at
+            + length (bytes_of (meaning_of read.now.item.now.command)) ≤ limit }
+        requires had { AllCells (IsHad (length task.now.files.now) (E.base task.now.known.now))
+            self.old.state }
+        requires sized { AreAsLong (B.held bytes.old) (outside_cells (E.base task.now.known.now)) }
+        requires held { B.tells → AreHeld (B.held bytes.old) (E.base task.now.known.now) }
+        requires there { IfAllTold (I.told inputs.old) (map string_bytes task.now.files.now)
             (λ told. AllCells (IsInInput told) self.old.state
-            × DataStand told (item_of file item.now)) }
+            × DataStand told (item_of read.now.file read.now.item.now)) }
         ensures had { OnOk result
-            (AllCells (IsHad (length files.now) (E.base known.now)) self.new.state) }
-        ensures there { OnOk result (IfAllTold (I.told inputs.old) (map string_bytes files.now)
+            (AllCells (IsHad (length task.now.files.now) (E.base task.now.known.now))
+            self.new.state) }
+        ensures there { OnOk result
+            (IfAllTold (I.told inputs.old) (map string_bytes task.now.files.now)
             (λ told. AllCells (IsInInput told) self.new.state)) }
-        ensures same { I.told inputs.new ≡ I.told inputs.old }
-        ensures sizes { AreAsLong (B.held bytes.new) (B.held bytes.old) }
-        ensures held { B.tells → B.held bytes.new ≡ B.held bytes.old }
-        ensures later { I.faults inputs.old ≤ I.faults inputs.new }
-        ensures steady { Steady (I.faults inputs.old) (I.faults inputs.new) result }
-        ensures ends_later { I.ends inputs.old ≤ I.ends inputs.new }
-        ensures ends_steady { Steady (I.ends inputs.old) (I.ends inputs.new) result }
-        ensures bytes_later { B.faults bytes.old ≤ B.faults bytes.new }
-        ensures bytes_steady { Steady (B.faults bytes.old) (B.faults bytes.new) result }
-        ensures out_later { O.faults out.old ≤ O.faults out.new }
-        ensures out_steady { Steady (O.faults out.old) (O.faults out.new) result }
-        ensures cause { ErrCausedAgain (I.ends inputs.old) (I.ends inputs.new)
-            (I.faults inputs.old + B.faults bytes.old) (I.faults inputs.new + B.faults bytes.new)
-            (O.faults out.old) (O.faults out.new) result }
+        ensures inputs { InputsLater I.Inputs inputs.old inputs.new result }
+        ensures bytes { BytesLater B.OutsideBytes bytes.old bytes.new result }
+        ensures out { OutputLater O.Sink out.old out.new result }
+        ensures cause { ErrCausedAgain
+            (counts (I.ends inputs.old) (I.faults inputs.old + B.faults bytes.old)
+            (O.faults out.old))
+            (counts (I.ends inputs.new) (I.faults inputs.new + B.faults bytes.new)
+            (O.faults out.new)) result }
         ensures stops { IfErr result IsStop }
-        ensures changed { ErrFoundChanged (map string_bytes files.now) (I.last_end inputs.new)
-            result }
+        ensures changed { ErrFoundChanged (map string_bytes task.now.files.now)
+            (I.last_end inputs.new) result }
         ensures latest { OnOk result (self.new.latest
-            ≡ first_of (head_of (meaning_of item.now.command)) self.old.latest) }
-        ensures taken { B.tells → IfAllTold (I.told inputs.old) (map string_bytes files.now)
-            (λ told. ItemEnd told (plan_with (E.base known.now) survey.now) self.old self.new
-            (item_of file item.now) (O.taken out.old) (O.taken out.new) result) }
+            ≡ first_of (head_of (meaning_of read.now.item.now.command)) self.old.latest) }
+        ensures taken { B.tells
+            → IfAllTold (I.told inputs.old) (map string_bytes task.now.files.now)
+            (λ told. ItemEnd
+            (over told (plan_with (E.base task.now.known.now) task.now.survey.now))
+            (item_of read.now.file read.now.item.now) (reached self.old (O.taken out.old))
+            (reached self.new (O.taken out.new)) result) }
     {
+        let item = read.item;
         let place = Place {
-            file,
+            file: read.file,
             command: item.number,
             offset: item.offset,
         };
         let origin = Trace::Fresh {
-            file: file - 1,
+            file: read.file - 1,
             at: item.data_at,
         };
         match self.core.step(&mut self.part, &item.command, origin) {
@@ -178,28 +192,23 @@ impl Composer {
             Err(Stop::Refused(refusal)) => return Err(self.refused(place, refusal, out)),
         }
         if let Some(head) = head_of(&item.command) {
-            if !self.in_order(&head.parent, survey) {
+            if !self.in_order(&head.parent, task.survey) {
                 return Err(self.refused(place, Refusal::NotConsecutive, out));
             }
-            return match self.begin_part(&item.command, item.version, head.parent, survey) {
+            return match self.begin_part(&item.command, item.version, head.parent, task.survey) {
                 Ok(()) => Ok(()),
                 Err(_) => Err(Outcome::NoMemory),
             };
         }
-        let Some(last) = survey.last() else {
+        let Some(last) = task.survey.last() else {
             return Ok(());
         };
-        self.add(
+        let edit = Edit {
             item,
-            frame,
-            last.key(),
-            survey,
-            files,
-            inputs,
-            known,
-            bytes,
-            out,
-        )
+            frame: read.frame,
+            last: last.key(),
+        };
+        self.add(&edit, task, inputs, bytes, out)
     }
 
     // Whether a head with this parent follows the part before it, and was seen by the survey.
@@ -249,53 +258,49 @@ impl Composer {
     // Adds what stands for an edit or for END, of which the step was taken.
     fn add<I: Inputs, E: Known, B: OutsideBytes, O: Sink>(
         &mut self,
-        item: &Item,
-        frame: &[u8],
-        last: Key,
-        survey: &Survey,
-        files: &[String],
+        edit: &Edit<'_>,
+        task: &Task<'_, E>,
         inputs: &mut I,
-        known: &E,
         bytes: &mut B,
         out: &mut O,
     ) -> Result<(), Outcome>
-        requires frame { item.now.canonical ≡ true
-            → frame.now ≡ canonical item.now.version (meaning_of item.now.command) }
-        requires edit { head_of (meaning_of item.now.command) ≡ None }
+        requires frame { edit.now.item.now.canonical ≡ true
+            → edit.now.frame.now ≡ canonical edit.now.item.now.version
+            (meaning_of edit.now.item.now.command) }
+        requires edit { head_of (meaning_of edit.now.item.now.command) ≡ None }
         requires led { (before : State (Option Trace)) × (put : List (Option Trace))
-            × Led before self.old.state put (meaning_of item.now.command) }
-        requires version { (item.now.version ≡ 1) ⊎ (item.now.version ≡ 2) }
-        requires fits { item.now.version ≤ survey.now.version }
-        requires can_write { CanWrite item.now.version (meaning_of item.now.command) }
-        requires had { AllCells (IsHad (length files.now) (E.base known.now)) self.old.state }
-        requires sized { AreAsLong (B.held bytes.old) (outside_cells (E.base known.now)) }
-        requires held { B.tells → AreHeld (B.held bytes.old) (E.base known.now) }
-        requires there { IfAllTold (I.told inputs.old) (map string_bytes files.now)
+            × Led before self.old.state put (meaning_of edit.now.item.now.command) }
+        requires version { (edit.now.item.now.version ≡ 1) ⊎ (edit.now.item.now.version ≡ 2) }
+        requires fits { edit.now.item.now.version ≤ task.now.survey.now.version }
+        requires can_write { CanWrite edit.now.item.now.version
+            (meaning_of edit.now.item.now.command) }
+        requires had { AllCells (IsHad (length task.now.files.now) (E.base task.now.known.now))
+            self.old.state }
+        requires sized { AreAsLong (B.held bytes.old) (outside_cells (E.base task.now.known.now)) }
+        requires held { B.tells → AreHeld (B.held bytes.old) (E.base task.now.known.now) }
+        requires there { IfAllTold (I.told inputs.old) (map string_bytes task.now.files.now)
             (λ told. AllCells (IsInInput told) self.old.state) }
         ensures state { self.new.state ≡ self.old.state }
         ensures latest { self.new.latest ≡ self.old.latest }
-        ensures same { I.told inputs.new ≡ I.told inputs.old }
-        ensures sizes { AreAsLong (B.held bytes.new) (B.held bytes.old) }
-        ensures held { B.tells → B.held bytes.new ≡ B.held bytes.old }
-        ensures later { I.faults inputs.old ≤ I.faults inputs.new }
-        ensures steady { Steady (I.faults inputs.old) (I.faults inputs.new) result }
-        ensures ends_later { I.ends inputs.old ≤ I.ends inputs.new }
-        ensures ends_steady { Steady (I.ends inputs.old) (I.ends inputs.new) result }
-        ensures bytes_later { B.faults bytes.old ≤ B.faults bytes.new }
-        ensures bytes_steady { Steady (B.faults bytes.old) (B.faults bytes.new) result }
-        ensures out_later { O.faults out.old ≤ O.faults out.new }
-        ensures out_steady { Steady (O.faults out.old) (O.faults out.new) result }
-        ensures cause { ErrCausedAgain (I.ends inputs.old) (I.ends inputs.new)
-            (I.faults inputs.old + B.faults bytes.old) (I.faults inputs.new + B.faults bytes.new)
-            (O.faults out.old) (O.faults out.new) result }
+        ensures inputs { InputsLater I.Inputs inputs.old inputs.new result }
+        ensures bytes { BytesLater B.OutsideBytes bytes.old bytes.new result }
+        ensures out { OutputLater O.Sink out.old out.new result }
+        ensures cause { ErrCausedAgain
+            (counts (I.ends inputs.old) (I.faults inputs.old + B.faults bytes.old)
+            (O.faults out.old))
+            (counts (I.ends inputs.new) (I.faults inputs.new + B.faults bytes.new)
+            (O.faults out.new)) result }
         ensures stops { IfErr result IsStop }
-        ensures changed { ErrFoundChanged (map string_bytes files.now) (I.last_end inputs.new)
-            result }
-        ensures added { B.tells → IfAllTold (I.told inputs.old) (map string_bytes files.now)
-            (λ told. AddEnd told (E.base known.now) survey.now (key_of last) self.old self.new
-            (meaning_of item.now.command) (O.taken out.old) (O.taken out.new) result) }
+        ensures changed { ErrFoundChanged (map string_bytes task.now.files.now)
+            (I.last_end inputs.new) result }
+        ensures added { B.tells
+            → IfAllTold (I.told inputs.old) (map string_bytes task.now.files.now)
+            (λ told. AddEnd
+            (over told (plan_with (E.base task.now.known.now) task.now.survey.now))
+            (key_of edit.now.last) (meaning_of edit.now.item.now.command)
+            (reached self.old (O.taken out.old)) (reached self.new (O.taken out.new)) result) }
     {
-        match &item.command {
+        match &edit.item.command {
             Command::End => {
                 let low = self.sum <= MOST_LITERAL;
                 prove!(low);
@@ -327,17 +332,17 @@ impl Composer {
                 };
                 if self.is_own(*clone_uuid) {
                     return self
-                        .add_own(&range, last, survey, out)
+                        .add_own(&range, edit.last, task.survey, out)
                         .map_err(Outcome::from);
                 }
-                if !survey.has_part(*clone_uuid) {
-                    return put_item(item, frame, survey.version(), &mut self.pending, out).map_err(
+                if !task.survey.has_part(*clone_uuid) {
+                    return put_item(edit, task.survey.version(), &mut self.pending, out).map_err(
                         Outcome::from,
                     );
                 }
-                self.add_redirected(&range, survey, files, inputs, known, bytes, out)
+                self.add_redirected(&range, task, inputs, bytes, out)
             }
-            _ => put_item(item, frame, survey.version(), &mut self.pending, out).map_err(
+            _ => put_item(edit, task.survey.version(), &mut self.pending, out).map_err(
                 Outcome::from,
             ),
         }
@@ -368,11 +373,11 @@ impl Composer {
         ensures sum { self.new.sum ≡ self.old.sum }
         ensures later { O.faults out.old ≤ O.faults out.new }
         ensures steady { Steady (O.faults out.old) (O.faults out.new) result }
-        ensures put { PutEnd (O.taken out.old) (O.taken out.new) self.old.pending self.new.pending
+        ensures put { PutEnd (output O.Sink out.old self.old.pending)
+            (output O.Sink out.new self.new.pending)
             (canonical survey.now.version
             (Clone range.now.path.now range.now.offset (key_of last).uuid (key_of last).ctransid
-            range.now.source_path.now range.now.from range.now.len))
-            (O.faults out.old) (O.faults out.new) result }
+            range.now.source_path.now range.now.from range.now.len)) result }
     {
         let Ok(path) = copied(self.alloc, range.path) else {
             return Err(SendStop::NoMemory);
@@ -398,10 +403,8 @@ impl Composer {
     fn add_redirected<I: Inputs, E: Known, B: OutsideBytes, O: Sink>(
         &mut self,
         range: &Range<'_>,
-        survey: &Survey,
-        files: &[String],
+        task: &Task<'_, E>,
         inputs: &mut I,
-        known: &E,
         bytes: &mut B,
         out: &mut O,
     ) -> Result<(), Outcome>
@@ -409,61 +412,58 @@ impl Composer {
             × TakenFrom before self.old.state range.now.path.now range.now.offset
             (key_of range.now.source) range.now.source_path.now range.now.from range.now.len }
         requires short { length range.now.path.now < 2 ^ 16 }
-        requires had { AllCells (IsHad (length files.now) (E.base known.now)) self.old.state }
-        requires sized { AreAsLong (B.held bytes.old) (outside_cells (E.base known.now)) }
-        requires held { B.tells → AreHeld (B.held bytes.old) (E.base known.now) }
-        requires there { IfAllTold (I.told inputs.old) (map string_bytes files.now)
+        requires had { AllCells (IsHad (length task.now.files.now) (E.base task.now.known.now))
+            self.old.state }
+        requires sized { AreAsLong (B.held bytes.old) (outside_cells (E.base task.now.known.now)) }
+        requires held { B.tells → AreHeld (B.held bytes.old) (E.base task.now.known.now) }
+        requires there { IfAllTold (I.told inputs.old) (map string_bytes task.now.files.now)
             (λ told. AllCells (IsInInput told) self.old.state) }
         ensures state { self.new.state ≡ self.old.state }
         ensures latest { self.new.latest ≡ self.old.latest }
-        ensures same { I.told inputs.new ≡ I.told inputs.old }
-        ensures sizes { AreAsLong (B.held bytes.new) (B.held bytes.old) }
-        ensures held { B.tells → B.held bytes.new ≡ B.held bytes.old }
-        ensures later { I.faults inputs.old ≤ I.faults inputs.new }
-        ensures steady { Steady (I.faults inputs.old) (I.faults inputs.new) result }
-        ensures ends_later { I.ends inputs.old ≤ I.ends inputs.new }
-        ensures ends_steady { Steady (I.ends inputs.old) (I.ends inputs.new) result }
-        ensures bytes_later { B.faults bytes.old ≤ B.faults bytes.new }
-        ensures bytes_steady { Steady (B.faults bytes.old) (B.faults bytes.new) result }
-        ensures out_later { O.faults out.old ≤ O.faults out.new }
-        ensures out_steady { Steady (O.faults out.old) (O.faults out.new) result }
-        ensures cause { ErrCausedAgain (I.ends inputs.old) (I.ends inputs.new)
-            (I.faults inputs.old + B.faults bytes.old) (I.faults inputs.new + B.faults bytes.new)
-            (O.faults out.old) (O.faults out.new) result }
+        ensures inputs { InputsLater I.Inputs inputs.old inputs.new result }
+        ensures bytes { BytesLater B.OutsideBytes bytes.old bytes.new result }
+        ensures out { OutputLater O.Sink out.old out.new result }
+        ensures cause { ErrCausedAgain
+            (counts (I.ends inputs.old) (I.faults inputs.old + B.faults bytes.old)
+            (O.faults out.old))
+            (counts (I.ends inputs.new) (I.faults inputs.new + B.faults bytes.new)
+            (O.faults out.new)) result }
         ensures stops { IfErr result IsStop }
-        ensures changed { ErrFoundChanged (map string_bytes files.now) (I.last_end inputs.new)
-            result }
-        ensures added { B.tells → IfAllTold (I.told inputs.old) (map string_bytes files.now)
+        ensures changed { ErrFoundChanged (map string_bytes task.now.files.now)
+            (I.last_end inputs.new) result }
+        ensures added { B.tells
+            → IfAllTold (I.told inputs.old) (map string_bytes task.now.files.now)
             (λ told. (cells : List (Option Trace))
             → IsSourceOf cells self.old.state (key_of range.now.source) range.now.source_path.now
-            → AddsRange (E.base known.now) survey.now.version range.now.path.now range.now.offset
-            (seen_cells told (E.base known.now) (cells_between range.now.from range.now.len cells))
-            self.old self.new (O.taken out.old) (O.taken out.new) result) }
+            → Adds (range_addition (E.base task.now.known.now) task.now.survey.now.version
+            range.now.path.now range.now.offset (seen_cells told (E.base task.now.known.now)
+            (cells_between range.now.from range.now.len cells)))
+            (reached self.old (O.taken out.old)) (reached self.new (O.taken out.new)) result) }
     {
         let Some(contents) = contents_of(&self.core, range.source, range.source_path) else {
             return Err(Outcome::NoMemory);
         };
-        let sum = self.sum + uncarried(contents, range.from, range.len, known);
+        let sum = self.sum + uncarried(contents, range.from, range.len, task.known);
         if sum > MOST_LITERAL {
             return Err(ended(Outcome::TooMuch { sum }, &mut self.pending, out));
         }
         self.sum = sum;
-        redirect(
-            self.alloc,
-            range.path,
-            range.offset,
+        let cells = CellRange {
+            to: Target {
+                path: range.path,
+                offset: range.offset,
+                version: task.survey.version(),
+            },
             contents,
-            range.from,
-            range.len,
-            survey.version(),
-            files,
-            inputs,
-            known,
-            bytes,
-            &mut self.pending,
-            out,
-        )
-        .map_err(Outcome::from)
+            from: range.from,
+            len: range.len,
+        };
+        let sources = Sources {
+            alloc: self.alloc,
+            files: task.files,
+            known: task.known,
+        };
+        redirect(&cells, &sources, inputs, bytes, &mut self.pending, out).map_err(Outcome::from)
     }
 
     /// Whether the head that came last is that of the last part. Where no part has begun, it is not.
@@ -487,8 +487,8 @@ impl Composer {
               offset = place.offset;
               refusal = refusal_of refusal;
             })
-            × StopEnd self.old.pending self.new.pending (O.taken out.old) (O.taken out.new)
-            (O.faults out.old) (O.faults out.new) (ended.Refused verdict) result }
+            × StopEnd (output O.Sink out.old self.old.pending)
+            (output O.Sink out.new self.new.pending) (ended.Refused verdict) result }
     {
         self.stopped(Outcome::Refused(place.refused(refusal)), out)
     }
@@ -499,8 +499,8 @@ impl Composer {
     pub fn stopped<O: Sink>(&mut self, outcome: Outcome, out: &mut O) -> Outcome
         ensures later { O.faults out.old ≤ O.faults out.new }
         ensures stops { IsStop outcome → IsStop result }
-        ensures stopped { StopEnd self.old.pending self.new.pending
-            (O.taken out.old) (O.taken out.new) (O.faults out.old) (O.faults out.new) outcome result }
+        ensures stopped { StopEnd (output O.Sink out.old self.old.pending)
+            (output O.Sink out.new self.new.pending) outcome result }
     {
         ended(outcome, &mut self.pending, out)
     }
@@ -530,24 +530,24 @@ impl Composer {
 
 // Adds an item's command as it is: its frame as it came, where that is the canonical spelling of the version, or spelled anew.
 fn put_item<O: Sink>(
-    item: &Item,
-    frame: &[u8],
+    edit: &Edit<'_>,
     version: u32,
     pending: &mut Blob,
     out: &mut O,
 ) -> Result<(), SendStop>
-    requires frame { item.now.canonical ≡ true
-        → frame.now ≡ canonical item.now.version (meaning_of item.now.command) }
-    requires writable { IsWritable version (meaning_of item.now.command) }
-    requires short { IsShortEnough version (meaning_of item.now.command) }
+    requires frame { edit.now.item.now.canonical ≡ true
+        → edit.now.frame.now ≡ canonical edit.now.item.now.version
+        (meaning_of edit.now.item.now.command) }
+    requires writable { IsWritable version (meaning_of edit.now.item.now.command) }
+    requires short { IsShortEnough version (meaning_of edit.now.item.now.command) }
     ensures later { O.faults out.old ≤ O.faults out.new }
     ensures steady { Steady (O.faults out.old) (O.faults out.new) result }
-    ensures put { PutEnd (O.taken out.old) (O.taken out.new) pending.old pending.new
-        (canonical version (meaning_of item.now.command)) (O.faults out.old) (O.faults out.new)
-        result }
+    ensures put { PutEnd (output O.Sink out.old pending.old) (output O.Sink out.new pending.new)
+        (canonical version (meaning_of edit.now.item.now.command)) result }
 {
+    let item = edit.item;
     if item.canonical && item.version == version {
-        return put_bytes(frame, pending, out);
+        return put_bytes(edit.frame, pending, out);
     }
     put(&item.command, version, pending, out)
 }
@@ -572,8 +572,8 @@ fn contents_of<'a>(core: &'a EditCore<Trace>, key: Key, path: &[u8]) -> Option<&
 fn ended<O: Sink>(outcome: Outcome, pending: &mut Blob, out: &mut O) -> Outcome
     ensures later { O.faults out.old ≤ O.faults out.new }
     ensures stops { IsStop outcome → IsStop result }
-    ensures stopped { StopEnd pending.old pending.new (O.taken out.old) (O.taken out.new)
-        (O.faults out.old) (O.faults out.new) outcome result }
+    ensures stopped { StopEnd (output O.Sink out.old pending.old)
+        (output O.Sink out.new pending.new) outcome result }
 {
     if let Outcome::InputFault | Outcome::NoMemory = outcome {
         return outcome;

@@ -2,7 +2,9 @@
 #![tactic(auto)]
 
 mod composing;
+mod task;
 mod whole;
 
 pub use composing::Composer;
+pub use task::{ReadItem, Task};
 pub use whole::{compose, compose_over};

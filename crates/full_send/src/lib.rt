@@ -7,6 +7,7 @@ mod entries;
 mod flags;
 mod naming;
 mod pending;
+mod places;
 mod restoring;
 mod sending;
 

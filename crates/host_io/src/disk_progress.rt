@@ -1,6 +1,7 @@
 // A disk that says on a terminal how far it is read.
 ghost use Rattle.std.specs.Prelude.{◌≡◌};
 
+use crate::line::HowFar;
 use crate::progress::millis_of;
 use crate::screen::Screen;
 use std::alloc::Global;
@@ -55,7 +56,13 @@ impl<'a, D: Disk, C: Clock, S: Sink> DiskProgress<'a, D, C, S> {
         let Ok(mut screen) = self.screen.try_borrow_mut() else {
             return;
         };
-        let _ = screen.say(self.alloc, now, self.name.as_str(), 1, done, self.all);
+        let how_far = HowFar {
+            name: self.name.as_str(),
+            pass: 1,
+            done,
+            all: self.all,
+        };
+        let _ = screen.say(self.alloc, now, &how_far);
     }
 }
 

@@ -16,7 +16,7 @@ mod progress;
 mod screen;
 
 pub use disk_progress::DiskProgress;
-pub use line::line_of;
+pub use line::{HowFar, line_of};
 pub use no_disk::NoDisk;
 pub use out_sink::OutSink;
 pub use path_inputs::PathInputs;

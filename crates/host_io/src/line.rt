@@ -13,20 +13,28 @@ const END: usize = 27;
 // So many columns of a terminal the text takes at the most: one less than a terminal of 80 has.
 const COLUMNS: usize = 79;
 
+/// How far a run is.
+#[derive(Debug, Clone, Copy)]
+pub struct HowFar<'a> {
+    /// The name of the file that is read.
+    pub name: &'a str,
+    /// The number of the pass.
+    pub pass: u64,
+    /// How many bytes of the pass are read.
+    pub done: u64,
+    /// Of how many, if this is known.
+    pub all: Option<u64>,
+}
+
 /// The line that says how far a run is: it goes to the first column, says the file that is read, the number of the pass,
 /// and how many bytes of the pass are read of how many, and clears what stood behind. But for the four bytes that move
 /// and clear, it is at most 79 columns wide.
-pub fn line_of(
-    alloc: Global,
-    name: &str,
-    pass: u64,
-    done: u64,
-    all: Option<u64>,
-) -> Result<Blob, AllocError>
-    ensures says { IfOk result (λ line. line ≡ line_of name.now pass done all) }
+pub fn line_of(alloc: Global, how_far: &HowFar<'_>) -> Result<Blob, AllocError>
+    ensures says { IfOk result (λ line. line ≡ line_of how_far.now.name.now how_far.now.pass
+        how_far.now.done how_far.now.all) }
     ensures fits { IfOk result (λ line. length line ≤ 79 + 4) }
 {
-    let text = whole_text(alloc, name, pass, done, all)?;
+    let text = whole_text(alloc, how_far)?;
     let mut line = Blob::new(alloc);
     line.push_all(b"\r")?;
     line.push_all(front(text.as_slice(), COLUMNS))?;
@@ -35,24 +43,19 @@ pub fn line_of(
 }
 
 // The text before it is cut to the columns of a terminal.
-fn whole_text(
-    alloc: Global,
-    name: &str,
-    pass: u64,
-    done: u64,
-    all: Option<u64>,
-) -> Result<Blob, AllocError>
-    ensures { IfOk result (λ text. take 79 text ≡ text_of name.now pass done all) }
+fn whole_text(alloc: Global, how_far: &HowFar<'_>) -> Result<Blob, AllocError>
+    ensures { IfOk result (λ text. take 79 text ≡ text_of how_far.now.name.now how_far.now.pass
+        how_far.now.done how_far.now.all) }
 {
     let mut shown = Blob::new(alloc);
-    escape_into(name.as_bytes(), &mut shown)?;
+    escape_into(how_far.name.as_bytes(), &mut shown)?;
     let mut text = Blob::new(alloc);
     text.push_all(b"btrsend: reading ")?;
     push_ending(shown.as_slice(), &mut text)?;
     text.push_all(b", pass ")?;
-    push_number(pass, &mut text)?;
+    push_number(how_far.pass, &mut text)?;
     text.push_all(b", ")?;
-    push_amounts(done, all, &mut text)?;
+    push_amounts(how_far.done, how_far.all, &mut text)?;
     Ok(text)
 }
 

@@ -1,7 +1,7 @@
 // Files of the system, named by their paths.
 ghost use Rattle.std.specs.Prelude.{◌≡◌, ◌≤◌, length, string_bytes, IfOk, OnOk, None};
 ghost use Rattle.sx_base.specs.Again.{FillsFrom, EndsKept, LostFor, MeetsEnd};
-ghost use Rattle.sx_base.specs.Causes.{HasCause, Rose, Steady};
+ghost use Rattle.sx_base.specs.Causes.{HasCause, Rose, Steady, counts};
 ghost use Rattle.sx_base.specs.Outside.{GivesAt};
 ghost use Rattle.host_io.specs.Counting.{one_more, CountsFaults, CountsLosses};
 
@@ -262,8 +262,9 @@ impl<'a, R: Files> Inputs for PathInputs<'a, R> {
         ensures bytes { OnOk result (FillsFrom None name.now at buf.new) }
         ensures later { self.old.faults ≤ self.new.faults }
         ensures ends { EndsKept None self.old.ends self.new.ends }
-        ensures cause { LostFor None at (length buf.new) self.old.faults self.new.faults self.old.ends
-            self.new.ends result }
+        ensures cause { LostFor None at (length buf.new)
+            (counts self.old.ends self.old.faults 0) (counts self.new.ends self.new.faults 0)
+            result }
         ensures met { MeetsEnd name.now
             (record { name = string_bytes self.new.last_name; place = self.new.last_place }) result }
         ensures steady { Steady self.old.faults self.new.faults result }

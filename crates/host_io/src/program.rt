@@ -150,42 +150,51 @@ fn run_words<O: Sink, N: Sink, D: Disk + Drop>(
         &mut disk,
     );
     if is_wanted(rt) {
-        explain_run(rt, rt.alloc(), words, status, why, &inputs, notes);
+        let ended = EndedRun {
+            alloc: rt.alloc(),
+            words,
+            status,
+            why,
+        };
+        explain_run(rt, &ended, &inputs, notes);
     }
     Ok(status)
+}
+
+// A run that is over: its words, its status, and why the store could not be opened, where it could not. And where memory comes from.
+#[derive(Debug, Drop)]
+struct EndedRun<'a> {
+    alloc: Global,
+    words: &'a [String],
+    status: u8,
+    why: Option<OpenStop>,
 }
 
 // Writes the second line of a run, for people, with what the system said.
 fn explain_run<R: Files, N: Sink>(
     files: &R,
-    alloc: Global,
-    words: &[String],
-    status: u8,
-    why: Option<OpenStop>,
+    ended: &EndedRun<'_>,
     inputs: &PathInputs<'_, R>,
     notes: &mut KeptNotes<N>,
 ) {
-    let mut trouble = Blob::new(alloc);
-    if put_trouble(alloc, words, status, why, inputs, &mut trouble).is_ok() {
-        explain(files, alloc, words, trouble.as_slice(), notes);
+    let mut trouble = Blob::new(ended.alloc);
+    if put_trouble(ended, inputs, &mut trouble).is_ok() {
+        explain(files, ended.alloc, ended.words, trouble.as_slice(), notes);
     }
 }
 
 // What the system said of the file or the store that failed.
 fn put_trouble<R: Files>(
-    alloc: Global,
-    words: &[String],
-    status: u8,
-    why: Option<OpenStop>,
+    ended: &EndedRun<'_>,
     inputs: &PathInputs<'_, R>,
     to: &mut Blob,
 ) -> Result<(), AllocError> {
-    match status {
-        INPUT_FAULT => put_input_trouble(alloc, inputs, to),
+    match ended.status {
+        INPUT_FAULT => put_input_trouble(ended.alloc, inputs, to),
         STORE_FAULT => {
-            escape_into(store_word(words).unwrap_or("").as_bytes(), to)?;
+            escape_into(store_word(ended.words).unwrap_or("").as_bytes(), to)?;
             to.push_all(b": ")?;
-            put_store_trouble(alloc, why, to)?;
+            put_store_trouble(ended.alloc, ended.why.as_ref(), to)?;
             to.push_all(b"; ")
         }
         _ => Ok(()),
@@ -213,7 +222,7 @@ fn put_input_trouble<R: Files>(
 
 fn put_store_trouble(
     alloc: Global,
-    why: Option<OpenStop>,
+    why: Option<&OpenStop>,
     to: &mut Blob,
 ) -> Result<(), AllocError> {
     match why {
@@ -286,7 +295,13 @@ fn run_shown<D: Disk + Drop>(
         )
     };
     end_line(&screen);
-    explain_run(rt, alloc, words, status, why, inputs.inputs(), &mut notes);
+    let ended = EndedRun {
+        alloc,
+        words,
+        status,
+        why,
+    };
+    explain_run(rt, &ended, inputs.inputs(), &mut notes);
     status
 }
 

@@ -1,10 +1,11 @@
 // Inputs that say on a terminal how far a run is.
 ghost use Rattle.std.specs.Prelude.{◌≡◌, ◌≤◌, ◌==◌, ◌&&◌, ◌||◌, not, false, true, length, bytes_eq, string_bytes, IfOk, OnOk, OnErr};
 ghost use Rattle.sx_base.specs.Again.{LiesIn, FillsFrom, EndsKept, LostFor, MeetsEnd};
-ghost use Rattle.sx_base.specs.Causes.{HasCause, Steady};
+ghost use Rattle.sx_base.specs.Causes.{HasCause, Steady, counts};
 ghost use Rattle.sx_base.specs.Outside.{GivesAt};
 ghost use Rattle.host_io.specs.Showing.{next_pass, next_done, next_ended};
 
+use crate::line::HowFar;
 use crate::screen::Screen;
 use std::alloc::Global;
 use std::cell::RefCell;
@@ -113,8 +114,13 @@ impl<'a, I: Inputs, C: Clock, S: Sink> Progress<'a, I, C, S> {
         let Ok(mut screen) = self.screen.try_borrow_mut() else {
             return;
         };
-        let tally = self.tally;
-        let _ = screen.say(self.alloc, now, name, tally.pass, tally.done, self.all);
+        let how_far = HowFar {
+            name,
+            pass: self.tally.pass,
+            done: self.tally.done,
+            all: self.all,
+        };
+        let _ = screen.say(self.alloc, now, &how_far);
     }
 }
 
@@ -175,8 +181,8 @@ impl<'a, I: Inputs, C: Clock, S: Sink> Inputs for Progress<'a, I, C, S> {
         ensures ends { EndsKept (I.told self.old.inputs)
             (I.ends self.old.inputs) (I.ends self.new.inputs) }
         ensures cause { LostFor (I.told self.old.inputs) at (length buf.new)
-            (I.faults self.old.inputs) (I.faults self.new.inputs)
-            (I.ends self.old.inputs) (I.ends self.new.inputs) result }
+            (counts (I.ends self.old.inputs) (I.faults self.old.inputs) 0)
+            (counts (I.ends self.new.inputs) (I.faults self.new.inputs) 0) result }
         ensures met { MeetsEnd name.now (I.last_end self.new.inputs) result }
         ensures steady { Steady (I.faults self.old.inputs) (I.faults self.new.inputs) result }
         ensures ends_steady { Steady (I.ends self.old.inputs) (I.ends self.new.inputs) result }

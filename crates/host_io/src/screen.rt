@@ -5,7 +5,7 @@ ghost use Rattle.sx_base.specs.Causes.{HasCause, Rose};
 ghost use Rattle.sx_base.specs.Outside.{AppendsPart};
 ghost use Rattle.host_io.specs.Showing.{line_of, Shows, taken_back};
 
-use crate::line::line_of;
+use crate::line::{HowFar, line_of};
 use std::alloc::{AllocError, Global};
 use std::cell::RefCell;
 use sx_base::{Failed, Sink, write_whole};
@@ -39,24 +39,16 @@ impl<S: Sink> Screen<S> {
         }
     }
 
-    /// Says how far a run is: the terminal takes its line for these numbers, or a part of it where the sink's count of faults rose; the
+    /// Says how far a run is: the terminal takes its line for this, or a part of it where the sink's count of faults rose; the
     /// next one may come a fifth of a second later. Nothing where it is too early, or with an error that there is no memory.
-    pub fn say(
-        &mut self,
-        alloc: Global,
-        now: u64,
-        name: &str,
-        pass: u64,
-        done: u64,
-        all: Option<u64>,
-    ) -> Result<(), AllocError>
+    pub fn say(&mut self, alloc: Global, now: u64, how_far: &HowFar<'_>) -> Result<(), AllocError>
         ensures early { now < self.old.next → self.new ≡ self.old }
         ensures says { Shows (S.taken self.old.sink) (S.taken self.new.sink)
-            (line_of name.now pass done all) }
+            (line_of how_far.now.name.now how_far.now.pass how_far.now.done how_far.now.all) }
         ensures whole { self.old.next ≤ now
             → OnOk result
             (Appends (S.taken self.old.sink) (S.taken self.new.sink)
-            (line_of name.now pass done all)
+            (line_of how_far.now.name.now how_far.now.pass how_far.now.done how_far.now.all)
             ⊎ Rose (S.faults self.old.sink) (S.faults self.new.sink)) }
         ensures shown { self.old.next ≤ now → OnOk result (self.new.shown ≡ true) }
         ensures next { self.old.next ≤ now
@@ -67,7 +59,7 @@ impl<S: Sink> Screen<S> {
         if now < self.next {
             return Ok(());
         }
-        let line = line_of(alloc, name, pass, done, all)?;
+        let line = line_of(alloc, how_far)?;
         if let Err(Failed) = self.show(now, line.as_slice()) {
             return Ok(());
         }

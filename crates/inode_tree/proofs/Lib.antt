@@ -10,5 +10,6 @@ pub mod OpeningLaws
 pub mod OtherContents
 pub mod PlainSteps
 pub mod RenameSteps
+pub mod Standing
 pub mod TreeLaws
 pub mod Walks

@@ -1,6 +1,6 @@
 // Changing what an inode says of itself.
-ghost use Rattle.std.specs.Prelude.{◌≡◌, ◌%◌, if◌then◌else◌, IfOk, OnOk};
-ghost use Rattle.send_model.specs.Subvolume.{is_file};
+ghost use Rattle.std.specs.Prelude.{◌≡◌, ◌%◌, if◌then◌else◌, IfOk, OnOk, IsTrue, is_some};
+ghost use Rattle.send_model.specs.Subvolume.{IsSound, inode_at, is_file};
 ghost use Rattle.send_model.specs.Clone.{cells_of};
 ghost use Rattle.send_model.specs.Edit as edit;
 ghost use Rattle.sx_base.specs.Answers.{MayChange};
@@ -120,7 +120,7 @@ impl<O: Origin> Tree<O> {
         let given = std::mem::replace(contents, Extents::new(self.alloc));
         let mut edit = InShared::new(self.alloc, Swapping::new(given));
         if !self.inodes.edit(&ino, &mut edit)? {
-            return Err(AllocError);
+            unreachable!()
         }
         self.copied = one_more_if(self.copied, edit.copied());
         *contents = edit.into_inner().into_contents();
@@ -150,6 +150,7 @@ impl<O: Origin> Tree<O> {
 
     // A change of an inode that is there. An inode that another tree shares is copied first.
     fn change(&mut self, ino: u64, change: &Change<'_>) -> Result<(), AllocError>
+        requires { IsSound self.old → IsTrue (is_some (inode_at self.old ino)) }
         ensures { OnOk result (self.new ≡ edit.change_inode ino (changed change.now) self.old) }
     {
         if !self.whole {
@@ -158,7 +159,7 @@ impl<O: Origin> Tree<O> {
         self.whole = false;
         let mut edit = InShared::new(self.alloc, Changing::new(self.alloc, change));
         if !self.inodes.edit(&ino, &mut edit)? {
-            return Err(AllocError);
+            unreachable!()
         }
         self.copied = one_more_if(self.copied, edit.copied());
         self.whole = true;

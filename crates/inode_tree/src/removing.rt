@@ -81,7 +81,7 @@ impl<O: Origin> Tree<O> {
             return Ok(());
         }
         let Some(inode) = self.inodes.remove(&ino)? else {
-            return Err(Stop::NoMemory);
+            unreachable!()
         };
         if inode.get().is_directory() {
             self.names.insert(place, ino)?;

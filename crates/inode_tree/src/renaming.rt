@@ -46,7 +46,7 @@ impl<O: Origin> Tree<O> {
             return Ok(());
         }
         let Some(there) = self.named(&to) else {
-            return Err(Stop::NoMemory);
+            unreachable!()
         };
         if there == moved {
             return Ok(());

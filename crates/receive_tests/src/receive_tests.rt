@@ -1,7 +1,7 @@
 // Files that are received over objects in memory. The frames and the store are from another program.
 use disk_model::{FuseDisk, MemDisk};
 use guard_rules::{AnyGuard, GuardSpec};
-use part_names::PartNames;
+use part_names::{NamedFiles, PartNames};
 use receiver::{GuardList, Received, receive};
 use std::alloc::{AllocError, Global};
 use std::test::Fail;
@@ -71,16 +71,13 @@ pub(crate) fn received<D: Disk>(
     let mut store = Store::open(disk, alloc)?;
     let Files { mut inputs, names } = input_files(alloc, all)?;
     let mut guards = guards_of(alloc, most)?;
-    let end = receive(
+    let part_names = PartNames::none(alloc);
+    let given = NamedFiles {
         alloc,
-        &mut store,
-        disk,
-        &mut inputs,
-        &names,
-        &PartNames::none(alloc),
-        &mut guards,
-        out,
-    );
+        files: names.as_slice(),
+        names: &part_names,
+    };
+    let end = receive(&given, &mut store, disk, &mut inputs, &mut guards, out);
     Ok(end)
 }
 
@@ -269,8 +266,13 @@ fn a_part_whose_line_fails_is_complete(rt: HostRuntime) -> Result<(), Fail> {
 fn word_ends(alloc: Global, disk: &mut MemDisk, out: &mut MemSink) -> Result<StoreEnd, AllocError> {
     let Files { mut inputs, names } = input_files(alloc, &[A])?;
     let mut guards = guards_of(alloc, 100)?;
-    let own = PartNames::none(alloc);
-    Ok(receive_store(alloc, disk, &mut inputs, &names, &own, &mut guards, out))
+    let part_names = PartNames::none(alloc);
+    let given = NamedFiles {
+        alloc,
+        files: names.as_slice(),
+        names: &part_names,
+    };
+    Ok(receive_store(&given, disk, &mut inputs, &mut guards, out))
 }
 
 #[test]

@@ -21,8 +21,9 @@ use Rattle.store_model.proofs.PassedStates.{IsOn}
 use Rattle.auditor.specs.Following.{then_read, file_read, read_whole}
 use Rattle.store_journal.specs.Shown.{StoreState}
 use Rattle.receiver.specs.declared.outcome.Received.{Received}
-use Rattle.receiver.specs.Running.{Spot, IsAt, Leads, Stops, IsLeft}
-use Rattle.receiver.specs.FileEnds.{named_read, then_others, FileEnds, AllEnds}
+use Rattle.receiver.specs.Running.{Spot, IsAt}
+use Rattle.receiver.specs.FileEnds.{named_read, then_others}
+use Rattle.receiver.proofs.Unpacked.{Leads, Stops, IsLeft, FileEnds, AllEnds}
 use Rattle.receiver.proofs.NamedReads.{split_named}
 use Rattle.receiver.proofs.Leading.{leads_none, leads_on}
 use Rattle.receiver.proofs.LeftGroups.{left_on}
@@ -142,5 +143,6 @@ all_end (Some table) new_names names number limit base spot guards store out out
       lines = s.lines;
       leads = s.leads;
       wrote = s.wrote;
+      none = s.none;
       disk = s.disk;
     }

@@ -2,7 +2,7 @@
 use Rattle.std.specs.Prelude.{◌≡◌, ℕ, List, [], ◌++◌, Option, None, Some, Result, Ok, Err}
 use Rattle.std.specs.List.{filter, flat_map}
 use Rattle.std.proofs.Common.{sym, ap, subst, ◌∙◌, append-nil}
-use Rattle.sx_base.specs.Disk.{Pending}
+use Rattle.sx_base.specs.declared.disk.Disk as keeping
 use Rattle.sx_base.specs.Crash.{LeavesOnly}
 use Rattle.sx_base.specs.Calls.{IfAllTold, Wrote}
 use Rattle.sx_base.proofs.Ended.{stopped_steady}
@@ -27,10 +27,10 @@ use Rattle.store_journal.specs.Holding.{HasThese, Holds}
 use Rattle.receiver.specs.declared.outcome.Received.{Received}
 use Rattle.receiver.specs.declared.outcome.Received.TheVariants as how
 use Rattle.receiver.specs.Answers.{IsEnd}
-use Rattle.receiver.specs.Disks.{Keeps, HasFront, RunsOn, LeavesOn, StopsOn}
-use Rattle.receiver.specs.Running.{first_spot, IsAt, Stops, IsLineFront, IsLeft}
-use Rattle.receiver.specs.FileEnds.{AllTaken, AllEnds}
-use Rattle.receiver.specs.ReceiveEnds.{ReceiveEnds, AreLeft, LeavesMore, SteadyIfReceived}
+use Rattle.receiver.specs.Disks.{shown, HasFront, work, RunsOn, LeavesOn, StopsOn}
+use Rattle.receiver.specs.Running.{first_spot, IsAt, IsLineFront}
+use Rattle.receiver.specs.ReceiveEnds.{LeavesMore, SteadyIfReceived}
+use Rattle.receiver.proofs.Unpacked.{Keeps, Stops, IsLeft, AllTaken, AllEnds, ReceiveEnds, AreLeft}
 use Rattle.receiver.proofs.TakenItems.{due_same}
 use Rattle.receiver.proofs.DiskRuns.{leaves_then}
 use Rattle.receiver.proofs.LeftGroups.{left_then, left_all}
@@ -114,33 +114,33 @@ module _ (limit gate : ℕ) (base : Store ℕ) (guards : List Guard) (names : Na
     whole = s.whole;
   }
 
-  module _ {D : Type 0} (tells : Type 0) (moment : D → ℕ) (left_since : D → ℕ → List ℕ → Type 0) (seen : D → List ℕ) (pending : D → Pending) (was now : D) (next_guards : List Guard) (before store : StoreState) (old new : Option (List ℕ)) where
+  module _ {D : Type 0} (ghosts : keeping.Ghosts D) (was now : D) (next_guards : List Guard) (before store : StoreState) (old new : Option (List ℕ)) where
     abbrev pub Says : List (List ℕ) → Received → List ℕ → Type 0
-    Says files why written = ReceiveEnds limit gate base guards (with_names names files) why store.core written × LeavesMore tells seen pending was now before store why (AreLeft limit gate base guards (with_names names files) why written)
+    Says files why written = ReceiveEnds limit gate base guards (with_names names files) why store.core written × LeavesMore ghosts.tells (shown ghosts was before) (shown ghosts now store) why (AreLeft limit gate base guards (with_names names files) why written)
 
     abbrev EndsAs : Result (Unit {0}) Received → List (List ℕ) → Type 0
-    EndsAs r files = AllEnds names limit base (first_spot gate base guards) next_guards store old new (RunsOn tells moment left_since seen pending was now None None None before store) (LeavesOn tells moment left_since seen pending was now None None before)
-        (StopsOn tells seen pending was now None None before store) r files
+    EndsAs r files = AllEnds names limit base (first_spot gate base guards) next_guards store old new (RunsOn ghosts (work was before None) (work now store None) None) (LeavesOn ghosts (work was before None) now None)
+        (StopsOn ghosts (work was before None) (work now store None)) r files
 
-    whole_left : (files : List (List ℕ)) (t : AllTaken names limit base (first_spot gate base guards) next_guards store old new (RunsOn tells moment left_since seen pending was now None None None before store) files)
-        → LeavesMore tells seen pending was now before store (how.Files ended.Done) (AreLeft limit gate base guards (with_names names files) (how.Files ended.Done) t.lines)
+    whole_left : (files : List (List ℕ)) (t : AllTaken names limit base (first_spot gate base guards) next_guards store old new (RunsOn ghosts (work was before None) (work now store None) None) files)
+        → LeavesMore ghosts.tells (shown ghosts was before) (shown ghosts now store) (how.Files ended.Done) (AreLeft limit gate base guards (with_names names files) (how.Files ended.Done) t.lines)
     whole_left files t told header groups holds =
-        let H : List Group → Type 0 = λ first. Holds header (groups ++ first) store (seen now) (pending now) in
+        let H : List Group → Type 0 = λ first. Holds header (groups ++ first) store (ghosts.seen now) (ghosts.pending now) in
         first_left (how.Files ended.Done) files t.lines H
         (subst (λ (l : Limited). IsLeft (how.Files ended.Done) limit base (first_spot gate base guards) l t.lines H) (sym t.read)
         (left_all ended.Done limit base (first_spot gate base guards) t.now t.items t.groups t.lines AtEnd H t.leads (t.disk told header groups holds).0))
 
-    early_left : (why : Received) (files : List (List ℕ)) (lines : List ℕ) → StopsOn tells seen pending was now None None before store why (λ H. IsLeft why limit base (first_spot gate base guards) (read_with names files) lines H)
-        → LeavesMore tells seen pending was now before store why (AreLeft limit gate base guards (with_names names files) why lines)
+    early_left : (why : Received) (files : List (List ℕ)) (lines : List ℕ) → StopsOn ghosts (work was before None) (work now store None) why (λ H. IsLeft why limit base (first_spot gate base guards) (read_with names files) lines H)
+        → LeavesMore ghosts.tells (shown ghosts was before) (shown ghosts now store) why (AreLeft limit gate base guards (with_names names files) why lines)
     early_left why files lines stops told header groups holds =
         leaves_then why
-        (λ w. first_left why files lines (λ first. Holds header (groups ++ first) store (seen now) (pending now))
-        (left_then why limit base (first_spot gate base guards) (read_with names files) lines (λ first. (b : Option Begun) × Keeps header (groups ++ first) b None store (seen now) (pending now)) (λ first. Holds header (groups ++ first) store (seen now) (pending now))
+        (λ w. first_left why files lines (λ first. Holds header (groups ++ first) store (ghosts.seen now) (ghosts.pending now))
+        (left_then why limit base (first_spot gate base guards) (read_with names files) lines (λ first. (b : Option Begun) × Keeps header (groups ++ first) b None store (ghosts.seen now) (ghosts.pending now)) (λ first. Holds header (groups ++ first) store (ghosts.seen now) (ghosts.pending now))
         (λ first k. by_begun (groups ++ first) k.0 k.1) w))
         (λ each image is. first_left why files lines (λ first. HasThese header (groups ++ first) image) (each image is))
         (stops told header groups holds)
       where
-        by_begun : (gs : List Group) (b : Option Begun) → Keeps header gs b None store (seen now) (pending now) → Holds header gs store (seen now) (pending now)
+        by_begun : (gs : List Group) (b : Option Begun) → Keeps header gs b None store (ghosts.seen now) (ghosts.pending now) → Holds header gs store (ghosts.seen now) (ghosts.pending now)
         by_begun gs None k = k
         by_begun gs (Some b) k = absurd k
 
@@ -151,7 +151,7 @@ module _ (limit gate : ℕ) (base : Store ℕ) (guards : List Guard) (names : Na
     told_done None spelled r u is all = tt
     told_done (Some table) spelled r u is all =
         let t = subst (λ (x : Result (Unit {0}) Received). IfAllTold (Some table) spelled (EndsAs x)) is all in
-        (t.lines, t.wrote, (ends_whole _ next_guards store old new (RunsOn tells moment left_since seen pending was now None None None before store) t, whole_left _ t))
+        (t.lines, t.wrote, (ends_whole _ next_guards store old new (RunsOn ghosts (work was before None) (work now store None) None) t, whole_left _ t))
 
     pub told_ended : (told : Option (List (List ℕ × List ℕ))) (spelled : List (List ℕ)) (r : Result (Unit {0}) Received) (why : Received) → r ≡ Err why
         → IfAllTold told spelled (EndsAs r) → IfAllTold told spelled (λ files. Wrote old new (Says files why))
@@ -162,11 +162,11 @@ module _ (limit gate : ℕ) (base : Store ℕ) (guards : List Guard) (names : Na
 
     -- What a crash leaves.
     pub told_moments : (told : Option (List (List ℕ × List ℕ))) (spelled : List (List ℕ)) (r : Result (Unit {0}) Received)
-        → tells → (header : Header) (groups : List Group) → Holds header groups before (seen was) (pending was)
-        → IfAllTold told spelled (EndsAs r) → IfAllTold told spelled (λ files. LeavesOnly moment left_since was now (HasFront header groups (groups_of base guards (read_with names files).items)))
+        → ghosts.tells → (header : Header) (groups : List Group) → Holds header groups before (ghosts.seen was) (ghosts.pending was)
+        → IfAllTold told spelled (EndsAs r) → IfAllTold told spelled (λ files. LeavesOnly ghosts.moment ghosts.left_since was now (HasFront header groups (groups_of base guards (read_with names files).items)))
     told_moments None spelled r told_too header groups holds all = tt
     told_moments (Some table) spelled (Ok u) told_too header groups holds all =
-        due_same header groups all.groups (groups_of base guards _) (whole_groups _ next_guards store old new (RunsOn tells moment left_since seen pending was now None None None before store) all) (all.disk told_too header groups holds).1
+        due_same header groups all.groups (groups_of base guards _) (whole_groups _ next_guards store old new (RunsOn ghosts (work was before None) (work now store None) None) all) (all.disk told_too header groups holds).1
     told_moments (Some table) spelled (Err why) told_too header groups holds all = all.moments told_too header groups holds
 
 pub early_steady : (before now : ℕ) (why : Received) → IsEnd why → SteadyIfReceived before now why

@@ -33,9 +33,10 @@ use Rattle.store_journal.proofs.Rooms.{as_due, same_full}
 use Rattle.receiver.specs.declared.opened.Opened.{Opened}
 use Rattle.receiver.specs.declared.outcome.Received.{Received}
 use Rattle.receiver.specs.Standing.{state_of, IsReceiving}
-use Rattle.receiver.specs.Disks.{Keeps, HasFront, marked}
-use Rattle.receiver.specs.Answers.{ended_by, StepSays, PiecesSay, KeepsSays}
+use Rattle.receiver.specs.Disks.{HasFront, marked}
+use Rattle.receiver.specs.Answers.{ended_by, StepSays, PiecesSay}
 use Rattle.receiver.specs.Steps.{begun_if}
+use Rattle.receiver.proofs.Unpacked.{Keeps, KeepsSays}
 use Rattle.receiver.proofs.ClosedParts.{one_front}
 use Rattle.receiver.proofs.RoomLaws.{head_item, head_end, has_room}
 

@@ -13,7 +13,8 @@ use Rattle.store_journal.specs.Shown.{StoreState, IsIdle}
 use Rattle.store_journal.specs.Holding.{bodies_of, new_group, HasThese, HasOneMore, Holds}
 use Rattle.receiver.specs.declared.opened.Opened.{Opened}
 use Rattle.receiver.specs.Standing.{IsReady, IsClosedAs}
-use Rattle.receiver.specs.Disks.{IsBuilt, Keeps, HasFront}
+use Rattle.receiver.specs.Disks.{HasFront}
+use Rattle.receiver.proofs.Unpacked.{IsBuilt, Keeps}
 
 pub none_closed : (len : ℕ) (current : Option Opened) (store : StoreState) → None ≡ current → IsReady len current store → IsClosedAs len current store store
 unfolding completed

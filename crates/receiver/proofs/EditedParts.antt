@@ -28,13 +28,15 @@ use Rattle.store_groups.specs.Stopping.{IfRefused, IfEnded, IfLog}
 use Rattle.store_journal.specs.Filling as fill
 use Rattle.store_journal.specs.Filling.{piece_asks}
 use Rattle.store_journal.specs.Shown.{StoreState, IsOpen}
-use Rattle.store_journal.specs.Holding.{bodies_of, HasThese, Builds}
+use Rattle.store_journal.specs.Holding.{bodies_of, HasThese}
+use Rattle.store_journal.proofs.Unpacked.{Builds}
 use Rattle.store_journal.specs.Answers.{EditsIn, IfShort}
 use Rattle.receiver.specs.declared.opened.Opened.{Opened}
 use Rattle.receiver.specs.declared.outcome.Received.{Received}
 use Rattle.receiver.specs.Standing.{state_of, place_of, IsReceiving, IsReady}
-use Rattle.receiver.specs.Disks.{Keeps, HasVersion, HasFront}
-use Rattle.receiver.specs.Answers.{ended_by, IsRefusedWith, StepSays, PiecesSay, ReadySays, KeepsSays}
+use Rattle.receiver.specs.Disks.{HasVersion, HasFront}
+use Rattle.receiver.specs.Answers.{ended_by, IsRefusedWith, StepSays, PiecesSay, ReadySays}
+use Rattle.receiver.proofs.Unpacked.{Keeps, KeepsSays}
 use Rattle.receiver.proofs.ClosedParts.{none_held, one_built}
 use Rattle.receiver.proofs.RoomLaws.{edit_item, edit_end, has_room, no_room}
 use Rattle.receiver.proofs.BegunParts.{none_yet}

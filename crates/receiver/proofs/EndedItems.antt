@@ -1,6 +1,7 @@
 -- What a disk that tells has where receiving ends at an item.
 use Rattle.std.specs.Prelude.{◌≡◌, ◌≤◌, ℕ, List, [], ◌∷◌, ◌++◌, Option, None, Some, Err}
 use Rattle.std.proofs.Common.{inl, inr, refl, sym, ap, subst, ◌∙◌, append_assoc, append-nil}
+use Rattle.sx_base.specs.declared.disk.Disk as keeping
 use Rattle.sx_base.specs.Disk.{Pending, IsImage}
 use Rattle.sx_base.specs.Crash.{LeavesOnly}
 use Rattle.sx_base.proofs.DiskMoments.{leaves_now}
@@ -23,10 +24,11 @@ use Rattle.receiver.specs.declared.opened.Opened.{Opened}
 use Rattle.receiver.specs.declared.outcome.Received.{Received}
 use Rattle.receiver.specs.declared.outcome.Received.TheVariants as how
 use Rattle.receiver.specs.Standing.{line_due, behind_close, place_of, IsReady}
-use Rattle.receiver.specs.Answers.{StepSays, PiecesSay, KeepsSays}
+use Rattle.receiver.specs.Answers.{StepSays, PiecesSay}
 use Rattle.receiver.specs.Steps.{blank_of, line_under, begun_if}
-use Rattle.receiver.specs.Disks.{Keeps, HasVersion, HasFront, HasNow, RunsOn, StopsOn, EndHas, marked}
-use Rattle.receiver.specs.Running.{byte_step, Spot, IsAt, IsLeft}
+use Rattle.receiver.specs.Disks.{HasVersion, HasFront, work, HasNow, RunsOn, StopsOn, marked}
+use Rattle.receiver.specs.Running.{byte_step, Spot, IsAt}
+use Rattle.receiver.proofs.Unpacked.{KeepsSays, Keeps, EndHas, IsLeft}
 use Rattle.receiver.proofs.PrintedLines.{PartLine}
 use Rattle.receiver.proofs.Leading.{the_guards, the_place, the_line, the_step}
 use Rattle.receiver.proofs.LeftItems.{brought}
@@ -122,30 +124,30 @@ written_then how.StoreFault Sure Sure_now line lines f (inr sure) = inr (sure.0,
 written_then (how.LogFull end wanted most) Sure Sure_now line lines f w = w
 
 -- Behind the commands that were taken.
-module _ {D : Type 0} (tells : Type 0) (moment : D → ℕ) (left_since : D → ℕ → List ℕ → Type 0) (seen : D → List ℕ) (pending : D → Pending) (old mid new : D) (counts : tells → (image : List ℕ) → moment mid ≤ moment new → IsImage (pending new) image → left_since new (moment mid) image)
+module _ {D : Type 0} (ghosts : keeping.Ghosts D) (old mid new : D) (counts : ghosts.tells → (image : List ℕ) → ghosts.moment mid ≤ ghosts.moment new → IsImage (ghosts.pending new) image → ghosts.left_since new (ghosts.moment mid) image)
     (limit : ℕ) (base : Store ℕ) (item : Item) (guards : List Guard) (len : ℕ) (was store : StoreState) (current : Option Opened) (ready : IsReady len current store) (next_guards : List Guard) (next : StoreState) (next_current : Option Opened) (most : store.log.limit ≡ limit) where
   pub run_left : (why : Received) (all : Option Begun → List Group → List Group) (after : Option Begun → Option Begun) → StepSays (Err why) item (beside next_guards (blank_of next next_current)) (follow (beside guards (blank_of store current)) item)
       → PiecesSay (Err why) limit (behind_close current item.command (place_of store current)) (place_of next next_current) item
-      → (tells → (header : Header) (groups : List Group) (begun : Option Begun) → HasVersion item.version begun → Keeps header groups begun current store (seen mid) (pending mid)
-      → KeepsSays (Err why) (λ groups begun. Keeps header groups begun next_current next (seen new) (pending new)) (λ groups. (image : List ℕ) → IsImage (pending new) image → HasThese header groups image)
+      → (ghosts.tells → (header : Header) (groups : List Group) (begun : Option Begun) → HasVersion item.version begun → Keeps header groups begun current store (ghosts.seen mid) (ghosts.pending mid)
+      → KeepsSays (Err why) (λ groups begun. Keeps header groups begun next_current next (ghosts.seen new) (ghosts.pending new)) (λ groups. (image : List ℕ) → IsImage (ghosts.pending new) image → HasThese header groups image)
       (groups ++ closed_by guards item.command begun) (groups ++ (closed_by guards item.command begun ++ marked store.log.limit (behind_close current item.command (place_of store current)) item.command)) (all begun groups) (after begun))
-      → (tells → (header : Header) (groups : List Group) (begun : Option Begun) → HasVersion item.version begun → Keeps header groups begun current store (seen mid) (pending mid)
-      → LeavesOnly moment left_since mid new (HasFront header groups (closed_by guards item.command begun ++ begun_if (follow (beside guards (blank_of store current)) item) item.command)))
+      → (ghosts.tells → (header : Header) (groups : List Group) (begun : Option Begun) → HasVersion item.version begun → Keeps header groups begun current store (ghosts.seen mid) (ghosts.pending mid)
+      → LeavesOnly ghosts.moment ghosts.left_since mid new (HasFront header groups (closed_by guards item.command begun ++ begun_if (follow (beside guards (blank_of store current)) item) item.command)))
       → (spot : Spot) (lines : List ℕ) (extra : List Item) (stop : Stop) (groups : List Group) (V : (List Group → Type 0) → Type 0) → IsAt spot guards store current → IsOn base spot.watched.state.store spot.watched.state.part
-      → WrittenAs why (HasNow tells seen pending mid new item.version current store (closed_by guards item.command) (begun_if (follow (beside guards (blank_of store current)) item) item.command)) (line_under guards current item.command) lines
-      → HasVersion item.version spot.begun → RunsOn tells moment left_since seen pending old mid None None current was store groups spot.begun
+      → WrittenAs why (HasNow ghosts (work mid store current) new item.version (closed_by guards item.command) (begun_if (follow (beside guards (blank_of store current)) item) item.command)) (line_under guards current item.command) lines
+      → HasVersion item.version spot.begun → RunsOn ghosts (work old was None) (work mid store current) None groups spot.begun
       → ((H G : List Group → Type 0) → ((first : List Group) → H first → G (groups ++ first)) → IsLeft why limit base spot (record { items = item ∷ extra; stop = stop }) lines H → V G)
-      → StopsOn tells seen pending old new None next_current was next why V
+      → StopsOn ghosts (work old was None) (work new next next_current) why V
   run_left why all after stepped pieces keeps moments spot lines extra stop groups V at on written version run moved =
       let followed : After Followed = follow (beside guards (blank_of store current)) item in
       let place : ℕ = behind_close current item.command (place_of store current) in
-      run_stopped tells moment left_since seen pending old mid new was store next current next_current groups spot.begun why (λ H. IsLeft why limit base spot (record { items = item ∷ extra; stop = stop }) lines H) V run
+      run_stopped ghosts old mid new was store next current next_current groups spot.begun why (λ H. IsLeft why limit base spot (record { items = item ∷ extra; stop = stop }) lines H) V run
       (λ told header there kept.
-      item_left limit base spot item guards len store current at on ready next_guards next next_current header there (seen new) (pending new) lines extra stop (all spot.begun there) (after spot.begun) why stepped pieces
-      (written_then why (HasNow tells seen pending mid new item.version current store (closed_by guards item.command) (begun_if followed item.command))
-      ((image : List ℕ) → IsImage (pending new) image → HasFront header (there ++ closed_by guards item.command spot.begun) (begun_if followed item.command) image)
+      item_left limit base spot item guards len store current at on ready next_guards next next_current header there (ghosts.seen new) (ghosts.pending new) lines extra stop (all spot.begun there) (after spot.begun) why stepped pieces
+      (written_then why (HasNow ghosts (work mid store current) new item.version (closed_by guards item.command) (begun_if followed item.command))
+      ((image : List ℕ) → IsImage (ghosts.pending new) image → HasFront header (there ++ closed_by guards item.command spot.begun) (begun_if followed item.command) image)
       (line_under guards current item.command) lines (λ now. now told header there spot.begun version kept) written)
-      (subst (λ (n : ℕ). KeepsSays (Err why) (λ gs begun. Keeps header gs begun next_current next (seen new) (pending new)) (λ gs. (image : List ℕ) → IsImage (pending new) image → HasThese header gs image)
+      (subst (λ (n : ℕ). KeepsSays (Err why) (λ gs begun. Keeps header gs begun next_current next (ghosts.seen new) (ghosts.pending new)) (λ gs. (image : List ℕ) → IsImage (ghosts.pending new) image → HasThese header gs image)
       (there ++ closed_by guards item.command spot.begun) (there ++ (closed_by guards item.command spot.begun ++ marked n place item.command)) (all spot.begun there) (after spot.begun)) most (keeps told header there spot.begun version kept))
-      (λ image is. leaves_now pending (moments told header there spot.begun version kept) (counts told) image is))
+      (λ image is. leaves_now ghosts.pending (moments told header there spot.begun version kept) (counts told) image is))
       moved

@@ -21,7 +21,8 @@ use Rattle.store_journal.specs.Shown.{StoreState}
 use Rattle.receiver.specs.declared.opened.Opened.{Opened}
 use Rattle.receiver.specs.declared.outcome.Received.{Received}
 use Rattle.receiver.specs.declared.outcome.Received.TheVariants as how
-use Rattle.receiver.specs.Running.{byte_step, Leads, Spot, IsAt, due_from, LinesLeft, CoreLeft, IsLineFront, Stops}
+use Rattle.receiver.specs.Running.{byte_step, Spot, IsAt, due_from, LinesLeft, CoreLeft, IsLineFront}
+use Rattle.receiver.proofs.Unpacked.{Leads, Stops}
 
 -- ---- what is printed later
 

@@ -25,7 +25,8 @@ use Rattle.receiver.specs.Standing.{behind_close, place_of, IsReady}
 use Rattle.receiver.specs.Disks.{HasVersion}
 use Rattle.receiver.specs.Answers.{StepSays, PiecesSay}
 use Rattle.receiver.specs.Steps.{blank_of, line_under}
-use Rattle.receiver.specs.Running.{byte_step, Spot, IsAt, Leads}
+use Rattle.receiver.specs.Running.{byte_step, Spot, IsAt}
+use Rattle.receiver.proofs.Unpacked.{Leads}
 use Rattle.receiver.proofs.NamedReads.{GivenFits, named_reading}
 use Rattle.receiver.proofs.Leading.{next_at, leads_none, leads_on, leads_one}
 

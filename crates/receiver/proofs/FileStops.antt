@@ -37,8 +37,9 @@ use Rattle.receiver.specs.Standing.{behind_close, place_of, IsReady}
 use Rattle.receiver.specs.Disks.{HasVersion}
 use Rattle.receiver.specs.Answers.{StepSays, PiecesSay, ItemWrites}
 use Rattle.receiver.specs.Steps.{blank_of, line_under, begun_if}
-use Rattle.receiver.specs.Running.{Spot, IsAt, Stops, IsLeft}
-use Rattle.receiver.specs.FileEnds.{named_read, then_others, FileTaken, FileStopped, FileEnds}
+use Rattle.receiver.specs.Running.{Spot, IsAt}
+use Rattle.receiver.specs.FileEnds.{named_read, then_others}
+use Rattle.receiver.proofs.Unpacked.{Stops, IsLeft, FileTaken, FileStopped, FileEnds}
 use Rattle.receiver.proofs.Spots.{groups_first}
 use Rattle.receiver.proofs.Leading.{the_guards, the_step, leads_none}
 use Rattle.receiver.proofs.Ends.{stops_from, no_items_due, no_items_left, no_items_core, whatever_front}

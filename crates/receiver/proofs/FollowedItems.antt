@@ -1,6 +1,7 @@
 -- One command under guards.
 use Rattle.std.specs.Prelude.{◌≡◌, ℕ, Bool, true, false, List, [], ◌∷◌, ◌++◌, map, Option, None, Some, Result, Ok, Err, if◌then◌else◌}
 use Rattle.std.proofs.Common.{inl, inr, refl, sym, ap, subst, ◌∙◌, append-nil}
+use Rattle.sx_base.specs.declared.disk.Disk as keeping
 use Rattle.sx_base.specs.Disk.{Pending, IsImage}
 use Rattle.sx_base.specs.Crash.{LeavesOnly}
 use Rattle.sx_base.proofs.DiskMoments.{begins}
@@ -32,9 +33,10 @@ use Rattle.receiver.specs.declared.opened.Opened.{Opened}
 use Rattle.receiver.specs.declared.outcome.Received.{Received}
 use Rattle.receiver.specs.declared.outcome.Received.TheVariants as how
 use Rattle.receiver.specs.Standing.{state_of, line_by}
-use Rattle.receiver.specs.Disks.{Keeps, HasFront, HasNow, closing}
-use Rattle.receiver.specs.Answers.{StepSays, ItemWrites, KeepsSays}
+use Rattle.receiver.specs.Disks.{HasFront, work, HasNow, closing}
+use Rattle.receiver.specs.Answers.{StepSays, ItemWrites}
 use Rattle.receiver.specs.Steps.{TakesAs, line_under, begun_if}
+use Rattle.receiver.proofs.Unpacked.{Keeps, KeepsSays}
 use Rattle.receiver.proofs.BegunParts.{none_yet}
 
 -- ---- a guard refuses the command
@@ -179,16 +181,16 @@ writes_then (Err how.StoreFault) Sure Sure_now line old new f (inl none) = inl n
 writes_then (Err how.StoreFault) Sure Sure_now line old new f (inr sure) = inr (sure.0, f sure.1)
 writes_then (Err (how.LogFull end wanted limit)) Sure Sure_now line old new f w = w
 
-module _ {D : Type 0} (tells : Type 0) (seen : D → List ℕ) (pending : D → Pending) (old new : D) (guards : List Guard) (item : Item) (current : Option Opened) (store : StoreState) (none : guarded guards item.command ≡ None) where
+module _ {D : Type 0} (ghosts : keeping.Ghosts D) (old new : D) (guards : List Guard) (item : Item) (current : Option Opened) (store : StoreState) (none : guarded guards item.command ≡ None) where
   pub allowed_writes : (r : Result (Unit {0}) Received) (old_out new_out : Option (List ℕ))
-      → ItemWrites r ((place : Place) → HasNow tells seen pending old new item.version current store (closing item.command) (begun_if (step None (cells_put further place item.command) (state_of store current) item.command) item.command)) (line_by current item.command) old_out new_out
-      → ItemWrites r (HasNow tells seen pending old new item.version current store (closed_by guards item.command) (begun_if (follow (beside guards (blank (state_of store current))) item) item.command)) (line_under guards current item.command) old_out new_out
+      → ItemWrites r ((place : Place) → HasNow ghosts (work old store current) new item.version (closing item.command) (begun_if (step None (cells_put further place item.command) (state_of store current) item.command) item.command)) (line_by current item.command) old_out new_out
+      → ItemWrites r (HasNow ghosts (work old store current) new item.version (closed_by guards item.command) (begun_if (follow (beside guards (blank (state_of store current))) item) item.command)) (line_under guards current item.command) old_out new_out
   allowed_writes r old_out new_out w =
       let place : Place = record { at = 0 } in
       let begins : List Group = begun_if (follow (beside guards (blank (state_of store current))) item) item.command in
-      subst (λ (o : Option meant.Refusal). ItemWrites r (HasNow tells seen pending old new item.version current store (closed_by guards item.command) begins) (elim o as (λ x. List ℕ) [ Some refusal ↦ [] | None ↦ line_by current item.command ]) old_out new_out) (sym none)
-      (writes_then r ((place : Place) → HasNow tells seen pending old new item.version current store (closing item.command) (begun_if (step None (cells_put further place item.command) (state_of store current) item.command) item.command))
-      (HasNow tells seen pending old new item.version current store (closed_by guards item.command) begins) (line_by current item.command) old_out new_out
+      subst (λ (o : Option meant.Refusal). ItemWrites r (HasNow ghosts (work old store current) new item.version (closed_by guards item.command) begins) (elim o as (λ x. List ℕ) [ Some refusal ↦ [] | None ↦ line_by current item.command ]) old_out new_out) (sym none)
+      (writes_then r ((place : Place) → HasNow ghosts (work old store current) new item.version (closing item.command) (begun_if (step None (cells_put further place item.command) (state_of store current) item.command) item.command))
+      (HasNow ghosts (work old store current) new item.version (closed_by guards item.command) begins) (line_by current item.command) old_out new_out
       (λ sure told header there begun version keeps image is.
       subst (λ (l : List Group). HasFront header (there ++ l) begins image) (sym (allowed_closes guards item.command begun none))
       (subst (λ (l : List Group). HasFront header (there ++ closing item.command begun) l image) (allowed_begins guards item place (state_of store current) none) (sure place told header there begun version keeps image is))) w)

@@ -26,7 +26,8 @@ use Rattle.receiver.specs.declared.outcome.Received.TheVariants as how
 use Rattle.receiver.specs.Standing.{line_due, line_by, behind_close, place_of, IsReady}
 use Rattle.receiver.specs.Answers.{StepSays, PiecesSay, ItemWrites}
 use Rattle.receiver.specs.Steps.{blank_of, line_under}
-use Rattle.receiver.specs.Running.{byte_step, Spot, IsAt, IsLineFront, Stops}
+use Rattle.receiver.specs.Running.{byte_step, Spot, IsAt, IsLineFront}
+use Rattle.receiver.proofs.Unpacked.{Stops}
 use Rattle.receiver.proofs.Spots.{due_refused, due_full, left_refused, left_where_full}
 use Rattle.receiver.proofs.PrintedLines.{completed_lines}
 use Rattle.receiver.proofs.LeftItems.{not_guarded}

@@ -22,7 +22,8 @@ use Rattle.receiver.specs.declared.opened.Opened.{Opened}
 use Rattle.receiver.specs.Standing.{line_due, behind_close, place_of, IsLastLine, IsReady}
 use Rattle.receiver.specs.Answers.{PiecesSay}
 use Rattle.receiver.specs.Steps.{blank_of, line_under}
-use Rattle.receiver.specs.Running.{byte_step, Spot, without_cells, IsAt, Leads}
+use Rattle.receiver.specs.Running.{byte_step, Spot, without_cells, IsAt}
+use Rattle.receiver.proofs.Unpacked.{Leads}
 use Rattle.receiver.proofs.Spots.{due_taken, left_taken, run_taken, groups_taken}
 use Rattle.receiver.proofs.PrintedLines.{blank_entries, PartLine, item_lines}
 

@@ -19,7 +19,8 @@ use Rattle.receiver.specs.declared.outcome.Received.{Received}
 use Rattle.receiver.specs.declared.outcome.Received.TheVariants as how
 use Rattle.receiver.specs.Steps.{begun_if}
 use Rattle.receiver.specs.Disks.{marked}
-use Rattle.receiver.specs.Running.{byte_step, Spot, Leads, IfRead, IfAllRead, IfDecided, IsLeft}
+use Rattle.receiver.specs.Running.{byte_step, Spot, IfRead, IfAllRead, IfDecided}
+use Rattle.receiver.proofs.Unpacked.{Leads, IsLeft}
 use Rattle.receiver.proofs.Spots.{left_refused, left_where_full, groups_first}
 use Rattle.receiver.proofs.PrintedLines.{PartLine}
 use Rattle.receiver.proofs.LeftItems.{as_end, run_one, groups_one, groups_end, end_state, not_guarded, brought, printed, end_brings, closed_first, any_first}

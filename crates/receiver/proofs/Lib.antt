@@ -1,3 +1,4 @@
+pub mod Unpacked
 pub mod ClosedParts
 pub mod RoomLaws
 pub mod BegunParts

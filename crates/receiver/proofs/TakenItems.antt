@@ -2,6 +2,7 @@
 use Rattle.std.specs.Prelude.{◌≡◌, ℕ, ◌+◌, Bool, true, false, not, ◌&&◌, List, [], ◌∷◌, ◌++◌, length, Option, None, Some, Result, Ok, Err, is_none, if◌then◌else◌}
 use Rattle.std.specs.Io.KnownBytes.{Appends}
 use Rattle.std.proofs.Common.{inl, inr, refl, sym, ap, subst, ◌∙◌, append_assoc, append-nil, arith}
+use Rattle.sx_base.specs.declared.disk.Disk as keeping
 use Rattle.sx_base.specs.Causes.{Rose}
 use Rattle.sx_base.specs.Disk.{Pending, IsImage}
 use Rattle.sx_base.specs.Crash.{LeavesOnly}
@@ -31,9 +32,10 @@ use Rattle.receiver.specs.declared.opened.Opened.{Opened}
 use Rattle.receiver.specs.declared.outcome.Received.{Received}
 use Rattle.receiver.specs.declared.outcome.Received.TheVariants as how
 use Rattle.receiver.specs.Standing.{state_of, place_of, behind_part, behind_close, line_due, line_by, IsClosedAs}
-use Rattle.receiver.specs.Disks.{Keeps, HasVersion, HasFront, HasNow, closing, marked}
-use Rattle.receiver.specs.Answers.{IfClosed, WritesLine, StepSays, PiecesSay, ItemWrites, KeepsSays, ErrCaused}
+use Rattle.receiver.specs.Disks.{HasVersion, HasFront, work, HasNow, closing, marked}
+use Rattle.receiver.specs.Answers.{IfClosed, WritesLine, StepSays, PiecesSay, ItemWrites}
 use Rattle.receiver.specs.Steps.{EditsAs, TakesAs, begun_if}
+use Rattle.receiver.proofs.Unpacked.{Keeps, KeepsSays, ErrCaused}
 
 -- ---- the part before could not be completed, or its line not be written
 
@@ -227,12 +229,12 @@ module _ (header : Header) (groups : List Group) where
 
 -- ---- what each image has now
 
-module _ {D : Type 0} (tells : Type 0) (seen : D → List ℕ) (pending : D → Pending) (old mid new : D) where
+module _ {D : Type 0} (ghosts : keeping.Ghosts D) (old mid new : D) where
   -- the part before a head is complete, and the group of the head may be there
   pub enter_sure : (version : ℕ) (c : Command) (head : Head) (len : ℕ) (current : Option Opened) (store now : StoreState) → head_of c ≡ Some head → IsClosedAs len current store now
-      → (tells → (header : Header) (groups : List Group) (part : Option Begun) → Keeps header groups part current store (seen old) (pending old) → Holds header (groups ++ closed part) now (seen mid) (pending mid))
-      → (tells → (header : Header) (groups : List Group) → Holds header groups now (seen mid) (pending mid) → (image : List ℕ) → IsImage (pending new) image → HasFront header groups (begun_if (entered now.core head (begun now.core head)) c) image)
-      → (place : Place) → HasNow tells seen pending old new version current store (closing c) (begun_if (step None (cells_put further place c) (state_of store current) c) c)
+      → (ghosts.tells → (header : Header) (groups : List Group) (part : Option Begun) → Keeps header groups part current store (ghosts.seen old) (ghosts.pending old) → Holds header (groups ++ closed part) now (ghosts.seen mid) (ghosts.pending mid))
+      → (ghosts.tells → (header : Header) (groups : List Group) → Holds header groups now (ghosts.seen mid) (ghosts.pending mid) → (image : List ℕ) → IsImage (ghosts.pending new) image → HasFront header groups (begun_if (entered now.core head (begun now.core head)) c) image)
+      → (place : Place) → HasNow ghosts (work old store current) new version (closing c) (begun_if (step None (cells_put further place c) (state_of store current) c) c)
   enter_sure version c head len current store now is whole holds fronts place told header there part same keeps image i =
       let step_is : step None (cells_put further place c) (state_of store current) c ≡ entered now.core head (begun now.core head) =
       head_entered place (state_of store current) c head is ∙ ap (λ (core : Store (Option Place)). entered core head (begun core head)) (sym whole.core) in
@@ -242,8 +244,8 @@ module _ {D : Type 0} (tells : Type 0) (seen : D → List ℕ) (pending : D → 
 
   -- an edit brings no group
   pub edit_sure : {S : Type 0} (version : ℕ) (c : Command) (current : Option Opened) (store : StoreState) (after : After S) → is_edit c ≡ true
-      → (tells → (header : Header) (groups : List Group) (part : Option Begun) → HasVersion version part → Keeps header groups part current store (seen old) (pending old) → (image : List ℕ) → IsImage (pending new) image → HasFront header groups [] image)
-      → HasNow tells seen pending old new version current store (closing c) (begun_if after c)
+      → (ghosts.tells → (header : Header) (groups : List Group) (part : Option Begun) → HasVersion version part → Keeps header groups part current store (ghosts.seen old) (ghosts.pending old) → (image : List ℕ) → IsImage (ghosts.pending new) image → HasFront header groups [] image)
+      → HasNow ghosts (work old store current) new version (closing c) (begun_if after c)
   edit_sure version c current store after edits fronts told header there part same keeps image i =
       subst (λ (l : List Group). HasFront header (there ++ l) (begun_if after c) image) (ap (λ (b : Bool). if b then [] else closed part) (sym edits))
       (subst (λ (l : List Group). HasFront header (there ++ []) l image) (sym (no_head after c (edit_facts c edits).0))

@@ -26,15 +26,24 @@ use Rattle.receiver.specs.declared.outcome.Received.{Received}
 use Rattle.receiver.specs.declared.outcome.Received.TheVariants as how
 use Rattle.receiver.specs.Standing.{IsReady}
 
--- An object of the outside failed only where its count of faults rose.
-abbrev pub Caused : (inputs_before inputs_now out_before out_now disk_before disk_now : ℕ) → Received → Type 0
-Caused inputs_before inputs_now out_before out_now disk_before disk_now (how.Files outcome) = calls.Caused inputs_before inputs_now out_before out_now outcome
-Caused inputs_before inputs_now out_before out_now disk_before disk_now how.StoreFault = Rose disk_before disk_now
-Caused inputs_before inputs_now out_before out_now disk_before disk_now (how.LogFull end wanted limit) = ⊤
+-- How often the inputs, the output and the store's disk failed.
+pub record FaultCounts : Type 0 where
+  pub inputs : ℕ
+  pub out : ℕ
+  pub disk : ℕ
 
-abbrev pub ErrCaused : (inputs_before inputs_now out_before out_now disk_before disk_now : ℕ) → Result (Unit {0}) Received → Type 0
-ErrCaused inputs_before inputs_now out_before out_now disk_before disk_now (Ok u) = ⊤
-ErrCaused inputs_before inputs_now out_before out_now disk_before disk_now (Err why) = Caused inputs_before inputs_now out_before out_now disk_before disk_now why
+abbrev pub fault_counts : (inputs out disk : ℕ) → FaultCounts
+fault_counts inputs out disk = record { inputs = inputs; out = out; disk = disk }
+
+-- An object of the outside failed only where its count of faults rose.
+abbrev pub Caused : (before now : FaultCounts) → Received → Type 0
+Caused before now (how.Files outcome) = calls.Caused before.inputs now.inputs before.out now.out outcome
+Caused before now how.StoreFault = Rose before.disk now.disk
+Caused before now (how.LogFull end wanted limit) = ⊤
+
+abbrev pub ErrCaused : (before now : FaultCounts) → Result (Unit {0}) Received → Type 0
+ErrCaused before now (Ok u) = ⊤
+ErrCaused before now (Err why) = Caused before now why
 
 -- ---- the part that is open is completed
 
@@ -160,11 +169,22 @@ OutcomeKeeps (ended.InputTooLong file) K done = ⊥
 OutcomeKeeps (ended.TooMuch sum) K done = ⊥
 OutcomeKeeps (ended.InputChanged file place) K done = ⊥
 
-abbrev pub KeepsSays : Result (Unit {0}) Received → (List Group → Option Begun → Type 0) → (List Group → Type 0) → (done full all : List Group) → Option Begun → Type 0
-KeepsSays (Ok u) K L done full all begun = K all begun
-KeepsSays (Err (how.Files outcome)) K L done full all begun = OutcomeKeeps outcome K done
-KeepsSays (Err how.StoreFault) K L done full all begun = ⊤
-KeepsSays (Err (how.LogFull end wanted limit)) K L done full all begun = L full
+-- The groups that a disk may have behind an item: those that were completed, those that there was room for, and all; and what the Body of
+-- the open part would say behind all of them.
+pub record GroupsBehind : Type 0 where
+  pub done : List Group
+  pub full : List Group
+  pub all : List Group
+  pub begun : Option Begun
+
+abbrev pub groups_behind : (done full all : List Group) → Option Begun → GroupsBehind
+groups_behind done full all begun = record { done = done; full = full; all = all; begun = begun }
+
+abbrev pub KeepsSays : Result (Unit {0}) Received → (List Group → Option Begun → Type 0) → (List Group → Type 0) → GroupsBehind → Type 0
+KeepsSays (Ok u) K L behind = K behind.all behind.begun
+KeepsSays (Err (how.Files outcome)) K L behind = OutcomeKeeps outcome K behind.done
+KeepsSays (Err how.StoreFault) K L behind = ⊤
+KeepsSays (Err (how.LogFull end wanted limit)) K L behind = L behind.full
 
 -- An end that is not that all was done.
 abbrev pub IsEnd : Received → Type 0

@@ -1,17 +1,17 @@
--- What receiving one file answers. This program's own.
+-- What receiving one file, and all files, answers. This program's own.
 use Rattle.std.specs.Prelude.{◌≡◌, ℕ, List, map, Option, None, Result, Ok, Err}
 use Rattle.std.specs.Io.KnownBytes.{Appends}
 use Rattle.send_model.specs.Reading.{Item}
-use Rattle.send_model.specs.Store.{Store}
 use Rattle.send_model.specs.Guards.{Guard}
-use Rattle.send_model.specs.Due.{Limited, AtEnd, AtFault, AtLimit, limited_from}
-use Rattle.send_model.specs.Renamed.{Names, named_as, renamed_limited}
-use Rattle.auditor.specs.Following.{file_read, read_whole, then_read}
+use Rattle.send_model.specs.Due.{Limited, AtEnd, AtFault, AtLimit}
+use Rattle.send_model.specs.Renamed.{named_as}
+use Rattle.auditor.specs.Following.{read_whole, then_read}
 use Rattle.store_model.specs.Stored.{Group}
 use Rattle.store_model.specs.Written.{Begun, groups_from}
 use Rattle.store_journal.specs.Shown.{StoreState}
 use Rattle.receiver.specs.declared.outcome.Received.{Received}
-use Rattle.receiver.specs.Running.{Spot, IsAt, Leads, Stops, IsLeft}
+use Rattle.receiver.specs.Disks.{DiskSays}
+use Rattle.receiver.specs.Running.{Start, Spot, IsAt, Leads, Stops, IsLeft}
 
 -- What is read of a file, with the name that is given for its heads.
 abbrev pub named_read : Option (List ℕ) → Limited → Limited
@@ -25,51 +25,50 @@ then_others first more = elim first.stop [
   | AtLimit file ↦ first
 ]
 
--- All commands of a file are taken, with the name that is given for its heads, and no part is open behind them. K says what a disk that tells has then.
-pub record FileTaken (new_name : Option (List ℕ)) (file limit : ℕ) (base : Store ℕ) (spot : Spot) (guards : List Guard) (store : StoreState) (old new : Option (List ℕ)) (K : List Group → Option Begun → Type 0) (bytes : List ℕ) : Type 0 where
+-- What receiving leaves: the store, and what the output had taken before and has taken since.
+pub record Reached : Type 0 where
+  pub store : StoreState
+  pub before : Option (List ℕ)
+  pub now : Option (List ℕ)
+
+abbrev pub reached : StoreState → (before now : Option (List ℕ)) → Reached
+reached store before now = record { store = store; before = before; now = now }
+
+-- All commands that were read are taken, and no part is open behind them. K says what a disk that tells has then.
+pub record Taken (from : Start) (input : Limited) (guards : List Guard) (new : Reached) (K : List Group → Option Begun → Type 0) : Type 0 where
   pub items : List Item
-  pub read : named_read new_name (file_read file bytes) ≡ read_whole items
+  pub read : input ≡ read_whole items
   pub now : Spot
-  pub at : IsAt now guards store None
+  pub at : IsAt now guards new.store None
   pub groups : List Group
   pub lines : List ℕ
-  pub leads : Leads limit base spot now items groups lines
-  pub wrote : Appends old new lines
+  pub leads : Leads from now items groups lines
+  pub wrote : Appends new.before new.now lines
   pub none : now.begun ≡ None
   pub disk : K groups None
 
 -- Receiving ends in a file, whatever files follow it. M says what a crash leaves of some groups, and J what a disk that tells has then.
-pub record FileStopped (new_name : Option (List ℕ)) (file limit : ℕ) (base : Store ℕ) (spot : Spot) (store : StoreState) (old new : Option (List ℕ)) (M : List Group → Type 0) (J : ((List Group → Type 0) → Type 0) → Type 0) (why : Received) (bytes : List ℕ) : Type 0 where
+pub record FileStopped (from : Start) (input : Limited) (new : Reached) (M : List Group → Type 0) (J : ((List Group → Type 0) → Type 0) → Type 0) (why : Received) : Type 0 where
   pub lines : List ℕ
-  pub wrote : Appends old new lines
-  pub stops : (more : Limited) → Stops why limit base spot (then_others (named_read new_name (file_read file bytes)) more) lines store.core
-  pub moments : (more : Limited) → M (groups_from spot.watched spot.begun (then_others (named_read new_name (file_read file bytes)) more).items)
-  pub disk : (more : Limited) → J (λ H. IsLeft why limit base spot (then_others (named_read new_name (file_read file bytes)) more) lines H)
+  pub wrote : Appends new.before new.now lines
+  pub stops : (more : Limited) → Stops why from (then_others input more) lines new.store.core
+  pub moments : (more : Limited) → M (groups_from from.spot.watched from.spot.begun (then_others input more).items)
+  pub disk : (more : Limited) → J (λ H. IsLeft why from (then_others input more) lines H)
 
-abbrev pub FileEnds : Option (List ℕ) → ℕ → ℕ → Store ℕ → Spot → List Guard → StoreState → Option (List ℕ) → Option (List ℕ) → (List Group → Option Begun → Type 0) → (List Group → Type 0) → (Received → ((List Group → Type 0) → Type 0) → Type 0) → Result (Unit {0}) Received → List ℕ → Type 0
-FileEnds new_name file limit base spot guards store old new K M J (Ok u) bytes = FileTaken new_name file limit base spot guards store old new K bytes
-FileEnds new_name file limit base spot guards store old new K M J (Err why) bytes = FileStopped new_name file limit base spot store old new M (J why) why bytes
-
--- All commands of all files are taken, with the names that are given, and no part is open behind them.
-pub record AllTaken (names : Names) (limit : ℕ) (base : Store ℕ) (spot : Spot) (guards : List Guard) (store : StoreState) (old new : Option (List ℕ)) (K : List Group → Option Begun → Type 0) (files : List (List ℕ)) : Type 0 where
-  pub items : List Item
-  pub read : renamed_limited names (limited_from 1 files) ≡ read_whole items
-  pub now : Spot
-  pub at : IsAt now guards store None
-  pub groups : List Group
-  pub lines : List ℕ
-  pub leads : Leads limit base spot now items groups lines
-  pub wrote : Appends old new lines
-  pub disk : K groups None
+-- How receiving what was read of a file ends.
+abbrev pub FileEnds : Start → Limited → List Guard → Reached → DiskSays → Result (Unit {0}) Received → Type 0
+FileEnds from input guards new disk (Ok u) = Taken from input guards new disk.runs
+FileEnds from input guards new disk (Err why) = FileStopped from input new disk.leaves (disk.stops why) why
 
 -- Receiving ends in one of the files.
-pub record AllStopped (names : Names) (limit : ℕ) (base : Store ℕ) (spot : Spot) (store : StoreState) (old new : Option (List ℕ)) (M : List Group → Type 0) (J : ((List Group → Type 0) → Type 0) → Type 0) (why : Received) (files : List (List ℕ)) : Type 0 where
+pub record AllStopped (from : Start) (input : Limited) (new : Reached) (M : List Group → Type 0) (J : ((List Group → Type 0) → Type 0) → Type 0) (why : Received) : Type 0 where
   pub lines : List ℕ
-  pub wrote : Appends old new lines
-  pub stops : Stops why limit base spot (renamed_limited names (limited_from 1 files)) lines store.core
-  pub moments : M (groups_from spot.watched spot.begun (renamed_limited names (limited_from 1 files)).items)
-  pub disk : J (λ H. IsLeft why limit base spot (renamed_limited names (limited_from 1 files)) lines H)
+  pub wrote : Appends new.before new.now lines
+  pub stops : Stops why from input lines new.store.core
+  pub moments : M (groups_from from.spot.watched from.spot.begun input.items)
+  pub disk : J (λ H. IsLeft why from input lines H)
 
-abbrev pub AllEnds : Names → ℕ → Store ℕ → Spot → List Guard → StoreState → Option (List ℕ) → Option (List ℕ) → (List Group → Option Begun → Type 0) → (List Group → Type 0) → (Received → ((List Group → Type 0) → Type 0) → Type 0) → Result (Unit {0}) Received → List (List ℕ) → Type 0
-AllEnds names limit base spot guards store old new K M J (Ok u) files = AllTaken names limit base spot guards store old new K files
-AllEnds names limit base spot guards store old new K M J (Err why) files = AllStopped names limit base spot store old new M (J why) why files
+-- How receiving what was read of all files ends.
+abbrev pub AllEnds : Start → Limited → List Guard → Reached → DiskSays → Result (Unit {0}) Received → Type 0
+AllEnds from input guards new disk (Ok u) = Taken from input guards new disk.runs
+AllEnds from input guards new disk (Err why) = AllStopped from input new disk.leaves (disk.stops why) why

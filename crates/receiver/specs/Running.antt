@@ -45,14 +45,23 @@ pub record IsAt (spot : Spot) (guards : List Guard) (store : StoreState) (curren
   pub seen : without_cells spot.watched ≡ beside guards (blank_of store current)
   pub place : spot.place ≡ place_of store current
 
+-- From where receiving goes on: the greatest size of the store, the store behind whose parts lines are printed, and the spot.
+pub record Start : Type 0 where
+  pub limit : ℕ
+  pub base : Store ℕ
+  pub spot : Spot
+
+abbrev pub start : ℕ → Store ℕ → Spot → Start
+start limit base spot = record { limit = limit; base = base; spot = spot }
+
 -- What was due from the first spot on is due from the second on, behind these groups and lines.
-pub record Leads (limit : ℕ) (base : Store ℕ) (old new : Spot) (items : List Item) (groups : List Group) (lines : List ℕ) : Type 0 where
-  pub due : (rest : List Item) → receive_from limit old.place old.watched (items ++ rest) ≡ receive_from limit new.place new.watched rest
-  pub left : (rest : List Item) → left_from limit old.place old.watched (items ++ rest) ≡ left_from limit new.place new.watched rest
-  pub ran : (rest : List Item) → run_by byte_step old.watched (items ++ rest) ≡ run_by byte_step new.watched rest
-  pub written : (rest : List Item) → groups_from old.watched old.begun (items ++ rest) ≡ groups ++ groups_from new.watched new.begun rest
-  pub printed : lines_behind base new.watched.state.store ≡ lines_behind base old.watched.state.store ++ lines
-  pub on : IsOn base new.watched.state.store new.watched.state.part
+pub record Leads (from : Start) (new : Spot) (items : List Item) (groups : List Group) (lines : List ℕ) : Type 0 where
+  pub due : (rest : List Item) → receive_from from.limit from.spot.place from.spot.watched (items ++ rest) ≡ receive_from from.limit new.place new.watched rest
+  pub left : (rest : List Item) → left_from from.limit from.spot.place from.spot.watched (items ++ rest) ≡ left_from from.limit new.place new.watched rest
+  pub ran : (rest : List Item) → run_by byte_step from.spot.watched (items ++ rest) ≡ run_by byte_step new.watched rest
+  pub written : (rest : List Item) → groups_from from.spot.watched from.spot.begun (items ++ rest) ≡ groups ++ groups_from new.watched new.begun rest
+  pub printed : lines_behind from.base new.watched.state.store ≡ lines_behind from.base from.spot.watched.state.store ++ lines
+  pub on : IsOn from.base new.watched.state.store new.watched.state.part
 
 -- ---- how it ends
 
@@ -73,20 +82,20 @@ pub record IsLineFront (base : Store ℕ) (spot : Spot) (read : Limited) (lines 
   pub all : lines_behind base (run_by byte_step spot.watched read.items).state.state.store ≡ lines_behind base spot.watched.state.store ++ (lines ++ unwritten)
 
 -- Where receiving ends early, the answer is due, with the lines that are due; or some of the lines were written.
-abbrev pub OutcomeStops : Outcome → ℕ → Store ℕ → Spot → Limited → List ℕ → Store (Option Place) → Type 0
-OutcomeStops (ended.Refused verdict) limit base spot read lines core = (due_from limit spot read ≡ Ends (RefusedAt (verdict_meant verdict))) × LinesLeft limit base spot read lines × CoreLeft limit spot read core
-OutcomeStops (ended.InputTooLong file) limit base spot read lines core = (due_from limit spot read ≡ Ends (TooLong file)) × LinesLeft limit base spot read lines × CoreLeft limit spot read core
-OutcomeStops ended.InputFault limit base spot read lines core = (unwritten : List ℕ) × IsLineFront base spot read lines unwritten
-OutcomeStops ended.NoMemory limit base spot read lines core = (unwritten : List ℕ) × IsLineFront base spot read lines unwritten
-OutcomeStops ended.OutputFault limit base spot read lines core = (unwritten : List ℕ) × IsLineFront base spot read lines unwritten × (0 < length unwritten)
-OutcomeStops ended.Done limit base spot read lines core = ⊥
-OutcomeStops (ended.TooMuch sum) limit base spot read lines core = ⊥
-OutcomeStops (ended.InputChanged file place) limit base spot read lines core = ⊥
+abbrev pub OutcomeStops : Outcome → Start → Limited → List ℕ → Store (Option Place) → Type 0
+OutcomeStops (ended.Refused verdict) from read lines core = (due_from from.limit from.spot read ≡ Ends (RefusedAt (verdict_meant verdict))) × LinesLeft from.limit from.base from.spot read lines × CoreLeft from.limit from.spot read core
+OutcomeStops (ended.InputTooLong file) from read lines core = (due_from from.limit from.spot read ≡ Ends (TooLong file)) × LinesLeft from.limit from.base from.spot read lines × CoreLeft from.limit from.spot read core
+OutcomeStops ended.InputFault from read lines core = (unwritten : List ℕ) × IsLineFront from.base from.spot read lines unwritten
+OutcomeStops ended.NoMemory from read lines core = (unwritten : List ℕ) × IsLineFront from.base from.spot read lines unwritten
+OutcomeStops ended.OutputFault from read lines core = (unwritten : List ℕ) × IsLineFront from.base from.spot read lines unwritten × (0 < length unwritten)
+OutcomeStops ended.Done from read lines core = ⊥
+OutcomeStops (ended.TooMuch sum) from read lines core = ⊥
+OutcomeStops (ended.InputChanged file place) from read lines core = ⊥
 
-abbrev pub Stops : Received → ℕ → Store ℕ → Spot → Limited → List ℕ → Store (Option Place) → Type 0
-Stops (how.Files outcome) limit base spot read lines core = OutcomeStops outcome limit base spot read lines core
-Stops how.StoreFault limit base spot read lines core = (unwritten : List ℕ) × IsLineFront base spot read lines unwritten
-Stops (how.LogFull end wanted most) limit base spot read lines core = (due_from limit spot read ≡ LogFull end wanted most) × LinesLeft limit base spot read lines
+abbrev pub Stops : Received → Start → Limited → List ℕ → Store (Option Place) → Type 0
+Stops (how.Files outcome) from read lines core = OutcomeStops outcome from read lines core
+Stops how.StoreFault from read lines core = (unwritten : List ℕ) × IsLineFront from.base from.spot read lines unwritten
+Stops (how.LogFull end wanted most) from read lines core = (due_from from.limit from.spot read ≡ LogFull end wanted most) × LinesLeft from.limit from.base from.spot read lines
 
 -- ---- the groups that are left
 
@@ -114,12 +123,12 @@ IfDecided (how.LogFull end wanted limit) P = P
 
 -- H holds of the first of the groups that are due from a spot on. They make what some items leave, and each part is complete there of whose
 -- line something was written. Where the answer is due, that is what is left; and where all was read, these are all groups.
-pub record IsLeft (why : Received) (limit : ℕ) (base : Store ℕ) (spot : Spot) (read : Limited) (lines : List ℕ) (H : List Group → Type 0) : Type 0 where
+pub record IsLeft (why : Received) (from : Start) (read : Limited) (lines : List ℕ) (H : List Group → Type 0) : Type 0 where
   pub items : List Item
   pub more : List Group
-  pub all : groups_from spot.watched spot.begun read.items ≡ groups_from spot.watched spot.begun items ++ more
-  pub has : H (groups_from spot.watched spot.begun items)
+  pub all : groups_from from.spot.watched from.spot.begun read.items ≡ groups_from from.spot.watched from.spot.begun items ++ more
+  pub has : H (groups_from from.spot.watched from.spot.begun items)
   pub unwritten : List ℕ
-  pub printed : lines_behind base (run_by byte_step spot.watched items).state.state.store ≡ lines_behind base spot.watched.state.store ++ (lines ++ unwritten)
-  pub left : IfDecided why ((run_by byte_step spot.watched items).state.state.store ≡ left_from limit spot.place spot.watched read.items)
+  pub printed : lines_behind from.base (run_by byte_step from.spot.watched items).state.state.store ≡ lines_behind from.base from.spot.watched.state.store ++ (lines ++ unwritten)
+  pub left : IfDecided why ((run_by byte_step from.spot.watched items).state.state.store ≡ left_from from.limit from.spot.place from.spot.watched read.items)
   pub whole : IfAllRead why (more ≡ [])

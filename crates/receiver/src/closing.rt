@@ -7,8 +7,8 @@ ghost use Rattle.store_model.specs.Stored.{Group};
 ghost use Rattle.store_model.specs.Written.{Begun, closed};
 ghost use Rattle.store_journal.specs.Holding.{Holds};
 ghost use Rattle.receiver.specs.Standing.{line_due, IsReady, IsClosedAs};
-ghost use Rattle.receiver.specs.Disks.{Keeps, HasFront};
-ghost use Rattle.receiver.specs.Answers.{IfClosed, IfStoreFault, WritesLine, ErrCaused};
+ghost use Rattle.receiver.specs.Disks.{shown, Keeps, HasFront};
+ghost use Rattle.receiver.specs.Answers.{IfClosed, IfStoreFault, WritesLine, fault_counts, ErrCaused};
 
 use crate::opened::Opened;
 use crate::outcome::Received;
@@ -33,16 +33,16 @@ pub(crate) fn close<D: Disk, O: Sink>(
 
     // Where the disk tells, it has the part's group then.
     ensures holds { D.tells → (header : Header) (groups : List Group) (begun : Option Begun) →
-        Keeps header groups begun current.old store.old (D.seen disk.old) (D.pending disk.old) →
+        Keeps header groups begun current.old (shown D.Disk disk.old store.old) →
         IfClosed result (Holds header (groups ++ closed begun) store.new
         (D.seen disk.new) (D.pending disk.new)) }
     ensures any_moment { D.tells → (header : Header) (groups : List Group) (begun : Option Begun) →
-        Keeps header groups begun current.old store.old (D.seen disk.old) (D.pending disk.old) →
+        Keeps header groups begun current.old (shown D.Disk disk.old store.old) →
         LeavesOnly D.moment D.left_since disk.old disk.new
         (HasFront header groups (closed begun)) }
 
-    ensures cause { ErrCaused 0 0 (O.faults out.old) (O.faults out.new)
-        (D.faults disk.old) (D.faults disk.new) result }
+    ensures cause { ErrCaused (fault_counts 0 (O.faults out.old) (D.faults disk.old))
+        (fault_counts 0 (O.faults out.new) (D.faults disk.new)) result }
     ensures later { D.faults disk.old ≤ D.faults disk.new }
     ensures out_later { O.faults out.old ≤ O.faults out.new }
     ensures steady { Steady (D.faults disk.old) (D.faults disk.new) result }

@@ -15,17 +15,15 @@ ghost use Rattle.store_journal.specs.Shown.{IsIdle};
 ghost use Rattle.store_journal.specs.Holding.{Holds};
 ghost use Rattle.receiver.specs.Standing.{state_of, place_of, IsReady};
 ghost use Rattle.receiver.specs.Steps.{EditsAs, begun_if};
-ghost use Rattle.receiver.specs.Disks.{Keeps, HasVersion, HasFront, marked};
-ghost use Rattle.sx_base.specs.Disk.{IsImage};
-ghost use Rattle.store_journal.specs.Holding.{HasThese};
-ghost use Rattle.receiver.specs.Answers.{ended_log, ended_by, IsUsualLog, IsUsualStop, StepSays, PiecesSay, ReadySays, KeepsSays, ErrCaused};
+ghost use Rattle.receiver.specs.Disks.{shown, Keeps, ItemKeeps, HasVersion, HasFront, marked};
+ghost use Rattle.receiver.specs.Answers.{ended_log, ended_by, IsUsualLog, IsUsualStop, StepSays, PiecesSay, ReadySays, groups_behind, fault_counts, ErrCaused};
 
 use crate::opened::{Opened, line_of};
 use crate::outcome::Received;
+use crate::task::FileItem;
 use clone_resolve::Head;
 use cmd_reader::Item;
 use group_log::LogStop;
-use std::alloc::Global;
 use store_groups::StoreStop;
 use store_journal::Store;
 use sx_base::{Disk, Outcome, Refusal, Verdict};
@@ -76,103 +74,101 @@ fn stopped_log(why: LogStop) -> Received
 
 // Begins the part of a head. No part is open before it.
 pub(crate) fn begin<D: Disk>(
-    alloc: Global,
+    read: &FileItem<'_>,
+    head: &Head<'_>,
     store: &mut Store,
     disk: &mut D,
     current: &mut Option<Opened>,
-    head: &Head<'_>,
-    file: u64,
-    item: &Item,
 ) -> Result<(), Received>
     requires idle { IsIdle (D.len disk.old) store.old }
     requires none { current.old ≡ None }
-    requires head { head_of (meaning_of item.now.command) ≡ Some (head_meant head.now) }
-    requires spellable { IsSpellable item.now.version (meaning_of item.now.command) }
-    requires version { is_version item.now.version ≡ true }
+    requires head { head_of (meaning_of read.now.item.now.command) ≡ Some (head_meant head.now) }
+    requires spellable { IsSpellable read.now.item.now.version
+        (meaning_of read.now.item.now.command) }
+    requires version { is_version read.now.item.now.version ≡ true }
     ensures limit { store.new.log.limit ≡ store.old.log.limit }
-    ensures stepped { StepSays result (item_of file item.now) (state_of store.new current.new)
-        (entered store.old.core (head_meant head.now)
+    ensures stepped { StepSays result (item_of read.now.file read.now.item.now)
+        (state_of store.new current.new) (entered store.old.core (head_meant head.now)
         (begun store.old.core (head_meant head.now))) }
     ensures pieces { PiecesSay result store.old.log.limit store.old.log.gate
-        (place_of store.new current.new) (item_of file item.now) }
+        (place_of store.new current.new) (item_of read.now.file read.now.item.now) }
     ensures ready { ReadySays result (D.len disk.new) current.new store.new }
 
     // Where the disk tells, it has the group of the head then.
     ensures keeps { D.tells → (header : Header) (groups : List Group) (begun : Option Begun) →
         Holds header groups store.old (D.seen disk.old) (D.pending disk.old) →
-        KeepsSays result (λ groups begun. Keeps header groups begun current.new store.new
-        (D.seen disk.new) (D.pending disk.new))
-        (λ groups. (image : List ℕ) → IsImage (D.pending disk.new) image →
-        HasThese header groups image) groups
-        (groups ++ marked store.old.log.limit store.old.log.gate (meaning_of item.now.command))
-        (groups ++ begun_by (meaning_of item.now.command))
-        (begun_after begun (item_of file item.now)) }
+        ItemKeeps result header current.new (shown D.Disk disk.new store.new)
+        (groups_behind groups (groups ++ marked store.old.log.limit store.old.log.gate
+        (meaning_of read.now.item.now.command))
+        (groups ++ begun_by (meaning_of read.now.item.now.command))
+        (begun_after begun (item_of read.now.file read.now.item.now))) }
     ensures any_moment { D.tells → (header : Header) (groups : List Group) →
         Holds header groups store.old (D.seen disk.old) (D.pending disk.old) →
         LeavesOnly D.moment D.left_since disk.old disk.new (HasFront header groups
         (begun_if (entered store.old.core (head_meant head.now)
-        (begun store.old.core (head_meant head.now))) (meaning_of item.now.command))) }
+        (begun store.old.core (head_meant head.now))) (meaning_of read.now.item.now.command))) }
 
-    ensures cause { ErrCaused 0 0 0 0 (D.faults disk.old) (D.faults disk.new) result }
+    ensures cause { ErrCaused (fault_counts 0 0 (D.faults disk.old))
+        (fault_counts 0 0 (D.faults disk.new)) result }
     ensures later { D.faults disk.old ≤ D.faults disk.new }
     ensures steady { Steady (D.faults disk.old) (D.faults disk.new) result }
 {
-    let Ok(line) = line_of(alloc, head) else {
+    let Ok(line) = line_of(read.alloc, head) else {
         return Err(Received::Files(Outcome::NoMemory));
     };
-    match store.begin(disk, &item.command, item.version) {
+    match store.begin(disk, &read.item.command, read.item.version) {
         Ok(part) => {
             *current = Some(Opened { part, line });
             Ok(())
         }
-        Err(stop) => Err(stopped(file, item, stop)),
+        Err(stop) => Err(stopped(read.file, read.item, stop)),
     }
 }
 
 // Edits the open part, if there is one.
 pub(crate) fn edit<D: Disk>(
+    read: &FileItem<'_>,
     store: &mut Store,
     disk: &mut D,
     current: &mut Option<Opened>,
-    file: u64,
-    item: &Item,
 ) -> Result<(), Received>
     requires ready { IsReady (D.len disk.old) current.old store.old }
-    requires edit { is_edit (meaning_of item.now.command) ≡ true }
-    requires spellable { IsSpellable item.now.version (meaning_of item.now.command) }
+    requires edit { is_edit (meaning_of read.now.item.now.command) ≡ true }
+    requires spellable { IsSpellable read.now.item.now.version
+        (meaning_of read.now.item.now.command) }
     ensures limit { store.new.log.limit ≡ store.old.log.limit }
-    ensures stepped { EditsAs result (item_of file item.now) (state_of store.old current.old)
-        (state_of store.new current.new) }
+    ensures stepped { EditsAs result (item_of read.now.file read.now.item.now)
+        (state_of store.old current.old) (state_of store.new current.new) }
     ensures pieces { PiecesSay result store.old.log.limit (place_of store.old current.old)
-        (place_of store.new current.new) (item_of file item.now) }
+        (place_of store.new current.new) (item_of read.now.file read.now.item.now) }
     ensures ready { ReadySays result (D.len disk.new) current.new store.new }
 
     // Where the disk tells, the edit stands in the group of the part then.
     ensures keeps { D.tells → (header : Header) (groups : List Group) (begun : Option Begun) →
-        HasVersion item.now.version begun →
-        Keeps header groups begun current.old store.old (D.seen disk.old) (D.pending disk.old) →
-        KeepsSays result (λ groups begun. Keeps header groups begun current.new store.new
-        (D.seen disk.new) (D.pending disk.new))
-        (λ groups. (image : List ℕ) → IsImage (D.pending disk.new) image →
-        HasThese header groups image) groups groups groups
-        (begun_after begun (item_of file item.now)) }
+        HasVersion read.now.item.now.version begun →
+        Keeps header groups begun current.old (shown D.Disk disk.old store.old) →
+        ItemKeeps result header current.new (shown D.Disk disk.new store.new)
+        (groups_behind groups groups groups
+        (begun_after begun (item_of read.now.file read.now.item.now))) }
     ensures any_moment { D.tells → (header : Header) (groups : List Group) (begun : Option Begun) →
-        HasVersion item.now.version begun →
-        Keeps header groups begun current.old store.old (D.seen disk.old) (D.pending disk.old) →
+        HasVersion read.now.item.now.version begun →
+        Keeps header groups begun current.old (shown D.Disk disk.old store.old) →
         LeavesOnly D.moment D.left_since disk.old disk.new (HasFront header groups []) }
 
-    ensures cause { ErrCaused 0 0 0 0 (D.faults disk.old) (D.faults disk.new) result }
+    ensures cause { ErrCaused (fault_counts 0 0 (D.faults disk.old))
+        (fault_counts 0 0 (D.faults disk.new)) result }
     ensures later { D.faults disk.old ≤ D.faults disk.new }
     ensures steady { Steady (D.faults disk.old) (D.faults disk.new) result }
 {
     let Some(opened) = current.take() else {
-        return Err(Received::Files(Outcome::Refused(refused(file, item, Refusal::NoSubvolume))));
+        let refused = refused(read.file, read.item, Refusal::NoSubvolume);
+        return Err(Received::Files(Outcome::Refused(refused)));
     };
     let Opened { mut part, line } = opened;
-    let edited = store.edit(disk, &mut part, &item.command, item.version);
+    let edited = store.edit(disk, &mut part, &read.item.command, read.item.version);
     *current = Some(Opened { part, line });
     match edited {
         Ok(()) => Ok(()),
-        Err(stop) => Err(stopped(file, item, stop)),
+        Err(stop) => Err(stopped(read.file, read.item, stop)),
     }
 }

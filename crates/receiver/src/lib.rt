@@ -11,6 +11,7 @@ mod opened;
 mod outcome;
 mod receiving;
 mod taking;
+mod task;
 
 pub use guarding::{GuardList, Guarding};
 pub use outcome::Received;

@@ -12,15 +12,14 @@ ghost use Rattle.store_model.specs.Written.{groups_of};
 ghost use Rattle.auditor.specs.Following.{HaveSameShape};
 ghost use Rattle.store_journal.specs.Shown.{IsIdle};
 ghost use Rattle.store_journal.specs.Holding.{Holds};
-ghost use Rattle.receiver.specs.Answers.{Caused};
-ghost use Rattle.receiver.specs.Disks.{HasFront};
-ghost use Rattle.receiver.specs.ReceiveEnds.{ReceiveEnds, AreLeft, LeavesMore, SteadyIfReceived, IdleAfter};
+ghost use Rattle.receiver.specs.Answers.{fault_counts, Caused};
+ghost use Rattle.receiver.specs.Disks.{shown, HasFront};
+ghost use Rattle.receiver.specs.ReceiveEnds.{to_receive, ReceiveEnds, AreLeft, LeavesMore, SteadyIfReceived, IdleAfter};
 
 use crate::files::receive_files;
 use crate::guarding::Guarding;
 use crate::outcome::Received;
-use part_names::PartNames;
-use std::alloc::Global;
+use part_names::NamedFiles;
 use store_journal::Store;
 use sx_base::{Disk, Inputs, Outcome, Sink};
 
@@ -33,12 +32,10 @@ use sx_base::{Disk, Inputs, Outcome, Sink};
 /// moment leaves the groups that there were and the first of those that are due; and whatever ends it, it then has the groups of each
 /// part of whose line something was written.
 pub fn receive<I: Inputs, O: Sink, D: Disk, G: Guarding>(
-    alloc: Global,
+    given: &NamedFiles<'_>,
     store: &mut Store,
     disk: &mut D,
     inputs: &mut I,
-    files: &[String],
-    names: &PartNames,
     guards: &mut G,
     out: &mut O,
 ) -> Received
@@ -47,29 +44,31 @@ pub fn receive<I: Inputs, O: Sink, D: Disk, G: Guarding>(
     ensures limit { store.new.log.limit ≡ store.old.log.limit }
     ensures idle { IdleAfter result (D.len disk.new) store.new }
     ensures received { (base : meant.Store ℕ) → HaveSameShape store.old.core base →
-        IfAllTold (I.told inputs.old) (map string_bytes files.now)
+        IfAllTold (I.told inputs.old) (map string_bytes given.now.files.now)
         (λ files. Wrote (O.taken out.old) (O.taken out.new) (λ written.
-        ReceiveEnds store.old.log.limit store.old.log.gate base (G.kept guards.old)
-        (record { bytes = files; names = names.now }) result store.new.core written
-        × LeavesMore D.tells D.seen D.pending disk.old disk.new store.old store.new result
-        (AreLeft store.old.log.limit store.old.log.gate base (G.kept guards.old)
-        (record { bytes = files; names = names.now }) result written))) }
+        ReceiveEnds (to_receive store.old.log.limit store.old.log.gate base (G.kept guards.old)
+        (record { bytes = files; names = given.now.names.now })) result store.new.core written
+        × LeavesMore D.tells (shown D.Disk disk.old store.old) (shown D.Disk disk.new store.new)
+        result (AreLeft (to_receive store.old.log.limit store.old.log.gate base
+        (G.kept guards.old) (record { bytes = files; names = given.now.names.now }))
+        result written))) }
     ensures any_moment { D.tells → (header : Header) (groups : List Group) →
         Holds header groups store.old (D.seen disk.old) (D.pending disk.old) →
         (base : meant.Store ℕ) → HaveSameShape store.old.core base →
-        IfAllTold (I.told inputs.old) (map string_bytes files.now)
+        IfAllTold (I.told inputs.old) (map string_bytes given.now.files.now)
         (λ files. LeavesOnly D.moment D.left_since disk.old disk.new (HasFront header groups
         (groups_of base (G.kept guards.old)
-        (renamed_limited names.now (limited_from 1 files)).items))) }
-    ensures cause { Caused (I.faults inputs.old) (I.faults inputs.new)
-        (O.faults out.old) (O.faults out.new) (D.faults disk.old) (D.faults disk.new) result }
+        (renamed_limited given.now.names.now (limited_from 1 files)).items))) }
+    ensures cause { Caused
+        (fault_counts (I.faults inputs.old) (O.faults out.old) (D.faults disk.old))
+        (fault_counts (I.faults inputs.new) (O.faults out.new) (D.faults disk.new)) result }
     ensures later { D.faults disk.old ≤ D.faults disk.new }
     ensures steady { SteadyIfReceived (I.faults inputs.old) (I.faults inputs.new) result }
     ensures ends_steady { SteadyIfReceived (I.ends inputs.old) (I.ends inputs.new) result }
     ensures out_steady { SteadyIfReceived (O.faults out.old) (O.faults out.new) result }
     ensures disk_steady { SteadyIfReceived (D.faults disk.old) (D.faults disk.new) result }
 {
-    match receive_files(alloc, store, disk, inputs, files, names, guards, out) {
+    match receive_files(given, store, disk, inputs, guards, out) {
         Ok(()) => Received::Files(Outcome::Done),
         Err(ended) => ended,
     }

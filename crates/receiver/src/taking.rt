@@ -17,19 +17,16 @@ ghost use Rattle.store_groups.specs.declared.place.Place as here;
 ghost use Rattle.cmd_reader.specs.Next.{item_of};
 ghost use Rattle.receiver.specs.Standing.{state_of, place_of, behind_close, line_by, IsReady};
 ghost use Rattle.receiver.specs.Steps.{TakesAs, begun_if};
-ghost use Rattle.receiver.specs.Disks.{Keeps, HasVersion, HasFront, HasNow, closing, marked};
-ghost use Rattle.sx_base.specs.Disk.{IsImage};
-ghost use Rattle.store_journal.specs.Holding.{HasThese};
-ghost use Rattle.receiver.specs.Answers.{StepSays, PiecesSay, ReadySays, ItemWrites, KeepsSays, ErrCaused};
+ghost use Rattle.receiver.specs.Disks.{shown, Keeps, ItemKeeps, HasVersion, HasFront, work, HasNow, closing, marked};
+ghost use Rattle.receiver.specs.Answers.{StepSays, PiecesSay, ReadySays, ItemWrites, groups_behind, fault_counts, ErrCaused};
 
 use crate::closing::close;
 use crate::doing::{begin, edit};
 use crate::opened::Opened;
 use crate::outcome::Received;
+use crate::task::FileItem;
 use clone_resolve::{Head, head_of};
-use cmd_reader::Item;
 use send_commands::Command;
-use std::alloc::Global;
 use store_journal::Store;
 use sx_base::{Disk, Sink};
 
@@ -43,126 +40,124 @@ fn ends(command: &Command) -> bool
 
 // Does a command that no guard refuses.
 pub(crate) fn do_item<D: Disk, O: Sink>(
-    alloc: Global,
+    read: &FileItem<'_>,
     store: &mut Store,
     disk: &mut D,
     current: &mut Option<Opened>,
     out: &mut O,
-    file: u64,
-    item: &Item,
 ) -> Result<(), Received>
     requires ready { IsReady (D.len disk.old) current.old store.old }
-    requires spellable { IsSpellable item.now.version (meaning_of item.now.command) }
-    requires version { is_version item.now.version ≡ true }
+    requires spellable { IsSpellable read.now.item.now.version
+        (meaning_of read.now.item.now.command) }
+    requires version { is_version read.now.item.now.version ≡ true }
     ensures limit { store.new.log.limit ≡ store.old.log.limit }
-    ensures stepped { TakesAs result (item_of file item.now) (state_of store.old current.old)
-        (state_of store.new current.new) }
+    ensures stepped { TakesAs result (item_of read.now.file read.now.item.now)
+        (state_of store.old current.old) (state_of store.new current.new) }
     ensures pieces { PiecesSay result store.old.log.limit
-        (behind_close current.old (meaning_of item.now.command) (place_of store.old current.old))
-        (place_of store.new current.new) (item_of file item.now) }
+        (behind_close current.old (meaning_of read.now.item.now.command)
+        (place_of store.old current.old))
+        (place_of store.new current.new) (item_of read.now.file read.now.item.now) }
     ensures ready { ReadySays result (D.len disk.new) current.new store.new }
-    ensures written { ItemWrites result ((place : here.Place) → HasNow D.tells D.seen D.pending
-        disk.old disk.new item.now.version current.old store.old
-        (closing (meaning_of item.now.command))
-        (begun_if (step None (cells_put further place (meaning_of item.now.command))
-        (state_of store.old current.old) (meaning_of item.now.command))
-        (meaning_of item.now.command)))
-        (line_by current.old (meaning_of item.now.command)) (O.taken out.old) (O.taken out.new) }
+    ensures written { ItemWrites result ((place : here.Place) →
+        HasNow D.Disk (work disk.old store.old current.old) disk.new read.now.item.now.version
+        (closing (meaning_of read.now.item.now.command))
+        (begun_if (step None (cells_put further place (meaning_of read.now.item.now.command))
+        (state_of store.old current.old) (meaning_of read.now.item.now.command))
+        (meaning_of read.now.item.now.command)))
+        (line_by current.old (meaning_of read.now.item.now.command)) (O.taken out.old)
+        (O.taken out.new) }
     ensures keeps { D.tells → (header : Header) (groups : List Group) (begun : Option Begun) →
-        HasVersion item.now.version begun →
-        Keeps header groups begun current.old store.old (D.seen disk.old) (D.pending disk.old) →
-        KeepsSays result (λ groups begun. Keeps header groups begun current.new store.new
-        (D.seen disk.new) (D.pending disk.new))
-        (λ groups. (image : List ℕ) → IsImage (D.pending disk.new) image →
-        HasThese header groups image)
-        (groups ++ closing (meaning_of item.now.command) begun)
-        (groups ++ (closing (meaning_of item.now.command) begun
-        ++ marked store.old.log.limit (behind_close current.old (meaning_of item.now.command)
-        (place_of store.old current.old)) (meaning_of item.now.command)))
-        (groups ++ (closing (meaning_of item.now.command) begun
-        ++ begun_by (meaning_of item.now.command)))
-        (begun_after begun (item_of file item.now)) }
+        HasVersion read.now.item.now.version begun →
+        Keeps header groups begun current.old (shown D.Disk disk.old store.old) →
+        ItemKeeps result header current.new (shown D.Disk disk.new store.new)
+        (groups_behind (groups ++ closing (meaning_of read.now.item.now.command) begun)
+        (groups ++ (closing (meaning_of read.now.item.now.command) begun
+        ++ marked store.old.log.limit (behind_close current.old
+        (meaning_of read.now.item.now.command)
+        (place_of store.old current.old)) (meaning_of read.now.item.now.command)))
+        (groups ++ (closing (meaning_of read.now.item.now.command) begun
+        ++ begun_by (meaning_of read.now.item.now.command)))
+        (begun_after begun (item_of read.now.file read.now.item.now))) }
     ensures any_moment { D.tells → (header : Header) (groups : List Group) (begun : Option Begun) →
-        (place : here.Place) → HasVersion item.now.version begun →
-        Keeps header groups begun current.old store.old (D.seen disk.old) (D.pending disk.old) →
+        (place : here.Place) → HasVersion read.now.item.now.version begun →
+        Keeps header groups begun current.old (shown D.Disk disk.old store.old) →
         LeavesOnly D.moment D.left_since disk.old disk.new
-        (HasFront header groups (closing (meaning_of item.now.command) begun
-        ++ begun_if (step None (cells_put further place (meaning_of item.now.command))
-        (state_of store.old current.old) (meaning_of item.now.command))
-        (meaning_of item.now.command))) }
-    ensures at_end { is_end (meaning_of item.now.command) ≡ true →
+        (HasFront header groups (closing (meaning_of read.now.item.now.command) begun
+        ++ begun_if (step None (cells_put further place (meaning_of read.now.item.now.command))
+        (state_of store.old current.old) (meaning_of read.now.item.now.command))
+        (meaning_of read.now.item.now.command))) }
+    ensures at_end { is_end (meaning_of read.now.item.now.command) ≡ true →
         OnOk result (current.new ≡ None) }
-    ensures cause { ErrCaused 0 0 (O.faults out.old) (O.faults out.new)
-        (D.faults disk.old) (D.faults disk.new) result }
+    ensures cause { ErrCaused (fault_counts 0 (O.faults out.old) (D.faults disk.old))
+        (fault_counts 0 (O.faults out.new) (D.faults disk.new)) result }
     ensures later { D.faults disk.old ≤ D.faults disk.new }
     ensures out_later { O.faults out.old ≤ O.faults out.new }
     ensures steady { Steady (D.faults disk.old) (D.faults disk.new) result }
     ensures out_steady { Steady (O.faults out.old) (O.faults out.new) result }
 {
-    if ends(&item.command) {
+    if ends(&read.item.command) {
         return close(store, disk, current, out);
     }
-    match head_of(&item.command) {
-        None => edit(store, disk, current, file, item),
-        Some(head) => enter(alloc, store, disk, current, out, &head, file, item),
+    match head_of(&read.item.command) {
+        None => edit(read, store, disk, current),
+        Some(head) => enter(read, &head, store, disk, current, out),
     }
 }
 
 // Completes the part before a head, and begins the one of the head.
 fn enter<D: Disk, O: Sink>(
-    alloc: Global,
+    read: &FileItem<'_>,
+    head: &Head<'_>,
     store: &mut Store,
     disk: &mut D,
     current: &mut Option<Opened>,
     out: &mut O,
-    head: &Head<'_>,
-    file: u64,
-    item: &Item,
 ) -> Result<(), Received>
-    requires head { head_of (meaning_of item.now.command) ≡ Some (head_meant head.now) }
+    requires head { head_of (meaning_of read.now.item.now.command) ≡ Some (head_meant head.now) }
     requires ready { IsReady (D.len disk.old) current.old store.old }
-    requires spellable { IsSpellable item.now.version (meaning_of item.now.command) }
-    requires version { is_version item.now.version ≡ true }
+    requires spellable { IsSpellable read.now.item.now.version
+        (meaning_of read.now.item.now.command) }
+    requires version { is_version read.now.item.now.version ≡ true }
     ensures limit { store.new.log.limit ≡ store.old.log.limit }
-    ensures stepped { TakesAs result (item_of file item.now) (state_of store.old current.old)
-        (state_of store.new current.new) }
+    ensures stepped { TakesAs result (item_of read.now.file read.now.item.now)
+        (state_of store.old current.old) (state_of store.new current.new) }
     ensures pieces { PiecesSay result store.old.log.limit
-        (behind_close current.old (meaning_of item.now.command) (place_of store.old current.old))
-        (place_of store.new current.new) (item_of file item.now) }
+        (behind_close current.old (meaning_of read.now.item.now.command)
+        (place_of store.old current.old))
+        (place_of store.new current.new) (item_of read.now.file read.now.item.now) }
     ensures ready { ReadySays result (D.len disk.new) current.new store.new }
-    ensures written { ItemWrites result ((place : here.Place) → HasNow D.tells D.seen D.pending
-        disk.old disk.new item.now.version current.old store.old
-        (closing (meaning_of item.now.command))
-        (begun_if (step None (cells_put further place (meaning_of item.now.command))
-        (state_of store.old current.old) (meaning_of item.now.command))
-        (meaning_of item.now.command)))
-        (line_by current.old (meaning_of item.now.command)) (O.taken out.old) (O.taken out.new) }
+    ensures written { ItemWrites result ((place : here.Place) →
+        HasNow D.Disk (work disk.old store.old current.old) disk.new read.now.item.now.version
+        (closing (meaning_of read.now.item.now.command))
+        (begun_if (step None (cells_put further place (meaning_of read.now.item.now.command))
+        (state_of store.old current.old) (meaning_of read.now.item.now.command))
+        (meaning_of read.now.item.now.command)))
+        (line_by current.old (meaning_of read.now.item.now.command)) (O.taken out.old)
+        (O.taken out.new) }
     ensures keeps { D.tells → (header : Header) (groups : List Group) (begun : Option Begun) →
-        HasVersion item.now.version begun →
-        Keeps header groups begun current.old store.old (D.seen disk.old) (D.pending disk.old) →
-        KeepsSays result (λ groups begun. Keeps header groups begun current.new store.new
-        (D.seen disk.new) (D.pending disk.new))
-        (λ groups. (image : List ℕ) → IsImage (D.pending disk.new) image →
-        HasThese header groups image)
-        (groups ++ closing (meaning_of item.now.command) begun)
-        (groups ++ (closing (meaning_of item.now.command) begun
-        ++ marked store.old.log.limit (behind_close current.old (meaning_of item.now.command)
-        (place_of store.old current.old)) (meaning_of item.now.command)))
-        (groups ++ (closing (meaning_of item.now.command) begun
-        ++ begun_by (meaning_of item.now.command)))
-        (begun_after begun (item_of file item.now)) }
+        HasVersion read.now.item.now.version begun →
+        Keeps header groups begun current.old (shown D.Disk disk.old store.old) →
+        ItemKeeps result header current.new (shown D.Disk disk.new store.new)
+        (groups_behind (groups ++ closing (meaning_of read.now.item.now.command) begun)
+        (groups ++ (closing (meaning_of read.now.item.now.command) begun
+        ++ marked store.old.log.limit (behind_close current.old
+        (meaning_of read.now.item.now.command)
+        (place_of store.old current.old)) (meaning_of read.now.item.now.command)))
+        (groups ++ (closing (meaning_of read.now.item.now.command) begun
+        ++ begun_by (meaning_of read.now.item.now.command)))
+        (begun_after begun (item_of read.now.file read.now.item.now))) }
     ensures any_moment { D.tells → (header : Header) (groups : List Group) (begun : Option Begun) →
-        (place : here.Place) → HasVersion item.now.version begun →
-        Keeps header groups begun current.old store.old (D.seen disk.old) (D.pending disk.old) →
+        (place : here.Place) → HasVersion read.now.item.now.version begun →
+        Keeps header groups begun current.old (shown D.Disk disk.old store.old) →
         LeavesOnly D.moment D.left_since disk.old disk.new
-        (HasFront header groups (closing (meaning_of item.now.command) begun
-        ++ begun_if (step None (cells_put further place (meaning_of item.now.command))
-        (state_of store.old current.old) (meaning_of item.now.command))
-        (meaning_of item.now.command))) }
-    ensures at_end { is_end (meaning_of item.now.command) ≡ true →
+        (HasFront header groups (closing (meaning_of read.now.item.now.command) begun
+        ++ begun_if (step None (cells_put further place (meaning_of read.now.item.now.command))
+        (state_of store.old current.old) (meaning_of read.now.item.now.command))
+        (meaning_of read.now.item.now.command))) }
+    ensures at_end { is_end (meaning_of read.now.item.now.command) ≡ true →
         OnOk result (current.new ≡ None) }
-    ensures cause { ErrCaused 0 0 (O.faults out.old) (O.faults out.new)
-        (D.faults disk.old) (D.faults disk.new) result }
+    ensures cause { ErrCaused (fault_counts 0 (O.faults out.old) (D.faults disk.old))
+        (fault_counts 0 (O.faults out.new) (D.faults disk.new)) result }
     ensures later { D.faults disk.old ≤ D.faults disk.new }
     ensures out_later { O.faults out.old ≤ O.faults out.new }
     ensures steady { Steady (D.faults disk.old) (D.faults disk.new) result }
@@ -172,5 +167,5 @@ fn enter<D: Disk, O: Sink>(
         Ok(()) => {}
         Err(ended) => return Err(ended),
     }
-    begin(alloc, store, disk, current, head, file, item)
+    begin(read, head, store, disk, current)
 }

@@ -8,7 +8,7 @@ use Rattle.send_model.specs.Store.{Entry}
 use Rattle.send_model.specs.Subvolume.{Subvolume}
 use Rattle.store_model.specs.NamedFiles.{NamedFiles, unnamed}
 use Rattle.store_model.specs.Requests as stored
-use Rattle.store_model.specs.Requests.{InitStore, DropEntry, ShowEntry, CatFile, word_at}
+use Rattle.store_model.specs.Requests.{InitStore, DropEntry, ShowEntry, CatFile, word_at, at_entry}
 use Rattle.store_model.specs.Answers.{OfAnyWord, StandsBefore}
 use Rattle.store_model.proofs.AnswerLaws.{nothing_stands_before}
 use Rattle.sent_model.specs.HeldStores.{Form, SendBefore, formed}
@@ -50,7 +50,7 @@ restored_some found = header_some (sent_version found.1) _
 unfinished : (form : Form) (image name : List ℕ) → ((found : Found) → 0 < length (formed form (Some found))) → IsUnfinished form image name []
 unfinished form image name some store stands found here = record { count = 0; within = some found; written_is = refl }
 
-nothing_said : (words : List (List ℕ)) (request : StoreRequest) → HasName request → (image : List ℕ) (files : NamedFiles) → Answers (store_meant words request) words image files (OfAnyWord NoMemory) [] image
+nothing_said : (words : List (List ℕ)) (request : StoreRequest) → HasName request → (image : List ℕ) (files : NamedFiles) → Answers (store_meant words request) (at_entry words image files) (OfAnyWord NoMemory) [] image
 nothing_said words (of_store.Init store) named image files = absurd named
 nothing_said words (of_store.Drop store name) named image files = nothing_stands (DropEntry 0 1) (λ other e. cc) (word_at words store ∷ name_at words name ∷ []) image files
 nothing_said words (of_store.Receive store at) named image files = absurd named
@@ -66,7 +66,7 @@ nothing_said words (of_store.Interleave store schedule turns) named image files 
 -- The answer, by what the files give: such a request names none.
 abbrev pub SaysOf : Option (List (List ℕ × List ℕ)) → List (List ℕ) → Request → (out : Option (List ℕ)) → (image : List ℕ) → Type 0
 SaysOf told words request out image = IfAllRead told (names_asked request words) (λ files. Wrote out out
-    (λ written. IfBytes request files (Answers request words image (named_files request words files) (OfAnyWord NoMemory) written image)))
+    (λ written. IfBytes request files (Answers request (at_entry words image (named_files request words files)) (OfAnyWord NoMemory) written image)))
 
 pub nothing_answered : (told : Option (List (List ℕ × List ℕ))) (words : List (List ℕ)) (request : StoreRequest) → HasName request → (out : Option (List ℕ)) (image : List ℕ)
     → SaysOf told words (store_meant words request) out image

@@ -14,10 +14,10 @@ use Rattle.store_words.specs.declared.ends.StoreEnd.{StoreEnd}
 use Rattle.store_words.specs.declared.ends.StoreEnd.TheVariants as made
 use Rattle.word_model.specs.AllRequests.{SendEntry, RestoreEntry}
 use Rattle.word_model.proofs.Anew.{sent_is_received_anew, restored_is_received_anew}
-use Rattle.send_top.specs.Run.{IsAnswered, Sends}
+use Rattle.send_top.specs.Run.{IsAnswered, Sends, outside}
 
 pub sends : (told : Option (List (List ℕ × List ℕ))) (tells : Type 0) (words : List (List ℕ)) (guards : List Guard) (old new : Option (List ℕ)) (image left : List ℕ)
-    → IsAnswered told tells words guards old new image left (OfAnyWord Done) → Sends tells words guards image old new
+    → IsAnswered tells words guards (outside told image old new) left (OfAnyWord Done) → Sends tells words guards image old new
 sends told tells words guards old new image left answered store name (inl asks) is_told =
     let w = answered (SendEntry store name) asks is_told in (w.0, w.1, sent_is_received_anew store name words image (unnamed []) w.0 left w.2)
 sends told tells words guards old new image left answered store name (inr asks) is_told =

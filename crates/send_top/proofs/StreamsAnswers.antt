@@ -19,7 +19,7 @@ use Rattle.sx_base.specs.declared.outcome.Verdict.{Verdict}
 use Rattle.store_model.specs.Dues as store_dues
 use Rattle.store_model.specs.Stored.{StandsFor}
 use Rattle.store_model.specs.NamedFiles.{NamedFiles, read_of}
-use Rattle.store_model.specs.Requests.{OfStreams, InitStore, store_of, reads_store, IsStreamsDue, StreamsSay}
+use Rattle.store_model.specs.Requests.{OfStreams, InitStore, store_of, reads_store, IsStreamsDue, StreamsSay, at_entry}
 use Rattle.store_model.specs.Answers.{Answer, OfAnyWord, Answers, StandsBefore, StreamsBefore, StreamsCut}
 use Rattle.store_model.proofs.AnswerLaws.{nothing_stands_before}
 use Rattle.word_model.specs.AllRequests.{OfStore}
@@ -32,7 +32,7 @@ use Rattle.store_words.specs.Ending.{outcome_meant}
 use Rattle.store_words.proofs.StreamAnswers.{then_told}
 use Rattle.send_top.specs.Requests.{named_files, streams_names, streams_part_names}
 use Rattle.store_base.specs.Ending.{ChangeFound}
-use Rattle.send_top.specs.Run.{IfAllRead, OfDisk, IsChangedIn, IsOver, WroteOver}
+use Rattle.send_top.specs.Run.{IfAllRead, OfDisk, IsChangedIn, IsOver, WroteOver, outside}
 use Rattle.send_top.proofs.ReceiveAnswers.{all_read}
 
 -- ---- over no store
@@ -46,7 +46,7 @@ module _ (request : Request) (words : List (List ℕ)) (image : List ℕ) (files
     (refl, subst (λ (b : Bool). StreamsSay b request image (read_of files) (store_dues.Ends the_due) written) (sym none) says),
   )
 
-  pub over_none : (outcome : Outcome) → EndsOf request [] (read_of files) outcome written → Answers (OfStreams request) words image files (OfAnyWord (outcome_meant outcome)) written image
+  pub over_none : (outcome : Outcome) → EndsOf request [] (read_of files) outcome written → Answers (OfStreams request) (at_entry words image files) (OfAnyWord (outcome_meant outcome)) written image
   over_none ended.Done (is, says) = decided DoneWhole is says
   over_none (ended.Refused verdict) (is, says) = decided (RefusedAt (verdict_meant verdict)) is says
   over_none (ended.InputTooLong file) (is, says) = decided (TooLong file) is says
@@ -72,11 +72,11 @@ pub unread_store : (tells : Type 0) (told : Option (List (List ℕ × List ℕ))
     → reads_store words (store_of request) ≡ false
     → IfAllRead told (streams_names request words) (λ files. Wrote old new (EndsOf request [] (sources_named (streams_part_names request words) files) outcome))
     → OfDisk tells (reads_store words (store_of request)) (IfAllRead told (streams_names request words)
-    (λ files. Wrote old new (λ written. Answers (OfStreams request) words image (named_files (OfStore (OfStreams request)) words files) (OfAnyWord (outcome_meant outcome)) written image)))
+    (λ files. Wrote old new (λ written. Answers (OfStreams request) (at_entry words image (named_files (OfStore (OfStreams request)) words files)) (OfAnyWord (outcome_meant outcome)) written image)))
 unread_store tells told words request old new image outcome none ends =
     of_disk tells (reads_store words (store_of request)) _
     (then_read told (streams_names request words) (λ files. Wrote old new (EndsOf request [] (sources_named (streams_part_names request words) files) outcome))
-    (λ files. Wrote old new (λ written. Answers (OfStreams request) words image (named_files (OfStore (OfStreams request)) words files) (OfAnyWord (outcome_meant outcome)) written image))
+    (λ files. Wrote old new (λ written. Answers (OfStreams request) (at_entry words image (named_files (OfStore (OfStreams request)) words files)) (OfAnyWord (outcome_meant outcome)) written image))
     (λ files w. (w.0, w.1, over_none request words image (named_files (OfStore (OfStreams request)) words files) w.0 none outcome w.2)) ends)
 
 -- Where there is no memory before anything was done.
@@ -88,10 +88,10 @@ nothing_done request words image files = ⊎_elim (λ other. absurd (no_init req
 
 pub nothing_read : (tells : Type 0) (told : Option (List (List ℕ × List ℕ))) (words : List (List ℕ)) (request : Request) (out : Option (List ℕ)) (image : List ℕ)
     → OfDisk tells (reads_store words (store_of request)) (IfAllRead told (streams_names request words)
-    (λ files. Wrote out out (λ written. Answers (OfStreams request) words image (named_files (OfStore (OfStreams request)) words files) (OfAnyWord NoMemory) written image)))
+    (λ files. Wrote out out (λ written. Answers (OfStreams request) (at_entry words image (named_files (OfStore (OfStreams request)) words files)) (OfAnyWord NoMemory) written image)))
 nothing_read tells told words request out image =
     of_disk tells (reads_store words (store_of request)) _
-    (all_read told (streams_names request words) (λ files. Wrote out out (λ written. Answers (OfStreams request) words image (named_files (OfStore (OfStreams request)) words files) (OfAnyWord NoMemory) written image))
+    (all_read told (streams_names request words) (λ files. Wrote out out (λ written. Answers (OfStreams request) (at_entry words image (named_files (OfStore (OfStreams request)) words files)) (OfAnyWord NoMemory) written image))
     (λ files. ([], Appends-nil out, nothing_done request words image (named_files (OfStore (OfStreams request)) words files))))
 
 -- ---- over a store
@@ -180,11 +180,11 @@ module _ (P : Store ℕ → Names → List (List ℕ) → List ℕ → Type 0) (
 
   pub wrote_over : reads_store words (Some store) ≡ true
       → (tells → IfAllTold told (files_in (drop at words)) (λ files. Wrote old new (λ written. (s : Store ℕ) → StandsFor image s → P s (names_in (drop at words)) files written)))
-      → WroteOver P told tells words image old new store at
+      → WroteOver P tells words (outside told image old new) store at
   wrote_over reads holds = subst WroteBy (sym reads) holds
 
   pub wrote_alone : reads_store words (Some store) ≡ false → IfAllTold told (files_in (drop at words)) (λ files. Wrote old new (P [] (names_in (drop at words)) files))
-      → WroteOver P told tells words image old new store at
+      → WroteOver P tells words (outside told image old new) store at
   wrote_alone none holds =
       subst WroteBy (sym none)
       (then_told told (files_in (drop at words)) (λ files. Wrote old new (P [] (names_in (drop at words)) files))

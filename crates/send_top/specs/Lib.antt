@@ -1,4 +1,5 @@
 pub mod Requests
+pub mod Asked
 pub mod AuditWords
 pub mod Answered
 pub mod Run

@@ -12,7 +12,7 @@ use Rattle.send_model.specs.Answer.{Done, Refused, Usage, InputFault, OutputFaul
 use Rattle.send_model.specs.Words as streams
 use Rattle.send_model.specs.Words.{Compose, Audit, Dump, Export, Gen, Trial, new_guards}
 use Rattle.store_model.specs.Requests as stored
-use Rattle.store_model.specs.Requests.{OfStreams, InitStore, DropEntry, ReceiveFiles, ListStore, ShowEntry, CatFile, ScrubStore, reads_store}
+use Rattle.store_model.specs.Requests.{OfStreams, InitStore, DropEntry, ReceiveFiles, ListStore, ShowEntry, CatFile, ScrubStore, reads_store, at_entry}
 use Rattle.store_model.specs.Stored.{StandsFor}
 use Rattle.store_model.specs.Answers.{Answer, OfAnyWord, StoreFault, NotStore, Missing, LogFull, StoreThere, Damaged}
 use Rattle.word_model.specs.AllRequests.{Request, OfStore, SendEntry, RestoreEntry, TakeTurns, TurnFiles, name_at}
@@ -23,11 +23,13 @@ use Rattle.sent_model.specs.Restored.{restored_stream}
 use Rattle.sent_model.specs.Promises.{IsReceivedAnew, IsUnfinished}
 use Rattle.sx_base.specs.Again.{EarlyEnd}
 use Rattle.sx_base.specs.Calls.{IfAllTold, Wrote, Caused, CausedAgain, IsEndOf}
+use Rattle.sx_base.specs.Causes.{Counts}
 use Rattle.sx_base.specs.Disk.{Pending, IsImage}
 use Rattle.sx_base.specs.declared.outcome.Outcome.{Outcome}
 use Rattle.store_words.specs.Dropping.{LeftByDrop}
 use Rattle.store_words.specs.Ending.{Ways, init_ways, list_ways, show_ways, cat_ways, drop_ways, audit_ways, receive_ways, scrub_ways}
 use Rattle.store_words.specs.Receiving.{LeftByReceive}
+use Rattle.turn_model.specs.TurnAnswers.{in_turns}
 use Rattle.turn_sessions.specs.Leaving.{LeftByTurns}
 use Rattle.word_model.specs.NameWords.{files_in, names_in}
 use Rattle.send_top.specs.Requests.{Asks, names_asked, named_files, with_names, uses_store}
@@ -61,12 +63,23 @@ IfBytes (SendEntry store name) files P = P
 IfBytes (RestoreEntry store name) files P = P
 IfBytes (TakeTurns store schedule turns) files P = AllByRecursion IsBytes files → P
 
+-- What a run meets outside: its files, where the inputs tell them, the image that the disk has when it begins, and what the output has
+-- taken before and after.
+pub record Outside : Type 0 where
+  pub told : Option (List (List ℕ × List ℕ))
+  pub image : List ℕ
+  pub before : Option (List ℕ)
+  pub after : Option (List ℕ)
+
+abbrev pub outside : (told : Option (List (List ℕ × List ℕ))) (image : List ℕ) (before after : Option (List ℕ)) → Outside
+outside told image before after = record { told = told; image = image; before = before; after = after }
+
 -- Of the request that words and guards ask for the answer is one that it may get, by the image at entry, the files that it names, what
 -- was written and the image that is left.
-abbrev pub IsAnswered : (told : Option (List (List ℕ × List ℕ))) → (tells : Type 0) → List (List ℕ) → List Guard → (old new : Option (List ℕ)) → (image left : List ℕ) → Answer → Type 0
-IsAnswered told tells words guards old new image left answer = (request : Request) → Asks words guards request
-    → OfDisk tells (uses_store words request) (IfAllRead told (names_asked request words)
-    (λ files. Wrote old new (λ written. IfBytes request files (Answers request words image (named_files request words files) answer written left))))
+abbrev pub IsAnswered : (tells : Type 0) → List (List ℕ) → List Guard → Outside → (left : List ℕ) → Answer → Type 0
+IsAnswered tells words guards met left answer = (request : Request) → Asks words guards request
+    → OfDisk tells (uses_store words request) (IfAllRead met.told (names_asked request words)
+    (λ files. Wrote met.before met.after (λ written. IfBytes request files (Answers request (at_entry words met.image (named_files request words files)) answer written left))))
 
 -- A store is the one that words are over: where a store is read, one that the image stands for, and else the one without subvolumes.
 abbrev pub IsOver : (reads : Bool) → (image : List ℕ) → Store ℕ → Type 0
@@ -86,19 +99,19 @@ abbrev pub IsExportedFor : Store ℕ → Names → List (List ℕ) → (written 
 IsExportedFor s names files written = AllByRecursion IsBytes files → IsExportedOf s (renamed names (input files)) written
 
 -- This holds of what was written of the files from a place on, with the names that are given, over the store that the word at a place names.
-abbrev pub WroteOver : (Store ℕ → Names → List (List ℕ) → List ℕ → Type 0) → (told : Option (List (List ℕ × List ℕ))) → (tells : Type 0) → List (List ℕ) → (image : List ℕ) → (old new : Option (List ℕ)) → (store at : ℕ) → Type 0
-WroteOver P told tells words image old new store at = OfDisk tells (reads_store words (Some store)) (IfAllTold told (files_in (drop at words))
-    (λ files. Wrote old new (λ written. (s : Store ℕ) → IsOver (reads_store words (Some store)) image s → P s (names_in (drop at words)) files written)))
+abbrev pub WroteOver : (Store ℕ → Names → List (List ℕ) → List ℕ → Type 0) → (tells : Type 0) → List (List ℕ) → Outside → (store at : ℕ) → Type 0
+WroteOver P tells words met store at = OfDisk tells (reads_store words (Some store)) (IfAllTold met.told (files_in (drop at words))
+    (λ files. Wrote met.before met.after (λ written. (s : Store ℕ) → IsOver (reads_store words (Some store)) met.image s → P s (names_in (drop at words)) files written)))
 
 -- So the headline does where files are composed; what is said where a command is refused; and what is promised where they are exported.
-abbrev pub Composes : (told : Option (List (List ℕ × List ℕ))) → (tells : Type 0) → List (List ℕ) → List Guard → (image : List ℕ) → (old new : Option (List ℕ)) → Type 0
-Composes told tells words guards image old new = (store at : ℕ) → Asks words guards (OfStore (OfStreams (Compose store at))) → WroteOver IsComposedFor told tells words image old new store at
+abbrev pub Composes : (tells : Type 0) → List (List ℕ) → List Guard → Outside → Type 0
+Composes tells words guards met = (store at : ℕ) → Asks words guards (OfStore (OfStreams (Compose store at))) → WroteOver IsComposedFor tells words met store at
 
-abbrev pub ComposesFront : (told : Option (List (List ℕ × List ℕ))) → (tells : Type 0) → List (List ℕ) → List Guard → (image : List ℕ) → (old new : Option (List ℕ)) → Type 0
-ComposesFront told tells words guards image old new = (store at : ℕ) → Asks words guards (OfStore (OfStreams (Compose store at))) → WroteOver IsFrontFor told tells words image old new store at
+abbrev pub ComposesFront : (tells : Type 0) → List (List ℕ) → List Guard → Outside → Type 0
+ComposesFront tells words guards met = (store at : ℕ) → Asks words guards (OfStore (OfStreams (Compose store at))) → WroteOver IsFrontFor tells words met store at
 
-abbrev pub Exports : (told : Option (List (List ℕ × List ℕ))) → (tells : Type 0) → List (List ℕ) → List Guard → (image : List ℕ) → (old new : Option (List ℕ)) → Type 0
-Exports told tells words guards image old new = (store at : ℕ) → Asks words guards (OfStore (OfStreams (Export store at))) → WroteOver IsExportedFor told tells words image old new store at
+abbrev pub Exports : (tells : Type 0) → List (List ℕ) → List Guard → Outside → Type 0
+Exports tells words guards met = (store at : ℕ) → Asks words guards (OfStore (OfStreams (Export store at))) → WroteOver IsExportedFor tells words met store at
 
 -- What was written of the complete subvolume of the name at a place is one stream that makes it anew: every store that has neither its name
 -- nor its uuid receives it, with an equal listing.
@@ -139,13 +152,13 @@ IsCaused steady inputs_rose ends_rose out_rose disk_rose (Damaged group stored c
 
 -- What an outcome says of its cause, by what is asked for. Composing alone reads bytes again and writes cloned bytes, so it alone
 -- may find a file changed, or too much to write.
-abbrev pub EndCaused : streams.Request → (ends_before ends_now inputs_before inputs_now out_before out_now : ℕ) → Outcome → Type 0
-EndCaused (Compose store files) ends_before ends_now inputs_before inputs_now out_before out_now outcome = CausedAgain ends_before ends_now inputs_before inputs_now out_before out_now outcome
-EndCaused (Audit guards store files) ends_before ends_now inputs_before inputs_now out_before out_now outcome = Caused inputs_before inputs_now out_before out_now outcome
-EndCaused (Dump file) ends_before ends_now inputs_before inputs_now out_before out_now outcome = Caused inputs_before inputs_now out_before out_now outcome
-EndCaused (Export store files) ends_before ends_now inputs_before inputs_now out_before out_now outcome = Caused inputs_before inputs_now out_before out_now outcome
-EndCaused (Gen count seed) ends_before ends_now inputs_before inputs_now out_before out_now outcome = Caused inputs_before inputs_now out_before out_now outcome
-EndCaused (Trial count seed) ends_before ends_now inputs_before inputs_now out_before out_now outcome = Caused inputs_before inputs_now out_before out_now outcome
+abbrev pub EndCaused : streams.Request → (before now : Counts) → Outcome → Type 0
+EndCaused (Compose store files) before now outcome = CausedAgain before now outcome
+EndCaused (Audit guards store files) before now outcome = Caused before.reads now.reads before.writes now.writes outcome
+EndCaused (Dump file) before now outcome = Caused before.reads now.reads before.writes now.writes outcome
+EndCaused (Export store files) before now outcome = Caused before.reads now.reads before.writes now.writes outcome
+EndCaused (Gen count seed) before now outcome = Caused before.reads now.reads before.writes now.writes outcome
+EndCaused (Trial count seed) before now outcome = Caused before.reads now.reads before.writes now.writes outcome
 
 -- Words and guards ask for a composed stream.
 abbrev pub AskToCompose : List (List ℕ) → List Guard → Type 0
@@ -323,7 +336,7 @@ AtAnyMoment told (OfStore request) words pending seen L = AtStoredMoment told re
 AtAnyMoment told (SendEntry store name) words pending seen L = L (IsImage pending)
 AtAnyMoment told (RestoreEntry store name) words pending seen L = L (IsImage pending)
 AtAnyMoment told (TakeTurns store schedule turns) words pending seen L =
-    IfAllTold told turns.files (λ files. AllByRecursion IsBytes files → L (LeftByTurns pending seen schedule files (new_guards turns.guards) turns.shares []))
+    IfAllTold told turns.files (λ files. AllByRecursion IsBytes files → L (LeftByTurns pending seen (in_turns schedule files (new_guards turns.guards) turns.shares) []))
 
 -- What holds where a store was made, or an entry dropped.
 abbrev pub IfStoredMade : stored.Request → Type 0 → Type 0
@@ -344,13 +357,13 @@ IfMadeOrDropped (TakeTurns store schedule turns) P = ⊤
 
 -- Where files are received, each image that a crash may leave when the run has ended has each part complete whose line stands whole in
 -- what was written.
-abbrev pub Acknowledges : Option (List (List ℕ × List ℕ)) → List (List ℕ) → List Guard → (old new : Option (List ℕ)) → (early late : Pending) → (seen : List ℕ) → Type 0
-Acknowledges told words guards old new early late seen = (specs : List GuardSpec) (store at : ℕ) → Asks words guards (OfStore (ReceiveFiles specs store at))
-    → IfAllTold told (files_in (drop at words)) (λ files. Wrote old new (λ written. AllByRecursion IsBytes files
-    → (image : List ℕ) → IsImage late image → LeftByReceive early seen (new_guards specs) (with_names (drop at words) files) written image))
+abbrev pub Acknowledges : List (List ℕ) → List Guard → Outside → (early late : Pending) → Type 0
+Acknowledges words guards met early late = (specs : List GuardSpec) (store at : ℕ) → Asks words guards (OfStore (ReceiveFiles specs store at))
+    → IfAllTold met.told (files_in (drop at words)) (λ files. Wrote met.before met.after (λ written. AllByRecursion IsBytes files
+    → (image : List ℕ) → IsImage late image → LeftByReceive early met.image (new_guards specs) (with_names (drop at words) files) written image))
 
 -- So it is where files take turns.
-abbrev pub AcknowledgesInTurn : Option (List (List ℕ × List ℕ)) → List (List ℕ) → List Guard → (old new : Option (List ℕ)) → (early late : Pending) → (seen : List ℕ) → Type 0
-AcknowledgesInTurn told words guards old new early late seen = (store : ℕ) (schedule : List ℕ) (turns : TurnFiles) → Asks words guards (TakeTurns store schedule turns)
-    → IfAllTold told turns.files (λ files. Wrote old new (λ written. AllByRecursion IsBytes files
-    → (image : List ℕ) → IsImage late image → LeftByTurns early seen schedule files (new_guards turns.guards) turns.shares written image))
+abbrev pub AcknowledgesInTurn : List (List ℕ) → List Guard → Outside → (early late : Pending) → Type 0
+AcknowledgesInTurn words guards met early late = (store : ℕ) (schedule : List ℕ) (turns : TurnFiles) → Asks words guards (TakeTurns store schedule turns)
+    → IfAllTold met.told turns.files (λ files. Wrote met.before met.after (λ written. AllByRecursion IsBytes files
+    → (image : List ℕ) → IsImage late image → LeftByTurns early met.image (in_turns schedule files (new_guards turns.guards) turns.shares) written image))

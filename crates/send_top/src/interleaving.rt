@@ -1,11 +1,10 @@
 // Receiving files that take turns into a store.
-ghost use Rattle.std.specs.Prelude.{◌≡◌, ◌≢◌, ◌<◌, ℕ, List, [], map, length, drop, IfOk, ⊤};
+ghost use Rattle.std.specs.Prelude.{◌≡◌, ◌≢◌, ◌<◌, ℕ, List, [], map, length, IfOk, ⊤};
 ghost use Rattle.std.specs.List.{AllByRecursion};
 ghost use Rattle.std.specs.String.{string_bytes};
 ghost use Rattle.send_model.specs.Answer.{Usage};
 ghost use Rattle.send_model.specs.Attribute.{IsBytes};
 ghost use Rattle.send_model.specs.Words.{new_guards};
-ghost use Rattle.store_model.specs.Requests.{word_at};
 ghost use Rattle.store_model.specs.Answers.{OfAnyWord};
 ghost use Rattle.turn_model.specs.TurnDues.{shared};
 ghost use Rattle.turn_model.specs.TurnAnswers.{TurnsAnswer};
@@ -18,9 +17,11 @@ ghost use Rattle.sx_base.specs.Disk.{IsImage};
 ghost use Rattle.store_words.specs.Ending.{receive_ways};
 ghost use Rattle.turn_sessions.specs.Leaving.{LeftByTurns};
 ghost use Rattle.send_top.specs.Answered.{answer_of};
-ghost use Rattle.send_top.specs.Requests.{AreTurns, places_in, turns_in};
+ghost use Rattle.send_top.specs.Asked.{files_in_turn, schedule_of, turns_asked};
+ghost use Rattle.send_top.specs.Requests.{AreTurns, turns_in};
 ghost use Rattle.send_top.specs.Run.{AreSteady, IfAllRead, IfOfCompose, IsCaused, IsGivenFor};
 
+use crate::asked::TurnWords;
 use crate::noting::Answer;
 use crate::over_store::end_answer;
 use crate::words::{is_guard_word, word_bytes};
@@ -29,21 +30,20 @@ use receiver::GuardList;
 use std::alloc::{AllocError, Global};
 use std::mem;
 use sx_base::{Disk, Inputs, Outcome, Sink};
-use turn_sessions::interleave_store;
+use turn_sessions::{Task, interleave_store};
 
 /// What receiving files that take turns into a store answers: by the schedule at one place of the words, and the files and their guards from
 /// another place on.
 pub(crate) fn interleave_answer<I: Inputs, O: Sink, D: Disk>(
-    alloc: Global,
-    words: &[String],
-    schedule: usize,
-    turns: usize,
+    asked: &TurnWords<'_>,
     inputs: &mut I,
     out: &mut O,
     disk: &mut D,
 ) -> Answer
-    requires within { (schedule < length words.now) × (turns < length words.now) }
-    requires given { AreTurns (map string_bytes words.now) schedule turns }
+    requires within { (asked.now.schedule < length asked.now.words.now)
+        × (asked.now.turns < length asked.now.words.now) }
+    requires given { AreTurns (map string_bytes asked.now.words.now)
+        asked.now.schedule asked.now.turns }
     ensures same { I.told inputs.new ≡ I.told inputs.old }
     ensures caused { IsCaused (AreSteady (I.faults inputs.old) (I.faults inputs.new)
         (I.ends inputs.old) (I.ends inputs.new) (O.faults out.old) (O.faults out.new)
@@ -55,41 +55,36 @@ pub(crate) fn interleave_answer<I: Inputs, O: Sink, D: Disk>(
     ensures asked { answer_of result ≢ OfAnyWord Usage }
     ensures not_composed { IfOfCompose (answer_of result) ⊥ }
     ensures allowed { IsGivenFor receive_ways ⊤ ⊥ ⊤ (answer_of result) }
-    ensures answered { D.tells → IfAllRead (I.told inputs.old)
-        (turns_in (drop turns (map string_bytes words.now))).files
+    ensures answered { D.tells → IfAllRead (I.told inputs.old) (files_in_turn asked.now).files
         (λ bytes. Wrote (O.taken out.old) (O.taken out.new)
-        (λ written. AllByRecursion IsBytes bytes
-        → TurnsAnswer (places_in (word_at (map string_bytes words.now) schedule)) bytes
-        (new_guards (turns_in (drop turns (map string_bytes words.now))).guards)
-        (turns_in (drop turns (map string_bytes words.now))).shares
+        (λ written. AllByRecursion IsBytes bytes → TurnsAnswer (schedule_of asked.now) bytes
+        (new_guards (files_in_turn asked.now).guards) (files_in_turn asked.now).shares
         (D.seen disk.old) (answer_of result) written (D.seen disk.new))) }
-    ensures any_moment { D.tells → IfAllTold (I.told inputs.old)
-        (turns_in (drop turns (map string_bytes words.now))).files
+    ensures any_moment { D.tells → IfAllTold (I.told inputs.old) (files_in_turn asked.now).files
         (λ bytes. AllByRecursion IsBytes bytes
         → LeavesOnly D.moment D.left_since disk.old disk.new
-        (LeftByTurns (D.pending disk.old) (D.seen disk.old)
-        (places_in (word_at (map string_bytes words.now) schedule)) bytes
-        (new_guards (turns_in (drop turns (map string_bytes words.now))).guards)
-        (turns_in (drop turns (map string_bytes words.now))).shares [])) }
-    ensures acknowledged { D.tells → IfAllTold (I.told inputs.old)
-        (turns_in (drop turns (map string_bytes words.now))).files
+        (LeftByTurns (D.pending disk.old) (D.seen disk.old) (turns_asked asked.now bytes) [])) }
+    ensures acknowledged { D.tells → IfAllTold (I.told inputs.old) (files_in_turn asked.now).files
         (λ bytes. Wrote (O.taken out.old) (O.taken out.new)
         (λ written. AllByRecursion IsBytes bytes → (image : List ℕ)
         → IsImage (D.pending disk.new) image
-        → LeftByTurns (D.pending disk.old) (D.seen disk.old)
-        (places_in (word_at (map string_bytes words.now) schedule)) bytes
-        (new_guards (turns_in (drop turns (map string_bytes words.now))).guards)
-        (turns_in (drop turns (map string_bytes words.now))).shares written image)) }
+        → LeftByTurns (D.pending disk.old) (D.seen disk.old) (turns_asked asked.now bytes)
+        written image)) }
 {
-    let Ok(sessions) = sessions_of(alloc, &words[turns..]) else {
+    let Ok(sessions) = sessions_of(asked.alloc, &asked.words[asked.turns..]) else {
         return Answer::Ended(Outcome::NoMemory);
     };
     let (files, guards) = sessions;
-    let schedule = word_bytes(words, schedule);
+    let schedule = word_bytes(asked.words, asked.schedule);
     let names = files.as_slice();
+    let task = Task {
+        alloc: asked.alloc,
+        files: names,
+        schedule,
+    };
     end_answer(
-        alloc,
-        interleave_store(alloc, disk, inputs, schedule, names, guards, out),
+        asked.alloc,
+        interleave_store(&task, disk, inputs, guards, out),
     )
 }
 

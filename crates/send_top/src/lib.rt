@@ -1,6 +1,7 @@
 //! btrsend as one call: its words, its notes and exit statuses, and what it does with the inputs and sinks that it is handed.
 #![tactic(auto)]
 
+mod asked;
 mod fitting;
 mod interleaving;
 mod meant;

@@ -6,13 +6,14 @@ ghost use Rattle.send_model.specs.Answer.{Done, Usage};
 ghost use Rattle.send_model.specs.Attribute.{IsBytes};
 ghost use Rattle.send_model.specs.Guards.{GuardSpec};
 ghost use Rattle.send_model.specs.Words.{new_guards};
-ghost use Rattle.store_model.specs.Requests.{ReceiveFiles, word_at};
+ghost use Rattle.store_model.specs.Requests.{ReceiveFiles, word_at, at_entry};
 ghost use Rattle.store_model.specs.Answers.{OfAnyWord};
 ghost use Rattle.word_model.specs.NameWords.{files_in, names_stand};
 ghost use Rattle.word_model.specs.AllRequests.{OfStore, TakeTurns, TurnFiles, request_named_at};
 ghost use Rattle.word_model.specs.AllAnswers.{Answers, ReadsFiles, ReadsOnly};
 ghost use Rattle.store_words.specs.Ending as ending;
 ghost use Rattle.store_words.specs.Receiving.{LeftByReceive};
+ghost use Rattle.turn_model.specs.TurnAnswers.{in_turns};
 ghost use Rattle.turn_sessions.specs.Leaving.{LeftByTurns};
 ghost use Rattle.sx_base.specs.Calls.{IfAllTold, Wrote};
 ghost use Rattle.sx_base.specs.Causes.{Rose};
@@ -22,6 +23,7 @@ ghost use Rattle.send_top.specs.Answered.{answer_of};
 ghost use Rattle.send_top.specs.Requests.{IsOverWithin, StoreFits, names_asked, named_files, store_meant, with_names};
 ghost use Rattle.send_top.specs.Run.{AreSteady, AtAnyMoment, IfAllRead, IfBytes, IfMadeOrDropped, IfOfCompose, IsCaused, MayGet, Prints, SendsInPart};
 
+use crate::asked::{ReceiveWords, TurnWords};
 use crate::interleaving::interleave_answer;
 use crate::meant::{Meant, meant_in};
 use crate::noting::Answer;
@@ -65,9 +67,9 @@ pub(crate) fn store_answer<I: Inputs, O: Sink, D: Disk>(
         (λ files. Wrote (O.taken out.old) (O.taken out.new)
         (λ written. IfBytes (store_meant (map string_bytes words.now) request) files
         (Answers (store_meant (map string_bytes words.now) request)
-        (map string_bytes words.now) (D.seen disk.old)
+        (at_entry (map string_bytes words.now) (D.seen disk.old)
         (named_files (store_meant (map string_bytes words.now) request)
-        (map string_bytes words.now) files) (answer_of result) written (D.seen disk.new)))) }
+        (map string_bytes words.now) files)) (answer_of result) written (D.seen disk.new)))) }
     ensures in_part { answer_of result ≢ OfAnyWord Done → D.tells
         → SendsInPart (store_meant (map string_bytes words.now) request)
         (map string_bytes words.now) (D.seen disk.old) (O.taken out.old) (O.taken out.new) }
@@ -98,8 +100,8 @@ pub(crate) fn store_answer<I: Inputs, O: Sink, D: Disk>(
         (λ files. Wrote (O.taken out.old) (O.taken out.new)
         (λ written. AllByRecursion IsBytes files → (image : List ℕ)
         → IsImage (D.pending disk.new) image
-        → LeftByTurns (D.pending disk.old) (D.seen disk.old) schedule files
-        (new_guards turns.guards) turns.shares written image)) }
+        → LeftByTurns (D.pending disk.old) (D.seen disk.old)
+        (in_turns schedule files (new_guards turns.guards) turns.shares) written image)) }
 {
     let meant = match meant_in(alloc, words, request) {
         Ok(meant) => meant,
@@ -112,7 +114,13 @@ pub(crate) fn store_answer<I: Inputs, O: Sink, D: Disk>(
             answer_by(drop_entry(alloc, disk, name.as_slice()), name, path)
         }
         StoreRequest::Receive { store, files } => {
-            receive_answer(alloc, words, store, files, inputs, out, disk)
+            let asked = ReceiveWords {
+                alloc,
+                words,
+                store,
+                files,
+            };
+            receive_answer(&asked, inputs, out, disk)
         }
         StoreRequest::List { .. } => end_answer(alloc, list_store(alloc, disk, out)),
         StoreRequest::Show { .. } => {
@@ -136,7 +144,15 @@ pub(crate) fn store_answer<I: Inputs, O: Sink, D: Disk>(
             schedule,
             turns,
             ..
-        } => interleave_answer(alloc, words, schedule, turns, inputs, out, disk),
+        } => {
+            let asked = TurnWords {
+                alloc,
+                words,
+                schedule,
+                turns,
+            };
+            interleave_answer(&asked, inputs, out, disk)
+        }
     }
 }
 

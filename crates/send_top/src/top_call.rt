@@ -12,8 +12,9 @@ ghost use Rattle.sx_base.specs.Crash.{LeavesOnly};
 ghost use Rattle.sx_base.specs.Disk.{settled};
 ghost use Rattle.send_top.specs.Answered.{IsGiven, answer_of};
 ghost use Rattle.send_top.specs.Requests.{AskNothing, Asks, uses_store};
-ghost use Rattle.send_top.specs.Run.{Acknowledges, AcknowledgesInTurn, AreSteady, AtAnyMoment, IfMadeOrDropped, AskForStore, AskToCompose, Composes, ComposesFront, Exports, IfOfCompose, IfOfStore, IsAllowed, IsAnswered, IsCaused, IsChangedAt, IsStoreStatus, Prints, Sends, SendsInPart};
+ghost use Rattle.send_top.specs.Run.{Acknowledges, AcknowledgesInTurn, AreSteady, AtAnyMoment, IfMadeOrDropped, AskForStore, AskToCompose, Composes, ComposesFront, Exports, IfOfCompose, IfOfStore, IsAllowed, IsAnswered, IsCaused, IsChangedAt, IsStoreStatus, Prints, Sends, SendsInPart, outside};
 
+use crate::asked::StreamsWords;
 use crate::fitting::guards_fit;
 use crate::noting::{Answer, status, write_note};
 use crate::on_streams::streams_answer;
@@ -66,14 +67,14 @@ pub fn run<I: Inputs, O: Sink, N: Sink, D: Disk>(
     ensures of_store { IsStoreStatus result
         → AskForStore (map string_bytes words.now) (map (λ g. kept g) guards.items) }
     ensures composed { result ≡ 0
-        → Composes (I.told inputs.old) D.tells (map string_bytes words.now)
-        (map (λ g. kept g) guards.items) (D.seen disk.old) (O.taken out.old) (O.taken out.new) }
+        → Composes D.tells (map string_bytes words.now) (map (λ g. kept g) guards.items)
+        (outside (I.told inputs.old) (D.seen disk.old) (O.taken out.old) (O.taken out.new)) }
     ensures refused { result ≡ 1
-        → ComposesFront (I.told inputs.old) D.tells (map string_bytes words.now)
-        (map (λ g. kept g) guards.items) (D.seen disk.old) (O.taken out.old) (O.taken out.new) }
+        → ComposesFront D.tells (map string_bytes words.now) (map (λ g. kept g) guards.items)
+        (outside (I.told inputs.old) (D.seen disk.old) (O.taken out.old) (O.taken out.new)) }
     ensures exported { result ≡ 0
-        → Exports (I.told inputs.old) D.tells (map string_bytes words.now)
-        (map (λ g. kept g) guards.items) (D.seen disk.old) (O.taken out.old) (O.taken out.new) }
+        → Exports D.tells (map string_bytes words.now) (map (λ g. kept g) guards.items)
+        (outside (I.told inputs.old) (D.seen disk.old) (O.taken out.old) (O.taken out.new)) }
     ensures sent { result ≡ 0 → Sends D.tells (map string_bytes words.now)
         (map (λ g. kept g) guards.items) (D.seen disk.old) (O.taken out.old) (O.taken out.new) }
     ensures in_part { (result ≡ 0 → ⊥) → D.tells → (request : requests.Request)
@@ -81,9 +82,9 @@ pub fn run<I: Inputs, O: Sink, N: Sink, D: Disk>(
         → SendsInPart request (map string_bytes words.now) (D.seen disk.old)
         (O.taken out.old) (O.taken out.new) }
     ensures answered { (answer : meant.Answer)
-        × IsAnswered (I.told inputs.old) D.tells (map string_bytes words.now)
-        (map (λ g. kept g) guards.items) (O.taken out.old) (O.taken out.new)
-        (D.seen disk.old) (D.seen disk.new) answer
+        × IsAnswered D.tells (map string_bytes words.now) (map (λ g. kept g) guards.items)
+        (outside (I.told inputs.old) (D.seen disk.old) (O.taken out.old) (O.taken out.new))
+        (D.seen disk.new) answer
         × IsGiven answer (N.taken notes.old) (N.taken notes.new)
         (N.faults notes.old) (N.faults notes.new) result
         × IsChangedAt (map string_bytes words.now) (map (λ g. kept g) guards.items)
@@ -110,13 +111,14 @@ pub fn run<I: Inputs, O: Sink, N: Sink, D: Disk>(
     ensures durable { result ≡ 0 → D.tells → (request : requests.Request)
         → Asks (map string_bytes words.now) (map (λ g. kept g) guards.items) request
         → IfMadeOrDropped request (D.pending disk.new ≡ settled (D.seen disk.new)) }
-    ensures acknowledged { D.tells → Acknowledges (I.told inputs.old) (map string_bytes words.now)
-        (map (λ g. kept g) guards.items) (O.taken out.old) (O.taken out.new)
-        (D.pending disk.old) (D.pending disk.new) (D.seen disk.old) }
+    ensures acknowledged { D.tells
+        → Acknowledges (map string_bytes words.now) (map (λ g. kept g) guards.items)
+        (outside (I.told inputs.old) (D.seen disk.old) (O.taken out.old) (O.taken out.new))
+        (D.pending disk.old) (D.pending disk.new) }
     ensures acknowledged_in_turn { D.tells
-        → AcknowledgesInTurn (I.told inputs.old) (map string_bytes words.now)
-        (map (λ g. kept g) guards.items) (O.taken out.old) (O.taken out.new)
-        (D.pending disk.old) (D.pending disk.new) (D.seen disk.old) }
+        → AcknowledgesInTurn (map string_bytes words.now) (map (λ g. kept g) guards.items)
+        (outside (I.told inputs.old) (D.seen disk.old) (O.taken out.old) (O.taken out.new))
+        (D.pending disk.old) (D.pending disk.new) }
 {
     let mut guards = guards;
     let answer = answer_to(alloc, words, &mut guards, inputs, out, disk);
@@ -149,17 +151,17 @@ fn answer_to<I: Inputs, O: Sink, D: Disk>(
     ensures of_store { IfOfStore (answer_of result)
         (AskForStore (map string_bytes words.now) (map (λ g. kept g) guards.old)) }
     ensures composed { answer_of result ≡ OfAnyWord Done
-        → Composes (I.told inputs.old) D.tells (map string_bytes words.now)
-        (map (λ g. kept g) guards.old) (D.seen disk.old) (O.taken out.old) (O.taken out.new) }
+        → Composes D.tells (map string_bytes words.now) (map (λ g. kept g) guards.old)
+        (outside (I.told inputs.old) (D.seen disk.old) (O.taken out.old) (O.taken out.new)) }
     ensures refused { (verdict : Verdict) → answer_of result ≡ OfAnyWord (Refused verdict)
-        → ComposesFront (I.told inputs.old) D.tells (map string_bytes words.now)
-        (map (λ g. kept g) guards.old) (D.seen disk.old) (O.taken out.old) (O.taken out.new) }
+        → ComposesFront D.tells (map string_bytes words.now) (map (λ g. kept g) guards.old)
+        (outside (I.told inputs.old) (D.seen disk.old) (O.taken out.old) (O.taken out.new)) }
     ensures exported { answer_of result ≡ OfAnyWord Done
-        → Exports (I.told inputs.old) D.tells (map string_bytes words.now)
-        (map (λ g. kept g) guards.old) (D.seen disk.old) (O.taken out.old) (O.taken out.new) }
-    ensures answered { IsAnswered (I.told inputs.old) D.tells (map string_bytes words.now)
-        (map (λ g. kept g) guards.old) (O.taken out.old) (O.taken out.new)
-        (D.seen disk.old) (D.seen disk.new) (answer_of result) }
+        → Exports D.tells (map string_bytes words.now) (map (λ g. kept g) guards.old)
+        (outside (I.told inputs.old) (D.seen disk.old) (O.taken out.old) (O.taken out.new)) }
+    ensures answered { IsAnswered D.tells (map string_bytes words.now) (map (λ g. kept g) guards.old)
+        (outside (I.told inputs.old) (D.seen disk.old) (O.taken out.old) (O.taken out.new))
+        (D.seen disk.new) (answer_of result) }
     ensures in_part { (answer_of result ≡ OfAnyWord Done → ⊥) → D.tells
         → (request : requests.Request)
         → Asks (map string_bytes words.now) (map (λ g. kept g) guards.old) request
@@ -189,13 +191,14 @@ fn answer_to<I: Inputs, O: Sink, D: Disk>(
     ensures durable { answer_of result ≡ OfAnyWord Done → D.tells → (request : requests.Request)
         → Asks (map string_bytes words.now) (map (λ g. kept g) guards.old) request
         → IfMadeOrDropped request (D.pending disk.new ≡ settled (D.seen disk.new)) }
-    ensures acknowledged { D.tells → Acknowledges (I.told inputs.old) (map string_bytes words.now)
-        (map (λ g. kept g) guards.old) (O.taken out.old) (O.taken out.new)
-        (D.pending disk.old) (D.pending disk.new) (D.seen disk.old) }
+    ensures acknowledged { D.tells
+        → Acknowledges (map string_bytes words.now) (map (λ g. kept g) guards.old)
+        (outside (I.told inputs.old) (D.seen disk.old) (O.taken out.old) (O.taken out.new))
+        (D.pending disk.old) (D.pending disk.new) }
     ensures acknowledged_in_turn { D.tells
-        → AcknowledgesInTurn (I.told inputs.old) (map string_bytes words.now)
-        (map (λ g. kept g) guards.old) (O.taken out.old) (O.taken out.new)
-        (D.pending disk.old) (D.pending disk.new) (D.seen disk.old) }
+        → AcknowledgesInTurn (map string_bytes words.now) (map (λ g. kept g) guards.old)
+        (outside (I.told inputs.old) (D.seen disk.old) (O.taken out.old) (O.taken out.new))
+        (D.pending disk.old) (D.pending disk.new) }
 {
     let Some(request) = read_words(words) else {
         return Answer::Usage;
@@ -205,7 +208,12 @@ fn answer_to<I: Inputs, O: Sink, D: Disk>(
     }
     match request {
         Request::Streams(request) => {
-            streams_answer(alloc, words, request, guards, inputs, out, disk)
+            let asked = StreamsWords {
+                alloc,
+                words,
+                request,
+            };
+            streams_answer(&asked, guards, inputs, out, disk)
         }
         Request::Store(request) => store_answer(alloc, words, request, inputs, out, disk),
     }

@@ -9,14 +9,18 @@ use Rattle.shared_map.specs.Edited.{IsEdited}
 use Rattle.shared_map.proofs.Lists.{split_at, set_at}
 use Rattle.shared_map.proofs.Parts.{IsPart, put_found}
 
+-- the same by what becomes of the value and of the edit, the map before and after, and the edit before and after
+abbrev pub IsChanged : {K V E : Type 0} → (become : V → V) (left : V → E) (was : Option V) (put : V → Map K V) (old new : Map K V) (before after : E) (there : Bool) → Type 0
+IsChanged become left was put old new before after there = IsEdited (λ value. (become value, left value)) was put (old, before) (new, after) there
+
 module _ {K W E : Type 0} (become : W → W) (left : W → E) (put : W → Map K W) where
   -- where the key has this value, and where it has none
-  pub edited_there : (was : Option W) (value : W) (old new : Map K W) (before after : E) → was ≡ Some value → new ≡ put (become value) → after ≡ left value → IsEdited become left was put old new before after true
+  pub edited_there : (was : Option W) (value : W) (old new : Map K W) (before after : E) → was ≡ Some value → new ≡ put (become value) → after ≡ left value → IsChanged become left was put old new before after true
   edited_there was value old new before after is made edit =
-      subst (λ (o : Option W). IsEdited become left o put old new before after true) (sym is) (refl, made, edit)
+      subst (λ (o : Option W). IsChanged become left o put old new before after true) (sym is) (refl, made, edit)
 
-  pub edited_nowhere : (was : Option W) (old : Map K W) (before : E) → was ≡ None → IsEdited become left was put old old before before false
-  edited_nowhere was old before is = subst (λ (o : Option W). IsEdited become left o put old old before before false) (sym is) (refl, refl, refl)
+  pub edited_nowhere : (was : Option W) (old : Map K W) (before : E) → was ≡ None → IsChanged become left was put old old before before false
+  edited_nowhere was old before is = subst (λ (o : Option W). IsChanged become left o put old old before before false) (sym is) (refl, refl, refl)
 
 -- what an edit says where the key has a value
 pub record WasThere {K W E : Type 0} (become : W → W) (left : W → E) (was : Option W) (put : W → Map K W) (new : Map K W) (after : E) : Type 0 where
@@ -25,7 +29,7 @@ pub record WasThere {K W E : Type 0} (become : W → W) (left : W → E) (was : 
   pub made : new ≡ put (become value)
   pub edit : after ≡ left value
 
-pub was_there : {K W E : Type 0} (become : W → W) (left : W → E) (was : Option W) (put : W → Map K W) (old new : Map K W) (before after : E) (there : Bool) → there ≡ true → IsEdited become left was put old new before after there → WasThere become left was put new after
+pub was_there : {K W E : Type 0} (become : W → W) (left : W → E) (was : Option W) (put : W → Map K W) (old new : Map K W) (before after : E) (there : Bool) → there ≡ true → IsChanged become left was put old new before after there → WasThere become left was put new after
 was_there become left None put old new before after there is edited = absurd (true≢false (sym is ∙ edited.0))
 was_there become left (Some value) put old new before after there is edited = record { value = value; was_is = refl; made = edited.1; edit = edited.2 }
 

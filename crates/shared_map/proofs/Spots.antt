@@ -6,10 +6,10 @@ use Rattle.std.specs.Cmp.{IsTotalOrder}
 use Rattle.std.specs.declared.cmp.Ordering.{Ordering}
 use Rattle.std.specs.List.{insert, remove}
 use Rattle.send_model.specs.Map.{Map, value_at, with_value, without}
-use Rattle.shared_map.specs.Edited.{IsEdited, PutsNew}
+use Rattle.shared_map.specs.Edited.{PutsNew}
 use Rattle.shared_map.specs.Pages.{joined, AreKept, IsAt, IsGap, IsThere, IsFree, IsSetAt, IsEditedAt, IsTakenAt, KeepsKeyAt}
 use Rattle.shared_map.proofs.Parts.{IsPart, IsPutIn, IsTakenOut, part, part_length, read_of, value_found, value_absent, without_absent, put_found, put_new, without_found, without_page}
-use Rattle.shared_map.proofs.Editing.{edited_there, edited_nowhere, kept_somehow}
+use Rattle.shared_map.proofs.Editing.{IsChanged, edited_there, edited_nowhere, kept_somehow}
 
 module _ {K V : Type 0} (order : K → K → Ordering) (key : K) (ps : List (List (K × V))) (i : ℕ) (p : List (K × V)) (place : ℕ) (read : p ≡ get_or ps i p) where
   there_part : IsThere order key ps i place → IsPart order key ps i p
@@ -60,7 +60,7 @@ module _ {K V : Type 0} {order : K → K → Ordering} (total : IsTotalOrder ord
   pub without_nowhere : IsFree order key ps i place → without order key (joined ps) ≡ joined ps
   without_nowhere free = nowhere (λ l. without order key (joined l) ≡ joined l) free (λ p is gap. without_absent total key ps i p place is gap) refl
 
-  pub edit_nowhere : {E : Type 0} (become : V → V) (left : V → E) (before : E) → IsFree order key ps i place → IsEdited become left (value_at order key (joined ps)) (λ value. with_value order key value (joined ps)) (joined ps) (joined ps) before before false
+  pub edit_nowhere : {E : Type 0} (become : V → V) (left : V → E) (before : E) → IsFree order key ps i place → IsChanged become left (value_at order key (joined ps)) (λ value. with_value order key value (joined ps)) (joined ps) (joined ps) before before false
   edit_nowhere become left before free = edited_nowhere become left (λ value. with_value order key value (joined ps)) _ (joined ps) before (value_nowhere free)
 
   -- where the key has a value, none is set, and where it has none, this one is
@@ -89,7 +89,7 @@ module _ {K V : Type 0} {order : K → K → Ordering} (total : IsTotalOrder ord
   pub keep_there : IsThere order key ps i place → KeepsKeyAt p q place → AreKept order (set ps i q) len
   keep_there there did = kept_somehow total key ps i p q len place are (there_part order key ps i p place read there) read (there_at order key ps i p place read there) did
 
-  pub edit_there : {E : Type 0} (become : V → V) (left : V → E) (before after : E) → IsThere order key ps i place → IsEditedAt become left p q after place → record { kept : AreKept order (set ps i q) len; edited : IsEdited become left (value_at order key (joined ps)) (λ value. with_value order key value (joined ps)) (joined ps) (joined (set ps i q)) before after true }
+  pub edit_there : {E : Type 0} (become : V → V) (left : V → E) (before after : E) → IsThere order key ps i place → IsEditedAt become left p q after place → record { kept : AreKept order (set ps i q) len; edited : IsChanged become left (value_at order key (joined ps)) (λ value. with_value order key value (joined ps)) (joined ps) (joined (set ps i q)) before after true }
   edit_there become left before after there did =
       let put = set_there (become did.was) there record { key = did.key; was = did.was; before = did.before; made = did.made } in
       let was = value_there total key ps i place p (did.key, did.was) read there (read_of p place (did.key, did.was) (there_at order key ps i p place read there).in_range did.before) in

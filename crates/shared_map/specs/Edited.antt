@@ -2,11 +2,11 @@
 use Rattle.std.specs.Prelude.{◌≡◌, Bool, true, false, Option, None, Some}
 use Rattle.send_model.specs.Map.{Map}
 
--- Where a key has a value, it becomes another one, and the edit becomes what it is by the value that was there; where it has none,
--- nothing changes. The value as it was is given, and the map with any value at the key.
-abbrev pub IsEdited : {K V E : Type 0} → (become : V → V) (left : V → E) (was : Option V) (put : V → Map K V) (old new : Map K V) (before after : E) (there : Bool) → Type 0
-IsEdited become left None put old new before after there = (there ≡ false) × (new ≡ old) × (after ≡ before)
-IsEdited become left (Some value) put old new before after there = (there ≡ true) × (new ≡ put (become value)) × (after ≡ left value)
+-- Of a map and an edit: where a key has a value, it becomes another one, and the edit what it is by the value that was there; where it
+-- has none, nothing changes. The value as it was is given, and the map with any value at the key.
+abbrev pub IsEdited : {K V E : Type 0} → (does : V → V × E) (was : Option V) (put : V → Map K V) (old new : Map K V × E) (there : Bool) → Type 0
+IsEdited does None put old new there = (there ≡ false) × (new.0 ≡ old.0) × (new.1 ≡ old.1)
+IsEdited does (Some value) put old new there = (there ≡ true) × (new.0 ≡ put (does value).0) × (new.1 ≡ (does value).1)
 
 -- A key that had no value gets one; where it had one, nothing changes. The value that was there is given, and the map with the new one.
 abbrev pub PutsNew : {K V : Type 0} → (was : Option V) (put old new : Map K V) (fresh : Bool) → Type 0

@@ -151,10 +151,10 @@ impl<K: Key, V: Copied> SharedMap<K, V> {
         edit: &mut E,
     ) -> Result<bool, AllocError>
         ensures { IfOk result
-            (IsEdited (E.edited edit.old) (E.left edit.old)
+            (IsEdited (λ value. (E.edited edit.old value, E.left edit.old value))
             (value_at K.order (Q.sought query.now) self.old)
-            (λ value. with_value K.order (Q.sought query.now) value self.old) self.old self.new
-            edit.old edit.new) }
+            (λ value. with_value K.order (Q.sought query.now) value self.old)
+            (self.old, edit.old) (self.new, edit.new)) }
     {
         let alloc = self.alloc;
         let Ok(spot) = seek(&self.pages, query) else {

@@ -4,3 +4,4 @@ pub mod TracedEntries
 pub mod FileAnswers
 pub mod OverStanding
 pub mod StoreAnswers
+pub mod OverEnds

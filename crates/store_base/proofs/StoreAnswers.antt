@@ -13,7 +13,7 @@ use Rattle.sx_base.specs.declared.outcome.Outcome.TheVariants as ended
 use Rattle.sx_base.specs.declared.outcome.Verdict.{Verdict}
 use Rattle.store_model.specs.Stored.{as_bytes, StandsFor}
 use Rattle.store_model.specs.NamedFiles.{NamedFiles}
-use Rattle.store_model.specs.Requests.{OfStreams, reads_store}
+use Rattle.store_model.specs.Requests.{OfStreams, reads_store, at_entry}
 use Rattle.store_model.specs.Answers.{Answers}
 use Rattle.store_model.proofs.OneStore.{one_store}
 use Rattle.clone_pieces.proofs.Told.{all_always, all_map}
@@ -38,7 +38,7 @@ abbrev with_names : Names → List (List ℕ) → NamedFiles
 with_names given files = record { bytes = files; names = given }
 
 module _ (words : List (List ℕ)) (store at : ℕ) (image : List ℕ) (given : Names) (files : List (List ℕ)) (reads : reads_store words (Some store) ≡ true) (s : Store ℕ) (stands : StandsFor image s) (written : List ℕ) where
-  compose_answers : (end : StoreEnd) → EndsOver (beside s given files) given files end written → Answers (OfStreams (Compose store at)) words image (record { bytes = files; names = given }) (answer_of [] [] end) written image
+  compose_answers : (end : StoreEnd) → EndsOver (beside s given files) given files end written → Answers (OfStreams (Compose store at)) (at_entry words image (record { bytes = files; names = given })) (answer_of [] [] end) written image
   compose_answers (made.Ends outcome) p = ends_answer (Compose store at) words image (with_names given files) reads s stands written outcome (compose_ends (beside s given files) written store at (sources_named given files) outcome p.ends)
   compose_answers made.StoreFault p = at_fault (Compose store at) words image (with_names given files) reads written (stood (Compose store at) words image (with_names given files) reads s stands written p.ends)
   compose_answers (made.NotStore group) p = absurd p
@@ -52,7 +52,7 @@ module _ (words : List (List ℕ)) (store at : ℕ) (image : List ℕ) (given : 
 
 -- What was written is what an answer says, of all words that ask for it.
 abbrev ComposeSays : (seen left : List ℕ) (given : Names) → StoreEnd → List (List ℕ) → List ℕ → Type 0
-ComposeSays seen left given end files written = (words : List (List ℕ)) (store at : ℕ) → reads_store words (Some store) ≡ true → Answers (OfStreams (Compose store at)) words seen (with_names given files) (answer_of [] [] end) written left
+ComposeSays seen left given end files written = (words : List (List ℕ)) (store at : ℕ) → reads_store words (Some store) ≡ true → Answers (OfStreams (Compose store at)) (at_entry words seen (with_names given files)) (answer_of [] [] end) written left
 
 -- Where all was done it is the composed stream, over each store that the image stands for.
 abbrev IsHeadline : (seen : List ℕ) (given : Names) → StoreEnd → List (List ℕ) → List ℕ → Type 0
@@ -74,7 +74,7 @@ module _ (told : Option (List (List ℕ × List ℕ))) (names : List (List ℕ))
         [],
         Appends-nil taken,
         (λ words store at reads.
-            subst (λ (l : List ℕ). Answers (OfStreams (Compose store at)) words seen (with_names given files) (answer_of [] [] end) [] l) (sym same)
+            subst (λ (l : List ℕ). Answers (OfStreams (Compose store at)) (at_entry words seen (with_names given files)) (answer_of [] [] end) [] l) (sym same)
             (stopped_answers (Compose store at) words seen (with_names given files) reads (λ s. nothing_stopped (beside s given files) (renamed given (input files))) cause why end is kind stops opened)),
       )
 
@@ -88,7 +88,7 @@ module _ (told : Option (List (List ℕ × List ℕ))) (names : List (List ℕ))
         wrote.0,
         wrote.1,
         (λ words store at reads.
-            subst (λ (l : List ℕ). Answers (OfStreams (Compose store at)) words seen (with_names given files) (answer_of [] [] end) wrote.0 l) (sym same)
+            subst (λ (l : List ℕ). Answers (OfStreams (Compose store at)) (at_entry words seen (with_names given files)) (answer_of [] [] end) wrote.0 l) (sym same)
             (compose_answers words store at seen given files reads s stands wrote.0 end wrote.2)),
       )
 

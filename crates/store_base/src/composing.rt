@@ -12,7 +12,7 @@ ghost use Rattle.send_model.specs.Headline.{IsComposedOf, whole_output_of};
 ghost use Rattle.send_model.specs.Renamed.{renamed};
 ghost use Rattle.send_model.specs.Words.{Compose};
 ghost use Rattle.store_model.specs.Stored.{StandsFor};
-ghost use Rattle.store_model.specs.Requests.{OfStreams, reads_store};
+ghost use Rattle.store_model.specs.Requests.{OfStreams, reads_store, at_entry};
 ghost use Rattle.store_model.specs.Answers.{Answers};
 ghost use Rattle.sx_base.specs.Calls.{IfAllTold, Wrote};
 ghost use Rattle.sx_base.specs.Causes.{Rose};
@@ -38,12 +38,11 @@ use crate::fetch::{Fetch, StoreReader};
 use crate::held::BaseBytes;
 use crate::standing::{Standing, index_all, trace_all};
 use clone_resolve::EditCore;
-use composer::compose_over;
+use composer::{Task, compose_over};
 use file_survey::{Survey, survey};
-use part_names::PartNames;
+use part_names::NamedFiles;
 use path_index::PathIndex;
 use provenance::Trace;
-use std::alloc::Global;
 use std::marker::{Brand, PhantomData};
 use store_groups::Place;
 use store_journal::Store;
@@ -58,32 +57,34 @@ use sx_base::{Disk, Inputs, Outcome, Sink};
 /// `StoreFault` comes where the disk failed, whether the store was opened or bytes of its files were read, and `NotStore` where the
 /// bytes stand for no store.
 pub fn compose_store<D: Disk, I: Inputs, O: Sink>(
-    alloc: Global,
+    given: &NamedFiles<'_>,
     disk: &mut D,
     inputs: &mut I,
-    files: &[String],
-    names: &PartNames,
     out: &mut O,
 ) -> StoreEnd
-    requires some { files.now ≢ [] }
+    requires some { given.now.files.now ≢ [] }
     ensures same { I.told inputs.new ≡ I.told inputs.old }
-    ensures answered { D.tells → IfAllTold (I.told inputs.old) (map string_bytes files.now)
+    ensures answered { D.tells
+        → IfAllTold (I.told inputs.old) (map string_bytes given.now.files.now)
         (λ files. Wrote (O.taken out.old) (O.taken out.new)
         (λ written. (words : List (List ℕ)) (store at : ℕ)
         → reads_store words (Some store) ≡ true
-        → Answers (OfStreams (Compose store at)) words (D.seen disk.old)
-        (record { bytes = files; names = names.now }) (answer_of [] [] result)
+        → Answers (OfStreams (Compose store at)) (at_entry words (D.seen disk.old)
+        (record { bytes = files; names = given.now.names.now })) (answer_of [] [] result)
         written (D.seen disk.new))) }
-    ensures composed { D.tells → IfAllTold (I.told inputs.old) (map string_bytes files.now)
+    ensures composed { D.tells
+        → IfAllTold (I.told inputs.old) (map string_bytes given.now.files.now)
         (λ files. Wrote (O.taken out.old) (O.taken out.new)
         (λ written. result ≡ Ends Done → (store : meant.Store ℕ) → StandsFor (D.seen disk.old) store
-        → IsComposedOf (beside store names.now files) (renamed names.now (input files)) written)) }
-    ensures refused { D.tells → IfAllTold (I.told inputs.old) (map string_bytes files.now)
+        → IsComposedOf (beside store given.now.names.now files)
+        (renamed given.now.names.now (input files)) written)) }
+    ensures refused { D.tells
+        → IfAllTold (I.told inputs.old) (map string_bytes given.now.files.now)
         (λ files. Wrote (O.taken out.old) (O.taken out.new)
         (λ written. (verdict : Verdict) → result ≡ Ends (Refused verdict)
         → (store : meant.Store ℕ) → StandsFor (D.seen disk.old) store
-        → written ≡ whole_output_of (beside store names.now files)
-        (renamed names.now (input files)))) }
+        → written ≡ whole_output_of (beside store given.now.names.now files)
+        (renamed given.now.names.now (input files)))) }
     ensures cause { ComposeCaused
         ((D.faults disk.new ≡ D.faults disk.old) × (I.faults inputs.new ≡ I.faults inputs.old)
         × (I.ends inputs.new ≡ I.ends inputs.old) × (O.faults out.new ≡ O.faults out.old))
@@ -91,38 +92,37 @@ pub fn compose_store<D: Disk, I: Inputs, O: Sink>(
         (Rose (I.faults inputs.old) (I.faults inputs.new))
         (Rose (I.ends inputs.old) (I.ends inputs.new))
         (Rose (O.faults out.old) (O.faults out.new)) result }
-    ensures changed { ChangeFound (map string_bytes files.now) (I.last_end inputs.new) result }
+    ensures changed { ChangeFound (map string_bytes given.now.files.now) (I.last_end inputs.new)
+        result }
     ensures len { D.len disk.new ≡ D.len disk.old }
     ensures seen { D.tells → D.seen disk.new ≡ D.seen disk.old }
     ensures any_moment { D.tells →
         LeavesOnly D.moment D.left_since disk.old disk.new (IsImage (D.pending disk.old)) }
     ensures later { D.faults disk.old ≤ D.faults disk.new }
 {
-    let store = match Store::open(disk, alloc) {
+    let store = match Store::open(disk, given.alloc) {
         Ok(store) => store,
         Err(stop) => return ended_by(stop),
     };
-    compose_opened(alloc, &store, disk, inputs, files, names, out)
+    compose_opened(given, &store, disk, inputs, out)
 }
 
 // The same over a store that is open.
 fn compose_opened<D: Disk, I: Inputs, O: Sink>(
-    alloc: Global,
+    given: &NamedFiles<'_>,
     store: &Store,
     disk: &mut D,
     inputs: &mut I,
-    files: &[String],
-    names: &PartNames,
     out: &mut O,
 ) -> StoreEnd
-    requires some { files.now ≢ [] }
+    requires some { given.now.files.now ≢ [] }
     requires size { HasSize (D.len disk.old) store.now }
     requires lawful { D.tells → IsLawfulStore (with_bytes (D.seen disk.old) store.now.core) }
     ensures same { I.told inputs.new ≡ I.told inputs.old }
-    ensures ends { D.tells → IfAllTold (I.told inputs.old) (map string_bytes files.now)
+    ensures ends { D.tells → IfAllTold (I.told inputs.old) (map string_bytes given.now.files.now)
         (λ told. Wrote (O.taken out.old) (O.taken out.new)
-        (EndsOver (beside (with_bytes (D.seen disk.old) store.now.core) names.now told)
-        names.now told result)) }
+        (EndsOver (beside (with_bytes (D.seen disk.old) store.now.core) given.now.names.now told)
+        given.now.names.now told result)) }
     ensures cause { ComposeCaused
         ((D.faults disk.new ≡ D.faults disk.old) × (I.faults inputs.new ≡ I.faults inputs.old)
         × (I.ends inputs.new ≡ I.ends inputs.old) × (O.faults out.new ≡ O.faults out.old))
@@ -130,24 +130,36 @@ fn compose_opened<D: Disk, I: Inputs, O: Sink>(
         (Rose (I.faults inputs.old) (I.faults inputs.new))
         (Rose (I.ends inputs.old) (I.ends inputs.new))
         (Rose (O.faults out.old) (O.faults out.new)) result }
-    ensures changed { ChangeFound (map string_bytes files.now) (I.last_end inputs.new) result }
-    ensures read { IsRead D.tells D.len D.faults D.moment D.seen D.pending D.left_since
-        disk.old disk.new }
+    ensures changed { ChangeFound (map string_bytes given.now.files.now) (I.last_end inputs.new)
+        result }
+    ensures read { IsRead D.Disk disk.old disk.new }
 {
-    let known = match survey(alloc, inputs, files, names) {
+    let known = match survey(given.alloc, inputs, given.files, given.names) {
         Ok(known) => known,
         Err(outcome) => return StoreEnd::Ends(outcome),
     };
-    let Ok(indexes) = index_all(alloc, store.core().catalog(), &known) else {
+    let Ok(indexes) = index_all(given.alloc, store.core().catalog(), &known) else {
         return StoreEnd::Ends(Outcome::NoMemory);
     };
-    let Ok(core) = trace_all(alloc, &indexes) else {
+    let Ok(core) = trace_all(given.alloc, &indexes) else {
         return StoreEnd::Ends(Outcome::NoMemory);
     };
-    let over = compose_read(
-        alloc, store, disk, &known, indexes, core, inputs, files, names, out,
-    );
+    let beside = Beside {
+        survey: known,
+        indexes,
+        core,
+    };
+    let over = compose_read(given, store, disk, beside, inputs, out);
     over.end
+}
+
+// What was found in the files, and what of the store stands beside them: its names and places, and its cells, each traced to its
+// own place.
+#[derive(Drop)]
+struct Beside {
+    survey: Survey,
+    indexes: Catalog<PathIndex<Place>>,
+    core: EditCore<Trace>,
 }
 
 // A disk that was only read, and how composing over it ended.
@@ -159,35 +171,34 @@ struct OverDisk<'a, D> {
 
 // The same over what of the store stands beside the files.
 fn compose_read<'a, D: Disk, I: Inputs, O: Sink>(
-    alloc: Global,
+    given: &NamedFiles<'_>,
     store: &'a Store,
     disk: &'a mut D,
-    known: &Survey,
-    indexes: Catalog<PathIndex<Place>>,
-    core: EditCore<Trace>,
+    beside: Beside,
     inputs: &mut I,
-    files: &[String],
-    names: &PartNames,
     out: &mut O,
 ) -> OverDisk<'a, D>
-    requires some { files.now ≢ [] }
+    requires some { given.now.files.now ≢ [] }
     requires size { HasSize (D.len disk.old) store.now }
-    requires part { IsPartOf (bytes_in (D.seen disk.old) indexes)
+    requires part { IsPartOf (bytes_in (D.seen disk.old) beside.indexes)
         (file_cells (with_bytes (D.seen disk.old) store.now.core)) }
-    requires surveyed { IfAllTold (I.told inputs.old) (map string_bytes files.now)
-        (SurveyEnd names.now (Ok known.now)) }
-    requires traced { D.tells → IfAllTold (I.told inputs.old) (map string_bytes files.now)
+    requires surveyed { IfAllTold (I.told inputs.old) (map string_bytes given.now.files.now)
+        (SurveyEnd given.now.names.now (Ok beside.survey)) }
+    requires traced { D.tells
+        → IfAllTold (I.told inputs.old) (map string_bytes given.now.files.now)
         (λ told. recelled_store
-        (seen (byte_of_trace told (bytes_in (D.seen disk.old) indexes)) place_of) core
-        ≡ traced_store (bytes_in (D.seen disk.old) indexes)) }
-    requires had { AllCells (IsHad 0 (bytes_in (D.seen disk.old) indexes)) (start_of core) }
-    requires apart { store_without known.now.parts (bytes_in (D.seen disk.old) indexes)
-        ≡ bytes_in (D.seen disk.old) indexes }
-    requires sayable { D.tells → AllSayable (bytes_in (D.seen disk.old) indexes) }
+        (seen (byte_of_trace told (bytes_in (D.seen disk.old) beside.indexes)) place_of) beside.core
+        ≡ traced_store (bytes_in (D.seen disk.old) beside.indexes)) }
+    requires had { AllCells (IsHad 0 (bytes_in (D.seen disk.old) beside.indexes))
+        (start_of beside.core) }
+    requires apart { store_without beside.survey.parts (bytes_in (D.seen disk.old) beside.indexes)
+        ≡ bytes_in (D.seen disk.old) beside.indexes }
+    requires sayable { D.tells → AllSayable (bytes_in (D.seen disk.old) beside.indexes) }
     ensures same { I.told inputs.new ≡ I.told inputs.old }
-    ensures ends { D.tells → IfAllTold (I.told inputs.old) (map string_bytes files.now)
+    ensures ends { D.tells → IfAllTold (I.told inputs.old) (map string_bytes given.now.files.now)
         (λ told. Wrote (O.taken out.old) (O.taken out.new)
-        (EndsOver (bytes_in (D.seen disk.old) indexes) names.now told result.end)) }
+        (EndsOver (bytes_in (D.seen disk.old) beside.indexes) given.now.names.now told
+        result.end)) }
     ensures cause { ComposeCaused
         ((D.faults result.disk.now ≡ D.faults disk.old)
         × (I.faults inputs.new ≡ I.faults inputs.old) × (I.ends inputs.new ≡ I.ends inputs.old)
@@ -196,14 +207,14 @@ fn compose_read<'a, D: Disk, I: Inputs, O: Sink>(
         (Rose (I.faults inputs.old) (I.faults inputs.new))
         (Rose (I.ends inputs.old) (I.ends inputs.new))
         (Rose (O.faults out.old) (O.faults out.new)) result.end }
-    ensures changed { ChangeFound (map string_bytes files.now) (I.last_end inputs.new) result.end }
+    ensures changed { ChangeFound (map string_bytes given.now.files.now) (I.last_end inputs.new)
+        result.end }
     ensures same_reference { result.disk.ghost_name ≡ disk.entry.ghost_name }
-    ensures read { IsRead D.tells D.len D.faults D.moment D.seen D.pending D.left_since
-        disk.old result.disk.now }
+    ensures read { IsRead D.Disk disk.old result.disk.now }
 {
     let reader = StoreReader { store, disk };
     let (end, reader) = compose_beside::<Brand, StoreReader<'a, D>, I, O>(
-        alloc, reader, known, indexes, core, inputs, files, names, out,
+        given, reader, beside, inputs, out,
     );
     let StoreReader { store: _, disk } = reader;
     OverDisk { disk, end }
@@ -211,34 +222,32 @@ fn compose_read<'a, D: Disk, I: Inputs, O: Sink>(
 
 // The same over what reads the bytes of a base.
 fn compose_beside<K: Anchor<H>, H: Fetch, I: Inputs, O: Sink>(
-    alloc: Global,
+    given: &NamedFiles<'_>,
     reader: H,
-    known: &Survey,
-    indexes: Catalog<PathIndex<Place>>,
-    core: EditCore<Trace>,
+    beside: Beside,
     inputs: &mut I,
-    files: &[String],
-    names: &PartNames,
     out: &mut O,
 ) -> (StoreEnd, H)
-    requires some { files.now ≢ [] }
+    requires some { given.now.files.now ≢ [] }
     requires begun { K.begun ≡ Some reader }
-    requires base { K.base ≡ bytes_in K.image indexes }
+    requires base { K.base ≡ bytes_in K.image beside.indexes }
     requires ready { H.ready reader }
-    requires part { IsPartOf (bytes_in K.image indexes) (H.held reader) }
-    requires surveyed { IfAllTold (I.told inputs.old) (map string_bytes files.now)
-        (SurveyEnd names.now (Ok known.now)) }
-    requires traced { H.tells → IfAllTold (I.told inputs.old) (map string_bytes files.now)
-        (λ told. recelled_store (seen (byte_of_trace told (bytes_in K.image indexes)) place_of) core
-        ≡ traced_store (bytes_in K.image indexes)) }
-    requires had { AllCells (IsHad 0 (bytes_in K.image indexes)) (start_of core) }
-    requires apart { store_without known.now.parts (bytes_in K.image indexes)
-        ≡ bytes_in K.image indexes }
-    requires sayable { H.tells → AllSayable (bytes_in K.image indexes) }
+    requires part { IsPartOf (bytes_in K.image beside.indexes) (H.held reader) }
+    requires surveyed { IfAllTold (I.told inputs.old) (map string_bytes given.now.files.now)
+        (SurveyEnd given.now.names.now (Ok beside.survey)) }
+    requires traced { H.tells
+        → IfAllTold (I.told inputs.old) (map string_bytes given.now.files.now)
+        (λ told. recelled_store
+        (seen (byte_of_trace told (bytes_in K.image beside.indexes)) place_of) beside.core
+        ≡ traced_store (bytes_in K.image beside.indexes)) }
+    requires had { AllCells (IsHad 0 (bytes_in K.image beside.indexes)) (start_of beside.core) }
+    requires apart { store_without beside.survey.parts (bytes_in K.image beside.indexes)
+        ≡ bytes_in K.image beside.indexes }
+    requires sayable { H.tells → AllSayable (bytes_in K.image beside.indexes) }
     ensures same { I.told inputs.new ≡ I.told inputs.old }
-    ensures ends { H.tells → IfAllTold (I.told inputs.old) (map string_bytes files.now)
+    ensures ends { H.tells → IfAllTold (I.told inputs.old) (map string_bytes given.now.files.now)
         (λ told. Wrote (O.taken out.old) (O.taken out.new)
-        (EndsOver (bytes_in K.image indexes) names.now told result.0)) }
+        (EndsOver (bytes_in K.image beside.indexes) given.now.names.now told result.0)) }
     ensures cause { ComposeCaused
         ((H.faults result.1 ≡ H.faults reader) × (I.faults inputs.new ≡ I.faults inputs.old)
         × (I.ends inputs.new ≡ I.ends inputs.old) × (O.faults out.new ≡ O.faults out.old))
@@ -246,9 +255,15 @@ fn compose_beside<K: Anchor<H>, H: Fetch, I: Inputs, O: Sink>(
         (Rose (I.faults inputs.old) (I.faults inputs.new))
         (Rose (I.ends inputs.old) (I.ends inputs.new))
         (Rose (O.faults out.old) (O.faults out.new)) result.0 }
-    ensures changed { ChangeFound (map string_bytes files.now) (I.last_end inputs.new) result.0 }
+    ensures changed { ChangeFound (map string_bytes given.now.files.now) (I.last_end inputs.new)
+        result.0 }
     ensures read { H.later reader result.1 }
 {
+    let Beside {
+        survey,
+        indexes,
+        core,
+    } = beside;
     let standing: Standing<H, K> = Standing {
         indexes,
         reader: PhantomData,
@@ -259,9 +274,14 @@ fn compose_beside<K: Anchor<H>, H: Fetch, I: Inputs, O: Sink>(
         failures: 0,
         of: PhantomData,
     };
-    let outcome = compose_over(
-        alloc, known, core, &standing, &mut bytes, inputs, files, names, out,
-    );
+    let task = Task {
+        alloc: given.alloc,
+        files: given.files,
+        survey: &survey,
+        names: given.names,
+        known: &standing,
+    };
+    let outcome = compose_over(&task, core, &mut bytes, inputs, out);
     let BaseBytes {
         reader,
         failures,

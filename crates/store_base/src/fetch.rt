@@ -68,8 +68,9 @@ impl<'a, D: Disk> Fetch for StoreReader<'a, D> {
 
     ghost ready = { λ r. HasSize (D.len r.disk.now) r.store.now };
 
-    ghost later = { λ a b. IsReadOn D.tells D.len D.faults D.moment D.seen D.pending D.left_since
-        a.store.now b.store.now a.disk.ghost_name b.disk.ghost_name a.disk.now b.disk.now };
+    ghost later = { λ a b. IsReadOn D.Disk
+        (record { store = a.store.now; name = a.disk.ghost_name; disk = a.disk.now })
+        (record { store = b.store.now; name = b.disk.ghost_name; disk = b.disk.now }) };
 
     fn fetch(&mut self, key: Key, ino: u64, at: u64, buf: &mut [u8]) -> Result<(), Failed> {
         match self.store.read_range(self.disk, key, ino, at, buf) {
@@ -78,15 +79,16 @@ impl<'a, D: Disk> Fetch for StoreReader<'a, D> {
         }
     }
 
-    ghost stays = { λ a. read_none D.tells D.len D.faults D.moment D.seen D.pending D.left_since D.only_now a.store.now a.disk.ghost_name a.disk.now };
+    ghost stays = { λ a. read_none D.Disk.own D.only_now
+        (record { store = a.store.now; name = a.disk.ghost_name; disk = a.disk.now }) };
 
-    ghost further = { λ a b c first second. read_both D.tells D.len D.faults D.moment D.seen D.pending D.left_since first second };
+    ghost further = { λ a b c first second. read_both D.Disk.own first second };
 
-    ghost still_ready = { λ a b read ready. read_sized D.tells D.len D.faults D.moment D.seen D.pending D.left_since read ready };
+    ghost still_ready = { λ a b read ready. read_sized D.Disk.own read ready };
 
-    ghost as_long = { λ a b read. read_long D.tells D.len D.faults D.moment D.seen D.pending D.left_since read };
+    ghost as_long = { λ a b read. read_long D.Disk.own read };
 
-    ghost still_held = { λ a b tells read. read_held D.tells D.len D.faults D.moment D.seen D.pending D.left_since tells read };
+    ghost still_held = { λ a b tells read. read_held D.Disk.own tells read };
 
     ghost not_less = { λ a b read. read.read.later };
 }

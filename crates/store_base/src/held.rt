@@ -21,8 +21,7 @@ impl<H: Fetch, K: Anchor<H>> Model for BaseBytes<H, K> {
 
     ghost view = { λ b. b.failures };
 
-    ghost invariant = { λ b. IsHeld H.held H.faults H.ready H.later
-        K.base K.begun b.failures b.reader };
+    ghost invariant = { λ b. IsHeld H.Fetch K.base K.begun b.failures b.reader };
 }
 
 impl<H: Fetch, K: Anchor<H>> OutsideBytes for BaseBytes<H, K> {

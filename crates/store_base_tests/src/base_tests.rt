@@ -7,7 +7,7 @@ use crate::pieces::{
 };
 use disk_model::{FuseDisk, MemDisk};
 use guard_rules::AnyGuard;
-use part_names::PartNames;
+use part_names::{NamedFiles, PartNames};
 use receiver::GuardList;
 use std::alloc::{AllocError, Global};
 use std::process::Abort;
@@ -45,15 +45,12 @@ fn received(alloc: Global, files: &[&[Piece]]) -> Result<(MemDisk, StoreEnd), Al
     let mut guards: GuardList<AnyGuard> = GuardList::new(Vec::new(alloc));
     let mut out = MemSink::new(alloc);
     let own = PartNames::none(alloc);
-    let end = receive_store(
+    let given = NamedFiles {
         alloc,
-        &mut disk,
-        &mut inputs,
-        &names,
-        &own,
-        &mut guards,
-        &mut out,
-    );
+        files: &names,
+        names: &own,
+    };
+    let end = receive_store(&given, &mut disk, &mut inputs, &mut guards, &mut out);
     Ok((disk, end))
 }
 
@@ -68,7 +65,12 @@ fn composed<D: Disk>(
     assert!(rt; !names.is_empty());
     let mut out = MemSink::new(alloc);
     let own = PartNames::none(alloc);
-    let end = compose_store(alloc, disk, &mut inputs, &names, &own, &mut out);
+    let given = NamedFiles {
+        alloc,
+        files: &names,
+        names: &own,
+    };
+    let end = compose_store(&given, disk, &mut inputs, &mut out);
     Ok((end, Vec::from_slice(alloc, out.bytes())?))
 }
 

@@ -62,7 +62,7 @@ module _ (frames : Frames) (ahead : Ahead) (window : List ℕ) (s u : State (Opt
           };
         }
 
-    pub took_shown : (seen : List ℕ) → Shows seen window ahead → sum ≡ crc_of ahead.sum (take len bytes) → TookShown frames.version ahead (past_len ahead len sum) seen window s u
+    pub took_shown : (seen : List ℕ) → Shows seen window ahead → sum ≡ crc_of ahead.sum (take len bytes) → TookShown frames.version ahead (past_len ahead len sum) (record { seen = seen; window = window }) s u
     took_shown seen shows sum_is =
         let left : ℕ = ahead.have - (ahead.used + len) in
         let all : len + left ≡ ahead.have - ahead.used = omega (arith, short, few, is.begun) in

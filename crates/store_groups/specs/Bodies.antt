@@ -20,16 +20,21 @@ FindsHead bytes None = (uuid : List ℕ) (version : ℕ) → length uuid ≡ 16 
 abbrev pub frames_from : Frames → ℕ → List ℕ → List ℕ
 frames_from frames at seen = take (frames.end - at) (drop at seen)
 
+-- The bytes that a read of the disk gives, and the window that keeps some of them.
+pub record Showing : Type 0 where
+  pub seen : List ℕ
+  pub window : List ℕ
+
 -- The next edit was taken, and the checksum goes on over its frame.
-pub record TookShown (version : ℕ) (before now : Ahead) (seen window : List ℕ) (old new : State (Option Place)) : Type 0 where
-  pub shows : Shows seen window now
-  pub edits : AreEdits version before.at (take (now.at - before.at) (drop before.at seen)) old new
-  pub sum : now.sum ≡ crc_of before.sum (take (now.at - before.at) (drop before.at seen))
+pub record TookShown (version : ℕ) (before now : Ahead) (showing : Showing) (old new : State (Option Place)) : Type 0 where
+  pub shows : Shows showing.seen showing.window now
+  pub edits : AreEdits version before.at (take (now.at - before.at) (drop before.at showing.seen)) old new
+  pub sum : now.sum ≡ crc_of before.sum (take (now.at - before.at) (drop before.at showing.seen))
 
 -- The next edit was taken, or the frames that are left are those of no edits that make anything.
-abbrev pub TakesShown : Frames → Ahead → List ℕ → List ℕ → State (Option Place) → State (Option Place) → Option Ahead → Type 0
-TakesShown frames ahead seen window old new (Some next) = TookShown frames.version ahead next seen window old new
-TakesShown frames ahead seen window old new None = AreBadEdits frames.version ahead.at (frames_from frames ahead.at seen) old
+abbrev pub TakesShown : Frames → Ahead → Showing → State (Option Place) → State (Option Place) → Option Ahead → Type 0
+TakesShown frames ahead showing old new (Some next) = TookShown frames.version ahead next showing old new
+TakesShown frames ahead showing old new None = AreBadEdits frames.version ahead.at (frames_from frames ahead.at showing.seen) old
 
 -- A checksum that stands behind frames is this one.
 abbrev pub SumStands : Frames → ℕ → List ℕ → Type 0

@@ -14,7 +14,7 @@ ghost use Rattle.store_groups.specs.Contents.{TakesBehind, seal_len};
 ghost use Rattle.store_groups.specs.declared.kinds.Kind.TheVariants as kind_is;
 
 use crate::edits::{resumed, take_front};
-use crate::kinds::{Tag, seal_len};
+use crate::kinds::{TaggedGroup, seal_len};
 use crate::place::Place;
 use crate::short::is_sum;
 use crate::stops::StoreStop;
@@ -22,7 +22,7 @@ use crate::sums::sum_past;
 use crate::window::{Ahead, WINDOW, refill};
 use clone_resolve::{EditCore, Part};
 use crc32c_part::update;
-use group_log::{GroupPlace, Log};
+use group_log::Log;
 use std::alloc::{AllocError, Global};
 use sx_base::Disk;
 use uuid::Uuid;
@@ -45,27 +45,35 @@ pub(crate) struct Frames {
     pub(crate) stop: u64,
 }
 
+// What a run over the frames of a group goes by: the journal that they stand in, the frames, and where memory comes from.
+#[derive(Debug, Clone, Copy)]
+struct FrameRun<'a> {
+    log: &'a Log,
+    frames: Frames,
+    alloc: Global,
+}
+
 // Takes a group of edits, the first of whose bytes a window has. False where it is at fault.
 pub(crate) fn take_body<D: Disk>(
     log: &Log,
     disk: &mut D,
     core: &mut EditCore<Place>,
-    group: GroupPlace,
-    tag: Tag,
+    group: TaggedGroup,
     alloc: Global,
     window: &mut [u8],
 ) -> Result<bool, StoreStop>
-    requires kind { tag.kind ≡ kind_is.Body }
+    requires kind { group.tag.kind ≡ kind_is.Body }
     requires fits { D.len disk.old ≡ log.now.size }
-    requires within { group.at + group.len ≤ log.now.size }
-    requires long { 1 + seal_len tag.is_sealed ≤ group.len }
-    requires room { min group.len window_len ≤ length window.old }
-    requires shows { D.tells → take (min group.len window_len) window.old
-        ≡ take (min group.len window_len) (drop group.at (D.seen disk.old)) }
-    ensures taken { D.tells → IfOk result (TakesBehind tag group.at
-        (take group.len (drop group.at (D.seen disk.old))) core.old core.new) }
-    ensures kept { AreKept group.at core.old →
-        IfOk result (λ taken. taken ≡ true → AreKept (group.at + group.len) core.new) }
+    requires within { group.place.at + group.place.len ≤ log.now.size }
+    requires long { 1 + seal_len group.tag.is_sealed ≤ group.place.len }
+    requires room { min group.place.len window_len ≤ length window.old }
+    requires shows { D.tells → take (min group.place.len window_len) window.old
+        ≡ take (min group.place.len window_len) (drop group.place.at (D.seen disk.old)) }
+    ensures taken { D.tells → IfOk result (TakesBehind group.tag group.place.at
+        (take group.place.len (drop group.place.at (D.seen disk.old))) core.old core.new) }
+    ensures kept { AreKept group.place.at core.old →
+        IfOk result
+        (λ taken. taken ≡ true → AreKept (group.place.at + group.place.len) core.new) }
     ensures not_refused { IfErr result IsNoRefusal }
     ensures fault { IfLog result (IsFault (Rose (D.faults disk.old) (D.faults disk.new))) }
     ensures len { D.len disk.new ≡ D.len disk.old }
@@ -76,9 +84,9 @@ pub(crate) fn take_body<D: Disk>(
     ensures steady { Steady (D.faults disk.old) (D.faults disk.new) result }
 {
     let _size = log.size();
-    let stop = group.at + group.len;
-    let end = stop - seal_len(tag.is_sealed);
-    if end - group.at < BODY_HEAD as u64 {
+    let stop = group.place.at + group.place.len;
+    let end = stop - seal_len(group.tag.is_sealed);
+    if end - group.place.at < BODY_HEAD as u64 {
         return Ok(false);
     }
     let Some(head) = body_head(&window[1..BODY_HEAD]) else {
@@ -88,17 +96,21 @@ pub(crate) fn take_body<D: Disk>(
         return Ok(false);
     };
     let ahead = Ahead {
-        at: group.at + BODY_HEAD as u64,
+        at: group.place.at + BODY_HEAD as u64,
         used: BODY_HEAD,
-        have: group.len.min(WINDOW as u64) as usize,
+        have: group.place.len.min(WINDOW as u64) as usize,
         sum: update(0, &window[..BODY_HEAD]),
     };
-    let frames = Frames {
-        version: head.version,
-        end,
-        stop,
+    let run = FrameRun {
+        log,
+        frames: Frames {
+            version: head.version,
+            end,
+            stop,
+        },
+        alloc,
     };
-    if !take_frames(log, disk, core, &mut part, frames, ahead, alloc, window)? {
+    if !take_frames(&run, disk, core, &mut part, ahead, window)? {
         return Ok(false);
     }
     core.complete(part);
@@ -124,27 +136,27 @@ fn body_head(bytes: &[u8]) -> Option<BodyHead>
 
 // Takes the frames of a group, and compares the checksum behind them, if there is one. False where one of these is at fault.
 fn take_frames<D: Disk>(
-    log: &Log,
+    run: &FrameRun<'_>,
     disk: &mut D,
     core: &EditCore<Place>,
     part: &mut Part<Place>,
-    frames: Frames,
     first: Ahead,
-    alloc: Global,
     window: &mut [u8],
 ) -> Result<bool, StoreStop>
-    requires fits { D.len disk.old ≡ log.now.size }
-    requires version { is_version frames.version ≡ true }
-    requires within { (first.at ≤ frames.end) × (frames.end ≤ frames.stop)
-        × (frames.stop ≤ log.now.size) }
-    requires seal { (frames.stop ≡ frames.end) ⊎ (frames.stop ≡ frames.end + 4) }
-    requires ahead { IsAhead frames.stop (length window.old) first }
+    requires fits { D.len disk.old ≡ run.now.log.now.size }
+    requires version { is_version run.now.frames.version ≡ true }
+    requires within { (first.at ≤ run.now.frames.end)
+        × (run.now.frames.end ≤ run.now.frames.stop)
+        × (run.now.frames.stop ≤ run.now.log.now.size) }
+    requires seal { (run.now.frames.stop ≡ run.now.frames.end)
+        ⊎ (run.now.frames.stop ≡ run.now.frames.end + 4) }
+    requires ahead { IsAhead run.now.frames.stop (length window.old) first }
     requires shows { D.tells → Shows (D.seen disk.old) window.old first }
     ensures key { part.new.key ≡ part.old.key }
-    ensures taken { D.tells → IfOk result (TakesFrames frames first (D.seen disk.old)
+    ensures taken { D.tells → IfOk result (TakesFrames run.now.frames first (D.seen disk.old)
         (open_state core.now part.old) (open_state core.now part.new)) }
     ensures kept { AreKept first.at core.now → IsKept first.at part.old.subvolume →
-        IfOk result (λ t. t ≡ true → IsKept frames.end part.new.subvolume) }
+        IfOk result (λ t. t ≡ true → IsKept run.now.frames.end part.new.subvolume) }
     ensures not_refused { IfErr result IsNoRefusal }
     ensures fault { IfLog result (IsFault (Rose (D.faults disk.old) (D.faults disk.new))) }
     ensures len { D.len disk.new ≡ D.len disk.old }
@@ -155,15 +167,15 @@ fn take_frames<D: Disk>(
     ensures steady { Steady (D.faults disk.old) (D.faults disk.new) result }
 {
     let mut ahead = first;
-    while ahead.at < frames.end {
-        ahead = refill(log, disk, ahead, frames.stop, window)?;
-        match take_shown(alloc, core, part, frames, ahead, window)? {
+    while ahead.at < run.frames.end {
+        ahead = refill(run.log, disk, ahead, run.frames.stop, window)?;
+        match take_shown(run.alloc, core, part, run.frames, ahead, window)? {
             Some(next) => ahead = next,
             None => return Ok(false),
         }
     }
-    let last = refill(log, disk, ahead, frames.stop, window)?;
-    Ok(has_seal(frames, last, window))
+    let last = refill(run.log, disk, ahead, run.frames.stop, window)?;
+    Ok(has_seal(run.frames, last, window))
 }
 
 // Takes the edit whose frame a window shows next. None where it is at fault.
@@ -183,7 +195,7 @@ fn take_shown(
     ensures past { IfOk result
         (λ o. IfSome o (GoesPast frames.end frames.stop (length window.now) ahead)) }
     ensures taken { (seen : List ℕ) → Shows seen window.now ahead →
-        IfOk result (TakesShown frames ahead seen window.now
+        IfOk result (TakesShown frames ahead (record { seen = seen; window = window.now })
         (open_state core.now part.old) (open_state core.now part.new)) }
     ensures kept { AreKept ahead.at core.now → IsKept ahead.at part.old.subvolume →
         IfOk result (λ o. IfSome o (λ next. IsKept next.at part.new.subvolume)) }

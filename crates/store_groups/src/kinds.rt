@@ -2,6 +2,8 @@
 ghost use Rattle.std.specs.Prelude.{◌≡◌, Some, None, false, nat_eq, if◌then◌else◌};
 ghost use Rattle.store_groups.specs.Contents.{FindsKind, seal_len};
 
+use group_log::GroupPlace;
+
 // What a group does: it begins an entry, it completes one, or it drops one.
 #[derive(Debug, Clone, Copy, PartialEq, Eq)]
 pub(crate) enum Kind {
@@ -15,6 +17,13 @@ pub(crate) enum Kind {
 pub(crate) struct Tag {
     pub(crate) kind: Kind,
     pub(crate) is_sealed: bool,
+}
+
+// A group, and what its first byte says.
+#[derive(Debug, Clone, Copy)]
+pub(crate) struct TaggedGroup {
+    pub(crate) place: GroupPlace,
+    pub(crate) tag: Tag,
 }
 
 // What the first byte of a group says in a journal of a format, none where no group of the format begins so.

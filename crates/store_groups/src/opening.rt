@@ -10,7 +10,7 @@ ghost use Rattle.store_groups.specs.Taking.{TakesGroup};
 ghost use Rattle.store_groups.specs.Aheads.{window_len};
 
 use crate::body::take_body;
-use crate::kinds::{Kind, kind_of, seal_len};
+use crate::kinds::{Kind, TaggedGroup, kind_of, seal_len};
 use crate::place::Place;
 use crate::short::take_short;
 use crate::stops::StoreStop;
@@ -91,7 +91,8 @@ fn take_kept<D: Disk>(
         return Ok(false);
     }
     if tag.kind == Kind::Body {
-        return take_body(log, disk, core, group, tag, alloc, window);
+        let tagged = TaggedGroup { place: group, tag };
+        return take_body(log, disk, core, tagged, alloc, window);
     }
     // A head's frame and a name are shorter than a window.
     let _names = core.catalog();

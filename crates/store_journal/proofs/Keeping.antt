@@ -18,7 +18,8 @@ use Rattle.clone_resolve.specs.Heads.{Begins}
 use Rattle.store_model.specs.Stored.{Content, Mark, Body, Drop, Group, body_bytes, IsEdit, IsContent, IsGroup, body_at, frames_at, taken, resumed, edits_made, dropped, made, Makes}
 use Rattle.store_groups.specs.declared.place.Place.{Place}
 use Rattle.store_journal.specs.Shown.{StoreState}
-use Rattle.store_journal.specs.Holding.{bodies_of, new_group, edits_head, HasOneMore, Holds, Builds}
+use Rattle.store_journal.specs.Holding.{bodies_of, new_group, edits_head, HasOneMore, Holds}
+use Rattle.store_journal.proofs.Unpacked.{Builds}
 use Rattle.store_groups.specs.Taking.{as_runs, open_state}
 use Rattle.store_journal.proofs.Pushes.{bodies_push, all_push, canonical_push, makes_push, edits_push}
 use Rattle.store_groups.specs.Kept.{IsKept, AreKept}

@@ -5,4 +5,5 @@ pub mod ReadFiles
 pub mod Rooms
 pub mod StandingGroups
 pub mod Stopped
+pub mod Unpacked
 mod Refusing

@@ -35,11 +35,20 @@ pub record Holds (header : Header) (groups : List Group) (store : StoreState) (s
   pub rests : Rests header (bodies_of groups) store.log seen pending
   pub makes : Makes None as_runs header.format groups store.core
 
+-- A group of edits that is in progress: the version of its frames, its commands, and the part that they make so far.
+pub record InProgress : Type 0 where
+  pub version : ℕ
+  pub commands : List Command
+  pub part : Part (Option Place)
+
+abbrev pub in_progress : (version : ℕ) (commands : List Command) → Part (Option Place) → InProgress
+in_progress version commands part = record { version = version; commands = commands; part = part }
+
 -- So too while a group of edits is in progress, which make the open part of the one with which the group began.
-pub record Builds (header : Header) (groups : List Group) (version : ℕ) (commands : List Command) (part : Part (Option Place)) (store : StoreState) (seen : List ℕ) (pending : Pending) : Type 0 where
-  pub grows : Grows header (bodies_of groups) (edits_head part.key.uuid version ++ canonical_all version commands) store.log seen pending
+pub record Builds (header : Header) (groups : List Group) (now : InProgress) (store : StoreState) (seen : List ℕ) (pending : Pending) : Type 0 where
+  pub grows : Grows header (bodies_of groups) (edits_head now.part.key.uuid now.version ++ canonical_all now.version now.commands) store.log seen pending
   pub makes : Makes None as_runs header.format groups store.core
-  pub says : IsContent (Body part.key.uuid version commands)
+  pub says : IsContent (Body now.part.key.uuid now.version now.commands)
   pub start : State (Option Place)
-  pub begins : resumed store.core part.key.uuid ≡ Some start
-  pub becomes : edits_made None as_runs version (frames_at (body_at store.log.gate)) start commands ≡ Some (open_state store.core part)
+  pub begins : resumed store.core now.part.key.uuid ≡ Some start
+  pub becomes : edits_made None as_runs now.version (frames_at (body_at store.log.gate)) start now.commands ≡ Some (open_state store.core now.part)

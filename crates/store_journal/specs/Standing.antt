@@ -11,7 +11,7 @@ use Rattle.store_groups.specs.declared.place.Place.{Place}
 use Rattle.store_journal.specs.Shown.{StoreState, IsIdle, IsOpen}
 use Rattle.store_journal.specs.Reading.{HasSize}
 use Rattle.store_groups.specs.Taking.{as_runs}
-use Rattle.store_journal.specs.Holding.{HasThese, Holds, Builds}
+use Rattle.store_journal.specs.Holding.{HasThese, Holds, Builds, in_progress}
 
 -- The byte of a cell: that at its place in an image, or zero.
 abbrev pub place_byte : List ℕ → Option Place → ℕ
@@ -37,7 +37,7 @@ HoldsStands = (header : Header) (groups : List Group) (store : StoreState) (seen
 
 abbrev pub BuildsStands : Type 0
 BuildsStands = (header : Header) (groups : List Group) (version : ℕ) (commands : List Command) (part : Part (Option Place)) (store : StoreState) (seen image : List ℕ) (pending : Pending)
-    → Builds header groups version commands part store seen pending → IsImage pending image → StandsFor image (with_bytes image store.core)
+    → Builds header groups (in_progress version commands part) store seen pending → IsImage pending image → StandsFor image (with_bytes image store.core)
 
 -- What a disk gives is held for the subvolumes of one store, so a store that is opened again has those that it had.
 abbrev pub HoldsOne : Type 0

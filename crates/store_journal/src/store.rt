@@ -22,7 +22,7 @@ ghost use Rattle.store_groups.specs.Stopping.{IfRefused, IfLog, IfEnded, IsNoRef
 ghost use Rattle.store_groups.specs.Kept.{IsKept, AreKept};
 ghost use Rattle.store_journal.specs.Shown.{IsIdle, IsOpen};
 ghost use Rattle.store_groups.specs.Taking.{as_runs, open_state};
-ghost use Rattle.store_journal.specs.Holding.{new_group, HasThese, HasOneMore, Holds, Builds};
+ghost use Rattle.store_journal.specs.Holding.{new_group, HasThese, HasOneMore, Holds, Builds, in_progress};
 ghost use Rattle.store_journal.specs.Answers.{BeginsIn, EditsIn, IfNoFault, IfShort, IfHeadShort, groups_without};
 ghost use Rattle.store_journal.specs.Opening.{OpenSays, IsOpenStop, HoldsSome};
 
@@ -257,7 +257,7 @@ impl Store {
             Holds header groups self.old (D.seen disk.old) (D.pending disk.old) →
             part.key ≡ key_of key →
             resumed self.old.core part.key.uuid ≡ Some (open_state self.old.core part) →
-            OnOk result (Builds header groups version [] part self.new
+            OnOk result (Builds header groups (in_progress version [] part) self.new
             (D.seen disk.new) (D.pending disk.new)) }
         ensures held { D.tells → (header : Header) (groups : List Group) →
             Holds header groups self.old (D.seen disk.old) (D.pending disk.old) →
@@ -315,7 +315,8 @@ impl Store {
         ensures builds { D.tells → (header : Header) (groups : List Group) →
             Holds header groups self.old (D.seen disk.old) (D.pending disk.old) →
             IfOk result (λ part. Builds header
-            (groups ++ new_group (Mark (meaning_of head.now)) ∷ []) version [] part self.new
+            (groups ++ new_group (Mark (meaning_of head.now)) ∷ [])
+            (in_progress version [] part) self.new
             (D.seen disk.new) (D.pending disk.new)) }
 
         // Where it stops though the disk did not fail, that has the groups that there were; and that of the head too where this one
@@ -385,7 +386,7 @@ impl Store {
         ensures limit { self.new.log.limit ≡ self.old.log.limit }
         ensures builds { D.tells → (header : Header) (groups : List Group) →
             Holds header groups self.old (D.seen disk.old) (D.pending disk.old) →
-            IfOk result (λ part. Builds header groups version [] part self.new
+            IfOk result (λ part. Builds header groups (in_progress version [] part) self.new
             (D.seen disk.new) (D.pending disk.new)) }
 
         // Where it stops though the disk did not fail, that has the groups that there were.
@@ -447,15 +448,16 @@ impl Store {
         ensures limit { self.new.log.limit ≡ self.old.log.limit }
         ensures builds { D.tells →
             (header : Header) (groups : List Group) (commands : List model_command.Command) →
-            Builds header groups version commands part.old self.old
+            Builds header groups (in_progress version commands part.old) self.old
             (D.seen disk.old) (D.pending disk.old) →
-            OnOk result (Builds header groups version (commands ++ meaning_of c.now ∷ []) part.new
-            self.new (D.seen disk.new) (D.pending disk.new)) }
+            OnOk result (Builds header groups
+            (in_progress version (commands ++ meaning_of c.now ∷ []) part.new) self.new
+            (D.seen disk.new) (D.pending disk.new)) }
 
         // At every moment a crash leaves the groups that there were.
         ensures any_moment { D.tells →
             (header : Header) (groups : List Group) (commands : List model_command.Command) →
-            Builds header groups version commands part.old self.old
+            Builds header groups (in_progress version commands part.old) self.old
             (D.seen disk.old) (D.pending disk.old) →
             LeavesOnly D.moment D.left_since disk.old disk.new (HasThese header groups) }
 
@@ -504,7 +506,7 @@ impl Store {
         ensures limit { self.new.log.limit ≡ self.old.log.limit }
         ensures holds { D.tells → (header : Header) (groups : List Group) (version : ℕ)
             (commands : List model_command.Command) →
-            Builds header groups version commands part self.old
+            Builds header groups (in_progress version commands part) self.old
             (D.seen disk.old) (D.pending disk.old) →
             OnOk result (Holds header
             (groups ++ new_group (Body part.key.uuid version commands) ∷ []) self.new
@@ -517,7 +519,7 @@ impl Store {
         // At every moment a crash leaves the groups that there were, or these and that of the edits.
         ensures any_moment { D.tells → (header : Header) (groups : List Group) (version : ℕ)
             (commands : List model_command.Command) →
-            Builds header groups version commands part self.old
+            Builds header groups (in_progress version commands part) self.old
             (D.seen disk.old) (D.pending disk.old) →
             LeavesOnly D.moment D.left_since disk.old disk.new
             (HasOneMore header groups (new_group (Body part.key.uuid version commands))) }
@@ -549,7 +551,7 @@ impl Store {
         ensures idle { (len : ℕ) → IsOpen len part self.old → IsIdle len self.new }
         ensures holds { (header : Header) (groups : List Group) (version : ℕ)
             (commands : List model_command.Command) (seen : List ℕ) (pending : Pending) →
-            Builds header groups version commands part self.old seen pending →
+            Builds header groups (in_progress version commands part) self.old seen pending →
             Holds header groups self.new seen pending }
     {
         let _part = part;

@@ -12,7 +12,7 @@ use Rattle.store_model.specs.NamedFiles.{unnamed}
 use Rattle.store_model.specs.Image.{header_of, usual_header}
 use Rattle.store_model.specs.Dues as dues
 use Rattle.store_model.specs.Dues.{Due, Ends, init_due}
-use Rattle.store_model.specs.Requests.{OfStreams, InitStore, ReceiveFiles, ListStore, ScrubStore}
+use Rattle.store_model.specs.Requests.{OfStreams, InitStore, ReceiveFiles, ListStore, ScrubStore, at_entry}
 use Rattle.store_model.specs.Answers.{OfAnyWord, StoreFault, NotStore, Missing, LogFull, StoreThere, Damaged, status_of, note_of, answer_of, Answers}
 use Rattle.send_model.proofs.ReadingExamples.{first_stream}
 use Rattle.store_model.proofs.StoredExamples.{new_image, empty_fails}
@@ -142,40 +142,40 @@ due_notes = refl
 -- ---- what answers say
 
 -- a new store, and one that is there
-made_new : Answers (InitStore 1) (codes "init" ∷ codes "st" ∷ []) [] (unnamed []) (OfAnyWord Done) [] (header_of usual_header ++ 0 ∷ [])
+made_new : Answers (InitStore 1) (at_entry (codes "init" ∷ codes "st" ∷ []) [] (unnamed [])) (OfAnyWord Done) [] (header_of usual_header ++ 0 ∷ [])
 unfolding init_due
 made_new = (refl, (refl, refl))
 
-made_before : Answers (InitStore 1) (codes "init" ∷ codes "st" ∷ []) new_image (unnamed []) (StoreThere 21) [] new_image
+made_before : Answers (InitStore 1) (at_entry (codes "init" ∷ codes "st" ∷ []) new_image (unnamed [])) (StoreThere 21) [] new_image
 unfolding init_due new_image
 made_before = (refl, (refl, refl))
 
 -- making a store takes no memory, and a fault leaves the one that is there
-init_takes_none : (image left written : List ℕ) → Answers (InitStore 1) (codes "init" ∷ codes "st" ∷ []) image (unnamed []) (OfAnyWord NoMemory) written left → ⊥
+init_takes_none : (image left written : List ℕ) → Answers (InitStore 1) (at_entry (codes "init" ∷ codes "st" ∷ []) image (unnamed [])) (OfAnyWord NoMemory) written left → ⊥
 init_takes_none image left written h = h
 
-init_fails : (left : List ℕ) → Answers (InitStore 1) (codes "init" ∷ codes "st" ∷ []) new_image (unnamed []) StoreFault [] left → left ≡ new_image
+init_fails : (left : List ℕ) → Answers (InitStore 1) (at_entry (codes "init" ∷ codes "st" ∷ []) new_image (unnamed [])) StoreFault [] left → left ≡ new_image
 unfolding new_image
 init_fails left h = h.1
 
 -- over an empty file there is no store, and nothing is written that could fail
-no_store : Answers (ListStore 1) (codes "list" ∷ codes "st" ∷ []) [] (unnamed []) (NotStore 0) [] []
+no_store : Answers (ListStore 1) (at_entry (codes "list" ∷ codes "st" ∷ []) [] (unnamed [])) (NotStore 0) [] []
 no_store = (empty_fails, (refl, (λ s stands. refl, λ group none. refl)))
 
-nothing_cut : (left written : List ℕ) → Answers (ListStore 1) (codes "list" ∷ codes "st" ∷ []) [] (unnamed []) (OfAnyWord OutputFault) written left → ⊥
+nothing_cut : (left written : List ℕ) → Answers (ListStore 1) (at_entry (codes "list" ∷ codes "st" ∷ []) [] (unnamed [])) (OfAnyWord OutputFault) written left → ⊥
 nothing_cut left written h = h.1.1 0 empty_fails
 
 -- an audit over `none` touches no device
-no_device : (image left written : List ℕ) → Answers (OfStreams (Audit [] 1 2)) (codes "audit" ∷ codes "none" ∷ codes "f" ∷ []) image (unnamed (first_stream ∷ [])) StoreFault written left → ⊥
+no_device : (image left written : List ℕ) → Answers (OfStreams (Audit [] 1 2)) (at_entry (codes "audit" ∷ codes "none" ∷ codes "f" ∷ []) image (unnamed (first_stream ∷ []))) StoreFault written left → ⊥
 no_device image left written h = h.1
 
 -- listing reads no files, and receiving reads none again
-reads_none : (image left written : List ℕ) → Answers (ListStore 1) (codes "list" ∷ codes "st" ∷ []) image (unnamed []) (OfAnyWord InputFault) written left → ⊥
+reads_none : (image left written : List ℕ) → Answers (ListStore 1) (at_entry (codes "list" ∷ codes "st" ∷ []) image (unnamed [])) (OfAnyWord InputFault) written left → ⊥
 reads_none image left written h = h.0
 
-reads_once : (image left written : List ℕ) → Answers (ReceiveFiles [] 1 2) (codes "receive" ∷ codes "st" ∷ codes "f" ∷ []) image (unnamed (first_stream ∷ [])) (OfAnyWord (InputChanged 1 79)) written left → ⊥
+reads_once : (image left written : List ℕ) → Answers (ReceiveFiles [] 1 2) (at_entry (codes "receive" ∷ codes "st" ∷ codes "f" ∷ []) image (unnamed (first_stream ∷ []))) (OfAnyWord (InputChanged 1 79)) written left → ⊥
 reads_once image left written h = h.0
 
 -- scrub writes its line at its end
-scrub_at_end : (image left written : List ℕ) → Answers (ScrubStore 1) (codes "scrub" ∷ codes "st" ∷ []) image (unnamed []) (OfAnyWord NoMemory) written left → written ≡ []
+scrub_at_end : (image left written : List ℕ) → Answers (ScrubStore 1) (at_entry (codes "scrub" ∷ codes "st" ∷ []) image (unnamed [])) (OfAnyWord NoMemory) written left → written ≡ []
 scrub_at_end image left written h = h.1

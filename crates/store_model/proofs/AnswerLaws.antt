@@ -13,7 +13,7 @@ use Rattle.send_model.specs.Answer.{Done, Refused, Usage, InputFault, OutputFaul
 use Rattle.store_model.specs.NamedFiles.{NamedFiles, read_of}
 use Rattle.store_model.specs.Dues as dues
 use Rattle.store_model.specs.Dues.{Due, Ends}
-use Rattle.store_model.specs.Requests.{Request, OfStreams, InitStore, DropEntry, ReceiveFiles, ListStore, ShowEntry, CatFile, ScrubStore, store_of, reads_store, base_over, Says}
+use Rattle.store_model.specs.Requests.{Request, OfStreams, InitStore, DropEntry, ReceiveFiles, ListStore, ShowEntry, CatFile, ScrubStore, store_of, reads_store, base_over, Says, at_entry}
 use Rattle.store_model.specs.Answers.{status_of, OfAnyWord, StoreFault, NotStore, Missing, LogFull, StoreThere, Damaged, answer_of, DueSays, Answers, DueIsAnswered, OneIsAnswered, DoneAlone, InitFault, StreamsBefore, PrintsBefore, NothingStandsBefore, NothingStandsAtFault, StandsBefore, StandsCut, StandsFault, ReadsOnly, ReadersKeepTheImage, ReceiveIsOnTheWay, ReceiveIsCut, DropKeeps, PrintsInFront}
 use Rattle.send_model.proofs.Fronts.{nothing_front}
 use Rattle.send_model.proofs.Writing.{nothing_unfinished}
@@ -33,7 +33,7 @@ due_is_answered request words image files (dues.Damaged group stored computed) w
 
 -- and what is answered so is due
 answered_is_due : (request : Request) (words : List (List ℕ)) (image : List ℕ) (files : NamedFiles) (due : Due) (written left : List ℕ)
-    → Answers request words image files (answer_of due) written left → DueSays request words image files due written left
+    → Answers request (at_entry words image files) (answer_of due) written left → DueSays request (at_entry words image files) due written left
 answered_is_due request words image files (Ends DoneWhole) written left h = h
 answered_is_due request words image files (Ends (RefusedAt verdict)) written left h = h
 answered_is_due request words image files (Ends (TooLong file)) written left h = h
@@ -113,7 +113,7 @@ nothing_stands_at_fault (ScrubStore store) words image files = inr (refl, refl)
 -- ---- words that read
 
 said_keeps : (request : Request) (words : List (List ℕ)) (image : List ℕ) (files : NamedFiles) (due : Due) (written left : List ℕ)
-    → ReadsOnly request → Says request words image files due written left → left ≡ image
+    → ReadsOnly request → Says request (at_entry words image files) due written left → left ≡ image
 said_keeps (OfStreams request) words image files due written left reads h = h.0
 said_keeps (ListStore store) words image files due written left reads h = h.0
 said_keeps (ShowEntry store name) words image files due written left reads h = h.0

@@ -21,7 +21,7 @@ use Rattle.store_model.specs.Dues.{left_from, receive_left, NotStore, Ends, Miss
 use Rattle.send_model.specs.Spelling.{canonical, frame_of, attributes_of, attribute_bytes, body_of}
 use Rattle.send_model.specs.Words as streams
 use Rattle.send_model.specs.Words.{Compose, Audit, Dump, Export, guards_and_files}
-use Rattle.store_model.specs.Requests.{Request, OfStreams, InitStore, DropEntry, ReceiveFiles, ListStore, ShowEntry, CatFile, ScrubStore, over_store, request_of, IsDue, Says}
+use Rattle.store_model.specs.Requests.{Request, OfStreams, InitStore, DropEntry, ReceiveFiles, ListStore, ShowEntry, CatFile, ScrubStore, over_store, request_of, IsDue, Says, at_entry}
 use Rattle.send_model.specs.Guards.{MostBytes, MostCommands, NoDevices, new_guard, guard_of}
 use Rattle.send_model.proofs.ExampleWords.{key, composing_words, hexadecimal, uuid, one_file, items}
 use Rattle.send_model.proofs.ReadingExamples.{second_stream, first_stream}
@@ -248,12 +248,12 @@ unfolding stream_words
 exported_over_a = (a_complete ∷ [], a_stands, refl)
 
 -- and what is written then; nothing where there is no store
-accepted_over_none : (image : List ℕ) → Says (OfStreams (Audit [] 1 2)) (codes "audit" ∷ codes "none" ∷ codes "f" ∷ []) image (unnamed (first_stream ∷ [])) (Ends DoneWhole)
+accepted_over_none : (image : List ℕ) → Says (OfStreams (Audit [] 1 2)) (at_entry (codes "audit" ∷ codes "none" ∷ codes "f" ∷ []) image (unnamed (first_stream ∷ []))) (Ends DoneWhole)
     (codes "accepted 1 4" ++ 10 ∷ []) image
 unfolding stream_words
 accepted_over_none image = (refl, refl)
 
-refused_over_a : Says (OfStreams (Audit [] 1 2)) (codes "audit" ∷ codes "st" ∷ codes "f" ∷ []) image_of_a (unnamed (first_stream ∷ []))
+refused_over_a : Says (OfStreams (Audit [] 1 2)) (at_entry (codes "audit" ∷ codes "st" ∷ codes "f" ∷ []) image_of_a (unnamed (first_stream ∷ [])))
     (Ends (RefusedAt (record { file = 1; command = 1; offset = 17; refusal = NameThere }))) [] image_of_a
 refused_over_a = (refl, (λ s stands. refl, λ group none. refl))
 

@@ -21,7 +21,7 @@ use Rattle.store_model.specs.Scrub.{IsScrubbed, scrub_line}
 use Rattle.store_model.specs.Stops.{IsOnTheWay}
 use Rattle.store_model.specs.Dues as dues
 use Rattle.store_model.specs.Dues.{Due, Ends, show_output, cat_output, IsDropDue}
-use Rattle.store_model.specs.Requests.{Request, OfStreams, InitStore, DropEntry, ReceiveFiles, ListStore, ShowEntry, CatFile, ScrubStore, word_at, store_of, reads_store, base_over, IsDue, DropLeaves, ByImage, Says}
+use Rattle.store_model.specs.Requests.{Request, OfStreams, InitStore, DropEntry, ReceiveFiles, ListStore, ShowEntry, CatFile, ScrubStore, word_at, store_of, reads_store, base_over, IsDue, DropLeaves, ByImage, AtEntry, Says, at_entry}
 
 -- ---- the answers
 
@@ -174,39 +174,39 @@ StandsFault (ScrubStore store) words image files written left = (left ≡ image)
 -- ---- what an answer says
 
 -- This is due, and what stands is what it says.
-abbrev pub DueSays : Request → List (List ℕ) → List ℕ → NamedFiles → Due → (written left : List ℕ) → Type 0
-DueSays request words image files due written left = IsDue request words image files due × Says request words image files due written left
+abbrev pub DueSays : Request → AtEntry → Due → (written left : List ℕ) → Type 0
+DueSays request met due written left = IsDue request met.words met.image met.files due × Says request met due written left
 
 -- An answer that words, files and image decide is the one that is due. Else an object of the outside failed or was changed, or there was no
 -- memory. A request that is asked for is never answered as one that means nothing.
-abbrev pub Answers : Request → List (List ℕ) → List ℕ → NamedFiles → Answer → (written left : List ℕ) → Type 0
-Answers request words image files (OfAnyWord Done) written left = DueSays request words image files (Ends DoneWhole) written left
-Answers request words image files (OfAnyWord (Refused verdict)) written left = DueSays request words image files (Ends (RefusedAt verdict)) written left
-Answers request words image files (OfAnyWord (InputTooLong file)) written left = DueSays request words image files (Ends (TooLong file)) written left
-Answers request words image files (OfAnyWord (TooMuch sum)) written left = DueSays request words image files (Ends (stream_dues.TooMuch sum)) written left
-Answers request words image files (NotStore group) written left = DueSays request words image files (dues.NotStore group) written left
-Answers request words image files (Missing what) written left = DueSays request words image files (dues.Missing what) written left
-Answers request words image files (LogFull end wanted limit) written left = DueSays request words image files (dues.LogFull end wanted limit) written left
-Answers request words image files (StoreThere size) written left = DueSays request words image files (dues.StoreThere size) written left
-Answers request words image files (Damaged group stored computed) written left = DueSays request words image files (dues.Damaged group stored computed) written left
-Answers request words image files (OfAnyWord InputFault) written left = ReadsFiles request × StandsBefore request words image files written left
-Answers request words image files (OfAnyWord (InputChanged file place)) written left = ReadsAgain request × StandsBefore request words image files written left
-Answers request words image files (OfAnyWord OutputFault) written left = StandsCut request words image files written left
-Answers request words image files (OfAnyWord NoMemory) written left = StandsBefore request words image files written left
-Answers request words image files StoreFault written left = StandsFault request words image files written left
-Answers request words image files (OfAnyWord Usage) written left = ⊥
+abbrev pub Answers : Request → AtEntry → Answer → (written left : List ℕ) → Type 0
+Answers request met (OfAnyWord Done) written left = DueSays request met (Ends DoneWhole) written left
+Answers request met (OfAnyWord (Refused verdict)) written left = DueSays request met (Ends (RefusedAt verdict)) written left
+Answers request met (OfAnyWord (InputTooLong file)) written left = DueSays request met (Ends (TooLong file)) written left
+Answers request met (OfAnyWord (TooMuch sum)) written left = DueSays request met (Ends (stream_dues.TooMuch sum)) written left
+Answers request met (NotStore group) written left = DueSays request met (dues.NotStore group) written left
+Answers request met (Missing what) written left = DueSays request met (dues.Missing what) written left
+Answers request met (LogFull end wanted limit) written left = DueSays request met (dues.LogFull end wanted limit) written left
+Answers request met (StoreThere size) written left = DueSays request met (dues.StoreThere size) written left
+Answers request met (Damaged group stored computed) written left = DueSays request met (dues.Damaged group stored computed) written left
+Answers request met (OfAnyWord InputFault) written left = ReadsFiles request × StandsBefore request met.words met.image met.files written left
+Answers request met (OfAnyWord (InputChanged file place)) written left = ReadsAgain request × StandsBefore request met.words met.image met.files written left
+Answers request met (OfAnyWord OutputFault) written left = StandsCut request met.words met.image met.files written left
+Answers request met (OfAnyWord NoMemory) written left = StandsBefore request met.words met.image met.files written left
+Answers request met StoreFault written left = StandsFault request met.words met.image met.files written left
+Answers request met (OfAnyWord Usage) written left = ⊥
 
 -- ---- laws
 
 -- What is due is answered as it says.
 abbrev pub DueIsAnswered : Type 0
 DueIsAnswered = (request : Request) (words : List (List ℕ)) (image : List ℕ) (files : NamedFiles) (due : Due) (written left : List ℕ)
-    → DueSays request words image files due written left → Answers request words image files (answer_of due) written left
+    → DueSays request (at_entry words image files) due written left → Answers request (at_entry words image files) (answer_of due) written left
 
 -- Of the answers that are due, one is given, whatever was written. So one status and one note are due.
 abbrev pub OneIsAnswered : Type 0
 OneIsAnswered = (request : Request) (words : List (List ℕ)) (image : List ℕ) (files : NamedFiles) (due other : Due) (written left more_written more_left : List ℕ)
-    → IsBytes image → Answers request words image files (answer_of due) written left → Answers request words image files (answer_of other) more_written more_left
+    → IsBytes image → Answers request (at_entry words image files) (answer_of due) written left → Answers request (at_entry words image files) (answer_of other) more_written more_left
     → due ≡ other
 
 -- Status 0 is that of one answer alone.
@@ -236,25 +236,25 @@ ReadsOnly (ScrubStore store) = ⊤
 
 abbrev pub ReadersKeepTheImage : Type 0
 ReadersKeepTheImage = (request : Request) (words : List (List ℕ)) (image : List ℕ) (files : NamedFiles) (answer : Answer) (written left : List ℕ)
-    → ReadsOnly request → Answers request words image files answer written left → left ≡ image
+    → ReadsOnly request → Answers request (at_entry words image files) answer written left → left ≡ image
 
 -- Receiving over a store gives an answer that is due, or it is on the way.
 abbrev pub ReceiveIsOnTheWay : Type 0
 ReceiveIsOnTheWay = (guards : List GuardSpec) (place at : ℕ) (words : List (List ℕ)) (image : List ℕ) (files : NamedFiles) (store : Store ℕ) (answer : Answer) (written left : List ℕ)
-    → StandsFor image store → Answers (ReceiveFiles guards place at) words image files answer written left
+    → StandsFor image store → Answers (ReceiveFiles guards place at) (at_entry words image files) answer written left
     → ((due : Due) × (answer ≡ answer_of due)) ⊎ IsOnTheWay image (new_guards guards) files store written left
 
 -- And where standard output failed, some of the lines is missing.
 abbrev pub ReceiveIsCut : Type 0
 ReceiveIsCut = (guards : List GuardSpec) (place at : ℕ) (words : List (List ℕ)) (image : List ℕ) (files : NamedFiles) (store : Store ℕ) (written left : List ℕ)
-    → StandsFor image store → Answers (ReceiveFiles guards place at) words image files (OfAnyWord OutputFault) written left
+    → StandsFor image store → Answers (ReceiveFiles guards place at) (at_entry words image files) (OfAnyWord OutputFault) written left
     → IsProperFrontOf (received_lines store (new_guards guards) files) written
 
 -- A drop that lacks memory has left the store as it was, and so has one whose device failed, unless it was due.
 abbrev pub DropKeeps : Type 0
 DropKeeps = (place name : ℕ) (words : List (List ℕ)) (image : List ℕ) (files : NamedFiles) (store : Store ℕ) (written left : List ℕ) → StandsFor image store
-    → (Answers (DropEntry place name) words image files (OfAnyWord NoMemory) written left → StandsFor left store)
-    × (Answers (DropEntry place name) words image files StoreFault written left
+    → (Answers (DropEntry place name) (at_entry words image files) (OfAnyWord NoMemory) written left → StandsFor left store)
+    × (Answers (DropEntry place name) (at_entry words image files) StoreFault written left
     → StandsFor left store ⊎ (IsDropDue image (word_at words name) store (Ends DoneWhole) × DropLeaves (Ends DoneWhole) (word_at words name) store left))
 
 -- All that a word which prints of a store has to print.
@@ -272,6 +272,6 @@ IsPrinted (ScrubStore store) words s whole = ⊥
 abbrev pub PrintsInFront : Type 0
 PrintsInFront = (request : Request) (words : List (List ℕ)) (image : List ℕ) (files : NamedFiles) (store : Store ℕ) (whole written left : List ℕ)
     → StandsFor image store → IsPrinted request words store whole
-    → (Answers request words image files (OfAnyWord NoMemory) written left → IsFrontOf whole written)
-    × (Answers request words image files StoreFault written left → IsFrontOf whole written)
-    × (Answers request words image files (OfAnyWord OutputFault) written left → IsProperFrontOf whole written)
+    → (Answers request (at_entry words image files) (OfAnyWord NoMemory) written left → IsFrontOf whole written)
+    × (Answers request (at_entry words image files) StoreFault written left → IsFrontOf whole written)
+    × (Answers request (at_entry words image files) (OfAnyWord OutputFault) written left → IsProperFrontOf whole written)

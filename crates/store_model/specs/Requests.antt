@@ -166,20 +166,29 @@ abbrev pub StreamsSay : Bool → streams.Request → List ℕ → Sources → Du
 StreamsSay true request image read due written = ByImage image (λ s. StreamsWrite request (base_over request read s) read due written) (written ≡ [])
 StreamsSay false request image read due written = StreamsWrite request [] read due written
 
+-- What a request meets when it begins: its words, the image of the store, and the files that it names.
+pub record AtEntry : Type 0 where
+  pub words : List (List ℕ)
+  pub image : List ℕ
+  pub files : NamedFiles
+
+abbrev pub at_entry : (words : List (List ℕ)) (image : List ℕ) (files : NamedFiles) → AtEntry
+at_entry words image files = record { words = words; image = image; files = files }
+
 -- What was written, and what the image is or stands for afterwards. Where it stands for no store, nothing is written or changed.
-abbrev pub Says : Request → List (List ℕ) → List ℕ → NamedFiles → Due → List ℕ → List ℕ → Type 0
-Says (OfStreams request) words image files due written left = (left ≡ image) × StreamsSay (reads_store words (store_of request)) request image (read_of files) due written
-Says (InitStore store) words image files due written left = (written ≡ []) × InitLeaves due image left
-Says (DropEntry store name) words image files due written left =
-    (written ≡ []) × ByImage image (λ s. DropLeaves due (word_at words name) s left) (left ≡ image)
-Says (ReceiveFiles guards store at) words image files due written left =
-    ByImage image (λ s. ReceiveSays image (new_guards guards) files s written left) ((written ≡ []) × (left ≡ image))
-Says (ListStore store) words image files due written left = (left ≡ image) × ByImage image (λ s. Printed due (listed s) written) (written ≡ [])
-Says (ShowEntry store name) words image files due written left =
-    (left ≡ image) × ByImage image (λ s. Printed due (show_output (word_at words name) s) written) (written ≡ [])
-Says (CatFile store name path) words image files due written left =
-    (left ≡ image) × ByImage image (λ s. Printed due (cat_output (word_at words name) (word_at words path) s) written) (written ≡ [])
-Says (ScrubStore store) words image files due written left = (left ≡ image) × IsScrubDue image due written
+abbrev pub Says : Request → AtEntry → Due → (written left : List ℕ) → Type 0
+Says (OfStreams request) met due written left = (left ≡ met.image) × StreamsSay (reads_store met.words (store_of request)) request met.image (read_of met.files) due written
+Says (InitStore store) met due written left = (written ≡ []) × InitLeaves due met.image left
+Says (DropEntry store name) met due written left =
+    (written ≡ []) × ByImage met.image (λ s. DropLeaves due (word_at met.words name) s left) (left ≡ met.image)
+Says (ReceiveFiles guards store at) met due written left =
+    ByImage met.image (λ s. ReceiveSays met.image (new_guards guards) met.files s written left) ((written ≡ []) × (left ≡ met.image))
+Says (ListStore store) met due written left = (left ≡ met.image) × ByImage met.image (λ s. Printed due (listed s) written) (written ≡ [])
+Says (ShowEntry store name) met due written left =
+    (left ≡ met.image) × ByImage met.image (λ s. Printed due (show_output (word_at met.words name) s) written) (written ≡ [])
+Says (CatFile store name path) met due written left =
+    (left ≡ met.image) × ByImage met.image (λ s. Printed due (cat_output (word_at met.words name) (word_at met.words path) s) written) (written ≡ [])
+Says (ScrubStore store) met due written left = (left ≡ met.image) × IsScrubDue met.image due written
 
 -- ---- laws
 

@@ -101,7 +101,12 @@ fn scrub_group<D: Disk>(
         return Err(none_at(group));
     }
     let sum = update(0, &piece[..first]);
-    compare(log, disk, piece, group.number, sum, begun, end - CHECKSUM)?;
+    let rest = Rest {
+        sum,
+        from: begun,
+        to: end - CHECKSUM,
+    };
+    compare(log, disk, piece, group.number, rest)?;
     Ok(true)
 }
 
@@ -123,23 +128,30 @@ fn none_at(group: GroupPlace) -> ScrubStop
     })
 }
 
+// What stands in front of the checksum of a group and was not read: the bytes between two places, and the checksum of those before.
+#[derive(Debug, Clone, Copy)]
+struct Rest {
+    sum: u32,
+    from: u64,
+    to: u64,
+}
+
 // Goes on with a checksum, and compares it with the one that stands behind the bytes between two places.
 fn compare<D: Disk>(
     log: &Log,
     disk: &mut D,
     piece: &mut [u8; PIECE],
     group: u64,
-    sum: u32,
-    from: u64,
-    to: u64,
+    rest: Rest,
 ) -> Result<(), ScrubStop>
     requires fits { D.len disk.old ≡ log.now.size }
-    requires within { (from ≤ to) × (to + 4 ≤ log.now.size) }
-    ensures right { D.tells → OnOk result (take 4 (drop to (D.seen disk.old))
-        ≡ to_le_bytes w32 (crc_of sum (take (to - from) (drop from (D.seen disk.old))))) }
+    requires within { (rest.from ≤ rest.to) × (rest.to + 4 ≤ log.now.size) }
+    ensures right { D.tells → OnOk result (take 4 (drop rest.to (D.seen disk.old))
+        ≡ to_le_bytes w32
+        (crc_of rest.sum (take (rest.to - rest.from) (drop rest.from (D.seen disk.old))))) }
     ensures damaged { D.tells → IfErr result (IsOther group
-        (take 4 (drop to (D.seen disk.old)))
-        (crc_of sum (take (to - from) (drop from (D.seen disk.old))))) }
+        (take 4 (drop rest.to (D.seen disk.old)))
+        (crc_of rest.sum (take (rest.to - rest.from) (drop rest.from (D.seen disk.old))))) }
     ensures stops { IfErr result (IsStop (Rose (D.faults disk.old) (D.faults disk.new))) }
     ensures len { D.len disk.new ≡ D.len disk.old }
     ensures same { D.tells → IsAsBefore D.seen D.pending disk.old disk.new }
@@ -148,9 +160,9 @@ fn compare<D: Disk>(
     ensures later { D.faults disk.old ≤ D.faults disk.new }
     ensures steady { Steady (D.faults disk.old) (D.faults disk.new) result }
 {
-    let computed = sum_of(log, disk, piece, sum, from, to)?;
+    let computed = sum_of(log, disk, piece, rest.sum, rest.from, rest.to)?;
     let mut seal = [0; 4];
-    log.read(disk, to, &mut seal)?;
+    log.read(disk, rest.to, &mut seal)?;
     let stored = u32::from_le_bytes(seal);
     if stored != computed {
         return Err(ScrubStop::Damaged {

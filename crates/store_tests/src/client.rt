@@ -29,6 +29,14 @@ pub(crate) struct Frame<'a> {
     pub(crate) body: &'a [u8],
 }
 
+/// The frames of a part: their version, the head, and its edits.
+#[derive(Clone, Copy)]
+pub(crate) struct PartFrames<'a> {
+    pub(crate) version: u32,
+    pub(crate) head: &'a Frame<'a>,
+    pub(crate) edits: &'a [Frame<'a>],
+}
+
 /// The store that a disk has, opened again. It has the subvolumes that it had, and nothing is at fault.
 pub(crate) fn open_again<D: Disk>(
     disk: &mut D,
@@ -117,23 +125,21 @@ fn begin_one<D: Disk>(
     store.begin(disk, &command, version)
 }
 
-// One edit of the open part.
+// One edit of the open part, whose frame is of this version.
 fn edit_one<D: Disk>(
     rt: &impl Abort,
-    alloc: Global,
     store: &mut Store,
     disk: &mut D,
     part: &mut Part<Place>,
+    command: &Command,
     version: u32,
-    frame: &Frame<'_>,
 ) -> Result<(), StoreStop>
     requires is_open { IsOpen (D.len disk.old) part.old store.old }
-    requires version { is_version version ≡ true }
+    requires spellable { IsSpellable version (meaning_of command.now) }
     ensures still_open { OnOk result (IsOpen (D.len disk.new) part.new store.new) }
 {
-    let command = command_of(rt, alloc, version, frame)?;
-    assert!(rt; edits(&command));
-    store.edit(disk, part, &command, version)
+    assert!(rt; edits(command));
+    store.edit(disk, part, command, version)
 }
 
 /// Receives one part: a head and its edits.
@@ -142,17 +148,17 @@ pub(crate) fn receive_one<D: Disk>(
     alloc: Global,
     store: &mut Store,
     disk: &mut D,
-    version: u32,
-    head: &Frame<'_>,
-    edits: &[Frame<'_>],
+    frames: &PartFrames<'_>,
 ) -> Result<(), StoreStop>
     requires idle { IsIdle (D.len disk.old) store.old }
-    requires version { is_version version ≡ true }
+    requires version { is_version frames.now.version ≡ true }
     ensures idle { OnOk result (IsIdle (D.len disk.new) store.new) }
 {
-    let mut part = begin_one(rt, alloc, store, disk, version, head)?;
-    for edit in edits {
-        edit_one(rt, alloc, store, disk, &mut part, version, edit)?;
+    let version = frames.version;
+    let mut part = begin_one(rt, alloc, store, disk, version, frames.head)?;
+    for edit in frames.edits {
+        let command = command_of(rt, alloc, version, edit)?;
+        edit_one(rt, store, disk, &mut part, &command, version)?;
     }
     store.complete(disk, part)?;
     Ok(())

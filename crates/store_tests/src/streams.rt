@@ -2,7 +2,7 @@
 ghost use Rattle.std.specs.Prelude.{OnOk};
 ghost use Rattle.store_journal.specs.Shown.{IsIdle};
 
-use crate::client::{Frame, receive_one};
+use crate::client::{Frame, PartFrames, receive_one};
 use disk_model::MemDisk;
 use group_log::LogStop;
 use std::alloc::Global;
@@ -92,7 +92,12 @@ pub(crate) fn receive_a<D: Disk>(
     requires { IsIdle (D.len disk.old) store.old }
     ensures { OnOk result (IsIdle (D.len disk.new) store.new) }
 {
-    receive_one(rt, alloc, store, disk, 1, HEAD_A, EDITS_A)
+    let frames = PartFrames {
+        version: 1,
+        head: HEAD_A,
+        edits: EDITS_A,
+    };
+    receive_one(rt, alloc, store, disk, &frames)
 }
 
 /// Receives `b`, a snapshot of `a`, in version 2: "!" over the file at 2.
@@ -105,7 +110,12 @@ pub(crate) fn receive_b<D: Disk>(
     requires { IsIdle (D.len disk.old) store.old }
     ensures { OnOk result (IsIdle (D.len disk.new) store.new) }
 {
-    receive_one(rt, alloc, store, disk, 2, HEAD_B, EDITS_B)
+    let frames = PartFrames {
+        version: 2,
+        head: HEAD_B,
+        edits: EDITS_B,
+    };
+    receive_one(rt, alloc, store, disk, &frames)
 }
 
 /// The bytes of a store that has `a`.

@@ -1,7 +1,7 @@
 // The words over a store, over images that another program made.
 use crate::images::{BEGUN, BEGUN_LIST, DONE, LIST, STORE};
 use disk_model::{FuseDisk, MemDisk};
-use part_names::PartNames;
+use part_names::{NamedFiles, PartNames};
 use std::alloc::Global;
 use std::test::Fail;
 use store_words::{
@@ -241,15 +241,12 @@ fn audits(
     inputs.add("1", stream)?;
     let names: [String; 1] = [String::from_str(alloc, "1")?];
     let own = PartNames::none(alloc);
-    let ended = audit_store(
+    let given = NamedFiles {
         alloc,
-        &mut disk,
-        &mut inputs,
-        &names,
-        &own,
-        &mut [],
-        &mut out,
-    );
+        files: &names,
+        names: &own,
+    };
+    let ended = audit_store(&given, &mut disk, &mut inputs, &mut [], &mut out);
     Ok(ended == end && out.bytes() == bytes)
 }
 

@@ -15,7 +15,7 @@ use Rattle.sx_base.specs.Calls.{IfAllTold, Wrote}
 use Rattle.sx_base.specs.declared.outcome.Outcome.{Outcome}
 use Rattle.store_model.specs.Stored.{byte_of, StandsFor}
 use Rattle.store_model.specs.NamedFiles.{NamedFiles}
-use Rattle.store_model.specs.Requests.{OfStreams, reads_store}
+use Rattle.store_model.specs.Requests.{OfStreams, reads_store, at_entry}
 use Rattle.store_model.specs.Answers.{Answers}
 use Rattle.auditor.specs.Answers.{AuditEnds}
 use Rattle.auditor.specs.Following.{blank, HaveSameShape}
@@ -71,7 +71,7 @@ given names files = record { bytes = files; names = names }
 -- What was written is what an answer says, of all words that ask for it under these guards.
 abbrev AuditSays : (seen left : List ℕ) → Names → List Guard → StoreEnd → List (List ℕ) → List ℕ → Type 0
 AuditSays seen left new_names guards end files written = (words : List (List ℕ)) (specs : List GuardSpec) (store at : ℕ) → reads_store words (Some store) ≡ true → guards ≡ new_guards specs
-    → Answers (OfStreams (Audit specs store at)) words seen (given new_names files) (answer_of [] [] end) written left
+    → Answers (OfStreams (Audit specs store at)) (at_entry words seen (given new_names files)) (answer_of [] [] end) written left
 
 module _ (told : Option (List (List ℕ × List ℕ))) (names : List (List ℕ)) (seen left : List ℕ) (new_names : Names) (guards : List Guard) (same : left ≡ seen) where
   -- The store does not open.
@@ -82,7 +82,7 @@ module _ (told : Option (List (List ℕ × List ℕ))) (names : List (List ℕ))
         [],
         Appends-nil taken,
         (λ words specs store at reads fits.
-            subst (λ (l : List ℕ). Answers (OfStreams (Audit specs store at)) words seen (given new_names files) (answer_of [] [] end) [] l) (sym same)
+            subst (λ (l : List ℕ). Answers (OfStreams (Audit specs store at)) (at_entry words seen (given new_names files)) (answer_of [] [] end) [] l) (sym same)
             (stopped_answers (Audit specs store at) words seen (given new_names files) reads (λ s. refl) cause why end is kind stops opened)),
       ))
 
@@ -96,7 +96,7 @@ module _ (told : Option (List (List ℕ × List ℕ))) (names : List (List ℕ))
         wrote.0,
         wrote.1,
         (λ words specs store at reads fits.
-            subst (λ (l : List ℕ). Answers (OfStreams (Audit specs store at)) words seen (given new_names files) (answer_of [] [] (made.Ends outcome)) wrote.0 l) (sym same)
+            subst (λ (l : List ℕ). Answers (OfStreams (Audit specs store at)) (at_entry words seen (given new_names files)) (answer_of [] [] (made.Ends outcome)) wrote.0 l) (sym same)
             (ends_answer (Audit specs store at) words seen (given new_names files) reads s stands wrote.0 outcome
             (audit_ends s wrote.0 store at new_names files specs outcome (subst (λ (gs : List Guard). AuditEnds s gs new_names files outcome wrote.0) fits wrote.2)))),
       )

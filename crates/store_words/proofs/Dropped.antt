@@ -18,7 +18,7 @@ use Rattle.store_model.specs.Stored.{Group, Drop, as_bytes, byte_of, dropped, ma
 use Rattle.store_model.specs.Dues as dues
 use Rattle.store_model.specs.Dues.{Due, Ends, pieces_from, or_due, drop_due, IsDropDue}
 use Rattle.store_model.specs.NamedFiles.{unnamed}
-use Rattle.store_model.specs.Requests.{DropEntry, DropLeaves, word_at}
+use Rattle.store_model.specs.Requests.{DropEntry, DropLeaves, word_at, at_entry}
 use Rattle.store_model.specs.Answers.{Answers, OfAnyWord, Missing, LogFull, DueSays, StandsBefore, StandsFault, DropFault}
 use Rattle.group_log.specs.Stopping.{IsFault}
 use Rattle.group_log.specs.declared.stops.LogStop.{LogStop}
@@ -51,7 +51,7 @@ stop_by Q cause limit (Some a) why (inr f) full fault = fault f
 
 -- ---- there is no store
 
-pub drop_of_none : (words : List (List ℕ)) (store at : ℕ) (seen : List ℕ) (group : ℕ) → StandsForNone seen group → DueSays (DropEntry store at) words seen (unnamed []) (dues.NotStore group) [] seen
+pub drop_of_none : (words : List (List ℕ)) (store at : ℕ) (seen : List ℕ) (group : ℕ) → StandsForNone seen group → DueSays (DropEntry store at) (at_entry words seen (unnamed [])) (dues.NotStore group) [] seen
 drop_of_none words store at seen group fails = (fails, (refl, by_none seen group (λ s. DropLeaves (dues.NotStore group) (word_at words at) s seen) (seen ≡ seen) fails refl))
 
 pub nothing_dropped : (words : List (List ℕ)) (store at : ℕ) (seen : List ℕ) → StandsBefore (DropEntry store at) words seen (unnamed []) [] seen
@@ -154,20 +154,20 @@ module _ (seen name : List ℕ) (pending : Pending) (opened : StoreState) (h : H
     asked_due : (due : Due) → IsDropDue seen name s due → IsDropDue seen (word_at words at) s due
     asked_due due is = subst (λ (n : List ℕ). IsDropDue seen n s due) (sym asks) is
 
-    pub drop_done : has_name name opened.core ≡ true → full ≡ None → HasThese h.header (h.groups ++ new_group (Drop name) ∷ []) left → Answers (DropEntry store at) words seen (unnamed []) (OfAnyWord Done) [] left
+    pub drop_done : has_name name opened.core ≡ true → full ≡ None → HasThese h.header (h.groups ++ new_group (Drop name) ∷ []) left → Answers (DropEntry store at) (at_entry words seen (unnamed [])) (OfAnyWord Done) [] left
     drop_done there fits here = (
       (s, stands, asked_due (Ends DoneWhole) (due_done there fits)),
       (refl, by_store seen s (λ t. DropLeaves (Ends DoneWhole) (word_at words at) t left) (left ≡ seen) stands (subst (λ (n : List ℕ). DropLeaves (Ends DoneWhole) n s left) (sym asks) (leaves there left here))),
     )
 
-    pub drop_missing : has_name name opened.core ≡ false → left ≡ seen → Answers (DropEntry store at) words seen (unnamed []) (Missing name) [] left
+    pub drop_missing : has_name name opened.core ≡ false → left ≡ seen → Answers (DropEntry store at) (at_entry words seen (unnamed [])) (Missing name) [] left
     drop_missing gone same = (
       (s, stands, asked_due (dues.Missing name) (due_so (dues.Missing name) (due_gone gone))),
       (refl, by_store seen s (λ t. StandsFor left t) (left ≡ seen) stands (subst (λ (l : List ℕ). StandsFor l s) (sym same) stands)),
     )
 
     drop_full : (end wanted limit : ℕ) (a : Asked) → has_name name opened.core ≡ true → full ≡ Some a → log.LogFull end wanted limit ≡ log.LogFull a.place a.wanted opened.log.limit → HasThese h.header h.groups left
-        → Answers (DropEntry store at) words seen (unnamed []) (LogFull end wanted limit) [] left
+        → Answers (DropEntry store at) (at_entry words seen (unnamed [])) (LogFull end wanted limit) [] left
     drop_full end wanted limit a there is why here =
         let same : as_due opened.log.limit a ≡ dues.LogFull end wanted limit =
         ap (λ (p : LogStop). elim p as (λ x. Due) [ log.LogFull x y z ↦ dues.LogFull x y z | log.DiskFault ↦ dues.StoreThere 0 | log.NotStore group ↦ dues.StoreThere 0 | log.StoreThere size ↦ dues.StoreThere 0 ]) (sym why) in
@@ -179,14 +179,14 @@ module _ (seen name : List ℕ) (pending : Pending) (opened : StoreState) (h : H
 
     -- Where it stops, by why: for a fault of the device by what a crash may leave.
     pub drop_stops : (cause : Type 0) (why : StoreStop) → has_name name opened.core ≡ true → IsNoRefusal why → IfLog {T = Unit {0}} (Err why) (IsStopOf cause opened.log.limit full) → (known : Pending) → IfShort {T = Unit {0}} (Err why) (Holds h.header h.groups opened left known)
-        → DropFault seen name s left → Answers (DropEntry store at) words seen (unnamed []) (answer_of name [] (end_by why)) [] left
+        → DropFault seen name s left → Answers (DropEntry store at) (at_entry words seen (unnamed [])) (answer_of name [] (end_by why)) [] left
     drop_stops cause (stop.Refused refusal) there kind stops known held fault = absurd kind
     drop_stops cause stop.NoMemory there kind stops known held fault = (refl, by_store seen s (λ t. StandsFor left t) (left ≡ seen) stands (stands_so left (has_seen h.header h.groups opened left known held)))
     drop_stops cause (stop.Log log.DiskFault) there kind stops known held fault =
         (refl, by_store seen s (λ t. DropFault seen (word_at words at) t left) (left ≡ seen) stands (subst (λ (n : List ℕ). DropFault seen n s left) (sym asks) fault))
     drop_stops cause (stop.Log (log.LogFull end wanted limit)) there kind stops known held fault = by_room full refl stops
       where
-        by_room : (o : Option Asked) → full ≡ o → IsStopOf cause opened.log.limit o (log.LogFull end wanted limit) → Answers (DropEntry store at) words seen (unnamed []) (LogFull end wanted limit) [] left
+        by_room : (o : Option Asked) → full ≡ o → IsStopOf cause opened.log.limit o (log.LogFull end wanted limit) → Answers (DropEntry store at) (at_entry words seen (unnamed [])) (LogFull end wanted limit) [] left
         by_room None is (inl fits) = absurd fits
         by_room None is (inr f) = absurd f
         by_room (Some a) is (inl why) = drop_full end wanted limit a there is why (has_seen h.header h.groups opened left known held)

@@ -26,7 +26,7 @@ use Rattle.sx_base.specs.declared.outcome.Outcome.{Outcome}
 use Rattle.sx_base.specs.declared.outcome.Outcome.TheVariants as ended
 use Rattle.store_model.specs.Stored.{as_bytes, byte_of, StandsFor}
 use Rattle.store_model.specs.NamedFiles.{NamedFiles, read_of}
-use Rattle.store_model.specs.Requests.{OfStreams, reads_store}
+use Rattle.store_model.specs.Requests.{OfStreams, reads_store, at_entry}
 use Rattle.store_model.specs.Answers.{Answers}
 use Rattle.store_model.proofs.LawfulGroups.{stands_lawful}
 use Rattle.store_model.proofs.OneStore.{one_store}
@@ -146,7 +146,7 @@ nothing_exported s files store at = nothing_in_front _
 -- What was written is what an answer says, of all words that ask for it.
 abbrev ExportSays : (seen left : List ℕ) → Names → StoreEnd → List (List ℕ) → List ℕ → Type 0
 ExportSays seen left new_names end files written = (words : List (List ℕ)) (store at : ℕ) → reads_store words (Some store) ≡ true
-    → Answers (OfStreams (Export store at)) words seen (given new_names files) (answer_of [] [] end) written left
+    → Answers (OfStreams (Export store at)) (at_entry words seen (given new_names files)) (answer_of [] [] end) written left
 
 -- Where all was done it is what is promised, over each store that the image stands for.
 abbrev IsPromised : (seen : List ℕ) → Names → StoreEnd → List (List ℕ) → List ℕ → Type 0
@@ -161,7 +161,7 @@ module _ (told : Option (List (List ℕ × List ℕ))) (names : List (List ℕ))
         [],
         Appends-nil taken,
         (λ words store at reads.
-            subst (λ (l : List ℕ). Answers (OfStreams (Export store at)) words seen (given new_names files) (answer_of [] [] end) [] l) (sym same)
+            subst (λ (l : List ℕ). Answers (OfStreams (Export store at)) (at_entry words seen (given new_names files)) (answer_of [] [] end) [] l) (sym same)
             (stopped_answers (Export store at) words seen (given new_names files) reads (λ s. nothing_exported s (given new_names files) store at) cause why end is kind stops opened)),
       ))
 
@@ -173,7 +173,7 @@ module _ (told : Option (List (List ℕ × List ℕ))) (names : List (List ℕ))
         wrote.0,
         wrote.1,
         (λ words store at reads.
-            subst (λ (l : List ℕ). Answers (OfStreams (Export store at)) words seen (given new_names files) (answer_of [] [] (made.Ends outcome)) wrote.0 l) (sym same)
+            subst (λ (l : List ℕ). Answers (OfStreams (Export store at)) (at_entry words seen (given new_names files)) (answer_of [] [] (made.Ends outcome)) wrote.0 l) (sym same)
             (ends_answer (Export store at) words seen (given new_names files) reads s stands wrote.0 outcome (export_ends s wrote.0 store at (sources_named new_names files) outcome wrote.2))),
       )) exported
 

@@ -7,7 +7,7 @@ use Rattle.store_model.specs.Image.{header_of, usual_header}
 use Rattle.store_model.specs.Dues as dues
 use Rattle.store_model.specs.Dues.{init_due}
 use Rattle.store_model.specs.NamedFiles.{unnamed}
-use Rattle.store_model.specs.Requests.{InitStore}
+use Rattle.store_model.specs.Requests.{InitStore, at_entry}
 use Rattle.store_model.specs.Answers.{Answers, OfAnyWord}
 use Rattle.send_model.specs.Answer.{Done}
 use Rattle.group_log.specs.declared.stops.LogStop.{LogStop}
@@ -15,13 +15,13 @@ use Rattle.group_log.specs.declared.stops.LogStop.TheVariants as log
 use Rattle.group_log.specs.Stopping.{IsFault, IsFaultOr}
 use Rattle.store_words.specs.Ending.{answer_of, end_at, init_ways, EndCaused}
 
-pub init_done : (words : List (List ℕ)) (store : ℕ) (seen left : List ℕ) (len : ℕ) → len ≡ length seen → (0 < len → ⊥) → left ≡ header_of usual_header ++ 0 ∷ [] → Answers (InitStore store) words seen (unnamed []) (OfAnyWord Done) [] left
+pub init_done : (words : List (List ℕ)) (store : ℕ) (seen left : List ℕ) (len : ℕ) → len ≡ length seen → (0 < len → ⊥) → left ≡ header_of usual_header ++ 0 ∷ [] → Answers (InitStore store) (at_entry words seen (unnamed [])) (OfAnyWord Done) [] left
 unfolding init_due
 init_done words store [] left len sized none made = (refl, (refl, made))
 init_done words store (byte ∷ seen) left len sized none made = absurd (none (omega (arith, sized)))
 
 pub init_stops : (words : List (List ℕ)) (store : ℕ) (seen left : List ℕ) (len : ℕ) (cause : Type 0) (why : LogStop) → len ≡ length seen → (len ≡ 0 → IsFault cause why) → (0 < len → IsFaultOr cause (log.StoreThere len) why) → (0 < len → left ≡ seen)
-    → Answers (InitStore store) words seen (unnamed []) (answer_of [] [] (end_at why)) [] left
+    → Answers (InitStore store) (at_entry words seen (unnamed [])) (answer_of [] [] (end_at why)) [] left
 unfolding init_due
 init_stops words store [] left len cause log.DiskFault sized empty there kept = (refl, tt)
 init_stops words store [] left len cause (log.NotStore group) sized empty there kept = absurd (empty sized)
@@ -32,7 +32,7 @@ init_stops words store (byte ∷ seen) left len cause why sized empty there kept
     long : 0 < len
     long = omega (arith, sized)
 
-    some : (why : LogStop) → IsFaultOr cause (log.StoreThere len) why → Answers (InitStore store) words (byte ∷ seen) (unnamed []) (answer_of [] [] (end_at why)) [] left
+    some : (why : LogStop) → IsFaultOr cause (log.StoreThere len) why → Answers (InitStore store) (at_entry words (byte ∷ seen) (unnamed [])) (answer_of [] [] (end_at why)) [] left
     some log.DiskFault p = (refl, kept long)
     some (log.NotStore group) (inl e) = cc
     some (log.NotStore group) (inr f) = absurd f

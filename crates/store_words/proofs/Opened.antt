@@ -6,7 +6,7 @@ use Rattle.send_model.specs.Headline.{IsFrontOf}
 use Rattle.send_model.proofs.Fronts.{is_front}
 use Rattle.store_model.specs.Stored.{as_bytes, StandsFor, StandsForNone}
 use Rattle.store_model.specs.NamedFiles.{NamedFiles}
-use Rattle.store_model.specs.Requests.{Request, ByImage}
+use Rattle.store_model.specs.Requests.{Request, ByImage, at_entry}
 use Rattle.store_model.specs.Dues as dues
 use Rattle.store_model.specs.Answers.{Answers, PrintsBefore, StandsBefore, StandsFault, DueSays}
 use Rattle.store_model.proofs.OneStore.{one_store, never_both}
@@ -36,8 +36,8 @@ nothing_printed image whole = (refl, ((λ s stands. nothing_in_front (whole s)),
 -- Where opening stops, nothing is written or changed, and the word answers so.
 pub not_opened : (request : Request) (words : List (List ℕ)) (image : List ℕ) (files : NamedFiles) (name path : List ℕ) (cause : Type 0) (why : StoreStop)
     → StandsBefore request words image files [] image → StandsFault request words image files [] image
-    → ((group : ℕ) → StandsForNone image group → DueSays request words image files (dues.NotStore group) [] image)
-    → IsNoRefusal why → IfLog {T = StoreState} (Err why) (IsOpenStop cause) → OpenSays image (Err why) → Answers request words image files (answer_of name path (end_by why)) [] image
+    → ((group : ℕ) → StandsForNone image group → DueSays request (at_entry words image files) (dues.NotStore group) [] image)
+    → IsNoRefusal why → IfLog {T = StoreState} (Err why) (IsOpenStop cause) → OpenSays image (Err why) → Answers request (at_entry words image files) (answer_of name path (end_by why)) [] image
 not_opened request words image files name path cause (stop.Refused refusal) before fault none kind stops says = absurd kind
 not_opened request words image files name path cause stop.NoMemory before fault none kind stops says = before
 not_opened request words image files name path cause (stop.Log log.DiskFault) before fault none kind stops says = fault

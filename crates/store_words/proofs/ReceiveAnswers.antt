@@ -28,7 +28,7 @@ use Rattle.store_model.specs.Stops.{IsOnTheWay}
 use Rattle.store_model.specs.Written.{groups_of}
 use Rattle.store_model.specs.Dues as dues
 use Rattle.store_model.specs.Dues.{Due, Ends, receive_due, receive_left, IsReceiveDue, ReceiveSays}
-use Rattle.store_model.specs.Requests.{ReceiveFiles, ByImage}
+use Rattle.store_model.specs.Requests.{ReceiveFiles, ByImage, at_entry}
 use Rattle.store_model.specs.Answers.{Answers, StandsBefore, DueSays}
 use Rattle.store_model.proofs.OnTheWay.{nothing_is_on_the_way}
 use Rattle.group_log.proofs.GatedGroups.{rests_has}
@@ -43,9 +43,8 @@ use Rattle.store_journal.proofs.StandingGroups.{front_makes}
 use Rattle.receiver.specs.declared.outcome.Received.{Received}
 use Rattle.receiver.specs.declared.outcome.Received.TheVariants as how
 use Rattle.receiver.specs.Disks.{HasFront}
-use Rattle.receiver.specs.ReceiveEnds.{ReceiveEnds, AreLeft, LeavesMore}
+use Rattle.receiver.proofs.Unpacked.{ReceiveEnds, AreLeft, LeavesMore, Caused}
 use Rattle.receiver.proofs.DiskRuns.{leaves_either}
-use Rattle.receiver.specs.Answers.{Caused}
 use Rattle.receiver.specs.ReceiveEnds.{SteadyIfReceived}
 use Rattle.store_words.specs.Ending.{answer_of, end_by, end_received, receive_ways, EndCaused}
 use Rattle.store_words.specs.Receiving.{LeftByReceive}
@@ -57,7 +56,7 @@ use Rattle.store_words.proofs.ReceivedWays.{limited_lines, stands_made, on_the_w
 
 -- ---- there is no store
 
-pub receive_of_none : (specs : List GuardSpec) (store at : ℕ) (words : List (List ℕ)) (seen : List ℕ) (files : NamedFiles) (group : ℕ) → StandsForNone seen group → DueSays (ReceiveFiles specs store at) words seen files (dues.NotStore group) [] seen
+pub receive_of_none : (specs : List GuardSpec) (store at : ℕ) (words : List (List ℕ)) (seen : List ℕ) (files : NamedFiles) (group : ℕ) → StandsForNone seen group → DueSays (ReceiveFiles specs store at) (at_entry words seen files) (dues.NotStore group) [] seen
 receive_of_none specs store at words seen files group fails =
     (fails, by_none seen group (λ s. ReceiveSays seen (new_guards specs) files s [] seen) (([] ≡ []) × (seen ≡ seen)) fails (refl, refl))
 
@@ -132,7 +131,7 @@ module _ (counts : LinesAreParts ℕ) (seen : List ℕ) (pending : Pending) (ope
         }
 
     by_end : (why : Received) (core : Store (Option Place)) → Said why core → Left (new_guards specs) files are why written left
-        → Answers (ReceiveFiles specs store at) words seen files (answer_of [] [] (end_received why)) written left
+        → Answers (ReceiveFiles specs store at) (at_entry words seen files) (answer_of [] [] (end_received why)) written left
     by_end (how.Files ended.Done) core e l = let s = says (how.Files ended.Done) (Ends DoneWhole) l e.0.0 e.0.1 l.left in ((base, stands, s.0), s.1)
     by_end (how.Files (ended.Refused verdict)) core e l = let s = says (how.Files (ended.Refused verdict)) (Ends (RefusedAt (verdict_meant verdict))) l e.0.0 e.0.1 l.left in ((base, stands, s.0), s.1)
     by_end (how.Files (ended.InputTooLong file)) core e l = let s = says (how.Files (ended.InputTooLong file)) (Ends (TooLong file)) l e.0.0 e.0.1 l.left in ((base, stands, s.0), s.1)
@@ -155,7 +154,7 @@ with_names names files = record { bytes = files; names = names }
 -- What is said of all words that ask for it under these guards.
 abbrev pub ReceiveSaid : (seen left : List ℕ) → List Guard → Names → StoreEnd → List (List ℕ) → List ℕ → Type 0
 ReceiveSaid seen left guards given end files written = (words : List (List ℕ)) (specs : List GuardSpec) (store at : ℕ) → AllByRecursion IsBytes files → guards ≡ new_guards specs
-    → Answers (ReceiveFiles specs store at) words seen (with_names given files) (answer_of [] [] end) written left
+    → Answers (ReceiveFiles specs store at) (at_entry words seen (with_names given files)) (answer_of [] [] end) written left
 
 -- And of each image that a crash may leave then.
 abbrev pub ReceiveLeaves : (early pending : Pending) → List ℕ → List Guard → Names → List (List ℕ) → List ℕ → Type 0
@@ -175,8 +174,8 @@ module _ (told : Option (List (List ℕ × List ℕ))) (names : List (List ℕ))
     [],
     Appends-nil taken,
     (λ words specs store at are fits.
-        subst (λ (l : List ℕ). Answers (ReceiveFiles specs store at) words seen (with_names given files) (answer_of [] [] end) [] l) (sym same)
-        (subst (λ (e : StoreEnd). Answers (ReceiveFiles specs store at) words seen (with_names given files) (answer_of [] [] e) [] seen) (sym is)
+        subst (λ (l : List ℕ). Answers (ReceiveFiles specs store at) (at_entry words seen (with_names given files)) (answer_of [] [] end) [] l) (sym same)
+        (subst (λ (e : StoreEnd). Answers (ReceiveFiles specs store at) (at_entry words seen (with_names given files)) (answer_of [] [] e) [] seen) (sym is)
         (not_opened (ReceiveFiles specs store at) words seen (with_names given files) [] [] cause why (nothing_received specs store at words seen (with_names given files)) (nothing_received specs store at words seen (with_names given files))
         (receive_of_none specs store at words seen (with_names given files)) kind stops opened))),
   ))
@@ -223,7 +222,7 @@ module _ (counts : LinesAreParts ℕ) {D : Type 0} (tells : Type 0) (told_it : t
     wrote.0,
     wrote.1,
     (λ words specs store at are fits.
-        subst (λ (e : StoreEnd). Answers (ReceiveFiles specs store at) words (seen first) (with_names given files) (answer_of [] [] e) wrote.0 (seen last)) (sym same)
+        subst (λ (e : StoreEnd). Answers (ReceiveFiles specs store at) (at_entry words (seen first) (with_names given files)) (answer_of [] [] e) wrote.0 (seen last)) (sym same)
         (by_end counts (seen first) (pending first) opened h specs (with_names given files) (record { bytes = are; names = all_new }) store at words wrote.0 (seen last) why after.core
         (subst (λ (gs : List Guard). ReceiveEnds opened.log.limit opened.log.gate (with_bytes (seen first) opened.core) gs (with_names given files) why after.core wrote.0) fits wrote.2.0)
         (subst (λ (gs : List Guard). AreLeft opened.log.limit opened.log.gate (with_bytes (seen first) opened.core) gs (with_names given files) why wrote.0 (λ groups. HasThese h.header (h.groups ++ groups) (seen last))) fits

@@ -16,7 +16,7 @@ use Rattle.sx_base.specs.declared.outcome.Outcome.TheVariants as ended
 use Rattle.store_model.specs.Stored.{StandsFor, StandsForNone}
 use Rattle.store_model.specs.Dues as dues
 use Rattle.store_model.specs.NamedFiles.{NamedFiles, read_of}
-use Rattle.store_model.specs.Requests.{OfStreams, store_of, reads_store, base_over, StreamsWrite, IsStreamsDue, StreamsSay}
+use Rattle.store_model.specs.Requests.{OfStreams, store_of, reads_store, base_over, StreamsWrite, IsStreamsDue, StreamsSay, at_entry}
 use Rattle.store_model.specs.Answers.{Answers, OfAnyWord, DueSays, StandsBefore, StandsFault, StreamsBefore, StreamsCut, StreamsFault}
 use Rattle.part_names.specs.Naming.{sources_named, EndsOf}
 use Rattle.auditor.specs.Answers.{AuditEnds}
@@ -69,7 +69,7 @@ module _ (request : streams.Request) (words : List (List ℕ)) (image : List ℕ
   abbrev read : Sources
   read = read_of files
 
-  says : (the_due : dues.Due) (written : List ℕ) → IsStreamsDue true request image read the_due → StreamsSay true request image read the_due written → DueSays (OfStreams request) words image files the_due written image
+  says : (the_due : dues.Due) (written : List ℕ) → IsStreamsDue true request image read the_due → StreamsSay true request image read the_due written → DueSays (OfStreams request) (at_entry words image files) the_due written image
   says the_due written is_due say =
       (subst (λ (b : Bool). IsStreamsDue b request image read the_due) (sym reads) is_due, (refl, subst (λ (b : Bool). StreamsSay b request image read the_due written) (sym reads) say))
 
@@ -79,20 +79,20 @@ module _ (request : streams.Request) (words : List (List ℕ)) (image : List ℕ
   pub at_fault : (written : List ℕ) → StreamsBefore true request image read written → StandsFault (OfStreams request) words image files written image
   at_fault written stands = (refl, subst (λ (b : Bool). StreamsFault b request image read written) (sym reads) stands)
 
-  of_none : (group : ℕ) → StandsForNone image group → DueSays (OfStreams request) words image files (dues.NotStore group) [] image
+  of_none : (group : ℕ) → StandsForNone image group → DueSays (OfStreams request) (at_entry words image files) (dues.NotStore group) [] image
   of_none group fails = says (dues.NotStore group) [] fails (by_none image group (λ s. StreamsWrite request (base_over request read s) read (dues.NotStore group) []) ([] ≡ []) fails refl)
 
   -- Where the store does not open, for a request that may have written nothing.
   pub stopped_answers : ((s : Store ℕ) → StandsBeforeOf request (base_over request read s) read [])
       → (cause : Type 0) (why : StoreStop) (end : StoreEnd) → end ≡ end_by why → IsNoRefusal why → IfLog {T = StoreState} (Err why) (IsOpenStop cause) → OpenSays image (Err why)
-      → Answers (OfStreams request) words image files (answer_of [] [] end) [] image
+      → Answers (OfStreams request) (at_entry words image files) (answer_of [] [] end) [] image
   stopped_answers none cause why end is kind stops opened =
       let nothing : StreamsBefore true request image read [] = ((λ s stands. none s), (λ group fails. refl)) in
-      subst (λ (e : StoreEnd). Answers (OfStreams request) words image files (answer_of [] [] e) [] image) (sym is)
+      subst (λ (e : StoreEnd). Answers (OfStreams request) (at_entry words image files) (answer_of [] [] e) [] image) (sym is)
       (not_opened (OfStreams request) words image files [] [] cause why (before [] nothing) (at_fault [] nothing) of_none kind stops opened)
 
   module _ (s : Store ℕ) (stands : StandsFor image s) (written : List ℕ) where
-    due_is : (the_due : Due) → due_of request (base_over request read s) read ≡ the_due → EndSaysOf request (base_over request read s) read the_due written → DueSays (OfStreams request) words image files (dues.Ends the_due) written image
+    due_is : (the_due : Due) → due_of request (base_over request read s) read ≡ the_due → EndSaysOf request (base_over request read s) read the_due written → DueSays (OfStreams request) (at_entry words image files) (dues.Ends the_due) written image
     due_is the_due is say =
         says (dues.Ends the_due) written (s, stands, ap (λ (d : Due). dues.Ends d) (sym is))
         (by_store image s (λ t. StreamsWrite request (base_over request read t) read (dues.Ends the_due) written) (written ≡ []) stands say)
@@ -101,7 +101,7 @@ module _ (request : streams.Request) (words : List (List ℕ)) (image : List ℕ
     stood p = by_store image s (λ t. StandsBeforeOf request (base_over request read t) read written) (written ≡ []) stands p
 
     -- Where it opens.
-    pub ends_answer : (outcome : Outcome) → EndsOf request (base_over request read s) read outcome written → Answers (OfStreams request) words image files (OfAnyWord (outcome_meant outcome)) written image
+    pub ends_answer : (outcome : Outcome) → EndsOf request (base_over request read s) read outcome written → Answers (OfStreams request) (at_entry words image files) (OfAnyWord (outcome_meant outcome)) written image
     ends_answer ended.Done p = due_is DoneWhole p.0 p.1
     ends_answer (ended.Refused verdict) p = due_is (RefusedAt (verdict_meant verdict)) p.0 p.1
     ends_answer (ended.InputTooLong file) p = due_is (TooLong file) p.0 p.1

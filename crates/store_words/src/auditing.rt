@@ -3,7 +3,7 @@ ghost use Rattle.std.specs.Prelude.{◌≡◌, ◌≤◌, ℕ, List, [], Some, m
 ghost use Rattle.std.specs.String.{string_bytes};
 ghost use Rattle.send_model.specs.Guards.{GuardSpec};
 ghost use Rattle.send_model.specs.Words.{Audit, new_guards};
-ghost use Rattle.store_model.specs.Requests.{OfStreams, reads_store};
+ghost use Rattle.store_model.specs.Requests.{OfStreams, reads_store, at_entry};
 ghost use Rattle.store_model.specs.Answers.{Answers};
 ghost use Rattle.sx_base.specs.Calls.{IfAllTold, Wrote};
 ghost use Rattle.sx_base.specs.Causes.{Rose};
@@ -14,8 +14,7 @@ ghost use Rattle.store_words.specs.Ending.{answer_of, audit_ways, EndCaused};
 use crate::ends::{StoreEnd, ended_by};
 use auditor::audit;
 use guard_rules::Guard;
-use part_names::PartNames;
-use std::alloc::Global;
+use part_names::NamedFiles;
 use store_groups::Place;
 use store_journal::Store;
 use sx_base::{Disk, Inputs, Sink};
@@ -24,22 +23,21 @@ use sx_base::{Disk, Inputs, Sink};
 /// nothing is received. Where all is accepted, `out` gets the line that says how many subvolumes and commands there are. What the disk
 /// gives stays as it is.
 pub fn audit_store<D: Disk, I: Inputs, O: Sink>(
-    alloc: Global,
+    given: &NamedFiles<'_>,
     disk: &mut D,
     inputs: &mut I,
-    files: &[String],
-    names: &PartNames,
     guards: &mut [Box<dyn Guard>],
     out: &mut O,
 ) -> StoreEnd
     ensures same { I.told inputs.new ≡ I.told inputs.old }
-    ensures answered { D.tells → IfAllTold (I.told inputs.old) (map string_bytes files.now)
+    ensures answered { D.tells
+        → IfAllTold (I.told inputs.old) (map string_bytes given.now.files.now)
         (λ files. Wrote (O.taken out.old) (O.taken out.new)
         (λ written. (words : List (List ℕ)) (specs : List GuardSpec) (store at : ℕ)
         → reads_store words (Some store) ≡ true
         → map (λ g. kept g) guards.old ≡ new_guards specs
-        → Answers (OfStreams (Audit specs store at)) words (D.seen disk.old)
-        (record { bytes = files; names = names.now })
+        → Answers (OfStreams (Audit specs store at)) (at_entry words (D.seen disk.old)
+        (record { bytes = files; names = given.now.names.now }))
         (answer_of [] [] result) written (D.seen disk.new))) }
     ensures cause { EndCaused audit_ways
         ((D.faults disk.new ≡ D.faults disk.old) × (I.faults inputs.new ≡ I.faults inputs.old)
@@ -53,19 +51,11 @@ pub fn audit_store<D: Disk, I: Inputs, O: Sink>(
         LeavesOnly D.moment D.left_since disk.old disk.new (IsImage (D.pending disk.old)) }
     ensures later { D.faults disk.old ≤ D.faults disk.new }
 {
-    let store = match Store::open(disk, alloc) {
+    let store = match Store::open(disk, given.alloc) {
         Ok(store) => store,
         Err(stop) => return ended_by(stop),
     };
     let core = store.into_core();
-    StoreEnd::Ends(audit(
-        alloc,
-        core,
-        Place { at: 0 },
-        inputs,
-        files,
-        names,
-        guards,
-        out,
-    ))
+    let blank = Place { at: 0 };
+    StoreEnd::Ends(audit(given, core, blank, inputs, guards, out))
 }

@@ -1,7 +1,7 @@
 // Dropping an entry of a store.
 ghost use Rattle.std.specs.Prelude.{◌≡◌, ◌≤◌, ℕ, List, []};
 ghost use Rattle.store_model.specs.NamedFiles.{unnamed};
-ghost use Rattle.store_model.specs.Requests.{DropEntry, word_at};
+ghost use Rattle.store_model.specs.Requests.{DropEntry, word_at, at_entry};
 ghost use Rattle.store_model.specs.Answers.{Answers};
 ghost use Rattle.sx_base.specs.Causes.{Rose};
 ghost use Rattle.sx_base.specs.Crash.{LeavesOnly};
@@ -21,7 +21,7 @@ use sx_base::{Disk, Outcome};
 pub fn drop_entry<D: Disk>(alloc: Global, disk: &mut D, name: &[u8]) -> StoreEnd
     ensures answered { D.tells → (words : List (List ℕ)) (store at : ℕ)
         → word_at words at ≡ name.now
-        → Answers (DropEntry store at) words (D.seen disk.old) (unnamed [])
+        → Answers (DropEntry store at) (at_entry words (D.seen disk.old) (unnamed []))
         (answer_of name.now [] result) [] (D.seen disk.new) }
     ensures durable { D.tells → result ≡ made.Ends ended.Done
         → D.pending disk.new ≡ settled (D.seen disk.new) }

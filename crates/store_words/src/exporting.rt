@@ -8,7 +8,7 @@ ghost use Rattle.send_model.specs.Renamed.{renamed};
 ghost use Rattle.send_model.specs.Store as meant;
 ghost use Rattle.send_model.specs.Words.{Export};
 ghost use Rattle.store_model.specs.Stored.{StandsFor};
-ghost use Rattle.store_model.specs.Requests.{OfStreams, reads_store};
+ghost use Rattle.store_model.specs.Requests.{OfStreams, reads_store, at_entry};
 ghost use Rattle.store_model.specs.Answers.{Answers};
 ghost use Rattle.export_model.specs.Promises.{IsExportedOf};
 ghost use Rattle.sx_base.specs.Calls.{IfAllTold, Wrote};
@@ -20,8 +20,7 @@ ghost use Rattle.store_words.specs.Ending.{answer_of, audit_ways, EndCaused};
 ghost use Rattle.store_words.specs.declared.ends.StoreEnd.TheVariants.{Ends};
 
 use crate::ends::{StoreEnd, ended_by};
-use part_names::PartNames;
-use std::alloc::Global;
+use part_names::NamedFiles;
 use store_groups::Place;
 use store_journal::Store;
 use stream_export::export;
@@ -31,27 +30,27 @@ use sx_base::{Disk, Inputs, Sink};
 /// nothing is received. Where all is accepted, every receiver of the files with these names takes what was written. It ends as an audit
 /// over the store does. What the disk gives stays as it is.
 pub fn export_store<D: Disk, I: Inputs, O: Sink>(
-    alloc: Global,
+    given: &NamedFiles<'_>,
     disk: &mut D,
     inputs: &mut I,
-    files: &[String],
-    names: &PartNames,
     out: &mut O,
 ) -> StoreEnd
-    requires some { files.now ≢ [] }
+    requires some { given.now.files.now ≢ [] }
     ensures same { I.told inputs.new ≡ I.told inputs.old }
-    ensures answered { D.tells → IfAllTold (I.told inputs.old) (map string_bytes files.now)
+    ensures answered { D.tells
+        → IfAllTold (I.told inputs.old) (map string_bytes given.now.files.now)
         (λ files. Wrote (O.taken out.old) (O.taken out.new)
         (λ written. (words : List (List ℕ)) (store at : ℕ)
         → reads_store words (Some store) ≡ true
-        → Answers (OfStreams (Export store at)) words (D.seen disk.old)
-        (record { bytes = files; names = names.now })
+        → Answers (OfStreams (Export store at)) (at_entry words (D.seen disk.old)
+        (record { bytes = files; names = given.now.names.now }))
         (answer_of [] [] result) written (D.seen disk.new))) }
-    ensures exported { D.tells → IfAllTold (I.told inputs.old) (map string_bytes files.now)
+    ensures exported { D.tells
+        → IfAllTold (I.told inputs.old) (map string_bytes given.now.files.now)
         (λ files. Wrote (O.taken out.old) (O.taken out.new)
         (λ written. result ≡ Ends Done → (store : meant.Store ℕ)
         → StandsFor (D.seen disk.old) store → AllByRecursion IsBytes files
-        → IsExportedOf store (renamed names.now (input files)) written)) }
+        → IsExportedOf store (renamed given.now.names.now (input files)) written)) }
     ensures cause { EndCaused audit_ways
         ((D.faults disk.new ≡ D.faults disk.old) × (I.faults inputs.new ≡ I.faults inputs.old)
         × (I.ends inputs.new ≡ I.ends inputs.old) × (O.faults out.new ≡ O.faults out.old))
@@ -64,12 +63,12 @@ pub fn export_store<D: Disk, I: Inputs, O: Sink>(
         LeavesOnly D.moment D.left_since disk.old disk.new (IsImage (D.pending disk.old)) }
     ensures later { D.faults disk.old ≤ D.faults disk.new }
 {
-    names.are_given();
-    let store = match Store::open(disk, alloc) {
+    given.names.are_given();
+    let store = match Store::open(disk, given.alloc) {
         Ok(store) => store,
         Err(stop) => return ended_by(stop),
     };
     let core = store.into_core();
     let blank = Place { at: 0 };
-    StoreEnd::Ends(export(alloc, core, blank, inputs, files, names, out))
+    StoreEnd::Ends(export(given, core, blank, inputs, out))
 }

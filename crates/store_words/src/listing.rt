@@ -1,7 +1,7 @@
 // Listing what a store has.
 ghost use Rattle.std.specs.Prelude.{◌≡◌, ◌≤◌, ℕ, List, []};
 ghost use Rattle.store_model.specs.NamedFiles.{unnamed};
-ghost use Rattle.store_model.specs.Requests.{ListStore};
+ghost use Rattle.store_model.specs.Requests.{ListStore, at_entry};
 ghost use Rattle.store_model.specs.Answers.{Answers};
 ghost use Rattle.sx_base.specs.Calls.{Wrote};
 ghost use Rattle.sx_base.specs.Crash.{LeavesOnly};
@@ -18,7 +18,7 @@ use tree_view::list;
 pub fn list_store<D: Disk, O: Sink>(alloc: Global, disk: &mut D, out: &mut O) -> StoreEnd
     ensures answered { D.tells → Wrote (O.taken out.old) (O.taken out.new)
         (λ written. (words : List (List ℕ)) (store : ℕ)
-        → Answers (ListStore store) words (D.seen disk.old) (unnamed [])
+        → Answers (ListStore store) (at_entry words (D.seen disk.old) (unnamed []))
         (answer_of [] [] result) written (D.seen disk.new)) }
     ensures cause { PrintingCaused list_ways
         (D.faults disk.old) (D.faults disk.new) (O.faults out.old) (O.faults out.new) result }

@@ -1,7 +1,7 @@
 // Making a store.
 ghost use Rattle.std.specs.Prelude.{◌≡◌, ◌≤◌, ◌<◌, ℕ, List, []};
 ghost use Rattle.store_model.specs.NamedFiles.{unnamed};
-ghost use Rattle.store_model.specs.Requests.{InitStore};
+ghost use Rattle.store_model.specs.Requests.{InitStore, at_entry};
 ghost use Rattle.store_model.specs.Answers.{Answers};
 ghost use Rattle.sx_base.specs.Causes.{Rose};
 ghost use Rattle.sx_base.specs.Crash.{LeavesOnly};
@@ -17,7 +17,7 @@ use sx_base::{Disk, Outcome};
 /// Makes a store on an empty disk. On any other the image at entry stays, at every moment. Takes no memory.
 pub fn init_store<D: Disk>(disk: &mut D) -> StoreEnd
     ensures answered { D.tells → (words : List (List ℕ)) (store : ℕ)
-        → Answers (InitStore store) words (D.seen disk.old) (unnamed [])
+        → Answers (InitStore store) (at_entry words (D.seen disk.old) (unnamed []))
         (answer_of [] [] result) [] (D.seen disk.new) }
     ensures durable { D.tells → result ≡ made.Ends ended.Done
         → D.pending disk.new ≡ settled (D.seen disk.new) }

@@ -3,7 +3,7 @@ ghost use Rattle.std.specs.Prelude.{◌≡◌, ◌≤◌, ◌++◌, OnOk, IfOk, 
 ghost use Rattle.send_model.specs.Answer.{and_number};
 ghost use Rattle.store_model.specs.Scrub.{scrub_line};
 ghost use Rattle.store_model.specs.NamedFiles.{unnamed};
-ghost use Rattle.store_model.specs.Requests.{ScrubStore};
+ghost use Rattle.store_model.specs.Requests.{ScrubStore, at_entry};
 ghost use Rattle.store_model.specs.Answers.{Answers};
 ghost use Rattle.sx_base.specs.Calls.{Wrote};
 ghost use Rattle.sx_base.specs.Crash.{LeavesOnly};
@@ -21,7 +21,7 @@ use sx_base::{Blob, Disk, Outcome, Sink, write_whole};
 pub fn scrub_store<D: Disk, O: Sink>(alloc: Global, disk: &mut D, out: &mut O) -> StoreEnd
     ensures answered { D.tells → Wrote (O.taken out.old) (O.taken out.new)
         (λ written. (words : List (List ℕ)) (store : ℕ)
-        → Answers (ScrubStore store) words (D.seen disk.old) (unnamed [])
+        → Answers (ScrubStore store) (at_entry words (D.seen disk.old) (unnamed []))
         (answer_of [] [] result) written (D.seen disk.new)) }
     ensures cause { PrintingCaused scrub_ways
         (D.faults disk.old) (D.faults disk.new) (O.faults out.old) (O.faults out.new) result }

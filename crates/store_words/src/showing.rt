@@ -1,7 +1,7 @@
 // Showing one subvolume of a store.
 ghost use Rattle.std.specs.Prelude.{◌≡◌, ◌≤◌, ℕ, List, []};
 ghost use Rattle.store_model.specs.NamedFiles.{unnamed};
-ghost use Rattle.store_model.specs.Requests.{ShowEntry, word_at};
+ghost use Rattle.store_model.specs.Requests.{ShowEntry, word_at, at_entry};
 ghost use Rattle.store_model.specs.Answers.{Answers};
 ghost use Rattle.sx_base.specs.Calls.{Wrote};
 ghost use Rattle.sx_base.specs.Crash.{LeavesOnly};
@@ -25,7 +25,7 @@ pub fn show_entry<D: Disk, O: Sink>(
 ) -> StoreEnd
     ensures answered { D.tells → Wrote (O.taken out.old) (O.taken out.new)
         (λ written. (words : List (List ℕ)) (store at : ℕ) → word_at words at ≡ name.now
-        → Answers (ShowEntry store at) words (D.seen disk.old) (unnamed [])
+        → Answers (ShowEntry store at) (at_entry words (D.seen disk.old) (unnamed []))
         (answer_of name.now [] result) written (D.seen disk.new)) }
     ensures cause { PrintingCaused show_ways
         (D.faults disk.old) (D.faults disk.new) (O.faults out.old) (O.faults out.new) result }

@@ -29,7 +29,8 @@ use Rattle.stream_dump.specs.declared.gathering.Gathered.{Gathered}
 use Rattle.sx_base.specs.Calls.{Caused, IfAllTold, Wrote}
 use Rattle.stream_dump.specs.Written.{pieces_from, written_of, WritesFile}
 use Rattle.cmd_reader.specs.Stopping.{outcome_at}
-use Rattle.stream_dump.specs.Steps.{ItemAdded, ItemEnds, StopsWriting, last_bytes, EndsWith}
+use Rattle.stream_dump.specs.Steps.{StopsWriting, last_bytes}
+use Rattle.stream_dump.proofs.Unpacked.{ItemAdded, ItemEnds, EndsWith}
 use Rattle.stream_dump.proofs.Lengths.{due_whole, due_fault, due_long}
 
 -- What was written and what is gathered are the first bytes, the bytes of what is left follow, and the reading ends as what is left.

@@ -8,7 +8,7 @@ ghost use Rattle.send_commands.specs.Meaning.{meaning_of};
 ghost use Rattle.send_commands.specs.Writing.{IsWritable};
 ghost use Rattle.cmd_reader.specs.Next.{item_of};
 ghost use Rattle.stream_dump.specs.Written.{WritesFile};
-ghost use Rattle.stream_dump.specs.Steps.{Sends, ItemEnds, EndsWith};
+ghost use Rattle.stream_dump.specs.Steps.{output, with_item, Sends, ItemEnds, EndsWith};
 
 use crate::gathering::Gathered;
 use crate::item_form::ItemForm;
@@ -71,8 +71,8 @@ fn write_item<F: ItemForm, O: Sink>(
     ensures later { O.faults out.old ≤ O.faults out.new }
     ensures steady { Steady (O.faults out.old) (O.faults out.new) result }
     ensures stops { IfErr result IsStop }
-    ensures ends { ItemEnds F.piece gathered.old gathered.new (item_of 1 item)
-        (O.taken out.old) (O.taken out.new) (O.faults out.old) (O.faults out.new) result }
+    ensures ends { ItemEnds (with_item F.piece gathered.old (item_of 1 item)) gathered.new
+        (output O.Sink out.old) (output O.Sink out.new) result }
 {
     let Ok(()) = gathered.add(form, &item) else {
         return Err(Outcome::NoMemory);
@@ -92,8 +92,8 @@ pub fn send<O: Sink>(gathered: &mut Gathered, out: &mut O) -> Result<(), Outcome
     ensures steady { Steady (O.faults out.old) (O.faults out.new) result }
     ensures stops { IfErr result IsStop }
     ensures begins { gathered.new.begins ≡ gathered.old.begins }
-    ensures sent { Sends gathered.old gathered.new (O.taken out.old) (O.taken out.new)
-        (O.faults out.old) (O.faults out.new) result }
+    ensures sent { Sends gathered.old gathered.new
+        (output O.Sink out.old) (output O.Sink out.new) result }
 {
     let Ok(()) = write_whole(out, gathered.bytes.as_slice()) else {
         return Err(Outcome::OutputFault);
@@ -108,8 +108,8 @@ pub fn finish<O: Sink>(gathered: &mut Gathered, out: &mut O, outcome: Outcome) -
     ensures later { O.faults out.old ≤ O.faults out.new }
     ensures steady { SteadyIfDone (O.faults out.old) (O.faults out.new) result }
     ensures stops { IsStop outcome → IsStop result }
-    ensures ends { EndsWith gathered.old.bytes outcome (O.taken out.old) (O.taken out.new)
-        (O.faults out.old) (O.faults out.new) result }
+    ensures ends { EndsWith gathered.old.bytes outcome
+        (output O.Sink out.old) (output O.Sink out.new) result }
 {
     if let Outcome::InputFault | Outcome::OutputFault | Outcome::NoMemory = outcome {
         return outcome;

@@ -22,7 +22,8 @@ use Rattle.auditor.proofs.AllFiles.{input_is}
 use Rattle.auditor.proofs.Dues.{due_stop, due_on}
 use Rattle.send_model.specs.Exported.{AreSmallBy}
 use Rattle.stream_export.specs.Exporting.{Point, written_from, SmallFrom, Goes}
-use Rattle.stream_export.specs.Steps.{Passes, Stops, then_others, FileTaken, FileEnds, AllTaken}
+use Rattle.stream_export.specs.Steps.{Passes, then_others}
+use Rattle.stream_export.proofs.Unpacked.{Stops, FileTaken, FileEnds, AllTaken}
 use Rattle.stream_export.proofs.Going.{goes_none, goes_on, goes_all, passes_none, passes_on}
 use Rattle.stream_export.proofs.Named.{split_named}
 

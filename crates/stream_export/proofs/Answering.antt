@@ -24,10 +24,12 @@ use Rattle.sx_base.specs.declared.outcome.Outcome.TheVariants as ended
 use Rattle.sx_base.specs.Outside.{AppendsPart}
 use Rattle.part_names.specs.Naming.{EndsOf, sources_named}
 use Rattle.stream_dump.specs.declared.gathering.Gathered.{Gathered}
-use Rattle.stream_dump.specs.Steps.{EndsWith, last_bytes}
+use Rattle.stream_dump.specs.Steps.{last_bytes}
+use Rattle.stream_dump.proofs.Unpacked.{EndsWith}
 use Rattle.auditor.specs.Following.{blank, HaveSameShape, Followed, follow, follow_all, beside, due_from_here}
 use Rattle.stream_export.specs.Exporting.{Blank, blank_does, Point, written_from, SmallFrom}
-use Rattle.stream_export.specs.Steps.{point_at, Passes, Stops, AllTaken, AllEnd}
+use Rattle.stream_export.specs.Steps.{point_at, Passes}
+use Rattle.stream_export.proofs.Unpacked.{Stops, AllTaken, AllEnd}
 use Rattle.stream_export.proofs.Going.{follow_plain}
 
 -- Where an export begins.

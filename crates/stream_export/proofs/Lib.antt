@@ -1,3 +1,4 @@
+pub mod Unpacked
 pub mod Going
 pub mod OneFile
 pub mod AllFiles

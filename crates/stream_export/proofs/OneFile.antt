@@ -33,7 +33,8 @@ use Rattle.auditor.proofs.TooLong.{whole_read, fault_read, long_read}
 use Rattle.auditor.proofs.OneFile.{and_then}
 use Rattle.auditor.proofs.Dues.{due_stop, due_refused, refused_one}
 use Rattle.stream_export.specs.Exporting.{Point, written_from, Goes}
-use Rattle.stream_export.specs.Steps.{Passes, OneTaken, IsRefused, bytes_at, ItemStops, Stops, then_others, FileTaken, FileEnds}
+use Rattle.stream_export.specs.Steps.{Passes, OneTaken, IsRefused, bytes_at, then_others}
+use Rattle.stream_export.proofs.Unpacked.{ItemStops, Stops, FileTaken, FileEnds}
 use Rattle.stream_export.proofs.Going.{follow_plain, refused_writes, goes_one, goes_none, goes_on, goes_all, passes_none, passes_on}
 use Rattle.stream_export.proofs.Named.{named_more, any_read}
 

@@ -19,9 +19,10 @@ use Rattle.sx_base.specs.declared.outcome.Outcome.TheVariants as ended
 use Rattle.sx_base.specs.declared.stop.Stop.{Stop}
 use Rattle.sx_base.specs.declared.stop.Stop.TheVariants as why
 use Rattle.stream_dump.specs.declared.gathering.Gathered.{Gathered}
-use Rattle.stream_dump.specs.Steps.{Sends}
+use Rattle.stream_dump.proofs.Unpacked.{Sends}
 use Rattle.stream_export.specs.Exporting.{Blank, blank_does, export_bytes, Point}
-use Rattle.stream_export.specs.Steps.{Takes, Passes, OneTaken, IsRefused, bytes_at, ItemEnds}
+use Rattle.stream_export.specs.Steps.{Passes, OneTaken, IsRefused, bytes_at}
+use Rattle.stream_export.proofs.Unpacked.{Takes, ItemEnds}
 use Rattle.stream_export.proofs.Going.{passes_none}
 
 module _ (old new : Exporting Blank) (begins : Bool) (item : Item) (bytes_old bytes_new : List ℕ) (result : Result (Unit {0}) Stop) (takes : Takes old new begins item bytes_old bytes_new result) where

@@ -1,5 +1,5 @@
 -- What the calls of an export answer: of one command, of one file and of all files.
-use Rattle.std.specs.Prelude.{◌≡◌, ⊤, ℕ, Bool, List, [], ◌++◌, Option, None, Some, Result, Ok, Err}
+use Rattle.std.specs.Prelude.{◌≡◌, ⊤, ℕ, List, [], ◌++◌, Option, None, Some, Result, Ok, Err}
 use Rattle.std.specs.Io.KnownBytes.{Appends}
 use Rattle.send_model.specs.Refusal as meant
 use Rattle.send_model.specs.Reading.{Item, input}
@@ -16,6 +16,7 @@ use Rattle.sx_base.specs.Refusals.{refusal_of, verdict_meant}
 use Rattle.sx_base.specs.declared.outcome.Outcome.{Outcome}
 use Rattle.sx_base.specs.declared.outcome.Outcome.TheVariants as ended
 use Rattle.sx_base.specs.declared.outcome.Verdict.{Verdict}
+use Rattle.sx_base.specs.declared.sink.Sink as writing
 use Rattle.sx_base.specs.declared.stop.Stop.{Stop}
 use Rattle.sx_base.specs.declared.stop.Stop.TheVariants as why
 use Rattle.stream_dump.specs.declared.gathering.Gathered.{Gathered}
@@ -26,17 +27,26 @@ use Rattle.stream_export.specs.Exporting.{Blank, blank_does, export_bytes, Point
 abbrev pub point_at : Exporting Blank → Gathered → Point
 point_at now gathered = record { now = now; begins = gathered.begins }
 
+-- Where an export stands: what it knows, the bytes that are gathered, and those that the output took, where it tells.
+pub record Spot : Type 0 where
+  pub point : Point
+  pub bytes : List ℕ
+  pub taken : Option (List ℕ)
+
+abbrev pub spot_at : {O : Type 0} → writing.Ghosts O → Exporting Blank → Gathered → O → Spot
+spot_at out now gathered to = record { point = point_at now gathered; bytes = gathered.bytes; taken = out.taken to }
+
 -- ---- one command
 
 -- A command is taken, and its bytes are appended, or it is refused and nothing is. Without memory nothing is said.
-abbrev pub Takes : Exporting Blank → Exporting Blank → Bool → Item → List ℕ → List ℕ → Result (Unit {0}) Stop → Type 0
-Takes old new begins item bytes_old bytes_new (Ok done) =
-    (blank_does old.state item ≡ record { state = new.state; refusal = None })
-    × (new ≡ exporting_after old item.command new.state)
-    × (bytes_new ≡ bytes_old ++ export_bytes begins old item.version item.command)
-Takes old new begins item bytes_old bytes_new (Err (why.Refused refusal)) =
-    ((blank_does old.state item).refusal ≡ Some (refusal_of refusal)) × (bytes_new ≡ bytes_old)
-Takes old new begins item bytes_old bytes_new (Err why.NoMemory) = ⊤
+abbrev pub Takes : (old : Point) (new : Exporting Blank) → Item → (bytes_old bytes_new : List ℕ) → Result (Unit {0}) Stop → Type 0
+Takes old new item bytes_old bytes_new (Ok done) =
+    (blank_does old.now.state item ≡ record { state = new.state; refusal = None })
+    × (new ≡ exporting_after old.now item.command new.state)
+    × (bytes_new ≡ bytes_old ++ export_bytes old.begins old.now item.version item.command)
+Takes old new item bytes_old bytes_new (Err (why.Refused refusal)) =
+    ((blank_does old.now.state item).refusal ≡ Some (refusal_of refusal)) × (bytes_new ≡ bytes_old)
+Takes old new item bytes_old bytes_new (Err why.NoMemory) = ⊤
 
 -- Bytes are gathered behind others, and some of all that is gathered is written.
 pub record Passes (old new text : List ℕ) (taken_old taken_now : Option (List ℕ)) : Type 0 where
@@ -60,36 +70,36 @@ abbrev pub bytes_at : Point → Item → List ℕ
 bytes_at old item = export_bytes old.begins old.now item.version item.command
 
 -- Why a command ends an export: it is refused, there is no memory, or the output failed.
-abbrev pub ItemStops : Point → Point → (bytes_old bytes_new : List ℕ) → Item → (taken_old taken_now : Option (List ℕ)) → (before now : ℕ) → Outcome → Type 0
-ItemStops old new bytes_old bytes_new item taken_old taken_now before now (ended.Refused verdict) = IsRefused old item verdict × Passes bytes_old bytes_new [] taken_old taken_now
-ItemStops old new bytes_old bytes_new item taken_old taken_now before now ended.NoMemory = Wrote taken_old taken_now (λ w. w ≡ [])
-ItemStops old new bytes_old bytes_new item taken_old taken_now before now ended.OutputFault =
-    OneTaken old new item × Rose before now × Wrote taken_old taken_now (IsFrontOf (bytes_old ++ bytes_at old item))
-ItemStops old new bytes_old bytes_new item taken_old taken_now before now ended.Done = ⊥
-ItemStops old new bytes_old bytes_new item taken_old taken_now before now ended.InputFault = ⊥
-ItemStops old new bytes_old bytes_new item taken_old taken_now before now (ended.InputTooLong file) = ⊥
-ItemStops old new bytes_old bytes_new item taken_old taken_now before now (ended.TooMuch sum) = ⊥
-ItemStops old new bytes_old bytes_new item taken_old taken_now before now (ended.InputChanged file place) = ⊥
+abbrev pub ItemStops : (old new : Spot) → Item → (before now : ℕ) → Outcome → Type 0
+ItemStops old new item before now (ended.Refused verdict) = IsRefused old.point item verdict × Passes old.bytes new.bytes [] old.taken new.taken
+ItemStops old new item before now ended.NoMemory = Wrote old.taken new.taken (λ w. w ≡ [])
+ItemStops old new item before now ended.OutputFault =
+    OneTaken old.point new.point item × Rose before now × Wrote old.taken new.taken (IsFrontOf (old.bytes ++ bytes_at old.point item))
+ItemStops old new item before now ended.Done = ⊥
+ItemStops old new item before now ended.InputFault = ⊥
+ItemStops old new item before now (ended.InputTooLong file) = ⊥
+ItemStops old new item before now (ended.TooMuch sum) = ⊥
+ItemStops old new item before now (ended.InputChanged file place) = ⊥
 
-abbrev pub ItemEnds : Point → Point → (bytes_old bytes_new : List ℕ) → Item → (taken_old taken_now : Option (List ℕ)) → (before now : ℕ) → Result (Unit {0}) Outcome → Type 0
-ItemEnds old new bytes_old bytes_new item taken_old taken_now before now (Ok done) = OneTaken old new item × Passes bytes_old bytes_new (bytes_at old item) taken_old taken_now
-ItemEnds old new bytes_old bytes_new item taken_old taken_now before now (Err outcome) = ItemStops old new bytes_old bytes_new item taken_old taken_now before now outcome
+abbrev pub ItemEnds : (old new : Spot) → Item → (before now : ℕ) → Result (Unit {0}) Outcome → Type 0
+ItemEnds old new item before now (Ok done) = OneTaken old.point new.point item × Passes old.bytes new.bytes (bytes_at old.point item) old.taken new.taken
+ItemEnds old new item before now (Err outcome) = ItemStops old new item before now outcome
 
 -- ---- what is read from a point on
 
 -- An outcome that ends an export early is the answer that is due, and all that is written from the point on was gathered or written.
 -- Where an object of the outside failed or there is no memory, a front part of it was written.
-abbrev pub Stops : Point → Limited → (bytes_old bytes_new : List ℕ) → (taken_old taken_now : Option (List ℕ)) → Outcome → Type 0
-Stops old read bytes_old bytes_new taken_old taken_now (ended.Refused verdict) =
-    (due_from_here (beside [] old.now.state) read ≡ RefusedAt (verdict_meant verdict)) × Passes bytes_old bytes_new (written_from old read.items) taken_old taken_now
-Stops old read bytes_old bytes_new taken_old taken_now (ended.InputTooLong file) =
-    (due_from_here (beside [] old.now.state) read ≡ TooLong file) × Passes bytes_old bytes_new (written_from old read.items) taken_old taken_now
-Stops old read bytes_old bytes_new taken_old taken_now ended.InputFault = Wrote taken_old taken_now (IsFrontOf (bytes_old ++ written_from old read.items))
-Stops old read bytes_old bytes_new taken_old taken_now ended.OutputFault = Wrote taken_old taken_now (IsFrontOf (bytes_old ++ written_from old read.items))
-Stops old read bytes_old bytes_new taken_old taken_now ended.NoMemory = Wrote taken_old taken_now (IsFrontOf (bytes_old ++ written_from old read.items))
-Stops old read bytes_old bytes_new taken_old taken_now ended.Done = ⊥
-Stops old read bytes_old bytes_new taken_old taken_now (ended.TooMuch sum) = ⊥
-Stops old read bytes_old bytes_new taken_old taken_now (ended.InputChanged file place) = ⊥
+abbrev pub Stops : (old : Spot) → Limited → (bytes : List ℕ) (taken : Option (List ℕ)) → Outcome → Type 0
+Stops old read bytes taken (ended.Refused verdict) =
+    (due_from_here (beside [] old.point.now.state) read ≡ RefusedAt (verdict_meant verdict)) × Passes old.bytes bytes (written_from old.point read.items) old.taken taken
+Stops old read bytes taken (ended.InputTooLong file) =
+    (due_from_here (beside [] old.point.now.state) read ≡ TooLong file) × Passes old.bytes bytes (written_from old.point read.items) old.taken taken
+Stops old read bytes taken ended.InputFault = Wrote old.taken taken (IsFrontOf (old.bytes ++ written_from old.point read.items))
+Stops old read bytes taken ended.OutputFault = Wrote old.taken taken (IsFrontOf (old.bytes ++ written_from old.point read.items))
+Stops old read bytes taken ended.NoMemory = Wrote old.taken taken (IsFrontOf (old.bytes ++ written_from old.point read.items))
+Stops old read bytes taken ended.Done = ⊥
+Stops old read bytes taken (ended.TooMuch sum) = ⊥
+Stops old read bytes taken (ended.InputChanged file place) = ⊥
 
 -- What is read of a file, and what is read of the others if that is all of it.
 abbrev pub then_others : Limited → Limited → Limited
@@ -100,27 +110,26 @@ then_others first more = elim first.stop [
 ]
 
 -- All commands of a file are taken, with the name that is given with it for its heads.
-pub record FileTaken (name : Option (List ℕ)) (file : ℕ) (old new : Point) (bytes_old bytes_new : List ℕ) (taken_old taken_now : Option (List ℕ)) (bytes : List ℕ) : Type 0 where
+pub record FileTaken (name : Option (List ℕ)) (file : ℕ) (old new : Spot) (bytes : List ℕ) : Type 0 where
   pub items : List Item
   pub text : List ℕ
   pub read : named_read name (file_read file bytes) ≡ read_whole items
-  pub goes : Goes old items new text
-  pub passes : Passes bytes_old bytes_new text taken_old taken_now
+  pub goes : Goes old.point items new.point text
+  pub passes : Passes old.bytes new.bytes text old.taken new.taken
 
 -- A file is exported, or it ends the export, whatever is read of the files that come after it.
-abbrev pub FileEnds : Option (List ℕ) → ℕ → Point → Point → (bytes_old bytes_new : List ℕ) → (taken_old taken_now : Option (List ℕ)) → Result (Unit {0}) Outcome → List ℕ → Type 0
-FileEnds name file old new bytes_old bytes_new taken_old taken_now (Ok done) bytes = FileTaken name file old new bytes_old bytes_new taken_old taken_now bytes
-FileEnds name file old new bytes_old bytes_new taken_old taken_now (Err outcome) bytes =
-    (more : Limited) → Stops old (then_others (named_read name (file_read file bytes)) more) bytes_old bytes_new taken_old taken_now outcome
+abbrev pub FileEnds : (name : Option (List ℕ)) (file : ℕ) (old new : Spot) → Result (Unit {0}) Outcome → (bytes : List ℕ) → Type 0
+FileEnds name file old new (Ok done) bytes = FileTaken name file old new bytes
+FileEnds name file old new (Err outcome) bytes = (more : Limited) → Stops old (then_others (named_read name (file_read file bytes)) more) new.bytes new.taken outcome
 
 -- ---- all files
 
 -- All commands of the files are taken, with the names that are given.
-pub record AllTaken (names : Names) (old : Point) (bytes_old bytes_new : List ℕ) (taken_old taken_now : Option (List ℕ)) (files : List (List ℕ)) : Type 0 where
-  pub done : due_from_here (beside [] old.now.state) (renamed_limited names (limited_from 1 files)) ≡ DoneWhole
-  pub passes : Passes bytes_old bytes_new (written_from old (renamed_limited names (limited_from 1 files)).items) taken_old taken_now
-  pub small : SmallFrom old (renamed names (input files)).items
+pub record AllTaken (names : Names) (old : Spot) (bytes : List ℕ) (taken : Option (List ℕ)) (files : List (List ℕ)) : Type 0 where
+  pub done : due_from_here (beside [] old.point.now.state) (renamed_limited names (limited_from 1 files)) ≡ DoneWhole
+  pub passes : Passes old.bytes bytes (written_from old.point (renamed_limited names (limited_from 1 files)).items) old.taken taken
+  pub small : SmallFrom old.point (renamed names (input files)).items
 
-abbrev pub AllEnd : Names → Point → (bytes_old bytes_new : List ℕ) → (taken_old taken_now : Option (List ℕ)) → Result (Unit {0}) Outcome → List (List ℕ) → Type 0
-AllEnd names old bytes_old bytes_new taken_old taken_now (Ok done) files = AllTaken names old bytes_old bytes_new taken_old taken_now files
-AllEnd names old bytes_old bytes_new taken_old taken_now (Err outcome) files = Stops old (renamed_limited names (limited_from 1 files)) bytes_old bytes_new taken_old taken_now outcome
+abbrev pub AllEnd : Names → (old : Spot) (bytes : List ℕ) (taken : Option (List ℕ)) → Result (Unit {0}) Outcome → (files : List (List ℕ)) → Type 0
+AllEnd names old bytes taken (Ok done) files = AllTaken names old bytes taken files
+AllEnd names old bytes taken (Err outcome) files = Stops old (renamed_limited names (limited_from 1 files)) bytes taken outcome

@@ -86,8 +86,8 @@ impl<R: Origin> Exporter<R> {
         requires writable { IsWritable item.now.version (meaning_of item.now.command) }
         requires sayable { CanWrite item.now.version (meaning_of item.now.command) }
         ensures small { IsSmall self.old.state.part }
-        ensures taken { (file : ℕ) → Takes self.old self.new begins (item_of file item.now)
-            to.old to.new result }
+        ensures taken { (file : ℕ) → Takes (record { now = self.old; begins = begins }) self.new
+            (item_of file item.now) to.old to.new result }
     {
         let _names = self.names();
         let start = to.as_slice().len();

@@ -16,8 +16,7 @@ use crate::exporter::Exporter;
 use crate::files::export_files;
 use clone_resolve::EditCore;
 use extent_map::Origin;
-use part_names::PartNames;
-use std::alloc::Global;
+use part_names::NamedFiles;
 use stream_dump::{Gathered, finish};
 use sx_base::{Inputs, Outcome, Sink};
 
@@ -27,12 +26,10 @@ use sx_base::{Inputs, Outcome, Sink};
 /// gives the first command that would be refused, or the first fault; then, and with `Done`, `out` got all commands before, and with
 /// every other outcome a front part of them. `blank` is the origin of every WRITE; nobody looks at it.
 pub fn export<R: Origin, I: Inputs, O: Sink>(
-    alloc: Global,
+    given: &NamedFiles<'_>,
     core: EditCore<R>,
     blank: R,
     inputs: &mut I,
-    files: &[String],
-    names: &PartNames,
     out: &mut O,
 ) -> Outcome
     requires reach { 2 ^ 18 ≤ R.reach blank }
@@ -45,25 +42,19 @@ pub fn export<R: Origin, I: Inputs, O: Sink>(
     ensures cause { Caused (I.faults inputs.old) (I.faults inputs.new)
         (O.faults out.old) (O.faults out.new) result }
     ensures exported { (store : meant.Store ℕ) → HaveSameShape core store
-        → IfAllTold (I.told inputs.old) (map string_bytes files.now)
+        → IfAllTold (I.told inputs.old) (map string_bytes given.now.files.now)
         (λ files. Wrote (O.taken out.old) (O.taken out.new)
-        (λ written. EndsOf (Export 0 0) store (sources_named names.now files) result written)) }
+        (λ written. EndsOf (Export 0 0) store (sources_named given.now.names.now files)
+        result written)) }
     ensures small { (store : meant.Store ℕ) → HaveSameShape core store
-        → IfAllTold (I.told inputs.old) (map string_bytes files.now)
+        → IfAllTold (I.told inputs.old) (map string_bytes given.now.files.now)
         (λ files. result ≡ ended.Done
-        → AreSmallBy byte_step (start_of store) (renamed names.now (input files)).items) }
+        → AreSmallBy byte_step (start_of store)
+        (renamed given.now.names.now (input files)).items) }
 {
-    let mut exporter = Exporter::new(alloc, core, blank);
-    let mut gathered = Gathered::new(alloc);
-    match export_files(
-        alloc,
-        &mut exporter,
-        &mut gathered,
-        inputs,
-        files,
-        names,
-        out,
-    ) {
+    let mut exporter = Exporter::new(given.alloc, core, blank);
+    let mut gathered = Gathered::new(given.alloc);
+    match export_files(given, &mut exporter, &mut gathered, inputs, out) {
         Ok(()) => finish(&mut gathered, out, Outcome::Done),
         Err(outcome) => finish(&mut gathered, out, outcome),
     }

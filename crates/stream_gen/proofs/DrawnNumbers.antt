@@ -4,7 +4,13 @@ use Rattle.std.proofs.Common.{refl, sym, ap, ◌∙◌, arith}
 use Rattle.send_model.specs.Command.{Command}
 use Rattle.send_model.specs.Spelling.{stream_header, canonical_all}
 use Rattle.send_model.specs.Generated.{next_number, drawn, number_after, draw, part_uuid, first_part, later_part}
-use Rattle.stream_gen.specs.Parts.{part_of, part_bytes, number_at, nth, first_by, part_drawn}
+use Rattle.stream_gen.specs.Parts.{part_of, part_bytes, number_at, nth, first_by, part_by}
+use Rattle.stream_gen.specs.declared.draws.Drawn.{Drawn}
+
+-- A later part by the numbers that are drawn for it, one by one.
+abbrev part_drawn : (uuid before : List ℕ) (part file block byte source source_block goal goal_block : ℕ) → List Command
+part_drawn uuid before part file block byte source source_block goal goal_block =
+    part_by uuid before part (record { file = file; block = block; byte = byte; source = source; source_block = source_block; goal = goal; goal_block = goal_block; number = 0 })
 
 -- So many numbers on, and then so many more.
 pub number_further : (a b x : ℕ) → number_after (a + b) x ≡ number_after b (number_after a x)

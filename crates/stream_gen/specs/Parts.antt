@@ -33,17 +33,14 @@ first_by uuid =
     ++ map (λ file. Write (file_name file) 0 (replicate 12_288 file)) files ++ End ∷ [])
 
 -- A later part, by its identifier, that of the part before, and what is drawn for it.
-abbrev pub part_drawn : (uuid before : List ℕ) (part file block byte source source_block goal goal_block : ℕ) → List Command
-part_drawn uuid before part file block byte source source_block goal goal_block =
-    Snapshot uuid part (part_name part) before (part - 1)
-    ∷ Write (file_name file) (4_096 * block) (replicate 4_096 byte)
-    ∷ Clone (file_name goal) (4_096 * goal_block) before (part - 1) (file_name source) (4_096 * source_block) 4_096
-    ∷ Rename (file_name file) (codes "t") ∷ Rename (codes "t") (file_name file) ∷ End ∷ []
-
--- The same by all that is drawn together, and the clone in it.
 abbrev pub part_by : (uuid before : List ℕ) (part : ℕ) → Drawn → List Command
-part_by uuid before part d = part_drawn uuid before part d.file d.block d.byte d.source d.source_block d.goal d.goal_block
+part_by uuid before part d =
+    Snapshot uuid part (part_name part) before (part - 1)
+    ∷ Write (file_name d.file) (4_096 * d.block) (replicate 4_096 d.byte)
+    ∷ Clone (file_name d.goal) (4_096 * d.goal_block) before (part - 1) (file_name d.source) (4_096 * d.source_block) 4_096
+    ∷ Rename (file_name d.file) (codes "t") ∷ Rename (codes "t") (file_name d.file) ∷ End ∷ []
 
+-- The clone in it.
 abbrev pub clone_by : (before : List ℕ) (part : ℕ) → Drawn → Command
 clone_by before part d =
     Clone (file_name d.goal) (4_096 * d.goal_block) before (part - 1) (file_name d.source) (4_096 * d.source_block) 4_096

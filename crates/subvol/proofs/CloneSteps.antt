@@ -57,13 +57,13 @@ module _ {C : Type 0} (z : C) (part other : Subvolume C) (own : Bool) (path : Li
       (λ source. in_range h ((len == 0) || nat_lt (length (cells_of other source)) (from + len)) (is_aligned offset from len (length (cells_of other source))) (nat_le (offset + len) greatest_end)
       (own && (source == ino) && overlap offset from len) (record { ino = ino; cells = take len (drop from (cells_of other source)) })))))
 
-  pub files_there : (files : ℕ × ℕ) → clone_files part path other clone_path ≡ Ok files → is_file part files.0 ≡ true
+  pub files_there : (files : ℕ × ℕ) → clone_files part path other clone_path ≡ Ok files → (is_file part files.0 ≡ true) × (is_file other files.1 ≡ true)
   files_there files e =
       let a = required (is_some (path_names path)) BadPath _ files e in
       let b = required (is_some (path_names clone_path)) BadPath _ files a.1 in
       let d = bound (file_at part path) _ files b.1 in
       let f = bound (file_at other clone_path) _ files d.2 in
-      subst (λ (x : ℕ × ℕ). is_file part x.0 ≡ true) (ok_same f.2) (is_file_at part path d.0 d.1)
+      subst (λ (x : ℕ × ℕ). (is_file part x.0 ≡ true) × (is_file other x.1 ≡ true)) (ok_same f.2) (is_file_at part path d.0 d.1, is_file_at other clone_path f.0 f.1)
 
   pub clone_lost : (refusal : Refusal) → clone_files part path other clone_path ≡ Err refusal → clone z part (Some other) own path offset clone_path from len ≡ Err refusal
   clone_lost refusal e = by_files ∙ stops (clone_files part path other clone_path) then_clone refusal e

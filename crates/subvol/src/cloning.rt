@@ -1,6 +1,7 @@
 // Cloning contents of files.
-ghost use Rattle.std.specs.Prelude.{◌≡◌, ◌+◌, ◌^◌, ◌<◌, ◌≤◌, ◌==◌, ◌&&◌, true, false, length, None, Some, IfSome, IfOk, OnOk};
+ghost use Rattle.std.specs.Prelude.{◌≡◌, ◌+◌, ◌^◌, ◌<◌, ◌≤◌, ◌==◌, ◌&&◌, true, false, length, None, Some, IfOk, OnOk};
 ghost use Rattle.extent_map.specs.Cells.{cells_between};
+ghost use Rattle.send_model.specs.Subvolume.{is_file};
 ghost use Rattle.send_model.specs.Clone as meant;
 ghost use Rattle.sx_base.specs.Answers.{Finds, MayChange};
 ghost use Rattle.subvol.specs.Files.{clone_files, check_range};
@@ -16,41 +17,44 @@ use sx_base::{Refusal, Stop};
 // Clones begin at a multiple of this. Source: the block size that BTRFS_IOC_CLONE_RANGE asks for on x86.
 const BLOCK_LEN: u64 = 4_096;
 
+/// A range of a file that is cloned.
+#[derive(Debug, Clone, Copy)]
+pub struct SourceRange<'a> {
+    /// The path of the file.
+    pub path: &'a [u8],
+    /// The place of its first cell.
+    pub from: u64,
+    /// How many cells it has.
+    pub len: u64,
+}
+
 impl<O: Origin> Subvol<O> {
-    /// Puts `len` cells from the place `from` of a file at the place `at` of a file of the same subvolume, as CLONE. After
-    /// `NoMemory` nothing is said of the subvolume.
+    /// Puts the cells of a range of a file at the place `at` of a file of the same subvolume, as CLONE. After `NoMemory` nothing is
+    /// said of the subvolume.
     ///
     /// # Errors
     /// The first refusal of CLONE but NoSource: BadPath of either path, those of the walk, NotFile, the same of the source, BadRange,
     /// Unaligned, FileTooBig, Overlap; then nothing changes.
-    pub fn clone_here(
-        &mut self,
-        path: &[u8],
-        at: u64,
-        source_path: &[u8],
-        from: u64,
-        len: u64,
-    ) -> Result<(), Stop>
+    pub fn clone_here(&mut self, path: &[u8], at: u64, range: &SourceRange<'_>) -> Result<(), Stop>
         ensures { MayChange result self.old self.new
-            (meant.clone None self.old (Some self.old) true path.now at source_path.now from len) }
+            (meant.clone None self.old (Some self.old) true path.now at range.now.path.now
+            range.now.from range.now.len) }
     {
-        let (ino, source) = clone_files(&self.tree, path, &self.tree, source_path)?;
-        let Some(cells) = contents_of(&self.tree, source) else {
-            return Err(Stop::NoMemory);
-        };
-        check_range(at, from, len, cells.size())?;
-        if share_place(source, ino, at, from, len) {
+        let (ino, source) = clone_files(&self.tree, path, &self.tree, range.path)?;
+        let cells = contents_of(&self.tree, source);
+        check_range(at, range.from, range.len, cells.size())?;
+        if share_place(source, ino, at, range.from, range.len) {
             return Err(Stop::Refused(Refusal::Overlap));
         }
-        let part = part_of(self.alloc, cells, from, len)?;
+        let part = part_of(self.alloc, cells, range.from, range.len)?;
         let mut contents = self.take_contents(ino)?;
-        contents.copy_range(at, &part, 0, len)?;
+        contents.copy_range(at, &part, 0, range.len)?;
         self.put_contents(ino, contents)?;
         Ok(())
     }
 
-    /// Puts `len` cells from the place `from` of a file of another subvolume at the place `at` of a file, as CLONE. After
-    /// `NoMemory` nothing is said of the subvolume.
+    /// Puts the cells of a range of a file of another subvolume at the place `at` of a file, as CLONE. After `NoMemory` nothing is
+    /// said of the subvolume.
     ///
     /// # Errors
     /// The first refusal of CLONE but NoSource and Overlap: BadPath of either path, those of the walk, NotFile, the same of the
@@ -60,21 +64,17 @@ impl<O: Origin> Subvol<O> {
         path: &[u8],
         at: u64,
         source: &Subvol<O>,
-        source_path: &[u8],
-        from: u64,
-        len: u64,
+        range: &SourceRange<'_>,
     ) -> Result<(), Stop>
         ensures { MayChange result self.old self.new
-            (meant.clone None self.old (Some source.now) false path.now at source_path.now from
-            len) }
+            (meant.clone None self.old (Some source.now) false path.now at range.now.path.now
+            range.now.from range.now.len) }
     {
-        let (ino, source_ino) = clone_files(&self.tree, path, &source.tree, source_path)?;
-        let Some(cells) = contents_of(&source.tree, source_ino) else {
-            return Err(Stop::NoMemory);
-        };
-        check_range(at, from, len, cells.size())?;
+        let (ino, source_ino) = clone_files(&self.tree, path, &source.tree, range.path)?;
+        let cells = contents_of(&source.tree, source_ino);
+        check_range(at, range.from, range.len, cells.size())?;
         let mut contents = self.take_contents(ino)?;
-        contents.copy_range(at, cells, from, len)?;
+        contents.copy_range(at, cells, range.from, range.len)?;
         self.put_contents(ino, contents)?;
         Ok(())
     }
@@ -100,15 +100,16 @@ fn clone_files<O: Origin>(
     Ok((ino, source))
 }
 
-// The contents of an inode.
-#[tactic(auto, unfolding(send_model::specs::Clone::cells_of))]
-fn contents_of<O: Origin>(tree: &Tree<O>, ino: u64) -> Option<&Extents<O>>
-    ensures { IfSome result (λ cells. cells.now ≡ meant.cells_of tree.now ino) }
+// The contents of a file that is there.
+#[tactic(auto, unfolding(send_model::specs::Clone::cells_of, send_model::specs::Subvolume::is_file))]
+fn contents_of<O: Origin>(tree: &Tree<O>, ino: u64) -> &Extents<O>
+    requires there { is_file tree.now ino ≡ true }
+    ensures { result.now ≡ meant.cells_of tree.now ino }
 {
-    match tree.inode(ino) {
-        Some(inode) => Some(inode.contents()),
-        None => None,
-    }
+    let Some(inode) = tree.inode(ino) else {
+        unreachable!()
+    };
+    inode.contents()
 }
 
 // A part of contents. Fails for want of memory alone.

@@ -6,4 +6,5 @@ mod cloning;
 mod contents;
 mod subvol;
 
+pub use cloning::SourceRange;
 pub use subvol::Subvol;

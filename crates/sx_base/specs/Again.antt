@@ -2,7 +2,7 @@
 -- count of such ends, are this program's own.
 use Rattle.std.specs.Prelude.{◌≡◌, ℕ, ◌+◌, ◌<◌, ◌≤◌, List, [], length, take, drop, None, Some, Result, Ok, Err, ⊤}
 use Rattle.std.specs.declared.option.Option.{Option}
-use Rattle.sx_base.specs.Causes.{Rose}
+use Rattle.sx_base.specs.Causes.{Rose, Counts}
 use Rattle.sx_base.specs.Outside.{file_at}
 use Rattle.sx_base.specs.declared.lost.Lost.{Lost}
 use Rattle.sx_base.specs.declared.lost.Lost.TheVariants as lost
@@ -29,10 +29,10 @@ EndedIn None at count before now place = Rose before now × ((at ≤ place) × (
 EndedIn (Some files) at count before now place = ⊥
 
 -- Each reason why bytes are lost has its own count that rose: that of faults, or that of ends.
-abbrev pub LostFor : Option (List (List ℕ × List ℕ)) → ℕ → ℕ → ℕ → ℕ → ℕ → ℕ → Result (Unit {0}) Lost → Type 0
-LostFor told at count faults_before faults_now ends_before ends_now (Ok done) = ⊤
-LostFor told at count faults_before faults_now ends_before ends_now (Err lost.Failed) = Rose faults_before faults_now
-LostFor told at count faults_before faults_now ends_before ends_now (Err (lost.Ended place)) = EndedIn told at count ends_before ends_now place
+abbrev pub LostFor : Option (List (List ℕ × List ℕ)) → (at count : ℕ) → (before now : Counts) → Result (Unit {0}) Lost → Type 0
+LostFor told at count before now (Ok done) = ⊤
+LostFor told at count before now (Err lost.Failed) = Rose before.reads now.reads
+LostFor told at count before now (Err (lost.Ended place)) = EndedIn told at count before.ends now.ends place
 
 -- The name of a file, and the place where it ended before bytes that were read of it once.
 pub record EarlyEnd : Type 0 where

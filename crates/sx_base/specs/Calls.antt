@@ -6,7 +6,7 @@ use Rattle.send_model.specs.Store.{Store}
 use Rattle.send_model.specs.Due.{Due, DoneWhole, RefusedAt, TooLong, TooMuch}
 use Rattle.send_model.specs.Words.{Request, due, EndSays, StandsBefore, StandsCut}
 use Rattle.sx_base.specs.Again.{EarlyEnd}
-use Rattle.sx_base.specs.Causes.{Rose}
+use Rattle.sx_base.specs.Causes.{Rose, Counts}
 use Rattle.sx_base.specs.Outside.{file_at}
 use Rattle.sx_base.specs.Refusals.{verdict_meant}
 use Rattle.sx_base.specs.declared.outcome.Outcome.{Outcome}
@@ -42,15 +42,15 @@ Caused inputs_before inputs_now out_before out_now (ended.TooMuch sum) = ⊥
 Caused inputs_before inputs_now out_before out_now (ended.InputChanged file place) = ⊥
 
 -- The same of a call that reads bytes again: an input is found changed only where the count of ends rose.
-abbrev pub CausedAgain : (ends_before ends_now inputs_before inputs_now out_before out_now : ℕ) → Outcome → Type 0
-CausedAgain ends_before ends_now inputs_before inputs_now out_before out_now (ended.InputChanged file place) = Rose ends_before ends_now
-CausedAgain ends_before ends_now inputs_before inputs_now out_before out_now ended.InputFault = Rose inputs_before inputs_now
-CausedAgain ends_before ends_now inputs_before inputs_now out_before out_now ended.OutputFault = Rose out_before out_now
-CausedAgain ends_before ends_now inputs_before inputs_now out_before out_now ended.Done = ⊤
-CausedAgain ends_before ends_now inputs_before inputs_now out_before out_now (ended.Refused verdict) = ⊤
-CausedAgain ends_before ends_now inputs_before inputs_now out_before out_now ended.NoMemory = ⊤
-CausedAgain ends_before ends_now inputs_before inputs_now out_before out_now (ended.InputTooLong file) = ⊤
-CausedAgain ends_before ends_now inputs_before inputs_now out_before out_now (ended.TooMuch sum) = ⊤
+abbrev pub CausedAgain : (before now : Counts) → Outcome → Type 0
+CausedAgain before now (ended.InputChanged file place) = Rose before.ends now.ends
+CausedAgain before now ended.InputFault = Rose before.reads now.reads
+CausedAgain before now ended.OutputFault = Rose before.writes now.writes
+CausedAgain before now ended.Done = ⊤
+CausedAgain before now (ended.Refused verdict) = ⊤
+CausedAgain before now ended.NoMemory = ⊤
+CausedAgain before now (ended.InputTooLong file) = ⊤
+CausedAgain before now (ended.TooMuch sum) = ⊤
 
 abbrev pub ErrCaused : {T : Type 0} → (inputs_before inputs_now out_before out_now : ℕ) → Result T Outcome → Type 0
 ErrCaused inputs_before inputs_now out_before out_now (Ok x) = ⊤

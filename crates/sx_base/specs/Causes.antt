@@ -13,3 +13,12 @@ pub record HasCause {T E : Type 0} (before now : ℕ) (result : Result T E) : Ty
 -- A call that did what it was asked leaves a count as it was: no object may fail in it, and be asked again.
 abbrev pub Steady : {T E : Type 0} → ℕ → ℕ → Result T E → Type 0
 Steady before now result = OnOk result (now ≡ before)
+
+-- How often a file ended too early, how often what is read failed, and how often the output failed.
+pub record Counts : Type 0 where
+  pub ends : ℕ
+  pub reads : ℕ
+  pub writes : ℕ
+
+abbrev pub counts : (ends reads writes : ℕ) → Counts
+counts ends reads writes = record { ends = ends; reads = reads; writes = writes }

@@ -9,3 +9,4 @@ pub mod Stored
 pub mod Disk
 pub mod Crash
 pub mod Calls
+pub mod Later

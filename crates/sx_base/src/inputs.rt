@@ -1,7 +1,7 @@
 // The files that a run reads.
 ghost use Rattle.std.specs.Prelude.{◌≡◌, ℕ, ◌≤◌, List, length, IfOk, OnOk, Option};
 ghost use Rattle.sx_base.specs.Again.{LiesIn, FillsFrom, EndsKept, LostFor, EarlyEnd, MeetsEnd};
-ghost use Rattle.sx_base.specs.Causes.{HasCause, Steady};
+ghost use Rattle.sx_base.specs.Causes.{HasCause, Steady, counts};
 ghost use Rattle.sx_base.specs.Outside.{GivesAt};
 
 use crate::failed::Failed;
@@ -41,7 +41,8 @@ pub trait Inputs {
         ensures later { faults self.old ≤ faults self.new }
         ensures ends { EndsKept (told self.old) (ends self.old) (ends self.new) }
         ensures cause { LostFor (told self.old) at (length buf.new)
-            (faults self.old) (faults self.new) (ends self.old) (ends self.new) result }
+            (counts (ends self.old) (faults self.old) 0) (counts (ends self.new) (faults self.new) 0)
+            result }
         ensures met { MeetsEnd name.now (last_end self.new) result }
         ensures steady { Steady (faults self.old) (faults self.new) result }
         ensures ends_steady { Steady (ends self.old) (ends self.new) result };

@@ -1,7 +1,7 @@
 // Files in memory, of which chosen reads fail.
 ghost use Rattle.std.specs.Prelude.{◌≡◌, ℕ, ◌-◌, ◌≤◌, List, [], ◌∷◌, ◌++◌, length, min, true, is_err, if◌then◌else◌, Some, IfOk, OnOk, OnErr};
 ghost use Rattle.sx_base.specs.Again.{LiesIn, FillsFrom, EndsKept, LostFor, MeetsEnd, no_end};
-ghost use Rattle.sx_base.specs.Causes.{Rose, HasCause, Steady};
+ghost use Rattle.sx_base.specs.Causes.{Rose, HasCause, Steady, counts};
 ghost use Rattle.sx_base.specs.Memory.{next_count, is_listed};
 ghost use Rattle.sx_base.specs.Outside.{GivesAt, file_at};
 
@@ -130,7 +130,7 @@ impl Inputs for MemInputs {
         ensures later { self.old.faults ≤ self.new.faults }
         ensures ends { EndsKept (Some self.old.files) 0 0 }
         ensures cause { LostFor (Some self.old.files) at (length buf.new)
-            self.old.faults self.new.faults 0 0 result }
+            (counts 0 self.old.faults 0) (counts 0 self.new.faults 0) result }
         ensures met { MeetsEnd name.now no_end result }
         ensures steady { Steady self.old.faults self.new.faults result }
         ensures ends_steady { Steady 0 0 result }

@@ -1,7 +1,7 @@
 // Files in memory that never fail.
 ghost use Rattle.std.specs.Prelude.{◌≡◌, ℕ, ◌-◌, ◌≤◌, List, [], ◌∷◌, ◌++◌, length, min, Some, Ok, IsOkAnd, IfOk, OnOk, OnErr};
 ghost use Rattle.sx_base.specs.Again.{LiesIn, FillsFrom, EndsKept, LostFor, MeetsEnd, no_end};
-ghost use Rattle.sx_base.specs.Causes.{HasCause, Steady};
+ghost use Rattle.sx_base.specs.Causes.{HasCause, Steady, counts};
 ghost use Rattle.sx_base.specs.Outside.{GivesAt, file_at};
 
 use crate::failed::Failed;
@@ -78,7 +78,8 @@ impl Inputs for PlainInputs {
         ensures bytes { OnOk result (FillsFrom (Some self.old) name.now at buf.new) }
         ensures later { 0 ≤ 0 }
         ensures ends { EndsKept (Some self.old) 0 0 }
-        ensures cause { LostFor (Some self.old) at (length buf.new) 0 0 0 0 result }
+        ensures cause { LostFor (Some self.old) at (length buf.new) (counts 0 0 0) (counts 0 0 0)
+            result }
         ensures met { MeetsEnd name.now no_end result }
         ensures steady { Steady 0 0 result }
         ensures ends_steady { Steady 0 0 result }

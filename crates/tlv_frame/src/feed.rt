@@ -97,10 +97,10 @@ impl Feed {
             self.start = 0;
         }
         self.last = self.start;
-        match self.bytes.extend_from_slice(&piece[..count]) {
-            Ok(()) => count,
-            Err(_) => 0,
-        }
+        let Ok(()) = self.bytes.extend_from_slice(&piece[..count]) else {
+            unreachable!()
+        };
+        count
     }
 
     /// The next header, or the next frame with its checksum right, in place. None exactly where the bytes that are left are cut

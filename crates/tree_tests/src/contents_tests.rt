@@ -5,7 +5,7 @@ use crate::same::same;
 use inode_tree::{NodeKind, Starts};
 use std::alloc::{AllocError, Global};
 use std::test::Fail;
-use subvol::Subvol;
+use subvol::{SourceRange, Subvol};
 use sx_base::{Refusal, Stop};
 
 // Places by the numbers of inodes.
@@ -81,11 +81,20 @@ const CLONES: &[(u64, u64, u64, Refusal)] = &[
     (8_192, 4_096, 8_192, Refusal::BadRange),
 ];
 
+// A range of the file x.
+fn of_x(from: u64, len: u64) -> SourceRange<'static> {
+    SourceRange {
+        path: b"x",
+        from,
+        len,
+    }
+}
+
 #[test]
 fn clones_are_refused(rt: HostRuntime) -> Result<(), Fail> {
     let mut subvol = with_file(rt.alloc(), 8_192)?;
     for &(at, from, len, refusal) in CLONES {
-        let answer = subvol.clone_here(b"x", at, b"x", from, len);
+        let answer = subvol.clone_here(b"x", at, &of_x(from, len));
         same(&rt, answer, refused(refusal));
     }
     Ok(())
@@ -95,8 +104,8 @@ fn clones_are_refused(rt: HostRuntime) -> Result<(), Fail> {
 fn with_clones(alloc: Global) -> Result<Subvol<Mark>, Stop> {
     let source = with_file(alloc, 8_192)?;
     let mut subvol = with_file(alloc, 0)?;
-    subvol.clone_from(b"x", 4_096, &source, b"x", 4_096, 4_096)?;
-    subvol.clone_here(b"x", 0, b"x", 4_096, 4_096)?;
+    subvol.clone_from(b"x", 4_096, &source, &of_x(4_096, 4_096))?;
+    subvol.clone_here(b"x", 0, &of_x(4_096, 4_096))?;
     Ok(subvol)
 }
 

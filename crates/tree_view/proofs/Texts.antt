@@ -10,8 +10,10 @@ use Rattle.sx_base.specs.Calls.{Wrote}
 use Rattle.sx_base.specs.Causes.{Rose}
 use Rattle.sx_base.specs.declared.outcome.Outcome.{Outcome}
 use Rattle.sx_base.specs.declared.outcome.Outcome.TheVariants as ended
-use Rattle.stream_dump.specs.Steps.{StopsWriting, EndsWith}
-use Rattle.tree_view.specs.Printing.{TextAdded, IsCut, AddsText, Prints, PrintCaused}
+use Rattle.stream_dump.specs.Steps.{StopsWriting}
+use Rattle.stream_dump.proofs.Unpacked.{EndsWith}
+use Rattle.tree_view.specs.Printing.{TextAdded, IsCut, Prints, PrintCaused}
+use Rattle.tree_view.proofs.Unpacked.{AddsText}
 
 -- ---- front parts
 

@@ -11,6 +11,7 @@ use Rattle.sx_base.specs.Calls.{Wrote}
 use Rattle.sx_base.specs.Causes.{Rose}
 use Rattle.sx_base.specs.declared.outcome.Outcome.{Outcome}
 use Rattle.sx_base.specs.declared.outcome.Outcome.TheVariants as ended
+use Rattle.sx_base.specs.declared.sink.Sink as writing
 use Rattle.stream_dump.specs.Steps.{StopsWriting}
 
 -- ---- text that is added
@@ -32,10 +33,19 @@ IsCut (ended.InputTooLong file) all written = ⊥
 IsCut (ended.TooMuch sum) all written = ⊥
 IsCut (ended.InputChanged file place) all written = ⊥
 
+-- An output: the bytes that it took, where it tells, the text that is gathered for it, and the count of its faults.
+pub record Output : Type 0 where
+  pub taken : Option (List ℕ)
+  pub gathered : List ℕ
+  pub faults : ℕ
+
+abbrev pub output : {O : Type 0} → writing.Ghosts O → O → List ℕ → Output
+output out now gathered = record { taken = out.taken now; gathered = gathered; faults = out.faults now }
+
 -- So it is, or the output failed or there is no memory, and a front part of what was gathered with the text is written.
-abbrev pub AddsText : (text old new : List ℕ) (taken_old taken_now : Option (List ℕ)) (before now : ℕ) → Result (Unit {0}) Outcome → Type 0
-AddsText text old new taken_old taken_now before now (Ok done) = TextAdded text old new taken_old taken_now
-AddsText text old new taken_old taken_now before now (Err outcome) = StopsWriting before now outcome × Wrote taken_old taken_now (IsCut outcome (old ++ text))
+abbrev pub AddsText : (text : List ℕ) (old new : Output) → Result (Unit {0}) Outcome → Type 0
+AddsText text old new (Ok done) = TextAdded text old.gathered new.gathered old.taken new.taken
+AddsText text old new (Err outcome) = StopsWriting old.faults new.faults outcome × Wrote old.taken new.taken (IsCut outcome (old.gathered ++ text))
 
 -- ---- how printing ends
 

@@ -2,8 +2,8 @@
 ghost use Rattle.std.specs.Prelude.{◌≤◌};
 ghost use Rattle.store_model.specs.StoreLines.{listed};
 ghost use Rattle.sx_base.specs.Calls.{Wrote, SteadyIfDone};
-ghost use Rattle.sx_base.specs.Causes.{Steady};
-ghost use Rattle.tree_view.specs.Printing.{AddsText, Prints, PrintCaused};
+ghost use Rattle.sx_base.specs.Later.{OutputLater};
+ghost use Rattle.tree_view.specs.Printing.{AddsText, output, Prints, PrintCaused};
 
 use crate::writing::write_entry;
 use std::alloc::Global;
@@ -33,10 +33,9 @@ fn write_entries<V, O: Sink>(
     text: &mut Gathered,
     out: &mut O,
 ) -> Result<(), Outcome>
-    ensures later { O.faults out.old ≤ O.faults out.new }
-    ensures steady { Steady (O.faults out.old) (O.faults out.new) result }
-    ensures added { AddsText (listed catalog.now) text.old.bytes text.new.bytes
-        (O.taken out.old) (O.taken out.new) (O.faults out.old) (O.faults out.new) result }
+    ensures out { OutputLater O.Sink out.old out.new result }
+    ensures added { AddsText (listed catalog.now) (output O.Sink out.old text.old.bytes)
+        (output O.Sink out.new text.new.bytes) result }
 {
     for place in 0..catalog.len() {
         let Some(entry) = catalog.at(place) else {

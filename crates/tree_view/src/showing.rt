@@ -8,9 +8,9 @@ ghost use Rattle.shared_map.specs.Sought.{entries_above};
 ghost use Rattle.store_model.specs.StoreLines.{shown, inode_lines, xattr_line, name_line};
 ghost use Rattle.subvol_catalog.specs.Entries.{key_of};
 ghost use Rattle.sx_base.specs.Calls.{Wrote, SteadyIfDone};
-ghost use Rattle.sx_base.specs.Causes.{Steady};
+ghost use Rattle.sx_base.specs.Later.{OutputLater};
 ghost use Rattle.stream_dump.specs.Steps.{StopsWriting};
-ghost use Rattle.tree_view.specs.Printing.{AddsText, Prints, PrintCaused, at_zero};
+ghost use Rattle.tree_view.specs.Printing.{AddsText, output, Prints, PrintCaused, at_zero};
 
 use crate::writing::{write_inode, write_name, write_subvol, write_xattr};
 use extent_map::Origin;
@@ -53,12 +53,10 @@ fn write_all<R: Origin, O: Sink>(
     text: &mut Gathered,
     out: &mut O,
 ) -> Result<(), Outcome>
-    ensures later { O.faults out.old ≤ O.faults out.new }
-    ensures steady { Steady (O.faults out.old) (O.faults out.new) result }
+    ensures out { OutputLater O.Sink out.old out.new result }
     ensures stops { IfErr result (StopsWriting (O.faults out.old) (O.faults out.new)) }
     ensures added { IsLawful tree.now → AddsText (shown name.now (key_of key) tree.now)
-        text.old.bytes text.new.bytes (O.taken out.old) (O.taken out.new) (O.faults out.old)
-        (O.faults out.new) result }
+        (output O.Sink out.old text.old.bytes) (output O.Sink out.new text.new.bytes) result }
 {
     write_subvol(name, key, tree.next_number(), text, out)?;
     write_zero(tree, text, out)?;
@@ -72,11 +70,9 @@ fn write_zero<R: Origin, O: Sink>(
     text: &mut Gathered,
     out: &mut O,
 ) -> Result<(), Outcome>
-    ensures later { O.faults out.old ≤ O.faults out.new }
-    ensures steady { Steady (O.faults out.old) (O.faults out.new) result }
-    ensures added { AddsText (flat_map inode_lines (at_zero tree.now.inodes)) text.old.bytes
-        text.new.bytes (O.taken out.old) (O.taken out.new) (O.faults out.old) (O.faults out.new)
-        result }
+    ensures out { OutputLater O.Sink out.old out.new result }
+    ensures added { AddsText (flat_map inode_lines (at_zero tree.now.inodes))
+        (output O.Sink out.old text.old.bytes) (output O.Sink out.new text.new.bytes) result }
 {
     match tree.inode(0) {
         Some(inode) => write_with_xattrs(0, inode, text, out),
@@ -90,13 +86,11 @@ fn write_inodes<R: Origin, O: Sink>(
     text: &mut Gathered,
     out: &mut O,
 ) -> Result<(), Outcome>
-    ensures later { O.faults out.old ≤ O.faults out.new }
-    ensures steady { Steady (O.faults out.old) (O.faults out.new) result }
+    ensures out { OutputLater O.Sink out.old out.new result }
     ensures stops { IfErr result (StopsWriting (O.faults out.old) (O.faults out.new)) }
     ensures added { IsMap nat_cmp tree.now.inodes
-        → AddsText (flat_map inode_lines (entries_above nat_cmp 0 tree.now.inodes)) text.old.bytes
-        text.new.bytes (O.taken out.old) (O.taken out.new) (O.faults out.old) (O.faults out.new)
-        result }
+        → AddsText (flat_map inode_lines (entries_above nat_cmp 0 tree.now.inodes))
+        (output O.Sink out.old text.old.bytes) (output O.Sink out.new text.new.bytes) result }
 {
     let mut last = 0;
     while let Some(ino) = tree.inode_after(last) {
@@ -116,10 +110,9 @@ fn write_with_xattrs<R: Origin, O: Sink>(
     text: &mut Gathered,
     out: &mut O,
 ) -> Result<(), Outcome>
-    ensures later { O.faults out.old ≤ O.faults out.new }
-    ensures steady { Steady (O.faults out.old) (O.faults out.new) result }
-    ensures added { AddsText (inode_lines (ino, inode.now)) text.old.bytes text.new.bytes
-        (O.taken out.old) (O.taken out.new) (O.faults out.old) (O.faults out.new) result }
+    ensures out { OutputLater O.Sink out.old out.new result }
+    ensures added { AddsText (inode_lines (ino, inode.now)) (output O.Sink out.old text.old.bytes)
+        (output O.Sink out.new text.new.bytes) result }
 {
     write_inode(ino, inode, text, out)?;
     write_xattrs(ino, inode.xattrs(), text, out)
@@ -132,10 +125,9 @@ fn write_xattrs<O: Sink>(
     text: &mut Gathered,
     out: &mut O,
 ) -> Result<(), Outcome>
-    ensures later { O.faults out.old ≤ O.faults out.new }
-    ensures steady { Steady (O.faults out.old) (O.faults out.new) result }
-    ensures added { AddsText (flat_map (xattr_line ino) xattrs.entry) text.old.bytes text.new.bytes
-        (O.taken out.old) (O.taken out.new) (O.faults out.old) (O.faults out.new) result }
+    ensures out { OutputLater O.Sink out.old out.new result }
+    ensures added { AddsText (flat_map (xattr_line ino) xattrs.entry)
+        (output O.Sink out.old text.old.bytes) (output O.Sink out.new text.new.bytes) result }
 {
     for (name, value) in xattrs {
         write_xattr(ino, name.as_slice(), value.as_slice(), text, out)?;
@@ -149,12 +141,11 @@ fn write_names<R: Origin, O: Sink>(
     text: &mut Gathered,
     out: &mut O,
 ) -> Result<(), Outcome>
-    ensures later { O.faults out.old ≤ O.faults out.new }
-    ensures steady { Steady (O.faults out.old) (O.faults out.new) result }
+    ensures out { OutputLater O.Sink out.old out.new result }
     ensures stops { IfErr result (StopsWriting (O.faults out.old) (O.faults out.new)) }
     ensures added { IsMap named_cmp tree.now.names → HasLawfulNames tree.now
-        → AddsText (flat_map name_line tree.now.names) text.old.bytes text.new.bytes
-        (O.taken out.old) (O.taken out.new) (O.faults out.old) (O.faults out.new) result }
+        → AddsText (flat_map name_line tree.now.names) (output O.Sink out.old text.old.bytes)
+        (output O.Sink out.new text.new.bytes) result }
 {
     let mut directory = 0;
     let mut last: &[u8] = b"";

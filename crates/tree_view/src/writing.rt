@@ -1,9 +1,9 @@
 // Lines that are gathered, and written in large pieces.
-ghost use Rattle.std.specs.Prelude.{◌≡◌, ◌≤◌, ◌++◌, []};
+ghost use Rattle.std.specs.Prelude.{◌≡◌, ◌++◌, []};
 ghost use Rattle.store_model.specs.StoreLines.{entry_line, inode_line, xattr_line, name_line};
-ghost use Rattle.sx_base.specs.Causes.{Steady};
+ghost use Rattle.sx_base.specs.Later.{OutputLater};
 ghost use Rattle.subvol_catalog.specs.Entries.{key_of, entry_of};
-ghost use Rattle.tree_view.specs.Printing.{AddsText, subvol_line};
+ghost use Rattle.tree_view.specs.Printing.{AddsText, output, subvol_line};
 
 use crate::lines::{push_entry, push_inode, push_name, push_subvol, push_xattr};
 use extent_map::Origin;
@@ -14,10 +14,9 @@ use sx_base::{Outcome, Sink};
 
 // Writes what was gathered where it is much.
 fn send_much<O: Sink>(text: &mut Gathered, out: &mut O) -> Result<(), Outcome>
-    ensures later { O.faults out.old ≤ O.faults out.new }
-    ensures steady { Steady (O.faults out.old) (O.faults out.new) result }
-    ensures added { AddsText [] text.old.bytes text.new.bytes (O.taken out.old) (O.taken out.new)
-        (O.faults out.old) (O.faults out.new) result }
+    ensures out { OutputLater O.Sink out.old out.new result }
+    ensures added { AddsText [] (output O.Sink out.old text.old.bytes)
+        (output O.Sink out.new text.new.bytes) result }
 {
     if text.bytes.as_slice().len() >= PIECE {
         return send(text, out);
@@ -31,10 +30,9 @@ pub(crate) fn write_entry<V, O: Sink>(
     text: &mut Gathered,
     out: &mut O,
 ) -> Result<(), Outcome>
-    ensures later { O.faults out.old ≤ O.faults out.new }
-    ensures steady { Steady (O.faults out.old) (O.faults out.new) result }
-    ensures added { AddsText (entry_line (entry_of entry.now)) text.old.bytes text.new.bytes
-        (O.taken out.old) (O.taken out.new) (O.faults out.old) (O.faults out.new) result }
+    ensures out { OutputLater O.Sink out.old out.new result }
+    ensures added { AddsText (entry_line (entry_of entry.now))
+        (output O.Sink out.old text.old.bytes) (output O.Sink out.new text.new.bytes) result }
 {
     let Ok(()) = push_entry(entry, &mut text.bytes) else {
         return Err(Outcome::NoMemory);
@@ -50,11 +48,9 @@ pub(crate) fn write_subvol<O: Sink>(
     text: &mut Gathered,
     out: &mut O,
 ) -> Result<(), Outcome>
-    ensures later { O.faults out.old ≤ O.faults out.new }
-    ensures steady { Steady (O.faults out.old) (O.faults out.new) result }
-    ensures added { AddsText (subvol_line name.now (key_of key) next) text.old.bytes
-        text.new.bytes (O.taken out.old) (O.taken out.new) (O.faults out.old) (O.faults out.new)
-        result }
+    ensures out { OutputLater O.Sink out.old out.new result }
+    ensures added { AddsText (subvol_line name.now (key_of key) next)
+        (output O.Sink out.old text.old.bytes) (output O.Sink out.new text.new.bytes) result }
 {
     let Ok(()) = push_subvol(name, key, next, &mut text.bytes) else {
         return Err(Outcome::NoMemory);
@@ -69,10 +65,9 @@ pub(crate) fn write_inode<R: Origin, O: Sink>(
     text: &mut Gathered,
     out: &mut O,
 ) -> Result<(), Outcome>
-    ensures later { O.faults out.old ≤ O.faults out.new }
-    ensures steady { Steady (O.faults out.old) (O.faults out.new) result }
-    ensures added { AddsText (inode_line ino inode.now) text.old.bytes text.new.bytes
-        (O.taken out.old) (O.taken out.new) (O.faults out.old) (O.faults out.new) result }
+    ensures out { OutputLater O.Sink out.old out.new result }
+    ensures added { AddsText (inode_line ino inode.now) (output O.Sink out.old text.old.bytes)
+        (output O.Sink out.new text.new.bytes) result }
 {
     let Ok(()) = push_inode(ino, inode, &mut text.bytes) else {
         return Err(Outcome::NoMemory);
@@ -88,10 +83,9 @@ pub(crate) fn write_xattr<O: Sink>(
     text: &mut Gathered,
     out: &mut O,
 ) -> Result<(), Outcome>
-    ensures later { O.faults out.old ≤ O.faults out.new }
-    ensures steady { Steady (O.faults out.old) (O.faults out.new) result }
-    ensures added { AddsText (xattr_line ino (name.now, value.now)) text.old.bytes text.new.bytes
-        (O.taken out.old) (O.taken out.new) (O.faults out.old) (O.faults out.new) result }
+    ensures out { OutputLater O.Sink out.old out.new result }
+    ensures added { AddsText (xattr_line ino (name.now, value.now))
+        (output O.Sink out.old text.old.bytes) (output O.Sink out.new text.new.bytes) result }
 {
     let Ok(()) = push_xattr(ino, name, value, &mut text.bytes) else {
         return Err(Outcome::NoMemory);
@@ -107,11 +101,9 @@ pub(crate) fn write_name<O: Sink>(
     text: &mut Gathered,
     out: &mut O,
 ) -> Result<(), Outcome>
-    ensures later { O.faults out.old ≤ O.faults out.new }
-    ensures steady { Steady (O.faults out.old) (O.faults out.new) result }
-    ensures added { AddsText (name_line ((directory, name.now), ino)) text.old.bytes
-        text.new.bytes (O.taken out.old) (O.taken out.new) (O.faults out.old) (O.faults out.new)
-        result }
+    ensures out { OutputLater O.Sink out.old out.new result }
+    ensures added { AddsText (name_line ((directory, name.now), ino))
+        (output O.Sink out.old text.old.bytes) (output O.Sink out.new text.new.bytes) result }
 {
     let Ok(()) = push_name(directory, name, ino, &mut text.bytes) else {
         return Err(Outcome::NoMemory);

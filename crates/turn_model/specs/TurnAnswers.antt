@@ -17,6 +17,17 @@ use Rattle.store_model.specs.Turns.{Event, Turns, at_entry, lines_of, turn_group
 use Rattle.store_model.specs.TurnLaws.{IsTurnState, AreOneByOne}
 use Rattle.turn_model.specs.TurnDues.{TurnsEnd, files_read, sessions_of, all_turns, interleave_end}
 
+-- Files that take turns: the places of the schedule, the bytes of each file, all guards in their order, and how many of them each session
+-- has.
+pub record InTurns : Type 0 where
+  pub schedule : List ℕ
+  pub files : List (List ℕ)
+  pub guards : List Guard
+  pub shares : List ℕ
+
+abbrev pub in_turns : List ℕ → List (List ℕ) → List Guard → List ℕ → InTurns
+in_turns schedule files guards shares = record { schedule = schedule; files = files; guards = guards; shares = shares }
+
 module _ (schedule : List ℕ) (files : List (List ℕ)) (guards : List Guard) (shares : List ℕ) where
   -- All turns, up to the limit of the files' lengths.
   abbrev pub taken_turns : Store ℕ → Turns ℕ

@@ -12,7 +12,7 @@ use Rattle.store_model.specs.Dues.{Ends, LogFull}
 use Rattle.store_model.specs.Turns.{Event, lines_of, turn_groups}
 use Rattle.store_model.specs.TurnLaws.{AreInTurn}
 use Rattle.turn_model.specs.TurnDues.{files_read, which_long, sessions_of, interleave_end}
-use Rattle.turn_model.specs.TurnAnswers.{taken_turns, IsMadeBy, TurnsDue}
+use Rattle.turn_model.specs.TurnAnswers.{InTurns, in_turns, taken_turns, IsMadeBy, TurnsDue}
 
 -- The events until the end that is due are the first of all turns.
 abbrev pub EndIsFront : Type 0
@@ -40,15 +40,15 @@ FirstEventsStand = (before image : List ℕ) (store : Store ℕ) (schedule : Lis
 
 -- After the answer that all was done, or that a session was refused, all turns were taken: all their lines were written, the image stands
 -- for the store that they leave, and the files were received in turn.
-pub record HasTaken (before : List ℕ) (schedule : List ℕ) (files : List (List ℕ)) (guards : List Guard) (shares : List ℕ) (due : files_due.Due) (written image : List ℕ) : Type 0 where
+pub record HasTaken (turns : InTurns) (before : List ℕ) (due : files_due.Due) (written image : List ℕ) : Type 0 where
   pub store : Store ℕ
   pub stood : StandsFor before store
-  pub answer : due ≡ refused_due (taken_turns schedule files guards shares store).refused
-  pub lines : written ≡ lines_of (taken_turns schedule files guards shares store).events
-  pub stands : StandsFor image (taken_turns schedule files guards shares store).store
-  pub order : AreInTurn store (sessions_of files guards shares) (taken_turns schedule files guards shares store)
+  pub answer : due ≡ refused_due (taken_turns turns.schedule turns.files turns.guards turns.shares store).refused
+  pub lines : written ≡ lines_of (taken_turns turns.schedule turns.files turns.guards turns.shares store).events
+  pub stands : StandsFor image (taken_turns turns.schedule turns.files turns.guards turns.shares store).store
+  pub order : AreInTurn store (sessions_of turns.files turns.guards turns.shares) (taken_turns turns.schedule turns.files turns.guards turns.shares store)
 
 abbrev pub EndsAreTaken : Type 0
 EndsAreTaken = (before written image : List ℕ) (schedule : List ℕ) (files : List (List ℕ)) (guards : List Guard) (shares : List ℕ) (due : files_due.Due)
     → AllByRecursion IsBytes files → ((file : ℕ) → due ≡ TooLong file → ⊥) → TurnsDue schedule files guards shares before (Ends due) written image
-    → HasTaken before schedule files guards shares due written image
+    → HasTaken (in_turns schedule files guards shares) before due written image

@@ -38,7 +38,7 @@ use Rattle.store_journal.specs.Standing.{with_bytes}
 use Rattle.receiver.specs.declared.outcome.Received.{Received}
 use Rattle.receiver.specs.declared.outcome.Received.TheVariants as how
 use Rattle.receiver.specs.Disks.{HasFront}
-use Rattle.receiver.specs.ReceiveEnds.{LeavesMore}
+use Rattle.receiver.proofs.Unpacked.{LeavesMore}
 use Rattle.receiver.proofs.DiskRuns.{leaves_either}
 use Rattle.store_words.specs.declared.ends.StoreEnd.{StoreEnd}
 use Rattle.store_words.specs.Ending.{answer_of, end_by, end_received}
@@ -46,7 +46,7 @@ use Rattle.store_words.proofs.StreamAnswers.{always_told, then_told}
 use Rattle.store_words.proofs.Opened.{by_store}
 use Rattle.store_words.proofs.ReceiveAnswers.{stands}
 use Rattle.turn_sessions.specs.Ends.{AreDone}
-use Rattle.turn_sessions.specs.Leaving.{LeftByTurns}
+use Rattle.turn_sessions.proofs.Unpacked.{LeftByTurns}
 use Rattle.turn_sessions.proofs.Interleaved.{split_events}
 
 module _ (places : List ℕ) (files : List (List ℕ)) (all : List Guard) (shares : List ℕ) where

@@ -23,7 +23,7 @@ use Rattle.store_groups.specs.Taking.{as_runs}
 use Rattle.store_journal.specs.Answers.{EditsIn}
 use Rattle.store_journal.specs.Filling.{Asked, first_full, piece_asks, IsStopOf}
 use Rattle.store_journal.specs.Shown.{StoreState}
-use Rattle.store_journal.specs.Holding.{Builds}
+use Rattle.store_journal.proofs.Unpacked.{Builds}
 use Rattle.turn_sessions.specs.Fronts.{IsInFront}
 use Rattle.turn_sessions.specs.Edits.{AreFrames, AreMade, IsFront, IsTaken, frame_asks, frames_end, IfStopped}
 

@@ -40,7 +40,7 @@ use Rattle.store_journal.specs.Holding.{HasThese, Holds}
 use Rattle.receiver.specs.declared.outcome.Received.{Received}
 use Rattle.receiver.specs.declared.outcome.Received.TheVariants as how
 use Rattle.receiver.specs.Disks.{HasFront, EndLeaves}
-use Rattle.receiver.specs.ReceiveEnds.{LeavesMore}
+use Rattle.receiver.proofs.Unpacked.{LeavesMore}
 use Rattle.turn_sessions.specs.declared.session.Session.{Session}
 use Rattle.turn_sessions.specs.Standing.{Blank, blank_cells, blank_put}
 use Rattle.turn_sessions.specs.Doing.{reached, StopReason}

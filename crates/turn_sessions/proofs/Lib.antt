@@ -1,3 +1,4 @@
+pub mod Unpacked
 pub mod Doings
 pub mod Nothings
 pub mod Spelled

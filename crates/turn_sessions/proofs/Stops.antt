@@ -10,7 +10,7 @@ use Rattle.store_groups.specs.Stopping.{IfLog, IsNoRefusal}
 use Rattle.store_journal.specs.Filling.{Asked, IsStopOf}
 use Rattle.store_journal.specs.Shown.{StoreState, IsIdle}
 use Rattle.receiver.specs.Answers as received
-use Rattle.receiver.specs.Answers.{ended_log, IsUsualLog}
+use Rattle.receiver.specs.Answers.{fault_counts, ended_log, IsUsualLog}
 use Rattle.turn_sessions.specs.Edits.{IfStopped}
 use Rattle.turn_sessions.specs.Doing.{IdleAt, stopped_as}
 
@@ -29,7 +29,7 @@ idle_log (log.NotStore group) len store s = s
 idle_log (log.StoreThere size) len store s = s
 
 module _ (a b c d e f : ℕ) (limit : ℕ) (full : Option Asked) where
-  pub caused_log : (why : LogStop) → IsStopOf (Rose e f) limit full why → received.Caused a b c d e f (ended_log why)
+  pub caused_log : (why : LogStop) → IsStopOf (Rose e f) limit full why → received.Caused (fault_counts a c e) (fault_counts b d f) (ended_log why)
   caused_log (log.LogFull end wanted most) s = tt
   caused_log log.DiskFault s = one full s
     where
@@ -50,7 +50,7 @@ module _ (a b c d e f : ℕ) (limit : ℕ) (full : Option Asked) where
       one (Some x) (inl y) = cc
       one o (inr x) = absurd x
 
-  pub caused_at : (why : StoreStop) → IsNoRefusal why → IfLog {T = Unit {0}} (Err why) (IsStopOf (Rose e f) limit full) → received.Caused a b c d e f (stopped_as why)
+  pub caused_at : (why : StoreStop) → IsNoRefusal why → IfLog {T = Unit {0}} (Err why) (IsStopOf (Rose e f) limit full) → received.Caused (fault_counts a c e) (fault_counts b d f) (stopped_as why)
   caused_at (stop.Refused refusal) n s = absurd n
   caused_at stop.NoMemory n s = tt
   caused_at (stop.Log why) n s = caused_log why s

@@ -15,15 +15,15 @@ use Rattle.store_journal.specs.Holding.{Holds}
 use Rattle.receiver.specs.declared.outcome.Received.{Received}
 use Rattle.receiver.specs.declared.outcome.Received.TheVariants as how
 use Rattle.receiver.specs.Answers as received
-use Rattle.receiver.specs.Answers.{ended_log}
+use Rattle.receiver.specs.Answers.{FaultCounts, ended_log}
 use Rattle.store_groups.specs.declared.stops.StoreStop.{StoreStop}
 use Rattle.store_groups.specs.declared.stops.StoreStop.TheVariants as stop
 use Rattle.receiver.specs.Disks.{HasFront, EndLeaves}
 
 -- An object of the outside failed only where its count of faults rose.
-abbrev pub ErrCaused : {T : Type 0} → (inputs_before inputs_now out_before out_now disk_before disk_now : ℕ) → Result T Received → Type 0
-ErrCaused inputs_before inputs_now out_before out_now disk_before disk_now (Ok x) = ⊤
-ErrCaused inputs_before inputs_now out_before out_now disk_before disk_now (Err why) = received.Caused inputs_before inputs_now out_before out_now disk_before disk_now why
+abbrev pub ErrCaused : {T : Type 0} → (before now : FaultCounts) → Result T Received → Type 0
+ErrCaused before now (Ok x) = ⊤
+ErrCaused before now (Err why) = received.Caused before now why
 
 -- Why a call of the store stopped that refuses nothing, as the end of all turns.
 abbrev pub stopped_as : StoreStop → Received

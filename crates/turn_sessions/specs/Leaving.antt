@@ -1,11 +1,10 @@
 -- What a crash may leave of a store into which files that take turns are received. This program's own.
 use Rattle.std.specs.Prelude.{◌≡◌, ◌⊎◌, List, [], ℕ}
 use Rattle.sx_base.specs.Disk.{Pending, IsImage}
-use Rattle.send_model.specs.Guards.{Guard}
 use Rattle.store_model.specs.Requests.{ByImage}
-use Rattle.turn_model.specs.TurnAnswers.{IsOnTurnWay}
+use Rattle.turn_model.specs.TurnAnswers.{InTurns, IsOnTurnWay}
 
 -- What it could leave before, with nothing written; or there was a store, and the turns are on the way, with these lines written.
-abbrev pub LeftByTurns : (early : Pending) → (before : List ℕ) → (schedule : List ℕ) → List (List ℕ) → List Guard → (shares : List ℕ) → (written image : List ℕ) → Type 0
-LeftByTurns early before schedule files guards shares written image =
-    (IsImage early image × (written ≡ [])) ⊎ ByImage before (λ s. IsOnTurnWay schedule files guards shares before s written image) ⊥
+abbrev pub LeftByTurns : (early : Pending) → (before : List ℕ) → InTurns → (written image : List ℕ) → Type 0
+LeftByTurns early before turns written image =
+    (IsImage early image × (written ≡ [])) ⊎ ByImage before (λ s. IsOnTurnWay turns.schedule turns.files turns.guards turns.shares before s written image) ⊥

@@ -14,7 +14,7 @@ ghost use Rattle.store_groups.specs.Stopping.{IfLog, IsNoRefusal};
 ghost use Rattle.store_groups.specs.Taking.{open_state};
 ghost use Rattle.store_journal.specs.Filling.{first_full, piece_asks, IsStopOf};
 ghost use Rattle.store_journal.specs.Shown.{IsOpen};
-ghost use Rattle.store_journal.specs.Holding.{HasThese, Builds};
+ghost use Rattle.store_journal.specs.Holding.{HasThese, Builds, in_progress};
 ghost use Rattle.turn_sessions.specs.Fronts.{FindsFront};
 ghost use Rattle.turn_sessions.specs.Edits.{AreFrames, AreMade, IsFront, IsTaken, frame_asks, IfStopped};
 
@@ -80,14 +80,16 @@ fn write_front<D: Disk>(
     ensures still_open { OnOk result (IsOpen (D.len disk.new) part.new store.new) }
     ensures builds { D.tells → (header : Header) (groups : List Group)
         (commands : List meant.Command) (c : meant.Command) (more : List ℕ) →
-        IsFront version bytes.now c more → Builds header groups version commands part.old store.old
+        IsFront version bytes.now c more →
+        Builds header groups (in_progress version commands part.old) store.old
         (D.seen disk.old) (D.pending disk.old) →
-        OnOk result (Builds header groups version (commands ++ c ∷ []) part.new store.new
-        (D.seen disk.new) (D.pending disk.new)) }
+        OnOk result (Builds header groups (in_progress version (commands ++ c ∷ []) part.new)
+        store.new (D.seen disk.new) (D.pending disk.new)) }
 
     // At every moment a crash leaves the groups that there were.
     ensures any_moment { D.tells → (header : Header) (groups : List Group)
-        (commands : List meant.Command) → Builds header groups version commands part.old store.old
+        (commands : List meant.Command) →
+        Builds header groups (in_progress version commands part.old) store.old
         (D.seen disk.old) (D.pending disk.old) →
         LeavesOnly D.moment D.left_since disk.old disk.new (HasThese header groups) }
 
@@ -139,14 +141,15 @@ pub(crate) fn write_frames<D: Disk>(
         OnOk result (open_state store.new.core part.new ≡ end) }
     ensures builds { D.tells → (header : Header) (groups : List Group)
         (before commands : List meant.Command) → AreFrames version frames.now commands →
-        Builds header groups version before part.old store.old
+        Builds header groups (in_progress version before part.old) store.old
         (D.seen disk.old) (D.pending disk.old) →
-        OnOk result (Builds header groups version (before ++ commands) part.new store.new
-        (D.seen disk.new) (D.pending disk.new)) }
+        OnOk result (Builds header groups (in_progress version (before ++ commands) part.new)
+        store.new (D.seen disk.new) (D.pending disk.new)) }
 
     // At every moment a crash leaves the groups that there were.
     ensures any_moment { D.tells → (header : Header) (groups : List Group)
-        (before : List meant.Command) → Builds header groups version before part.old store.old
+        (before : List meant.Command) →
+        Builds header groups (in_progress version before part.old) store.old
         (D.seen disk.old) (D.pending disk.old) →
         LeavesOnly D.moment D.left_since disk.old disk.new (HasThese header groups) }
 

@@ -12,15 +12,15 @@ ghost use Rattle.turn_model.specs.TurnDues.{files_read, shared};
 ghost use Rattle.auditor.specs.Following.{HaveSameShape};
 ghost use Rattle.store_journal.specs.Shown.{IsIdle};
 ghost use Rattle.store_journal.specs.Holding.{Holds};
-ghost use Rattle.receiver.specs.Answers.{Caused};
-ghost use Rattle.receiver.specs.Disks.{HasFront};
+ghost use Rattle.receiver.specs.Answers.{fault_counts, Caused};
+ghost use Rattle.receiver.specs.Disks.{shown, HasFront};
 ghost use Rattle.receiver.specs.ReceiveEnds.{LeavesMore, SteadyIfReceived};
 ghost use Rattle.turn_sessions.specs.Doing.{IdleAt};
 ghost use Rattle.turn_sessions.specs.Ends.{ArePlaces, places_of, end_of, AreDone};
 
+use crate::task::Task;
 use crate::turning::{new_sessions, take_turns};
 use receiver::{Guarding, Received};
-use std::alloc::Global;
 use store_journal::Store;
 use sx_base::{Disk, Inputs, Outcome, Sink, Verdict};
 
@@ -30,42 +30,42 @@ use sx_base::{Disk, Inputs, Outcome, Sink, Verdict};
 /// published once the part is complete; then `out` gets its line, `complete NAME UUID CTRANSID`. A session that is refused is over,
 /// its part stays unfinished, and the others go on; the answer is the verdict of the one that was refused first.
 pub fn interleave<I: Inputs, O: Sink, D: Disk, G: Guarding + Drop>(
-    alloc: Global,
+    task: &Task<'_>,
     store: &mut Store,
     disk: &mut D,
     inputs: &mut I,
-    schedule: &[u8],
-    files: &[String],
     guards: Vec<G>,
     out: &mut O,
 ) -> Received
     requires idle { IsIdle (D.len disk.old) store.old }
-    requires schedule { ArePlaces (length files.now) schedule.now }
-    requires guards { length guards.items ≡ length files.now }
+    requires schedule { ArePlaces (length task.now.files.now) task.now.schedule.now }
+    requires guards { length guards.items ≡ length task.now.files.now }
     ensures same { I.told inputs.new ≡ I.told inputs.old }
     ensures limit { store.new.log.limit ≡ store.old.log.limit }
     ensures idle { IdleAt result (D.len disk.new) store.new }
     ensures interleaved { (base : model_store.Store ℕ) → HaveSameShape store.old.core base →
         (all : List model_guards.Guard) (shares : List ℕ) →
         map G.kept guards.items ≡ shared all shares →
-        IfAllTold (I.told inputs.old) (map string_bytes files.now)
+        IfAllTold (I.told inputs.old) (map string_bytes task.now.files.now)
         (λ files. Wrote (O.taken out.old) (O.taken out.new) (λ written.
-        LeavesMore D.tells D.seen D.pending disk.old disk.new store.old store.new result
-        (AreDone store.old.log.limit store.old.log.gate base (places_of schedule.now) files
-        all shares result store.new.core written)
-        × AreDone store.old.log.limit store.old.log.gate base (places_of schedule.now) files
-        all shares result store.new.core written (λ groups. Unit {0}))) }
+        LeavesMore D.tells (shown D.Disk disk.old store.old) (shown D.Disk disk.new store.new)
+        result (AreDone store.old.log.limit store.old.log.gate base
+        (places_of task.now.schedule.now) files all shares result store.new.core written)
+        × AreDone store.old.log.limit store.old.log.gate base
+        (places_of task.now.schedule.now) files all shares result store.new.core written
+        (λ groups. Unit {0}))) }
     ensures any_moment { D.tells → (header : Header) (groups : List Group) →
         Holds header groups store.old (D.seen disk.old) (D.pending disk.old) →
         (base : model_store.Store ℕ) → HaveSameShape store.old.core base →
         (all : List model_guards.Guard) (shares : List ℕ) →
         map G.kept guards.items ≡ shared all shares →
-        IfAllTold (I.told inputs.old) (map string_bytes files.now)
+        IfAllTold (I.told inputs.old) (map string_bytes task.now.files.now)
         (λ files. LeavesOnly D.moment D.left_since disk.old disk.new (HasFront header groups
-        (turn_groups (turns_of base (places_of schedule.now) (files_read 1 files)
+        (turn_groups (turns_of base (places_of task.now.schedule.now) (files_read 1 files)
         all shares).events))) }
-    ensures cause { Caused (I.faults inputs.old) (I.faults inputs.new)
-        (O.faults out.old) (O.faults out.new) (D.faults disk.old) (D.faults disk.new) result }
+    ensures cause { Caused
+        (fault_counts (I.faults inputs.old) (O.faults out.old) (D.faults disk.old))
+        (fault_counts (I.faults inputs.new) (O.faults out.new) (D.faults disk.new)) result }
     ensures later { D.faults disk.old ≤ D.faults disk.new }
     ensures steady { SteadyIfReceived (I.faults inputs.old) (I.faults inputs.new) result }
     ensures ends_steady { SteadyIfReceived (I.ends inputs.old) (I.ends inputs.new) result }
@@ -73,11 +73,11 @@ pub fn interleave<I: Inputs, O: Sink, D: Disk, G: Guarding + Drop>(
     ensures disk_steady { SteadyIfReceived (D.faults disk.old) (D.faults disk.new) result }
 {
     let _count = store.core().catalog().len();
-    let Ok(mut sessions) = new_sessions(alloc, files, guards) else {
+    let Ok(mut sessions) = new_sessions(task.alloc, task.files, guards) else {
         return Received::Files(Outcome::NoMemory);
     };
     let all = sessions.as_mut_slice();
-    match take_turns(alloc, store, disk, inputs, schedule, all, out) {
+    match take_turns(task, store, disk, inputs, all, out) {
         Ok(refused) => ended_as(refused),
         Err(why) => why,
     }

@@ -1,6 +1,7 @@
 // What one command does that a session reads.
 ghost use Rattle.std.specs.Prelude.{◌≡◌, ◌≤◌, ◌++◌, ℕ, List, [], Option, None, Some, true, OnOk, IfErr};
 ghost use Rattle.sx_base.specs.Causes.{Steady};
+ghost use Rattle.sx_base.specs.Later.{OutputLater};
 ghost use Rattle.send_model.specs.Counts.{is_end};
 ghost use Rattle.send_model.specs.Spelling.{IsSpellable};
 ghost use Rattle.send_model.specs.Reading.{is_version};
@@ -12,17 +13,17 @@ ghost use Rattle.send_commands.specs.Meaning.{meaning_of};
 ghost use Rattle.clone_resolve.specs.Heads.{head_meant};
 ghost use Rattle.cmd_reader.specs.Next.{item_of};
 ghost use Rattle.store_journal.specs.Shown.{IsIdle};
+ghost use Rattle.receiver.specs.Answers.{fault_counts};
 ghost use Rattle.turn_sessions.specs.Standing.{Blank, blank_cells, AreParts, AreHeld};
 ghost use Rattle.turn_sessions.specs.Doing.{ErrCaused, IdleSays, IsItemStop};
 ghost use Rattle.turn_sessions.specs.Turning.{HasVersionOf, IfOkNone, ItemSays, LookSays, events_at, step_at};
 
 use crate::part::OpenPart;
 use crate::parting::{begin, close, edit};
+use crate::task::FileItem;
 use clone_resolve::{Head, head_of};
-use cmd_reader::Item;
 use receiver::{Guarding, Received};
 use send_commands::Command;
-use std::alloc::Global;
 use store_journal::Store;
 use sx_base::{Disk, Refusal, Sink};
 
@@ -36,131 +37,130 @@ fn ends(command: &Command) -> bool
 
 // The next command of a session: its guards look at it, and it is done. None where it is taken.
 pub(crate) fn take_item<D: Disk, O: Sink, G: Guarding + Drop>(
-    alloc: Global,
+    read: &FileItem<'_>,
     store: &mut Store,
     disk: &mut D,
     guards: &mut G,
     current: &mut Option<OpenPart>,
     out: &mut O,
-    file: u64,
-    item: &Item,
 ) -> Result<Option<Refusal>, Received>
     requires idle { IsIdle (D.len disk.old) store.old }
     requires held { (p : Option (Receiving Blank)) × AreParts p current.old
         × AreHeld (blank store.old.core) p }
-    requires spellable { IsSpellable item.now.version (meaning_of item.now.command) }
-    requires version { is_version item.now.version ≡ true }
-    requires same { HasVersionOf item.now.version current.old }
+    requires spellable { IsSpellable read.now.item.now.version
+        (meaning_of read.now.item.now.command) }
+    requires version { is_version read.now.item.now.version ≡ true }
+    requires same { HasVersionOf read.now.item.now.version current.old }
     ensures looked { G.kept guards.new
-        ≡ looked (G.kept guards.old) (meaning_of item.now.command) }
+        ≡ looked (G.kept guards.old) (meaning_of read.now.item.now.command) }
     ensures taken { (p : Option (Receiving Blank)) → AreParts p current.old →
         AreHeld (blank store.old.core) p →
         LookSays D.tells D.moment D.left_since D.seen D.pending disk.old disk.new
-        store.old store.new (O.taken out.old) (O.taken out.new) (item_of file item.now) p
-        (guarded (G.kept guards.old) (meaning_of item.now.command)) current.new result }
-    ensures closed { is_end (meaning_of item.now.command) ≡ true →
+        store.old store.new (O.taken out.old) (O.taken out.new)
+        (item_of read.now.file read.now.item.now) p
+        (guarded (G.kept guards.old) (meaning_of read.now.item.now.command)) current.new result }
+    ensures closed { is_end (meaning_of read.now.item.now.command) ≡ true →
         IfOkNone result (current.new ≡ None) }
-    ensures version { OnOk result (HasVersionOf item.now.version current.new) }
+    ensures version { OnOk result (HasVersionOf read.now.item.now.version current.new) }
     ensures limit { store.new.log.limit ≡ store.old.log.limit }
     ensures idle { IdleSays result (D.len disk.new) store.new }
     ensures stops { IfErr result IsItemStop }
-    ensures cause { ErrCaused 0 0 (O.faults out.old) (O.faults out.new)
-        (D.faults disk.old) (D.faults disk.new) result }
+    ensures cause { ErrCaused (fault_counts 0 (O.faults out.old) (D.faults disk.old))
+        (fault_counts 0 (O.faults out.new) (D.faults disk.new)) result }
     ensures later { D.faults disk.old ≤ D.faults disk.new }
-    ensures out_later { O.faults out.old ≤ O.faults out.new }
     ensures steady { Steady (D.faults disk.old) (D.faults disk.new) result }
-    ensures out_steady { Steady (O.faults out.old) (O.faults out.new) result }
+    ensures out { OutputLater O.Sink out.old out.new result }
 {
-    if let Some(refusal) = guards.look(&item.command) {
+    if let Some(refusal) = guards.look(&read.item.command) {
         return Ok(Some(refusal));
     }
-    do_item(alloc, store, disk, current, out, file, item)
+    do_item(read, store, disk, current, out)
 }
 
 // Does a command that no guard refuses.
 fn do_item<D: Disk, O: Sink>(
-    alloc: Global,
+    read: &FileItem<'_>,
     store: &mut Store,
     disk: &mut D,
     current: &mut Option<OpenPart>,
     out: &mut O,
-    file: u64,
-    item: &Item,
 ) -> Result<Option<Refusal>, Received>
     requires idle { IsIdle (D.len disk.old) store.old }
     requires held { (p : Option (Receiving Blank)) × AreParts p current.old
         × AreHeld (blank store.old.core) p }
-    requires spellable { IsSpellable item.now.version (meaning_of item.now.command) }
-    requires version { is_version item.now.version ≡ true }
-    requires same { HasVersionOf item.now.version current.old }
+    requires spellable { IsSpellable read.now.item.now.version
+        (meaning_of read.now.item.now.command) }
+    requires version { is_version read.now.item.now.version ≡ true }
+    requires same { HasVersionOf read.now.item.now.version current.old }
     ensures done { (p : Option (Receiving Blank)) → AreParts p current.old →
         AreHeld (blank store.old.core) p →
         ItemSays D.tells D.moment D.left_since D.seen D.pending disk.old disk.new
-        store.old store.new (O.taken out.old) (O.taken out.new) (item_of file item.now) p
-        (step_at (blank store.old.core) (item_of file item.now) p)
-        (events_at (blank store.old.core) (item_of file item.now) p) current.new result }
-    ensures closed { is_end (meaning_of item.now.command) ≡ true →
+        store.old store.new (O.taken out.old) (O.taken out.new)
+        (item_of read.now.file read.now.item.now) p
+        (step_at (blank store.old.core) (item_of read.now.file read.now.item.now) p)
+        (events_at (blank store.old.core) (item_of read.now.file read.now.item.now) p) current.new
+        result }
+    ensures closed { is_end (meaning_of read.now.item.now.command) ≡ true →
         IfOkNone result (current.new ≡ None) }
-    ensures version { OnOk result (HasVersionOf item.now.version current.new) }
+    ensures version { OnOk result (HasVersionOf read.now.item.now.version current.new) }
     ensures limit { store.new.log.limit ≡ store.old.log.limit }
     ensures idle { IdleSays result (D.len disk.new) store.new }
     ensures stops { IfErr result IsItemStop }
-    ensures cause { ErrCaused 0 0 (O.faults out.old) (O.faults out.new)
-        (D.faults disk.old) (D.faults disk.new) result }
+    ensures cause { ErrCaused (fault_counts 0 (O.faults out.old) (D.faults disk.old))
+        (fault_counts 0 (O.faults out.new) (D.faults disk.new)) result }
     ensures later { D.faults disk.old ≤ D.faults disk.new }
-    ensures out_later { O.faults out.old ≤ O.faults out.new }
     ensures steady { Steady (D.faults disk.old) (D.faults disk.new) result }
-    ensures out_steady { Steady (O.faults out.old) (O.faults out.new) result }
+    ensures out { OutputLater O.Sink out.old out.new result }
 {
-    if ends(&item.command) {
-        return match close(alloc, store, disk, current, out) {
+    if ends(&read.item.command) {
+        return match close(read.alloc, store, disk, current, out) {
             Ok(()) => Ok(None),
             Err(why) => Err(why),
         };
     }
-    match head_of(&item.command) {
-        None => edit(store, current, file, item),
-        Some(head) => enter(alloc, store, disk, current, out, &head, file, item),
+    match head_of(&read.item.command) {
+        None => edit(read, store, current),
+        Some(head) => enter(read, &head, store, disk, current, out),
     }
 }
 
 // Completes the part before a head, and begins the one of the head.
 fn enter<D: Disk, O: Sink>(
-    alloc: Global,
+    read: &FileItem<'_>,
+    head: &Head<'_>,
     store: &mut Store,
     disk: &mut D,
     current: &mut Option<OpenPart>,
     out: &mut O,
-    head: &Head<'_>,
-    file: u64,
-    item: &Item,
 ) -> Result<Option<Refusal>, Received>
     requires idle { IsIdle (D.len disk.old) store.old }
     requires held { (p : Option (Receiving Blank)) × AreParts p current.old
         × AreHeld (blank store.old.core) p }
-    requires head { head_of (meaning_of item.now.command) ≡ Some (head_meant head.now) }
-    requires spellable { IsSpellable item.now.version (meaning_of item.now.command) }
-    requires version { is_version item.now.version ≡ true }
+    requires head { head_of (meaning_of read.now.item.now.command) ≡ Some (head_meant head.now) }
+    requires spellable { IsSpellable read.now.item.now.version
+        (meaning_of read.now.item.now.command) }
+    requires version { is_version read.now.item.now.version ≡ true }
     ensures done { (p : Option (Receiving Blank)) → AreParts p current.old →
         AreHeld (blank store.old.core) p →
         ItemSays D.tells D.moment D.left_since D.seen D.pending disk.old disk.new
-        store.old store.new (O.taken out.old) (O.taken out.new) (item_of file item.now) p
-        (step_at (blank store.old.core) (item_of file item.now) p)
-        (events_at (blank store.old.core) (item_of file item.now) p) current.new result }
-    ensures version { OnOk result (HasVersionOf item.now.version current.new) }
+        store.old store.new (O.taken out.old) (O.taken out.new)
+        (item_of read.now.file read.now.item.now) p
+        (step_at (blank store.old.core) (item_of read.now.file read.now.item.now) p)
+        (events_at (blank store.old.core) (item_of read.now.file read.now.item.now) p) current.new
+        result }
+    ensures version { OnOk result (HasVersionOf read.now.item.now.version current.new) }
     ensures limit { store.new.log.limit ≡ store.old.log.limit }
     ensures idle { IdleSays result (D.len disk.new) store.new }
     ensures stops { IfErr result IsItemStop }
-    ensures cause { ErrCaused 0 0 (O.faults out.old) (O.faults out.new)
-        (D.faults disk.old) (D.faults disk.new) result }
+    ensures cause { ErrCaused (fault_counts 0 (O.faults out.old) (D.faults disk.old))
+        (fault_counts 0 (O.faults out.new) (D.faults disk.new)) result }
     ensures later { D.faults disk.old ≤ D.faults disk.new }
-    ensures out_later { O.faults out.old ≤ O.faults out.new }
     ensures steady { Steady (D.faults disk.old) (D.faults disk.new) result }
-    ensures out_steady { Steady (O.faults out.old) (O.faults out.new) result }
+    ensures out { OutputLater O.Sink out.old out.new result }
 {
-    match close(alloc, store, disk, current, out) {
+    match close(read.alloc, store, disk, current, out) {
         Ok(()) => {}
         Err(why) => return Err(why),
     }
-    begin(alloc, store, disk, current, head, file, item)
+    begin(read, head, store, disk, current)
 }

@@ -8,8 +8,10 @@ mod items;
 mod part;
 mod parting;
 mod session;
+mod task;
 mod turning;
 mod word;
 
 pub use interleaving::interleave;
+pub use task::Task;
 pub use word::interleave_store;

@@ -3,6 +3,7 @@ ghost use Rattle.std.specs.Prelude.{◌≡◌, ◌≤◌, ◌++◌, ◌∷◌, �
 ghost use Rattle.std.specs.Option.{option_map};
 ghost use Rattle.sx_base.specs.Causes.{Rose, Steady};
 ghost use Rattle.sx_base.specs.Crash.{LeavesOnly};
+ghost use Rattle.sx_base.specs.Later.{OutputLater};
 ghost use Rattle.send_model.specs.Command as meant;
 ghost use Rattle.send_model.specs.Spelling.{IsSpellable};
 ghost use Rattle.send_model.specs.Reading.{is_version, CommandDue};
@@ -20,7 +21,7 @@ ghost use Rattle.store_groups.specs.Stopping.{IfLog, IsNoRefusal};
 ghost use Rattle.store_journal.specs.Filling.{first_full, IsStopOf};
 ghost use Rattle.store_journal.specs.Shown.{IsIdle};
 ghost use Rattle.store_journal.specs.Holding.{new_group, HasThese, HasOneMore, Holds};
-ghost use Rattle.receiver.specs.Answers.{ended_log, IsUsualLog};
+ghost use Rattle.receiver.specs.Answers.{fault_counts, ended_log, IsUsualLog};
 ghost use Rattle.turn_sessions.specs.Edits.{AreFrames, IsCompletedBy, body_asks, body_end, IfStopped, IfLogFull};
 ghost use Rattle.turn_sessions.specs.Standing.{Blank, blank_cells, AreParts, AreHeld};
 ghost use Rattle.turn_sessions.specs.Doing.{ErrCaused, IdleSays, IsNoMemory, IsItemStop, stopped_as};
@@ -28,8 +29,8 @@ ghost use Rattle.turn_sessions.specs.Turning.{CloseSays, ItemSays, EditSays, Has
 
 use crate::frames::write_frames;
 use crate::part::{OpenPart, line_of};
+use crate::task::FileItem;
 use clone_resolve::Head;
-use cmd_reader::Item;
 use group_log::LogStop;
 use receiver::Received;
 use send_commands::encode;
@@ -151,12 +152,11 @@ pub(crate) fn close<D: Disk, O: Sink>(
     ensures limit { store.new.log.limit ≡ store.old.log.limit }
     ensures idle { IdleSays result (D.len disk.new) store.new }
     ensures stops { IfErr result IsItemStop }
-    ensures cause { ErrCaused 0 0 (O.faults out.old) (O.faults out.new)
-        (D.faults disk.old) (D.faults disk.new) result }
+    ensures cause { ErrCaused (fault_counts 0 (O.faults out.old) (D.faults disk.old))
+        (fault_counts 0 (O.faults out.new) (D.faults disk.new)) result }
     ensures later { D.faults disk.old ≤ D.faults disk.new }
-    ensures out_later { O.faults out.old ≤ O.faults out.new }
     ensures steady { Steady (D.faults disk.old) (D.faults disk.new) result }
-    ensures out_steady { Steady (O.faults out.old) (O.faults out.new) result }
+    ensures out { OutputLater O.Sink out.old out.new result }
 {
     let Some(open) = current.take() else {
         return Ok(());
@@ -186,44 +186,45 @@ pub(crate) fn close<D: Disk, O: Sink>(
 
 // Begins the part of a head, or gives the refusal of it. No part is open before it.
 pub(crate) fn begin<D: Disk>(
-    alloc: Global,
+    read: &FileItem<'_>,
+    head: &Head<'_>,
     store: &mut Store,
     disk: &mut D,
     current: &mut Option<OpenPart>,
-    head: &Head<'_>,
-    file: u64,
-    item: &Item,
 ) -> Result<Option<Refusal>, Received>
     requires idle { IsIdle (D.len disk.old) store.old }
     requires none { current.old ≡ None }
-    requires head { head_of (meaning_of item.now.command) ≡ Some (head_meant head.now) }
-    requires spellable { IsSpellable item.now.version (meaning_of item.now.command) }
-    requires version { is_version item.now.version ≡ true }
+    requires head { head_of (meaning_of read.now.item.now.command) ≡ Some (head_meant head.now) }
+    requires spellable { IsSpellable read.now.item.now.version
+        (meaning_of read.now.item.now.command) }
+    requires version { is_version read.now.item.now.version ≡ true }
     ensures begun { (written : Option (List ℕ)) →
         ItemSays D.tells D.moment D.left_since D.seen D.pending disk.old disk.new
-        store.old store.new written written (item_of file item.now) None
+        store.old store.new written written (item_of read.now.file read.now.item.now) None
         (entered (blank store.old.core) (head_meant head.now)
         (begun (blank store.old.core) (head_meant head.now)))
-        (beginnings (item_of file item.now) (entered (blank store.old.core) (head_meant head.now)
+        (beginnings (item_of read.now.file read.now.item.now)
+        (entered (blank store.old.core) (head_meant head.now)
         (begun (blank store.old.core) (head_meant head.now))).refusal) current.new result }
-    ensures version { OnOk result (HasVersionOf item.now.version current.new) }
+    ensures version { OnOk result (HasVersionOf read.now.item.now.version current.new) }
     ensures limit { store.new.log.limit ≡ store.old.log.limit }
     ensures idle { IdleSays result (D.len disk.new) store.new }
     ensures stops { IfErr result IsItemStop }
-    ensures cause { ErrCaused 0 0 0 0 (D.faults disk.old) (D.faults disk.new) result }
+    ensures cause { ErrCaused (fault_counts 0 0 (D.faults disk.old))
+        (fault_counts 0 0 (D.faults disk.new)) result }
     ensures later { D.faults disk.old ≤ D.faults disk.new }
     ensures steady { Steady (D.faults disk.old) (D.faults disk.new) result }
 {
-    let Ok(line) = line_of(alloc, head) else {
+    let Ok(line) = line_of(read.alloc, head) else {
         return Err(Received::Files(Outcome::NoMemory));
     };
-    match store.mark(disk, &item.command) {
+    match store.mark(disk, &read.item.command) {
         Ok(part) => {
             *current = Some(OpenPart {
                 part,
                 line,
-                version: item.version,
-                frames: Blob::new(alloc),
+                version: read.item.version,
+                frames: Blob::new(read.alloc),
             });
             Ok(None)
         }
@@ -235,19 +236,20 @@ pub(crate) fn begin<D: Disk>(
 
 // Edits the open part, if there is one, and keeps the frame of the edit; or gives its refusal.
 pub(crate) fn edit(
+    read: &FileItem<'_>,
     store: &Store,
     current: &mut Option<OpenPart>,
-    file: u64,
-    item: &Item,
 ) -> Result<Option<Refusal>, Received>
-    requires edit { is_edit (meaning_of item.now.command) ≡ true }
-    requires spellable { IsSpellable item.now.version (meaning_of item.now.command) }
-    requires version { HasVersionOf item.now.version current.old }
+    requires edit { is_edit (meaning_of read.now.item.now.command) ≡ true }
+    requires spellable { IsSpellable read.now.item.now.version
+        (meaning_of read.now.item.now.command) }
+    requires version { HasVersionOf read.now.item.now.version current.old }
     ensures edited { (p : Option (Receiving Blank)) → AreParts p current.old →
-        EditSays (item_of file item.now) p (step_edit tt (blank_cells (item_of file item.now))
+        EditSays (item_of read.now.file read.now.item.now) p
+        (step_edit tt (blank_cells (item_of read.now.file read.now.item.now))
         (record { store = blank store.now.core; part = part_of p })
-        (meaning_of item.now.command)) current.new result }
-    ensures version { OnOk result (HasVersionOf item.now.version current.new) }
+        (meaning_of read.now.item.now.command)) current.new result }
+    ensures version { OnOk result (HasVersionOf read.now.item.now.version current.new) }
     ensures memory { IfErr result IsNoMemory }
     ensures stops { IfErr result IsItemStop }
 {
@@ -260,12 +262,15 @@ pub(crate) fn edit(
         version,
         mut frames,
     } = open;
-    match store.core().edit(&mut part, &item.command, Place { at: 0 }) {
+    match store
+        .core()
+        .edit(&mut part, &read.item.command, Place { at: 0 })
+    {
         Ok(()) => {}
         Err(Stop::Refused(refusal)) => return Ok(Some(refusal)),
         Err(Stop::NoMemory) => return Err(Received::Files(Outcome::NoMemory)),
     }
-    let Ok(()) = encode(&item.command, version, &mut frames) else {
+    let Ok(()) = encode(&read.item.command, version, &mut frames) else {
         return Err(Received::Files(Outcome::NoMemory));
     };
     *current = Some(OpenPart {

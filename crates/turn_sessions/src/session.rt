@@ -2,6 +2,7 @@
 ghost use Rattle.std.specs.Prelude.{◌≡◌, ◌≤◌, ◌<◌, ℕ, List, ◌∷◌, Option, None, Some, Ok, false, true, IfOk, IfErr, OnOk};
 ghost use Rattle.std.specs.Option.{option_map};
 ghost use Rattle.sx_base.specs.Causes.{Steady};
+ghost use Rattle.sx_base.specs.Later.{InputsLater, OutputLater};
 ghost use Rattle.sx_base.specs.Refusals.{refusal_of, verdict_meant};
 ghost use Rattle.send_model.specs.Counts.{is_end};
 ghost use Rattle.send_model.specs.Lengths.{limit};
@@ -17,6 +18,7 @@ ghost use Rattle.cmd_reader.specs.Places.{IfTold};
 ghost use Rattle.cmd_reader.specs.Left.{at_start, HasAhead};
 ghost use Rattle.cmd_reader.specs.Next.{item_of};
 ghost use Rattle.store_journal.specs.Shown.{IsIdle};
+ghost use Rattle.receiver.specs.Answers.{fault_counts};
 ghost use Rattle.turn_sessions.specs.Standing.{Blank, blank_cells, AreHeld, IsSession};
 ghost use Rattle.turn_sessions.specs.Doing.{ErrCaused, IdleSays};
 ghost use Rattle.turn_sessions.specs.Reading.{Command};
@@ -24,6 +26,7 @@ ghost use Rattle.turn_sessions.specs.Turning.{HasVersion, HasVersionOf, IfTooLon
 
 use crate::items::take_item;
 use crate::part::OpenPart;
+use crate::task::FileItem;
 use cmd_reader::{CmdReader, Item, ReadStop};
 use receiver::{Guarding, Received};
 use std::alloc::{AllocError, Global};
@@ -93,7 +96,7 @@ pub(crate) fn take_turn<I: Inputs, O: Sink, D: Disk, G: Guarding + Drop>(
     requires same { HasVersion session.old.reader session.old.current }
     requires held { (s : meant.Session Blank) × IsSession G.kept s session.old
         × AreHeld (blank store.old.core) (held_of s) }
-    ensures told { I.told inputs.new ≡ I.told inputs.old }
+    ensures inputs { InputsLater I.Inputs inputs.old inputs.new result }
     ensures file { session.new.file ≡ session.old.file }
     ensures reader_file { session.new.reader.file ≡ session.old.reader.file }
     ensures reader_name { session.new.reader.name ≡ session.old.reader.name }
@@ -112,15 +115,12 @@ pub(crate) fn take_turn<I: Inputs, O: Sink, D: Disk, G: Guarding + Drop>(
     ensures kept { IfErr result (λ why. IfTooLong why (store.new ≡ store.old)) }
     ensures limit { store.new.log.limit ≡ store.old.log.limit }
     ensures idle { IdleSays result (D.len disk.new) store.new }
-    ensures cause { ErrCaused (I.faults inputs.old) (I.faults inputs.new)
-        (O.faults out.old) (O.faults out.new) (D.faults disk.old) (D.faults disk.new) result }
+    ensures cause { ErrCaused
+        (fault_counts (I.faults inputs.old) (O.faults out.old) (D.faults disk.old))
+        (fault_counts (I.faults inputs.new) (O.faults out.new) (D.faults disk.new)) result }
     ensures later { D.faults disk.old ≤ D.faults disk.new }
-    ensures in_later { I.faults inputs.old ≤ I.faults inputs.new }
-    ensures out_later { O.faults out.old ≤ O.faults out.new }
     ensures steady { Steady (D.faults disk.old) (D.faults disk.new) result }
-    ensures in_steady { Steady (I.faults inputs.old) (I.faults inputs.new) result }
-    ensures ends_steady { Steady (I.ends inputs.old) (I.ends inputs.new) result }
-    ensures out_steady { Steady (O.faults out.old) (O.faults out.new) result }
+    ensures out { OutputLater O.Sink out.old out.new result }
 {
     if session.is_over {
         return Ok(None);
@@ -177,22 +177,24 @@ fn do_turn<O: Sink, D: Disk, G: Guarding + Drop>(
         (Command (item_of session.old.file item.now)) session.old) }
     ensures limit { store.new.log.limit ≡ store.old.log.limit }
     ensures idle { IdleSays result (D.len disk.new) store.new }
-    ensures cause { ErrCaused 0 0 (O.faults out.old) (O.faults out.new)
-        (D.faults disk.old) (D.faults disk.new) result }
+    ensures cause { ErrCaused (fault_counts 0 (O.faults out.old) (D.faults disk.old))
+        (fault_counts 0 (O.faults out.new) (D.faults disk.new)) result }
     ensures later { D.faults disk.old ≤ D.faults disk.new }
-    ensures out_later { O.faults out.old ≤ O.faults out.new }
     ensures steady { Steady (D.faults disk.old) (D.faults disk.new) result }
-    ensures out_steady { Steady (O.faults out.old) (O.faults out.new) result }
+    ensures out { OutputLater O.Sink out.old out.new result }
 {
-    match take_item(
+    let read = FileItem {
         alloc,
+        file: session.file,
+        item,
+    };
+    match take_item(
+        &read,
         store,
         disk,
         &mut session.guards,
         &mut session.current,
         out,
-        session.file,
-        item,
     ) {
         Ok(None) => Ok(None),
         Ok(Some(refusal)) => {

@@ -4,6 +4,7 @@ ghost use Rattle.std.specs.Option.{option_map};
 ghost use Rattle.std.specs.String.{string_bytes};
 ghost use Rattle.sx_base.specs.Calls.{IfAllTold};
 ghost use Rattle.sx_base.specs.Causes.{Steady};
+ghost use Rattle.sx_base.specs.Later.{InputsLater, OutputLater};
 ghost use Rattle.sx_base.specs.Refusals.{verdict_meant};
 ghost use Rattle.send_model.specs.Receive.{first_of};
 ghost use Rattle.store_model.specs.Turns as meant;
@@ -11,13 +12,14 @@ ghost use Rattle.store_model.specs.Turns.{Turns, after_turns, one_turn, to_the_e
 ghost use Rattle.turn_model.specs.TurnDues.{which_long, TurnsEnd};
 ghost use Rattle.auditor.specs.Following.{blank};
 ghost use Rattle.store_journal.specs.Shown.{StoreState, IsIdle};
-ghost use Rattle.receiver.specs.Answers.{IsEnd};
+ghost use Rattle.receiver.specs.Answers.{fault_counts, IsEnd};
 ghost use Rattle.turn_sessions.specs.Standing.{Blank, blank_cells};
 ghost use Rattle.turn_sessions.specs.Doing.{ErrCaused, IdleSays};
 ghost use Rattle.turn_sessions.specs.Ends.{ArePlaces, places_of};
 ghost use Rattle.turn_sessions.specs.Going.{AreNew, AreReading, AreShorter, AreTaking, IsGoing, GoingSays, FewerLeft, HasFewer};
 
 use crate::session::{Session, new_session, take_turn};
+use crate::task::{Task, Turn, Turned};
 use receiver::{Guarding, Received};
 use std::alloc::{AllocError, Global};
 use store_journal::Store;
@@ -59,73 +61,74 @@ fn first_of(refused: Option<Verdict>, now: Option<Verdict>) -> Option<Verdict>
 
 // A turn of the session at a place. The verdict is that of the session that was refused first.
 fn turn_at<I: Inputs, O: Sink, D: Disk, G: Guarding + Drop>(
-    alloc: Global,
+    turn: &Turn,
     store: &mut Store,
     disk: &mut D,
     inputs: &mut I,
     sessions: &mut [Session<G>],
-    place: usize,
-    refused: Option<Verdict>,
     out: &mut O,
 ) -> Result<Option<Verdict>, Received>
     requires idle { IsIdle (D.len disk.old) store.old }
-    requires within { place < length sessions.old }
+    requires within { turn.now.place < length sessions.old }
     requires reading { (names : List (List ℕ))
         × AreReading (I.told inputs.old) 1 names sessions.old }
     requires taking { (w : Turns Blank) × AreTaking G.kept sessions.old (blank store.old.core) w }
-    ensures told { I.told inputs.new ≡ I.told inputs.old }
+    ensures inputs { InputsLater I.Inputs inputs.old inputs.new result }
     ensures count { length sessions.new ≡ length sessions.old }
     ensures reading { (names : List (List ℕ)) →
         AreReading (I.told inputs.old) 1 names sessions.old →
         OnOk result (AreReading (I.told inputs.new) 1 names sessions.new) }
     ensures taking { OnOk result ((w : Turns Blank)
         × AreTaking G.kept sessions.new (blank store.new.core) w) }
-    ensures fewer { OnOk result (FewerLeft place sessions.old sessions.new) }
+    ensures fewer { OnOk result (FewerLeft turn.now.place sessions.old sessions.new) }
     ensures going { (start : D) (was : StoreState) (begun : Option (List ℕ))
         (names : List (List ℕ)) (w : Turns Blank) (end : TurnsEnd) (last : Turns Blank)
         (rest : List ℕ) →
         AreReading (I.told inputs.old) 1 names sessions.old → IfAllTold (I.told inputs.old) names
         (λ files. IsGoing D.tells D.moment D.left_since D.seen D.pending start disk.old
         was store.old begun (O.taken out.old) G.kept (which_long 1 files) files w end last
-        (place ∷ rest) refused sessions.old →
+        (turn.now.place ∷ rest) turn.now.refused sessions.old →
         GoingSays D.tells D.moment D.left_since D.seen D.pending start disk.new
         was store.new begun (O.taken out.new) G.kept (which_long 1 files) files
-        (one_turn tt blank_cells w place) end last rest sessions.new result) }
+        (one_turn tt blank_cells w turn.now.place) end last rest sessions.new result) }
     ensures limit { store.new.log.limit ≡ store.old.log.limit }
     ensures idle { IdleSays result (D.len disk.new) store.new }
     ensures stops { IfErr result IsEnd }
-    ensures cause { ErrCaused (I.faults inputs.old) (I.faults inputs.new)
-        (O.faults out.old) (O.faults out.new) (D.faults disk.old) (D.faults disk.new) result }
+    ensures cause { ErrCaused
+        (fault_counts (I.faults inputs.old) (O.faults out.old) (D.faults disk.old))
+        (fault_counts (I.faults inputs.new) (O.faults out.new) (D.faults disk.new)) result }
     ensures later { D.faults disk.old ≤ D.faults disk.new }
-    ensures in_later { I.faults inputs.old ≤ I.faults inputs.new }
-    ensures out_later { O.faults out.old ≤ O.faults out.new }
     ensures steady { Steady (D.faults disk.old) (D.faults disk.new) result }
-    ensures in_steady { Steady (I.faults inputs.old) (I.faults inputs.new) result }
-    ensures ends_steady { Steady (I.ends inputs.old) (I.ends inputs.new) result }
-    ensures out_steady { Steady (O.faults out.old) (O.faults out.new) result }
+    ensures out { OutputLater O.Sink out.old out.new result }
 {
-    match take_turn(alloc, store, disk, inputs, &mut sessions[place], out) {
-        Ok(now) => Ok(first_of(refused, now)),
+    match take_turn(
+        turn.alloc,
+        store,
+        disk,
+        inputs,
+        &mut sessions[turn.place],
+        out,
+    ) {
+        Ok(now) => Ok(first_of(turn.refused, now)),
         Err(why) => Err(why),
     }
 }
 
 // A turn for each of these digits, of the session of that number.
 fn take_scheduled<I: Inputs, O: Sink, D: Disk, G: Guarding + Drop>(
-    alloc: Global,
+    task: &Task<'_>,
     store: &mut Store,
     disk: &mut D,
     inputs: &mut I,
-    schedule: &[u8],
     sessions: &mut [Session<G>],
     out: &mut O,
 ) -> Result<Option<Verdict>, Received>
     requires idle { IsIdle (D.len disk.old) store.old }
-    requires places { ArePlaces (length sessions.old) schedule.now }
+    requires places { ArePlaces (length sessions.old) task.now.schedule.now }
     requires reading { (names : List (List ℕ))
         × AreReading (I.told inputs.old) 1 names sessions.old }
     requires taking { (w : Turns Blank) × AreTaking G.kept sessions.old (blank store.old.core) w }
-    ensures told { I.told inputs.new ≡ I.told inputs.old }
+    ensures inputs { InputsLater I.Inputs inputs.old inputs.new result }
     ensures count { length sessions.new ≡ length sessions.old }
     ensures reading { (names : List (List ℕ)) →
         AreReading (I.told inputs.old) 1 names sessions.old →
@@ -138,28 +141,30 @@ fn take_scheduled<I: Inputs, O: Sink, D: Disk, G: Guarding + Drop>(
         AreReading (I.told inputs.old) 1 names sessions.old → IfAllTold (I.told inputs.old) names
         (λ files. IsGoing D.tells D.moment D.left_since D.seen D.pending start disk.old
         was store.old begun (O.taken out.old) G.kept (which_long 1 files) files w end last
-        (places_of schedule.now ++ rest) None sessions.old →
+        (places_of task.now.schedule.now ++ rest) None sessions.old →
         GoingSays D.tells D.moment D.left_since D.seen D.pending start disk.new
         was store.new begun (O.taken out.new) G.kept (which_long 1 files) files
-        (after_turns tt blank_cells w (places_of schedule.now)) end last rest sessions.new
+        (after_turns tt blank_cells w (places_of task.now.schedule.now)) end last rest sessions.new
         result) }
     ensures limit { store.new.log.limit ≡ store.old.log.limit }
     ensures idle { IdleSays result (D.len disk.new) store.new }
     ensures stops { IfErr result IsEnd }
-    ensures cause { ErrCaused (I.faults inputs.old) (I.faults inputs.new)
-        (O.faults out.old) (O.faults out.new) (D.faults disk.old) (D.faults disk.new) result }
+    ensures cause { ErrCaused
+        (fault_counts (I.faults inputs.old) (O.faults out.old) (D.faults disk.old))
+        (fault_counts (I.faults inputs.new) (O.faults out.new) (D.faults disk.new)) result }
     ensures later { D.faults disk.old ≤ D.faults disk.new }
-    ensures in_later { I.faults inputs.old ≤ I.faults inputs.new }
-    ensures out_later { O.faults out.old ≤ O.faults out.new }
     ensures steady { Steady (D.faults disk.old) (D.faults disk.new) result }
-    ensures in_steady { Steady (I.faults inputs.old) (I.faults inputs.new) result }
-    ensures ends_steady { Steady (I.ends inputs.old) (I.ends inputs.new) result }
-    ensures out_steady { Steady (O.faults out.old) (O.faults out.new) result }
+    ensures out { OutputLater O.Sink out.old out.new result }
 {
     let mut refused = None;
-    for i in 0..schedule.len() {
-        let place = (schedule[i] - b'0') as usize;
-        match turn_at(alloc, store, disk, inputs, sessions, place, refused, out) {
+    for i in 0..task.schedule.len() {
+        let place = (task.schedule[i] - b'0') as usize;
+        let turn = Turn {
+            alloc: task.alloc,
+            place,
+            refused,
+        };
+        match turn_at(&turn, store, disk, inputs, sessions, out) {
             Ok(now) => refused = now,
             Err(why) => return Err(why),
         }
@@ -169,20 +174,19 @@ fn take_scheduled<I: Inputs, O: Sink, D: Disk, G: Guarding + Drop>(
 
 // All turns: those of these digits, and then each session goes on to its end.
 pub(crate) fn take_turns<I: Inputs, O: Sink, D: Disk, G: Guarding + Drop>(
-    alloc: Global,
+    task: &Task<'_>,
     store: &mut Store,
     disk: &mut D,
     inputs: &mut I,
-    schedule: &[u8],
     sessions: &mut [Session<G>],
     out: &mut O,
 ) -> Result<Option<Verdict>, Received>
     requires idle { IsIdle (D.len disk.old) store.old }
-    requires places { ArePlaces (length sessions.old) schedule.now }
+    requires places { ArePlaces (length sessions.old) task.now.schedule.now }
     requires reading { (names : List (List ℕ))
         × AreReading (I.told inputs.old) 1 names sessions.old }
     requires taking { (w : Turns Blank) × AreTaking G.kept sessions.old (blank store.old.core) w }
-    ensures told { I.told inputs.new ≡ I.told inputs.old }
+    ensures inputs { InputsLater I.Inputs inputs.old inputs.new result }
     ensures count { length sessions.new ≡ length sessions.old }
     ensures reading { (names : List (List ℕ)) →
         AreReading (I.told inputs.old) 1 names sessions.old →
@@ -196,37 +200,39 @@ pub(crate) fn take_turns<I: Inputs, O: Sink, D: Disk, G: Guarding + Drop>(
         AreReading (I.told inputs.old) 1 names sessions.old → IfAllTold (I.told inputs.old) names
         (λ files. IsGoing D.tells D.moment D.left_since D.seen D.pending start disk.old
         was store.old begun (O.taken out.old) G.kept (which_long 1 files) files w end last
-        (places_of schedule.now ++ to_the_end 0 at_first) None sessions.old →
+        (places_of task.now.schedule.now ++ to_the_end 0 at_first) None sessions.old →
         GoingSays D.tells D.moment D.left_since D.seen D.pending start disk.new
         was store.new begun (O.taken out.new) G.kept (which_long 1 files) files
-        (after_turns tt blank_cells (after_turns tt blank_cells w (places_of schedule.now))
+        (after_turns tt blank_cells (after_turns tt blank_cells w (places_of task.now.schedule.now))
         (to_the_end 0 at_first)) end last [] sessions.new result) }
     ensures limit { store.new.log.limit ≡ store.old.log.limit }
     ensures idle { IdleSays result (D.len disk.new) store.new }
     ensures stops { IfErr result IsEnd }
-    ensures cause { ErrCaused (I.faults inputs.old) (I.faults inputs.new)
-        (O.faults out.old) (O.faults out.new) (D.faults disk.old) (D.faults disk.new) result }
+    ensures cause { ErrCaused
+        (fault_counts (I.faults inputs.old) (O.faults out.old) (D.faults disk.old))
+        (fault_counts (I.faults inputs.new) (O.faults out.new) (D.faults disk.new)) result }
     ensures later { D.faults disk.old ≤ D.faults disk.new }
-    ensures in_later { I.faults inputs.old ≤ I.faults inputs.new }
-    ensures out_later { O.faults out.old ≤ O.faults out.new }
     ensures steady { Steady (D.faults disk.old) (D.faults disk.new) result }
-    ensures in_steady { Steady (I.faults inputs.old) (I.faults inputs.new) result }
-    ensures ends_steady { Steady (I.ends inputs.old) (I.ends inputs.new) result }
-    ensures out_steady { Steady (O.faults out.old) (O.faults out.new) result }
+    ensures out { OutputLater O.Sink out.old out.new result }
 {
-    match take_scheduled(alloc, store, disk, inputs, schedule, sessions, out) {
-        Ok(first) => take_rest(alloc, store, disk, inputs, first, sessions, out),
+    match take_scheduled(task, store, disk, inputs, sessions, out) {
+        Ok(refused) => {
+            let turned = Turned {
+                alloc: task.alloc,
+                refused,
+            };
+            take_rest(&turned, store, disk, inputs, sessions, out)
+        }
         Err(why) => Err(why),
     }
 }
 
 // Each session goes on to its end, the first one first.
 fn take_rest<I: Inputs, O: Sink, D: Disk, G: Guarding + Drop>(
-    alloc: Global,
+    turned: &Turned,
     store: &mut Store,
     disk: &mut D,
     inputs: &mut I,
-    first: Option<Verdict>,
     sessions: &mut [Session<G>],
     out: &mut O,
 ) -> Result<Option<Verdict>, Received>
@@ -234,7 +240,7 @@ fn take_rest<I: Inputs, O: Sink, D: Disk, G: Guarding + Drop>(
     requires reading { (names : List (List ℕ))
         × AreReading (I.told inputs.old) 1 names sessions.old }
     requires taking { (w : Turns Blank) × AreTaking G.kept sessions.old (blank store.old.core) w }
-    ensures told { I.told inputs.new ≡ I.told inputs.old }
+    ensures inputs { InputsLater I.Inputs inputs.old inputs.new result }
     ensures count { length sessions.new ≡ length sessions.old }
     ensures reading { (names : List (List ℕ)) →
         AreReading (I.told inputs.old) 1 names sessions.old →
@@ -248,7 +254,7 @@ fn take_rest<I: Inputs, O: Sink, D: Disk, G: Guarding + Drop>(
         AreReading (I.told inputs.old) 1 names sessions.old → IfAllTold (I.told inputs.old) names
         (λ files. IsGoing D.tells D.moment D.left_since D.seen D.pending start disk.old
         was store.old begun (O.taken out.old) G.kept (which_long 1 files) files w end last
-        (to_the_end 0 at_first) first sessions.old →
+        (to_the_end 0 at_first) turned.now.refused sessions.old →
         GoingSays D.tells D.moment D.left_since D.seen D.pending start disk.new
         was store.new begun (O.taken out.new) G.kept (which_long 1 files) files
         (after_turns tt blank_cells w (to_the_end 0 at_first)) end last [] sessions.new
@@ -256,19 +262,21 @@ fn take_rest<I: Inputs, O: Sink, D: Disk, G: Guarding + Drop>(
     ensures limit { store.new.log.limit ≡ store.old.log.limit }
     ensures idle { IdleSays result (D.len disk.new) store.new }
     ensures stops { IfErr result IsEnd }
-    ensures cause { ErrCaused (I.faults inputs.old) (I.faults inputs.new)
-        (O.faults out.old) (O.faults out.new) (D.faults disk.old) (D.faults disk.new) result }
+    ensures cause { ErrCaused
+        (fault_counts (I.faults inputs.old) (O.faults out.old) (D.faults disk.old))
+        (fault_counts (I.faults inputs.new) (O.faults out.new) (D.faults disk.new)) result }
     ensures later { D.faults disk.old ≤ D.faults disk.new }
-    ensures in_later { I.faults inputs.old ≤ I.faults inputs.new }
-    ensures out_later { O.faults out.old ≤ O.faults out.new }
     ensures steady { Steady (D.faults disk.old) (D.faults disk.new) result }
-    ensures in_steady { Steady (I.faults inputs.old) (I.faults inputs.new) result }
-    ensures ends_steady { Steady (I.ends inputs.old) (I.ends inputs.new) result }
-    ensures out_steady { Steady (O.faults out.old) (O.faults out.new) result }
+    ensures out { OutputLater O.Sink out.old out.new result }
 {
-    let mut refused = first;
+    let mut refused = turned.refused;
     for place in 0..sessions.len() {
-        match finish(alloc, store, disk, inputs, sessions, place, refused, out) {
+        let turn = Turn {
+            alloc: turned.alloc,
+            place,
+            refused,
+        };
+        match finish(&turn, store, disk, inputs, sessions, out) {
             Ok(now) => refused = now,
             Err(why) => return Err(why),
         }
@@ -278,21 +286,19 @@ fn take_rest<I: Inputs, O: Sink, D: Disk, G: Guarding + Drop>(
 
 // The session at a place goes on to its end.
 fn finish<I: Inputs, O: Sink, D: Disk, G: Guarding + Drop>(
-    alloc: Global,
+    turn: &Turn,
     store: &mut Store,
     disk: &mut D,
     inputs: &mut I,
     sessions: &mut [Session<G>],
-    place: usize,
-    first: Option<Verdict>,
     out: &mut O,
 ) -> Result<Option<Verdict>, Received>
     requires idle { IsIdle (D.len disk.old) store.old }
-    requires within { place < length sessions.old }
+    requires within { turn.now.place < length sessions.old }
     requires reading { (names : List (List ℕ))
         × AreReading (I.told inputs.old) 1 names sessions.old }
     requires taking { (w : Turns Blank) × AreTaking G.kept sessions.old (blank store.old.core) w }
-    ensures told { I.told inputs.new ≡ I.told inputs.old }
+    ensures inputs { InputsLater I.Inputs inputs.old inputs.new result }
     ensures count { length sessions.new ≡ length sessions.old }
     ensures reading { (names : List (List ℕ)) →
         AreReading (I.told inputs.old) 1 names sessions.old →
@@ -301,31 +307,34 @@ fn finish<I: Inputs, O: Sink, D: Disk, G: Guarding + Drop>(
         × AreTaking G.kept sessions.new (blank store.new.core) w) }
     ensures going { (start : D) (was : StoreState) (begun : Option (List ℕ))
         (names : List (List ℕ)) (w : Turns Blank) (end : TurnsEnd) (last : Turns Blank)
-        (rest : List ℕ) (turns : ℕ) → HasFewer w place turns →
+        (rest : List ℕ) (turns : ℕ) → HasFewer w turn.now.place turns →
         AreReading (I.told inputs.old) 1 names sessions.old → IfAllTold (I.told inputs.old) names
         (λ files. IsGoing D.tells D.moment D.left_since D.seen D.pending start disk.old
         was store.old begun (O.taken out.old) G.kept (which_long 1 files) files w end last
-        (replicate turns place ++ rest) first sessions.old →
+        (replicate turns turn.now.place ++ rest) turn.now.refused sessions.old →
         GoingSays D.tells D.moment D.left_since D.seen D.pending start disk.new
         was store.new begun (O.taken out.new) G.kept (which_long 1 files) files
-        (after_turns tt blank_cells w (replicate turns place)) end last rest sessions.new
+        (after_turns tt blank_cells w (replicate turns turn.now.place)) end last rest sessions.new
         result) }
     ensures limit { store.new.log.limit ≡ store.old.log.limit }
     ensures idle { IdleSays result (D.len disk.new) store.new }
     ensures stops { IfErr result IsEnd }
-    ensures cause { ErrCaused (I.faults inputs.old) (I.faults inputs.new)
-        (O.faults out.old) (O.faults out.new) (D.faults disk.old) (D.faults disk.new) result }
+    ensures cause { ErrCaused
+        (fault_counts (I.faults inputs.old) (O.faults out.old) (D.faults disk.old))
+        (fault_counts (I.faults inputs.new) (O.faults out.new) (D.faults disk.new)) result }
     ensures later { D.faults disk.old ≤ D.faults disk.new }
-    ensures in_later { I.faults inputs.old ≤ I.faults inputs.new }
-    ensures out_later { O.faults out.old ≤ O.faults out.new }
     ensures steady { Steady (D.faults disk.old) (D.faults disk.new) result }
-    ensures in_steady { Steady (I.faults inputs.old) (I.faults inputs.new) result }
-    ensures ends_steady { Steady (I.ends inputs.old) (I.ends inputs.new) result }
-    ensures out_steady { Steady (O.faults out.old) (O.faults out.new) result }
+    ensures out { OutputLater O.Sink out.old out.new result }
 {
-    let mut refused = first;
+    let place = turn.place;
+    let mut refused = turn.refused;
     while !sessions[place].is_over {
-        match turn_at(alloc, store, disk, inputs, sessions, place, refused, out) {
+        let next = Turn {
+            alloc: turn.alloc,
+            place,
+            refused,
+        };
+        match turn_at(&next, store, disk, inputs, sessions, out) {
             Ok(now) => refused = now,
             Err(why) => return Err(why),
         }

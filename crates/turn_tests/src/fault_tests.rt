@@ -9,7 +9,7 @@ use std::test::Fail;
 use store_journal::Store;
 use store_words::StoreEnd;
 use sx_base::{MemSink, Outcome};
-use turn_sessions::interleave_store;
+use turn_sessions::{Task, interleave_store};
 
 const LINE_C: &[u8] = b"complete c 33333333-3333-3333-3333-333333333333 3\n";
 
@@ -115,15 +115,12 @@ fn input_is_told(alloc: Global, call: u64) -> Result<bool, Fail> {
     if guards.len() != names.len() || !are_places(b"01111", names.len()) {
         return Ok(false);
     }
-    let end = interleave_store(
+    let task = Task {
         alloc,
-        &mut disk,
-        &mut inputs,
-        b"01111",
-        &names,
-        guards,
-        &mut out,
-    );
+        files: names.as_slice(),
+        schedule: b"01111",
+    };
+    let end = interleave_store(&task, &mut disk, &mut inputs, guards, &mut out);
     let is_told = end == StoreEnd::Ends(Outcome::InputFault)
         || (end == DONE && lines_in(out.bytes()) == Some(2));
     Ok(is_told && is_there(alloc, &mut disk, out.bytes())?)
@@ -175,15 +172,12 @@ fn behind_is_done(alloc: Global) -> Result<bool, Fail> {
     if guards.len() != names.len() || !are_places(b"01111", names.len()) {
         return Ok(false);
     }
-    let other_end = interleave_store(
+    let task = Task {
         alloc,
-        &mut other,
-        &mut inputs,
-        b"01111",
-        &names,
-        guards,
-        &mut again,
-    );
+        files: names.as_slice(),
+        schedule: b"01111",
+    };
+    let other_end = interleave_store(&task, &mut other, &mut inputs, guards, &mut again);
     Ok(end == DONE && other_end == DONE && again.bytes() == LINES_CA)
 }
 

@@ -4,7 +4,7 @@ use crate::turn_tests::{
     interleaved, new_store, refusal,
 };
 use disk_model::MemDisk;
-use part_names::PartNames;
+use part_names::{NamedFiles, PartNames};
 use std::alloc::Global;
 use std::test::Fail;
 use store_words::{StoreEnd, receive_store, show_entry};
@@ -61,15 +61,12 @@ fn is_one_by_one(
         return Ok(false);
     };
     let names_of_parts = PartNames::none(alloc);
-    let end = receive_store(
+    let given = NamedFiles {
         alloc,
-        &mut other,
-        &mut inputs,
-        &files,
-        &names_of_parts,
-        &mut own,
-        &mut out,
-    );
+        files: &files,
+        names: &names_of_parts,
+    };
+    let end = receive_store(&given, &mut other, &mut inputs, &mut own, &mut out);
     let mut is_same = end == DONE && out.bytes() == lines;
     for name in names.iter() {
         is_same = is_same && shows_same(alloc, disk, &mut other, name);

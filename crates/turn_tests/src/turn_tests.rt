@@ -8,7 +8,7 @@ use std::test::Fail;
 use store_journal::Store;
 use store_words::{StoreEnd, list_store};
 use sx_base::{Disk, MemInputs, MemSink, Outcome, Refusal, Verdict};
-use turn_sessions::interleave_store;
+use turn_sessions::{Task, interleave_store};
 
 // SUBVOL a; MKFILE x; WRITE x 0 "hi"; END
 pub(crate) const A: &[u8] =
@@ -103,7 +103,12 @@ pub(crate) fn interleaved<D: Disk>(
     if guards.len() != names.len() || !are_places(schedule, names.len()) {
         return Err(AllocError);
     }
-    Ok(interleave_store(alloc, disk, &mut inputs, schedule, &names, guards, out))
+    let task = Task {
+        alloc,
+        files: names.as_slice(),
+        schedule,
+    };
+    Ok(interleave_store(&task, disk, &mut inputs, guards, out))
 }
 
 // A refusal.

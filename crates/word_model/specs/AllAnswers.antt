@@ -4,7 +4,7 @@ use Rattle.std.specs.Prelude.{◌≡◌, ⊤, ℕ, List, [], ◌∷◌}
 use Rattle.send_model.specs.Answer.{Done}
 use Rattle.send_model.specs.Words.{new_guards}
 use Rattle.store_model.specs.Requests as stored_requests
-use Rattle.store_model.specs.Requests.{OfStreams, InitStore, DropEntry, ReceiveFiles, ListStore, ShowEntry, CatFile, ScrubStore, word_at}
+use Rattle.store_model.specs.Requests.{OfStreams, InitStore, DropEntry, ReceiveFiles, ListStore, ShowEntry, CatFile, ScrubStore, word_at, AtEntry, at_entry}
 use Rattle.store_model.specs.NamedFiles.{NamedFiles}
 use Rattle.store_model.specs.Answers as stored
 use Rattle.store_model.specs.Answers.{Answer, OfAnyWord}
@@ -16,27 +16,27 @@ use Rattle.turn_model.specs.TurnAnswers.{TurnsAnswer}
 use Rattle.word_model.specs.AllRequests.{Request, OfStore, SendEntry, RestoreEntry, TakeTurns, name_at}
 
 -- How a request over a store is answered: one with a name or a path as the bytes say that are meant by it.
-abbrev pub StoredAnswers : stored_requests.Request → List (List ℕ) → List ℕ → NamedFiles → Answer → (written left : List ℕ) → Type 0
-StoredAnswers (OfStreams request) words image files answer written left = stored.Answers (OfStreams request) words image files answer written left
-StoredAnswers (InitStore store) words image files answer written left = stored.Answers (InitStore store) words image files answer written left
-StoredAnswers (DropEntry store name) words image files answer written left =
-    stored.Answers (DropEntry 0 1) (word_at words store ∷ name_at words name ∷ []) image files answer written left
-StoredAnswers (ReceiveFiles guards store at) words image files answer written left = stored.Answers (ReceiveFiles guards store at) words image files answer written left
-StoredAnswers (ListStore store) words image files answer written left = stored.Answers (ListStore store) words image files answer written left
-StoredAnswers (ShowEntry store name) words image files answer written left =
-    stored.Answers (ShowEntry 0 1) (word_at words store ∷ name_at words name ∷ []) image files answer written left
-StoredAnswers (CatFile store name path) words image files answer written left =
-    stored.Answers (CatFile 0 1 2) (word_at words store ∷ name_at words name ∷ name_at words path ∷ []) image files answer written left
-StoredAnswers (ScrubStore store) words image files answer written left = stored.Answers (ScrubStore store) words image files answer written left
+abbrev pub StoredAnswers : stored_requests.Request → AtEntry → Answer → (written left : List ℕ) → Type 0
+StoredAnswers (OfStreams request) met answer written left = stored.Answers (OfStreams request) met answer written left
+StoredAnswers (InitStore store) met answer written left = stored.Answers (InitStore store) met answer written left
+StoredAnswers (DropEntry store name) met answer written left =
+    stored.Answers (DropEntry 0 1) (at_entry (word_at met.words store ∷ name_at met.words name ∷ []) met.image met.files) answer written left
+StoredAnswers (ReceiveFiles guards store at) met answer written left = stored.Answers (ReceiveFiles guards store at) met answer written left
+StoredAnswers (ListStore store) met answer written left = stored.Answers (ListStore store) met answer written left
+StoredAnswers (ShowEntry store name) met answer written left =
+    stored.Answers (ShowEntry 0 1) (at_entry (word_at met.words store ∷ name_at met.words name ∷ []) met.image met.files) answer written left
+StoredAnswers (CatFile store name path) met answer written left =
+    stored.Answers (CatFile 0 1 2) (at_entry (word_at met.words store ∷ name_at met.words name ∷ name_at met.words path ∷ []) met.image met.files) answer written left
+StoredAnswers (ScrubStore store) met answer written left = stored.Answers (ScrubStore store) met answer written left
 
 -- An answer that words, files and image decide is the one that is due; else an object of the outside failed or was changed, or there was no
 -- memory.
-abbrev pub Answers : Request → List (List ℕ) → List ℕ → NamedFiles → Answer → (written left : List ℕ) → Type 0
-Answers (OfStore request) words image files answer written left = StoredAnswers request words image files answer written left
-Answers (SendEntry store name) words image files answer written left = SendAnswers sent_stream image (name_at words name) answer written left
-Answers (RestoreEntry store name) words image files answer written left = SendAnswers restored_stream image (name_at words name) answer written left
-Answers (TakeTurns store schedule turns) words image files answer written left =
-    TurnsAnswer schedule files.bytes (new_guards turns.guards) turns.shares image answer written left
+abbrev pub Answers : Request → AtEntry → Answer → (written left : List ℕ) → Type 0
+Answers (OfStore request) met answer written left = StoredAnswers request met answer written left
+Answers (SendEntry store name) met answer written left = SendAnswers sent_stream met.image (name_at met.words name) answer written left
+Answers (RestoreEntry store name) met answer written left = SendAnswers restored_stream met.image (name_at met.words name) answer written left
+Answers (TakeTurns store schedule turns) met answer written left =
+    TurnsAnswer schedule met.files.bytes (new_guards turns.guards) turns.shares met.image answer written left
 
 -- The words that read files, and those of which no answer changes the image.
 abbrev pub ReadsFiles : Request → Type 0
@@ -56,13 +56,13 @@ ReadsOnly (TakeTurns store schedule turns) = ⊥
 -- No answer of a word that only reads changes the image.
 abbrev pub ReadersKeepTheImage : Type 0
 ReadersKeepTheImage = (request : Request) (words : List (List ℕ)) (image : List ℕ) (files : NamedFiles) (answer : Answer) (written left : List ℕ)
-    → ReadsOnly request → Answers request words image files answer written left → left ≡ image
+    → ReadsOnly request → Answers request (at_entry words image files) answer written left → left ≡ image
 
 -- What is sent, and what is restored, is one stream that makes the subvolume anew.
 abbrev pub SentIsReceivedAnew : Type 0
 SentIsReceivedAnew = (store name : ℕ) (words : List (List ℕ)) (image : List ℕ) (files : NamedFiles) (written left : List ℕ)
-    → Answers (SendEntry store name) words image files (OfAnyWord Done) written left → IsReceivedAnew image (name_at words name) written
+    → Answers (SendEntry store name) (at_entry words image files) (OfAnyWord Done) written left → IsReceivedAnew image (name_at words name) written
 
 abbrev pub RestoredIsReceivedAnew : Type 0
 RestoredIsReceivedAnew = (store name : ℕ) (words : List (List ℕ)) (image : List ℕ) (files : NamedFiles) (written left : List ℕ)
-    → Answers (RestoreEntry store name) words image files (OfAnyWord Done) written left → IsReceivedAnew image (name_at words name) written
+    → Answers (RestoreEntry store name) (at_entry words image files) (OfAnyWord Done) written left → IsReceivedAnew image (name_at words name) written

@@ -9,7 +9,7 @@ use auditor::audit;
 use clone_resolve::EditCore;
 use extent_map::Nowhere;
 use guard_rules::{ByteGuard, CommandGuard, DeviceGuard, Guard};
-use part_names::PartNames;
+use part_names::{NamedFiles, PartNames};
 use std::alloc::{AllocError, Global};
 use std::process::Abort;
 use std::test::Fail;
@@ -65,21 +65,27 @@ fn refused(file: u64, command: u64, offset: u64, refusal: Refusal) -> Outcome {
     })
 }
 
-// Audits up to three files, given by their pieces, where one call of the inputs and one of the output may fail, and expects the
-// outcome and what is written. A file of no pieces is missing.
+// An audit of up to three files, given by their pieces, where one call of the inputs and one of the output may fail; its outcome, and
+// what is written. A file of no pieces is missing.
+#[derive(Clone, Copy)]
+struct Case<'a> {
+    files: &'a [&'a [&'a [u8]]],
+    failing: [u64; 2],
+    outcome: Outcome,
+    written: &'a [u8],
+}
+
+// Audits the files of a case under guards, and expects what it says.
 fn expect(
     rt: &impl Abort,
     alloc: Global,
-    files: &[&[&[u8]]],
-    failing: [u64; 2],
+    case: &Case<'_>,
     guards: &mut [Box<dyn Guard>],
-    outcome: Outcome,
-    written: &[u8],
 ) -> Result<(), AllocError> {
     let mut inputs = MemInputs::new(alloc);
-    inputs.fail_call(failing[0])?;
+    inputs.fail_call(case.failing[0])?;
     let mut names = Vec::new(alloc);
-    for (name, pieces) in NAMES.iter().zip(files) {
+    for (name, pieces) in NAMES.iter().zip(case.files) {
         let bytes = joined(alloc, pieces)?;
         if !bytes.as_slice().is_empty() {
             inputs.add(name, bytes.as_slice())?;
@@ -87,21 +93,17 @@ fn expect(
         names.push(String::from_str(alloc, name)?)?;
     }
     let mut out = MemSink::new(alloc);
-    out.fail_call(failing[1])?;
+    out.fail_call(case.failing[1])?;
     let core = EditCore::new(alloc);
     let own = PartNames::none(alloc);
-    let answer = audit(
+    let given = NamedFiles {
         alloc,
-        core,
-        Nowhere,
-        &mut inputs,
-        &names,
-        &own,
-        guards,
-        &mut out,
-    );
-    assert_eq!(rt; answer, outcome);
-    assert_eq!(rt; out.bytes(), written);
+        files: &names,
+        names: &own,
+    };
+    let answer = audit(&given, core, Nowhere, &mut inputs, guards, &mut out);
+    assert_eq!(rt; answer, case.outcome);
+    assert_eq!(rt; out.bytes(), case.written);
     Ok(())
 }
 
@@ -200,7 +202,13 @@ fn files_without_guards(rt: HostRuntime) -> Result<(), Fail> {
     ];
     for (files, failing, outcome, written) in table {
         let guards: &mut [Box<dyn Guard>] = &mut [];
-        expect(&rt, rt.alloc(), files, failing, guards, outcome, written)?;
+        let case = Case {
+            files,
+            failing,
+            outcome,
+            written,
+        };
+        expect(&rt, rt.alloc(), &case, guards)?;
     }
     Ok(())
 }
@@ -243,7 +251,13 @@ fn clones_and_version_two(rt: HostRuntime) -> Result<(), Fail> {
     ];
     for (files, outcome, written) in table {
         let guards: &mut [Box<dyn Guard>] = &mut [];
-        expect(&rt, rt.alloc(), files, [0, 0], guards, outcome, written)?;
+        let case = Case {
+            files,
+            failing: [0, 0],
+            outcome,
+            written,
+        };
+        expect(&rt, rt.alloc(), &case, guards)?;
     }
     Ok(())
 }
@@ -272,15 +286,13 @@ fn files_under_guards(rt: HostRuntime) -> Result<(), Fail> {
         guards.push(Box::new(rt.alloc(), ByteGuard::new(bytes))?)?;
         guards.push(Box::new(rt.alloc(), DeviceGuard::new())?)?;
         guards.push(Box::new(rt.alloc(), CommandGuard::new(commands))?)?;
-        expect(
-            &rt,
-            rt.alloc(),
-            &[file],
-            [0, 0],
-            &mut guards,
+        let case = Case {
+            files: &[file],
+            failing: [0, 0],
             outcome,
             written,
-        )?;
+        };
+        expect(&rt, rt.alloc(), &case, &mut guards)?;
     }
     Ok(())
 }

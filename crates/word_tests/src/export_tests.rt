@@ -7,7 +7,7 @@ use crate::streams::{
 };
 use clone_resolve::EditCore;
 use extent_map::Nowhere;
-use part_names::PartNames;
+use part_names::{NamedFiles, PartNames};
 use std::alloc::{AllocError, Global};
 use std::test::Fail;
 use stream_export::export;
@@ -99,7 +99,12 @@ fn exported(
     let names: [String; 1] = [String::from_str(alloc, "file")?];
     let core = EditCore::new(alloc);
     let unnamed = PartNames::none(alloc);
-    Ok(export(alloc, core, Nowhere, &mut inputs, &names, &unnamed, out))
+    let given = NamedFiles {
+        alloc,
+        files: &names,
+        names: &unnamed,
+    };
+    Ok(export(&given, core, Nowhere, &mut inputs, out))
 }
 
 #[test]

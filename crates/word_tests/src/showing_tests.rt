@@ -3,7 +3,7 @@ ghost use Rattle.std.specs.Prelude.{None};
 ghost use Rattle.sx_base.specs.Again.{no_end};
 
 use disk_model::MemDisk;
-use host_io::{AfterLine, DiskProgress, Progress, Screen, end_line, line_of};
+use host_io::{AfterLine, DiskProgress, HowFar, Progress, Screen, end_line, line_of};
 use std::cell::{Cell, RefCell};
 use std::io;
 use std::rt::Clock;
@@ -100,7 +100,13 @@ fn a_line_says_how_far_a_run_is(rt: HostRuntime) -> Result<(), Fail> {
         ),
     ];
     for (name, pass, done, all, want) in table {
-        let line = line_of(rt.alloc(), name, pass, done, all)?;
+        let how_far = HowFar {
+            name,
+            pass,
+            done,
+            all,
+        };
+        let line = line_of(rt.alloc(), &how_far)?;
         assert_eq!(rt; line.as_slice(), want);
     }
     Ok(())

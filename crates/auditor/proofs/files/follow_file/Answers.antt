@@ -7,7 +7,7 @@ use Rattle.auditor.proofs.OneFile.{item_cause, stands_at_start, stands_after, fi
 use Rattle.auditor.proofs.files.follow_file.Goals as goal
 
 pub returns-in_default-clause-followed : goal.returns-in_default-clause-followed
-returns-in_default-clause-followed g c = file_unopened (g.I.Inputs.told c.args.inputs.now) c.args.name.now
+returns-in_default-clause-followed g c = file_unopened (g.I.Inputs.told c.args.inputs.now) c.args.file.now.name.now
 
 pub loop-reader-init : goal.loop-reader-init
 loop-reader-init g c =
@@ -22,14 +22,14 @@ loop-reader-init g c =
       near = omega (arith, ap (λ (r : Reader). r.number) fresh);
       within = omega (arith, ap (λ (r : Reader). r.offset) fresh);
       fewer = omega (arith, c.none-counts.ensures.parts);
-      stands = stands_at_start (g.I.Inputs.told c.args.inputs.now) (option_copied c.args.new_name) c.args.file c.args.name.now c.in-Ok.reader _ _ _ fresh c.none-counts.ensures.parts c.none-counts.ensures.commands;
-      ahead = start_ahead _ c.args.file c.args.name.now c.in-Ok.reader fresh;
+      stands = stands_at_start (g.I.Inputs.told c.args.inputs.now) (option_copied c.args.file.now.new_name) c.args.file.now.number c.args.file.now.name.now c.in-Ok.reader _ _ _ fresh c.none-counts.ensures.parts c.none-counts.ensures.commands;
+      ahead = start_ahead _ c.args.file.now.number c.args.file.now.name.now c.in-Ok.reader fresh;
     }
 
 pub returns-in-Ok-None-clause-followed : goal.returns-in-Ok-None-clause-followed
 returns-in-Ok-None-clause-followed g c =
     let i = c.loop-reader.invariant in
-    file_ends _ _ (option_copied c.args.new_name) c.args.file c.args.name.now _ c.loop-reader.reader c.next.new.self _ c.loop-reader.counts 0 0 c.in-Ok-None.field-0 c.in-Ok-None.field-0-is i.same i.name c.in-Ok-None.ensures.read i.stands
+    file_ends _ _ (option_copied c.args.file.now.new_name) c.args.file.now.number c.args.file.now.name.now _ c.loop-reader.reader c.next.new.self _ c.loop-reader.counts 0 0 c.in-Ok-None.field-0 c.in-Ok-None.field-0-is i.same i.name c.in-Ok-None.ensures.read i.stands
 
 pub follow_named-requires-clause-short : goal.follow_named-requires-clause-short
 follow_named-requires-clause-short g c = item_short c.in-Ok-Some.field-0 c.in-Ok-Some.item _ _ c.in-Ok-Some.field-0-is c.in-Ok-Some.ensures.fits
@@ -38,7 +38,7 @@ pub returns-in-Err-follow_named-clause-followed : goal.returns-in-Err-follow_nam
 returns-in-Err-follow_named-clause-followed g c =
     let i = c.loop-reader.invariant in
     let e = c.in-Ok-Some.ensures in
-    item_ends _ _ (option_copied c.args.new_name) c.args.file c.args.name.now _ c.loop-reader.reader c.next.new.self _ _ c.loop-reader.counts.parts c.loop-reader.counts.commands 0 0
+    item_ends _ _ (option_copied c.args.file.now.new_name) c.args.file.now.number c.args.file.now.name.now _ c.loop-reader.reader c.next.new.self _ _ c.loop-reader.counts.parts c.loop-reader.counts.commands 0 0
     c.in-Ok-Some.field-0 c.in-Ok-Some.item c.follow_named.result c.in-Err-follow_named.outcome c.in-Ok-Some.field-0-is i.same i.name i.file e.read c.in-Err-follow_named.is c.follow_named.ensures.followed i.stands
 
 pub loop-reader-preserved : goal.loop-reader-preserved
@@ -56,7 +56,7 @@ loop-reader-preserved g c =
       near = omega (arith, m.next_number, m.further, i.near);
       within = m.within;
       fewer = c.with-counts.ensures.fewer;
-      stands = stands_after _ _ (option_copied c.args.new_name) c.args.file c.args.name.now _ c.loop-reader.reader c.next.new.self _ _ c.loop-reader.counts.parts c.loop-reader.counts.commands c.with-counts.result.parts c.with-counts.result.commands 0 0
+      stands = stands_after _ _ (option_copied c.args.file.now.new_name) c.args.file.now.number c.args.file.now.name.now _ c.loop-reader.reader c.next.new.self _ _ c.loop-reader.counts.parts c.loop-reader.counts.commands c.with-counts.result.parts c.with-counts.result.commands 0 0
           c.in-Ok-Some.field-0 c.in-Ok-Some.item c.follow_named.result c.in-Ok-follow_named.done c.in-Ok-Some.field-0-is i.same i.name i.file e.read c.in-Ok-follow_named.is c.follow_named.ensures.followed c.with-counts.ensures.parts c.with-counts.ensures.commands i.stands;
       ahead = next_ahead _ _ c.loop-reader.reader c.next.new.self 0 0 c.in-Ok-Some.field-0 c.in-Ok-Some.item c.in-Ok-Some.field-0-is e.same e.name e.read;
     }
@@ -64,7 +64,7 @@ loop-reader-preserved g c =
 pub returns-in-Err-clause-followed : goal.returns-in-Err-clause-followed
 returns-in-Err-clause-followed g c =
     let i = c.loop-reader.invariant in
-    file_stops _ _ (option_copied c.args.new_name) c.args.file c.args.name.now _ c.loop-reader.reader c.next.new.self _ c.loop-reader.counts.parts c.loop-reader.counts.commands _ _ c.in-Err.stop c.outcome_of.result i.same i.name c.in-Err.ensures.read c.outcome_of.ensures.outcome i.stands
+    file_stops _ _ (option_copied c.args.file.now.new_name) c.args.file.now.number c.args.file.now.name.now _ c.loop-reader.reader c.next.new.self _ c.loop-reader.counts.parts c.loop-reader.counts.commands _ _ c.in-Err.stop c.outcome_of.result i.same i.name c.in-Err.ensures.read c.outcome_of.ensures.outcome i.stands
 
 pub returns-in-Err-follow_named-clause-cause : goal.returns-in-Err-follow_named-clause-cause
 returns-in-Err-follow_named-clause-cause g c =

@@ -13,13 +13,13 @@ invariant-loop-reader g l = record {
   same : g.I.Inputs.told l.inputs ≡ g.I.Inputs.told l.fn.inputs;
   steady : g.I.Inputs.faults l.inputs ≡ g.I.Inputs.faults l.fn.inputs;
   ends_steady : g.I.Inputs.ends l.inputs ≡ g.I.Inputs.ends l.fn.inputs;
-  file : l.reader.file ≡ l.fn.file;
-  name : l.reader.name ≡ l.fn.name;
+  file : l.reader.file ≡ l.fn.file.number;
+  name : l.reader.name ≡ l.fn.file.name.now;
   number : l.reader.number ≡ l.counts.commands + 1;
   near : l.reader.number ≤ l.reader.offset + 1;
   within : l.reader.offset ≤ limit;
   fewer : l.counts.parts ≤ l.counts.commands;
-  stands : IfTold (g.I.Inputs.told l.fn.inputs) l.fn.name (Stands (option_copied l.fn.new_name) l.fn.file
+  stands : IfTold (g.I.Inputs.told l.fn.inputs) l.fn.file.name.now (Stands (option_copied l.fn.file.new_name) l.fn.file.number
       (beside (map (λ b. (goal.Guard-dyn g (b.vtable, b.value)).kept b.value) l.fn.guards) l.fn.follower) l.reader
       (beside (map (λ b. (goal.Guard-dyn g (b.vtable, b.value)).kept b.value) l.guards) l.follower) l.counts.parts l.counts.commands);
   ahead : IfTold (g.I.Inputs.told l.inputs) l.reader.name (HasAhead l.reader);

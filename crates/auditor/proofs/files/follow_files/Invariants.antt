@@ -9,16 +9,16 @@ use Rattle.auditor.proofs.files.follow_files.Given as goal
 -- The commands of the files so far were accepted and counted; the inputs tell the same files, and no count rose.
 abbrev pub invariant-loop-file : goal.invariant-loop-file
 invariant-loop-file g l = record {
-  within : l.file ≤ length l.fn.files;
+  within : l.file ≤ length l.fn.given.files.now;
   same : g.I.Inputs.told l.inputs ≡ g.I.Inputs.told l.fn.inputs;
   steady : g.I.Inputs.faults l.inputs ≡ g.I.Inputs.faults l.fn.inputs;
   ends_steady : g.I.Inputs.ends l.inputs ≡ g.I.Inputs.ends l.fn.inputs;
   parts : l.totals.parts ≤ l.file * 18446744073709551616;
   commands : l.totals.commands ≤ l.file * 18446744073709551616;
-  stand : IfAllTold (g.I.Inputs.told l.fn.inputs) (map string_bytes l.fn.files) (AllStand l.fn.names
+  stand : IfAllTold (g.I.Inputs.told l.fn.inputs) (map string_bytes l.fn.given.files.now) (AllStand l.fn.given.names.now
       (beside (map (λ b. (goal.Guard-dyn g (b.vtable, b.value)).kept b.value) l.fn.guards) l.fn.follower) l.file
       (beside (map (λ b. (goal.Guard-dyn g (b.vtable, b.value)).kept b.value) l.guards) l.follower) l.totals.parts l.totals.commands);
 }
 
 abbrev pub decreases-loop-file : goal.decreases-loop-file
-decreases-loop-file g l = length l.files - l.file
+decreases-loop-file g l = length l.given.files.now - l.file

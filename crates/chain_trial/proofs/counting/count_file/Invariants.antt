@@ -1,21 +1,24 @@
 use Rattle.std.proofs.Common.{◌≡◌, ◌≤◌, ◌-◌}
+use Rattle.std.specs.Prelude.{Some}
 use Rattle.send_model.specs.Lengths.{limit}
 use Rattle.cmd_reader.specs.Places.{IfTold}
 use Rattle.cmd_reader.specs.Left.{HasAhead}
 use Rattle.chain_trial.proofs.FileCounting.{Stands}
 use Rattle.chain_trial.proofs.counting.count_file.Given as goal
 
--- The commands that were read are counted; the inputs tell the same files.
+-- The commands that were read are counted; the inputs are the same.
 abbrev pub invariant-loop-reader : goal.invariant-loop-reader
-invariant-loop-reader g l = record {
-  same : g.I.Inputs.told l.inputs ≡ g.I.Inputs.told l.fn.inputs;
+invariant-loop-reader l = record {
+  same : l.inputs ≡ l.fn.inputs;
   file : l.reader.file ≡ 1;
   name : l.reader.name ≡ l.fn.name;
   within : l.reader.offset ≤ limit;
-  stands : IfTold (g.I.Inputs.told l.fn.inputs) l.fn.name (Stands l.reader l.counted);
-  ahead : IfTold (g.I.Inputs.told l.inputs) l.reader.name (HasAhead l.reader);
+  numbered : l.counted.commands ≤ l.reader.offset;
+  cloned : l.counted.clones ≤ l.counted.commands;
+  stands : IfTold (Some l.fn.inputs) l.fn.name (Stands l.reader l.counted);
+  ahead : IfTold (Some l.inputs) l.reader.name (HasAhead l.reader);
 }
 
 -- Each command brings the reader nearer to the limit.
 abbrev pub decreases-loop-reader : goal.decreases-loop-reader
-decreases-loop-reader g l = limit - l.reader.offset
+decreases-loop-reader l = limit - l.reader.offset

@@ -62,12 +62,12 @@ loop-origin-preserved g c =
       size = search rules;
       within = r;
       left = left_after advanced_by whole c.loop-origin.have c.in-Some.len c.in-Some.origin c.next.new.self (i.left ∙ s.2);
-      same = e.same ∙ i.same;
-      sizes = long_then _ _ _ e.sizes i.sizes;
-      held = λ tells. e.held tells ∙ i.held tells;
-      steady = e.steady ∙ i.steady;
-      ends_steady = e.ends_steady ∙ i.ends_steady;
-      bytes_steady = e.bytes_steady ∙ i.bytes_steady;
+      same = e.inputs.same ∙ i.same;
+      sizes = long_then _ _ _ e.bytes.sizes i.sizes;
+      held = λ tells. e.bytes.held tells ∙ i.held tells;
+      steady = e.inputs.steady ∙ i.steady;
+      ends_steady = e.inputs.ends_steady ∙ i.ends_steady;
+      bytes_steady = e.bytes.steady ∙ i.bytes_steady;
       filled = λ tells. turn_filled (g.I.Inputs.told c.args.inputs.now) (g.I.Inputs.told c.loop-origin.inputs) (map string_bytes c.args.files.now) (g.B.OutsideBytes.held c.args.bytes.now) (g.B.OutsideBytes.held c.loop-origin.bytes) i.same
           whole c.loop-origin.have c.in-Some.len c.in-Some.origin c.next.new.self (i.left ∙ s.2) s.0 _ mid (i.held tells) (c.loop-origin.have + c.in-Some.len - c.loop-origin.have) (omega arith) c.loop-origin.buf c.fill_piece.new.buf
           (omega (arith, i.within, i.size)) (i.filled tells) (e.filled tells);

@@ -10,7 +10,7 @@ use Rattle.clone_pieces.proofs.literal.write_cells.Given as goal
 -- The bytes of the first cells have gone out as commands, and no count rose.
 abbrev pub invariant-loop-done : goal.invariant-loop-done
 invariant-loop-done g l = record {
-  within : l.done ≤ l.len;
+  within : l.done ≤ l.range.len;
   same : g.I.Inputs.told l.inputs ≡ g.I.Inputs.told l.fn.inputs;
   sizes : AreAsLong (g.B.OutsideBytes.held l.bytes) (g.B.OutsideBytes.held l.fn.bytes);
   held : g.B.OutsideBytes.tells → g.B.OutsideBytes.held l.bytes ≡ g.B.OutsideBytes.held l.fn.bytes;
@@ -18,9 +18,9 @@ invariant-loop-done g l = record {
   ends_steady : g.I.Inputs.ends l.inputs ≡ g.I.Inputs.ends l.fn.inputs;
   bytes_steady : g.B.OutsideBytes.faults l.bytes ≡ g.B.OutsideBytes.faults l.fn.bytes;
   out_steady : g.O.Sink.faults l.out ≡ g.O.Sink.faults l.fn.out;
-  written : g.B.OutsideBytes.tells → IfAllTold (g.I.Inputs.told l.fn.inputs) (map string_bytes l.fn.files)
-      (λ files. Written l.version l.path l.offset (map (byte_in (g.B.OutsideBytes.held l.fn.bytes) files) (cells_between l.from l.len l.contents)) l.done (g.O.Sink.taken l.fn.out) (g.O.Sink.taken l.out) l.fn.pending l.pending);
+  written : g.B.OutsideBytes.tells → IfAllTold (g.I.Inputs.told l.fn.inputs) (map string_bytes l.fn.sources.files.now)
+      (λ files. Written l.range.to.version l.range.to.path.now l.range.to.offset (map (byte_in (g.B.OutsideBytes.held l.fn.bytes) files) (cells_between l.range.from l.range.len l.range.contents.now)) l.done (g.O.Sink.taken l.fn.out) (g.O.Sink.taken l.out) l.fn.pending l.pending);
 }
 
 abbrev pub decreases-loop-done : goal.decreases-loop-done
-decreases-loop-done g l = l.len - l.done
+decreases-loop-done g l = l.range.len - l.done

@@ -16,8 +16,8 @@ abbrev pub invariant-loop-plan : goal.invariant-loop-plan
 invariant-loop-plan g l = record {
   can : (goal.iterator-loop-plan g).can_next l.plan-iterator;
   finite : (goal.iterator-loop-plan g).is_finite l.plan-iterator;
-  row : CutRow l.from l.done l.plan-iterator l.len;
-  named : AllByRecursion (IsNamed (g.E.Ends.ends l.known)) l.plan-iterator;
+  row : CutRow l.range.from l.done l.plan-iterator l.range.len;
+  named : AllByRecursion (IsNamed (g.E.Ends.ends l.sources.known.now)) l.plan-iterator;
   same : g.I.Inputs.told l.inputs ≡ g.I.Inputs.told l.fn.inputs;
   sizes : AreAsLong (g.B.OutsideBytes.held l.bytes) (g.B.OutsideBytes.held l.fn.bytes);
   held : g.B.OutsideBytes.tells → g.B.OutsideBytes.held l.bytes ≡ g.B.OutsideBytes.held l.fn.bytes;
@@ -25,7 +25,7 @@ invariant-loop-plan g l = record {
   ends_steady : g.I.Inputs.ends l.inputs ≡ g.I.Inputs.ends l.fn.inputs;
   bytes_steady : g.B.OutsideBytes.faults l.bytes ≡ g.B.OutsideBytes.faults l.fn.bytes;
   out_steady : g.O.Sink.faults l.out ≡ g.O.Sink.faults l.fn.out;
-  stands : g.B.OutsideBytes.tells → IfAllTold (g.I.Inputs.told l.fn.inputs) (map string_bytes l.fn.files)
-      (λ files. Redirected (pieces_spelled l.version (g.E.Known.base l.known) l.path l.offset (seen_cells files (g.E.Known.base l.known) (cells_between l.from l.len l.contents))) l.version (g.E.Known.base l.known)
-      (byte_in (g.B.OutsideBytes.held l.fn.bytes) files) l.contents l.path (l.offset + l.done) l.plan-iterator (g.O.Sink.taken l.fn.out) (g.O.Sink.taken l.out) l.fn.pending l.pending);
+  stands : g.B.OutsideBytes.tells → IfAllTold (g.I.Inputs.told l.fn.inputs) (map string_bytes l.fn.sources.files.now)
+      (λ files. Redirected (pieces_spelled l.range.to.version (g.E.Known.base l.sources.known.now) l.range.to.path.now l.range.to.offset (seen_cells files (g.E.Known.base l.sources.known.now) (cells_between l.range.from l.range.len l.range.contents.now))) l.range.to.version (g.E.Known.base l.sources.known.now)
+      (byte_in (g.B.OutsideBytes.held l.fn.bytes) files) l.range.contents.now l.range.to.path.now (l.range.to.offset + l.done) l.plan-iterator (g.O.Sink.taken l.fn.out) (g.O.Sink.taken l.out) l.fn.pending l.pending);
 }

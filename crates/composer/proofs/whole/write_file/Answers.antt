@@ -20,7 +20,7 @@ use Rattle.composer.proofs.whole.write_file.Goals as goal
 
 pub returns-in_default-clause-wrote : goal.returns-in_default-clause-wrote
 returns-in_default-clause-wrote g c tells =
-    file_unopened (g.I.Inputs.told c.args.inputs.now) (map string_bytes c.args.files.now) (plan_with (g.E.Known.base c.args.known.now) c.args.survey.now) c.args.number (c.args.number + 1) (name_for c.args.names.now (c.args.number + 1)) c.args.composer.now (g.O.Sink.taken c.args.out.now)
+    file_unopened (g.I.Inputs.told c.args.inputs.now) (map string_bytes c.args.task.now.files.now) (plan_with (g.E.Known.base c.args.task.now.known.now) c.args.task.now.survey.now) c.args.turn.number (c.args.turn.number + 1) (name_for c.args.task.now.names.now (c.args.turn.number + 1)) c.args.composer.now (g.O.Sink.taken c.args.out.now)
 
 pub loop-reader-init : goal.loop-reader-init
 loop-reader-init g c =
@@ -34,22 +34,22 @@ loop-reader-init g c =
       bytes_steady = refl;
       out_steady = refl;
       file = ap (λ (r : Reader). r.file) fresh;
-      name = ap (λ (r : Reader). r.name) fresh ∙ name_at c.args.files.now c.args.number c.index-files-number.result c.as_str.result.now c.requires.numbered c.index-files-number.is c.as_str.ensures.value;
+      name = ap (λ (r : Reader). r.name) fresh ∙ name_at c.args.task.now.files.now c.args.turn.number c.index-task-turn.result c.as_str.result.now c.requires.numbered c.index-task-turn.is (c.as_str.ensures.value ∙ ap string_bytes (sym c.index-task-turn.is));
       had = c.requires.had;
-      there = in_files_at_start (g.I.Inputs.told c.args.inputs.now) (map string_bytes c.args.files.now) c.args.number (c.args.number + 1) c.as_str.result.now c.in-Ok.reader c.args.composer.now fresh c.requires.there;
-      stands = λ tells. stands_at_start (g.I.Inputs.told c.args.inputs.now) (map string_bytes c.args.files.now) (plan_with (g.E.Known.base c.args.known.now) c.args.survey.now) c.args.number (c.args.number + 1) (name_for c.args.names.now (c.args.number + 1)) c.as_str.result.now c.in-Ok.reader c.args.composer.now (g.O.Sink.taken c.args.out.now) c.args.before fresh;
-      alike = alike_at_start _ (c.args.number + 1) _ c.as_str.result.now c.in-Ok.reader fresh;
-      ahead = start_ahead _ (c.args.number + 1) c.as_str.result.now c.in-Ok.reader fresh;
+      there = in_files_at_start (g.I.Inputs.told c.args.inputs.now) (map string_bytes c.args.task.now.files.now) c.args.turn.number (c.args.turn.number + 1) c.as_str.result.now c.in-Ok.reader c.args.composer.now fresh c.requires.there;
+      stands = λ tells. stands_at_start (g.I.Inputs.told c.args.inputs.now) (map string_bytes c.args.task.now.files.now) (plan_with (g.E.Known.base c.args.task.now.known.now) c.args.task.now.survey.now) c.args.turn.number (c.args.turn.number + 1) (name_for c.args.task.now.names.now (c.args.turn.number + 1)) c.as_str.result.now c.in-Ok.reader c.args.composer.now (g.O.Sink.taken c.args.out.now) c.args.turn.before fresh;
+      alike = alike_at_start _ (c.args.turn.number + 1) _ c.as_str.result.now c.in-Ok.reader fresh;
+      ahead = start_ahead _ (c.args.turn.number + 1) c.as_str.result.now c.in-Ok.reader fresh;
     }
 
 pub returns-in-Ok-None-clause-wrote : goal.returns-in-Ok-None-clause-wrote
 returns-in-Ok-None-clause-wrote g c tells =
     let i = c.loop-reader.invariant in
-    file_ends _ _ (map string_bytes c.args.files.now) (plan_with (g.E.Known.base c.args.known.now) c.args.survey.now) c.args.number (c.args.number + 1) (name_for c.args.names.now (c.args.number + 1)) c.args.composer.now _ c.loop-reader.reader c.next.new.self c.loop-reader.composer _ c.args.before c.loop-reader.place 0 0 c.in-Ok-None.field-0 c.in-Ok-None.field-0-is i.same
-    (count_names c.args.files.now c.args.number c.requires.numbered) i.name c.in-Ok-None.ensures.read (i.stands tells)
+    file_ends _ _ (map string_bytes c.args.task.now.files.now) (plan_with (g.E.Known.base c.args.task.now.known.now) c.args.task.now.survey.now) c.args.turn.number (c.args.turn.number + 1) (name_for c.args.task.now.names.now (c.args.turn.number + 1)) c.args.composer.now _ c.loop-reader.reader c.next.new.self c.loop-reader.composer _ c.args.turn.before c.loop-reader.place 0 0 c.in-Ok-None.field-0 c.in-Ok-None.field-0-is i.same
+    (count_names c.args.task.now.files.now c.args.turn.number c.requires.numbered) i.name c.in-Ok-None.ensures.read (i.stands tells)
 
 pub returns-in-Ok-None-clause-there : goal.returns-in-Ok-None-clause-there
-returns-in-Ok-None-clause-there g c = cells_in_files (g.I.Inputs.told c.args.inputs.now) (map string_bytes c.args.files.now) c.args.number c.loop-reader.reader c.loop-reader.composer c.loop-reader.invariant.there
+returns-in-Ok-None-clause-there g c = cells_in_files (g.I.Inputs.told c.args.inputs.now) (map string_bytes c.args.task.now.files.now) c.args.turn.number c.loop-reader.reader c.loop-reader.composer c.loop-reader.invariant.there
 
 pub take-taken-requires-clause-frame : goal.take-taken-requires-clause-frame
 take-taken-requires-clause-frame g c =
@@ -80,61 +80,61 @@ pub take-taken-requires-clause-there : goal.take-taken-requires-clause-there
 take-taken-requires-clause-there g c =
     let i = c.loop-reader.invariant in
     let e = c.in-Ok-Some.ensures in
-    let next = next_of_all (g.I.Inputs.told c.args.inputs.now) _ (map string_bytes c.args.files.now) c.args.number c.loop-reader.reader c.next.new.self 0 0 c.in-Ok-Some.field-0 c.in-Ok-Some.item c.in-Ok-Some.field-0-is i.same (count_names c.args.files.now c.args.number c.requires.numbered) i.name e.read in
-    all.told_moved (g.I.Inputs.told c.next.new.inputs) (g.I.Inputs.told c.args.inputs.now) (map string_bytes c.args.files.now)
-    (λ files. AllCells (IsInInput files) c.loop-reader.composer.state × DataStand files (item_of (c.args.number + 1) c.in-Ok-rename.named)) (sym (e.same ∙ i.same))
-    (data_there (g.I.Inputs.told c.args.inputs.now) (map string_bytes c.args.files.now) c.args.number (c.args.number + 1) _ c.loop-reader.reader c.next.new.self c.loop-reader.composer c.in-Ok-Some.item c.in-Ok-rename.named refl i.file
-    (c.in-Ok-rename.ensures.named (c.args.number + 1)) next i.there)
+    let next = next_of_all (g.I.Inputs.told c.args.inputs.now) _ (map string_bytes c.args.task.now.files.now) c.args.turn.number c.loop-reader.reader c.next.new.self 0 0 c.in-Ok-Some.field-0 c.in-Ok-Some.item c.in-Ok-Some.field-0-is i.same (count_names c.args.task.now.files.now c.args.turn.number c.requires.numbered) i.name e.read in
+    all.told_moved (g.I.Inputs.told c.next.new.inputs) (g.I.Inputs.told c.args.inputs.now) (map string_bytes c.args.task.now.files.now)
+    (λ files. AllCells (IsInInput files) c.loop-reader.composer.state × DataStand files (item_of (c.args.turn.number + 1) c.in-Ok-rename.named)) (sym (e.same ∙ i.same))
+    (data_there (g.I.Inputs.told c.args.inputs.now) (map string_bytes c.args.task.now.files.now) c.args.turn.number (c.args.turn.number + 1) _ c.loop-reader.reader c.next.new.self c.loop-reader.composer c.in-Ok-Some.item c.in-Ok-rename.named refl i.file
+    (c.in-Ok-rename.ensures.named (c.args.turn.number + 1)) next i.there)
 
 pub returns-in_default-rename-clause-wrote : goal.returns-in_default-rename-clause-wrote
 returns-in_default-rename-clause-wrote g c tells =
     let i = c.loop-reader.invariant in
-    file_unnamed (g.I.Inputs.told c.args.inputs.now) (map string_bytes c.args.files.now) (plan_with (g.E.Known.base c.args.known.now) c.args.survey.now) c.args.number (c.args.number + 1) (name_for c.args.names.now (c.args.number + 1)) c.args.composer.now _ c.loop-reader.reader c.loop-reader.composer _ c.args.before c.loop-reader.place (i.stands tells)
+    file_unnamed (g.I.Inputs.told c.args.inputs.now) (map string_bytes c.args.task.now.files.now) (plan_with (g.E.Known.base c.args.task.now.known.now) c.args.task.now.survey.now) c.args.turn.number (c.args.turn.number + 1) (name_for c.args.task.now.names.now (c.args.turn.number + 1)) c.args.composer.now _ c.loop-reader.reader c.loop-reader.composer _ c.args.turn.before c.loop-reader.place (i.stands tells)
 
 pub returns-then-item-version-clause-wrote : goal.returns-then-item-version-clause-wrote
 returns-then-item-version-clause-wrote g c tells =
     let i = c.loop-reader.invariant in
-    let above : c.args.survey.now.version < c.in-Ok-Some.item.version = omega (arith, c.if-item-version.true, c.version.ensures.version) in
-    let next = next_of_all (g.I.Inputs.told c.args.inputs.now) _ (map string_bytes c.args.files.now) c.args.number c.loop-reader.reader c.next.new.self 0 0 c.in-Ok-Some.field-0 c.in-Ok-Some.item c.in-Ok-Some.field-0-is i.same (count_names c.args.files.now c.args.number c.requires.numbered) i.name c.in-Ok-Some.ensures.read in
-    file_above (g.I.Inputs.told c.args.inputs.now) (map string_bytes c.args.files.now) (plan_with (g.E.Known.base c.args.known.now) c.args.survey.now) c.args.number (c.args.number + 1) (name_for c.args.names.now (c.args.number + 1)) c.args.composer.now _ c.loop-reader.reader c.next.new.self c.loop-reader.composer _ _ c.args.before c.loop-reader.place _ _ c.in-Ok-Some.item c.refused-refused.result c.stopped.result
+    let above : c.args.task.now.survey.now.version < c.in-Ok-Some.item.version = omega (arith, c.if-item-version.true, c.version.ensures.version) in
+    let next = next_of_all (g.I.Inputs.told c.args.inputs.now) _ (map string_bytes c.args.task.now.files.now) c.args.turn.number c.loop-reader.reader c.next.new.self 0 0 c.in-Ok-Some.field-0 c.in-Ok-Some.item c.in-Ok-Some.field-0-is i.same (count_names c.args.task.now.files.now c.args.turn.number c.requires.numbered) i.name c.in-Ok-Some.ensures.read in
+    file_above (g.I.Inputs.told c.args.inputs.now) (map string_bytes c.args.task.now.files.now) (plan_with (g.E.Known.base c.args.task.now.known.now) c.args.task.now.survey.now) c.args.turn.number (c.args.turn.number + 1) (name_for c.args.task.now.names.now (c.args.turn.number + 1)) c.args.composer.now _ c.loop-reader.reader c.next.new.self c.loop-reader.composer _ _ c.args.turn.before c.loop-reader.place _ _ c.in-Ok-Some.item c.refused-refused.result c.stopped.result
     above i.file c.stopped.ensures.stopped next (i.stands tells)
 
 pub returns-in-Err-taken-clause-wrote : goal.returns-in-Err-taken-clause-wrote
 returns-in-Err-taken-clause-wrote g c tells =
     let i = c.loop-reader.invariant in
     let e = c.in-Ok-Some.ensures in
-    let next = next_of_all (g.I.Inputs.told c.args.inputs.now) _ (map string_bytes c.args.files.now) c.args.number c.loop-reader.reader c.next.new.self 0 0 c.in-Ok-Some.field-0 c.in-Ok-Some.item c.in-Ok-Some.field-0-is i.same (count_names c.args.files.now c.args.number c.requires.numbered) i.name e.read in
-    item_stops _ _ (map string_bytes c.args.files.now) (plan_with (g.E.Known.base c.args.known.now) c.args.survey.now) c.args.number (c.args.number + 1) (name_for c.args.names.now (c.args.number + 1)) c.args.composer.now _ c.loop-reader.reader c.next.new.self c.loop-reader.composer c.take-taken.new.self _ _ c.args.before c.loop-reader.place c.in-Ok-Some.item c.in-Ok-rename.named c.in-Err-taken.outcome
-    i.file (named_for _ (name_for c.args.names.now (c.args.number + 1)) (c.args.number + 1) c.in-Ok-Some.item c.in-Ok-rename.named c.of_file-name.ensures.name c.in-Ok-rename.ensures.named) (e.same ∙ i.same) next (c.in-Err-taken.ensures.taken tells) (i.stands tells)
+    let next = next_of_all (g.I.Inputs.told c.args.inputs.now) _ (map string_bytes c.args.task.now.files.now) c.args.turn.number c.loop-reader.reader c.next.new.self 0 0 c.in-Ok-Some.field-0 c.in-Ok-Some.item c.in-Ok-Some.field-0-is i.same (count_names c.args.task.now.files.now c.args.turn.number c.requires.numbered) i.name e.read in
+    item_stops _ _ (map string_bytes c.args.task.now.files.now) (plan_with (g.E.Known.base c.args.task.now.known.now) c.args.task.now.survey.now) c.args.turn.number (c.args.turn.number + 1) (name_for c.args.task.now.names.now (c.args.turn.number + 1)) c.args.composer.now _ c.loop-reader.reader c.next.new.self c.loop-reader.composer c.take-taken.new.self _ _ c.args.turn.before c.loop-reader.place c.in-Ok-Some.item c.in-Ok-rename.named c.in-Err-taken.outcome
+    i.file (named_for _ (name_for c.args.task.now.names.now (c.args.turn.number + 1)) (c.args.turn.number + 1) c.in-Ok-Some.item c.in-Ok-rename.named c.of_file-name.ensures.name c.in-Ok-rename.ensures.named) (e.same ∙ i.same) next (c.in-Err-taken.ensures.taken tells) (i.stands tells)
 
 pub loop-reader-preserved : goal.loop-reader-preserved
 loop-reader-preserved g c =
     let i = c.loop-reader.invariant in
     let e = c.in-Ok-Some.ensures in
     let t = c.in_default-taken.ensures in
-    let next = next_of_all (g.I.Inputs.told c.args.inputs.now) _ (map string_bytes c.args.files.now) c.args.number c.loop-reader.reader c.next.new.self 0 0 c.in-Ok-Some.field-0 c.in-Ok-Some.item c.in-Ok-Some.field-0-is i.same (count_names c.args.files.now c.args.number c.requires.numbered) i.name e.read in
+    let next = next_of_all (g.I.Inputs.told c.args.inputs.now) _ (map string_bytes c.args.task.now.files.now) c.args.turn.number c.loop-reader.reader c.next.new.self 0 0 c.in-Ok-Some.field-0 c.in-Ok-Some.item c.in-Ok-Some.field-0-is i.same (count_names c.args.task.now.files.now c.args.turn.number c.requires.numbered) i.name e.read in
     record {
-      same = t.same ∙ e.same ∙ i.same;
-      sizes = long_then _ _ _ t.sizes i.sizes;
-      held = λ tells. t.held tells ∙ i.held tells;
-      steady = t.steady ∙ e.steady ∙ i.steady;
-      ends_steady = t.ends_steady ∙ e.ends_steady ∙ i.ends_steady;
-      bytes_steady = t.bytes_steady ∙ i.bytes_steady;
-      out_steady = t.out_steady ∙ i.out_steady;
+      same = t.inputs.same ∙ e.same ∙ i.same;
+      sizes = long_then _ _ _ t.bytes.sizes i.sizes;
+      held = λ tells. t.bytes.held tells ∙ i.held tells;
+      steady = t.inputs.steady ∙ e.steady ∙ i.steady;
+      ends_steady = t.inputs.ends_steady ∙ e.ends_steady ∙ i.ends_steady;
+      bytes_steady = t.bytes.steady ∙ i.bytes_steady;
+      out_steady = t.out.steady ∙ i.out_steady;
       file = e.file ∙ i.file;
       name = e.name ∙ i.name;
       had = t.had;
-      there = in_files_after (g.I.Inputs.told c.args.inputs.now) (g.I.Inputs.told c.next.new.inputs) (map string_bytes c.args.files.now) c.args.number c.loop-reader.reader c.next.new.self c.loop-reader.composer c.take-taken.new.self c.in-Ok-Some.item (e.same ∙ i.same) next t.there i.there;
-      stands = λ tells. stands_after _ _ (map string_bytes c.args.files.now) (plan_with (g.E.Known.base c.args.known.now) c.args.survey.now) c.args.number (c.args.number + 1) (name_for c.args.names.now (c.args.number + 1)) c.args.composer.now _ c.loop-reader.reader c.next.new.self c.loop-reader.composer c.take-taken.new.self _ _ c.args.before c.loop-reader.place (record { file = c.args.number + 1; command = c.in-Ok-Some.item.number; offset = c.in-Ok-Some.item.offset }) c.in-Ok-Some.item c.in-Ok-rename.named
-          i.file refl (named_for _ (name_for c.args.names.now (c.args.number + 1)) (c.args.number + 1) c.in-Ok-Some.item c.in-Ok-rename.named c.of_file-name.ensures.name c.in-Ok-rename.ensures.named) (e.same ∙ i.same) next (t.taken tells) (i.stands tells);
-      alike = told_moved (g.I.Inputs.told c.take-taken.new.inputs) (g.I.Inputs.told c.loop-reader.inputs) c.next.new.self.name c.loop-reader.reader.name (EndsAlike (c.args.number + 1) c.next.new.self) (sym (t.same ∙ e.same)) (sym e.name)
-          (alike_after (g.I.Inputs.told c.loop-reader.inputs) _ (c.args.number + 1) c.loop-reader.reader.name c.loop-reader.reader c.next.new.self 0 0 c.in-Ok-Some.field-0 c.in-Ok-Some.item c.in-Ok-Some.field-0-is refl refl e.read i.alike);
-      ahead = told_moved (g.I.Inputs.told c.take-taken.new.inputs) (g.I.Inputs.told c.next.new.inputs) c.next.new.self.name c.next.new.self.name (HasAhead c.next.new.self) (sym t.same) refl
+      there = in_files_after (g.I.Inputs.told c.args.inputs.now) (g.I.Inputs.told c.next.new.inputs) (map string_bytes c.args.task.now.files.now) c.args.turn.number c.loop-reader.reader c.next.new.self c.loop-reader.composer c.take-taken.new.self c.in-Ok-Some.item (e.same ∙ i.same) next t.there i.there;
+      stands = λ tells. stands_after _ _ (map string_bytes c.args.task.now.files.now) (plan_with (g.E.Known.base c.args.task.now.known.now) c.args.task.now.survey.now) c.args.turn.number (c.args.turn.number + 1) (name_for c.args.task.now.names.now (c.args.turn.number + 1)) c.args.composer.now _ c.loop-reader.reader c.next.new.self c.loop-reader.composer c.take-taken.new.self _ _ c.args.turn.before c.loop-reader.place (record { file = c.args.turn.number + 1; command = c.in-Ok-Some.item.number; offset = c.in-Ok-Some.item.offset }) c.in-Ok-Some.item c.in-Ok-rename.named
+          i.file refl (named_for _ (name_for c.args.task.now.names.now (c.args.turn.number + 1)) (c.args.turn.number + 1) c.in-Ok-Some.item c.in-Ok-rename.named c.of_file-name.ensures.name c.in-Ok-rename.ensures.named) (e.same ∙ i.same) next (t.taken tells) (i.stands tells);
+      alike = told_moved (g.I.Inputs.told c.take-taken.new.inputs) (g.I.Inputs.told c.loop-reader.inputs) c.next.new.self.name c.loop-reader.reader.name (EndsAlike (c.args.turn.number + 1) c.next.new.self) (sym (t.inputs.same ∙ e.same)) (sym e.name)
+          (alike_after (g.I.Inputs.told c.loop-reader.inputs) _ (c.args.turn.number + 1) c.loop-reader.reader.name c.loop-reader.reader c.next.new.self 0 0 c.in-Ok-Some.field-0 c.in-Ok-Some.item c.in-Ok-Some.field-0-is refl refl e.read i.alike);
+      ahead = told_moved (g.I.Inputs.told c.take-taken.new.inputs) (g.I.Inputs.told c.next.new.inputs) c.next.new.self.name c.next.new.self.name (HasAhead c.next.new.self) (sym t.inputs.same) refl
           (next_ahead _ _ c.loop-reader.reader c.next.new.self 0 0 c.in-Ok-Some.field-0 c.in-Ok-Some.item c.in-Ok-Some.field-0-is e.same e.name e.read);
     }
 
 pub returns-in-Err-clause-wrote : goal.returns-in-Err-clause-wrote
 returns-in-Err-clause-wrote g c tells =
     let i = c.loop-reader.invariant in
-    file_stops _ _ (map string_bytes c.args.files.now) (plan_with (g.E.Known.base c.args.known.now) c.args.survey.now) c.args.number (c.args.number + 1) (name_for c.args.names.now (c.args.number + 1)) c.args.composer.now _ c.loop-reader.reader c.next.new.self c.loop-reader.composer _ _ c.args.before c.loop-reader.place _ _ _ _ c.in-Err.stop c.outcome_of.result c.stopped-in-Err.result
-    i.same (count_names c.args.files.now c.args.number c.requires.numbered) i.name c.in-Err.ensures.read c.outcome_of.ensures.outcome c.stopped-in-Err.ensures.stopped i.alike (i.stands tells)
+    file_stops _ _ (map string_bytes c.args.task.now.files.now) (plan_with (g.E.Known.base c.args.task.now.known.now) c.args.task.now.survey.now) c.args.turn.number (c.args.turn.number + 1) (name_for c.args.task.now.names.now (c.args.turn.number + 1)) c.args.composer.now _ c.loop-reader.reader c.next.new.self c.loop-reader.composer _ _ c.args.turn.before c.loop-reader.place _ _ _ _ c.in-Err.stop c.outcome_of.result c.stopped-in-Err.result
+    i.same (count_names c.args.task.now.files.now c.args.turn.number c.requires.numbered) i.name c.in-Err.ensures.read c.outcome_of.ensures.outcome c.stopped-in-Err.ensures.stopped i.alike (i.stands tells)

@@ -22,12 +22,12 @@ invariant-loop-reader g l = record {
   ends_steady : g.I.Inputs.ends l.inputs ≡ g.I.Inputs.ends l.fn.inputs;
   bytes_steady : g.B.OutsideBytes.faults l.bytes ≡ g.B.OutsideBytes.faults l.fn.bytes;
   out_steady : g.O.Sink.faults l.out ≡ g.O.Sink.faults l.fn.out;
-  file : l.reader.file ≡ l.fn.number + 1;
-  name : l.reader.name ≡ get_or (map string_bytes l.fn.files) l.fn.number [];
-  had : AllCells (IsHad (length l.fn.files) (g.E.Known.base l.fn.known)) l.composer.state;
-  there : IfAllTold (g.I.Inputs.told l.fn.inputs) (map string_bytes l.fn.files) (InFiles l.fn.number l.reader l.composer);
-  stands : g.B.OutsideBytes.tells → IfAllTold (g.I.Inputs.told l.fn.inputs) (map string_bytes l.fn.files) (λ files. Stands files (plan_with (g.E.Known.base l.fn.known) l.fn.survey) (l.fn.number + 1) (name_for l.fn.names (l.fn.number + 1)) l.fn.composer (g.O.Sink.taken l.fn.out) l.reader l.composer (g.O.Sink.taken l.out) l.fn.before l.place (get_or files l.fn.number []));
-  alike : IfTold (g.I.Inputs.told l.inputs) l.reader.name (EndsAlike (l.fn.number + 1) l.reader);
+  file : l.reader.file ≡ l.fn.turn.number + 1;
+  name : l.reader.name ≡ get_or (map string_bytes l.fn.task.files.now) l.fn.turn.number [];
+  had : AllCells (IsHad (length l.fn.task.files.now) (g.E.Known.base l.fn.task.known.now)) l.composer.state;
+  there : IfAllTold (g.I.Inputs.told l.fn.inputs) (map string_bytes l.fn.task.files.now) (InFiles l.fn.turn.number l.reader l.composer);
+  stands : g.B.OutsideBytes.tells → IfAllTold (g.I.Inputs.told l.fn.inputs) (map string_bytes l.fn.task.files.now) (λ files. Stands files (plan_with (g.E.Known.base l.fn.task.known.now) l.fn.task.survey.now) (l.fn.turn.number + 1) (name_for l.fn.task.names.now (l.fn.turn.number + 1)) l.fn.composer (g.O.Sink.taken l.fn.out) l.reader l.composer (g.O.Sink.taken l.out) l.fn.turn.before l.place (get_or files l.fn.turn.number []));
+  alike : IfTold (g.I.Inputs.told l.inputs) l.reader.name (EndsAlike (l.fn.turn.number + 1) l.reader);
   ahead : IfTold (g.I.Inputs.told l.inputs) l.reader.name (HasAhead l.reader);
 }
 

@@ -22,19 +22,19 @@ loop-file-init g c = record {
   out_steady = refl;
   had = c.requires.had;
   there = c.requires.there;
-  stand = λ tells. files_start (g.I.Inputs.told c.args.inputs.now) (map string_bytes c.args.files.now) (plan_with (g.E.Known.base c.args.known.now) c.args.survey.now) c.args.names.now c.args.composer.now (g.O.Sink.taken c.args.out.now) c.start-place.result;
+  stand = λ tells. files_start (g.I.Inputs.told c.args.inputs.now) (map string_bytes c.args.task.now.files.now) (plan_with (g.E.Known.base c.args.task.now.known.now) c.args.task.now.survey.now) c.args.task.now.names.now c.args.composer.now (g.O.Sink.taken c.args.out.now) c.start-place.result;
 }
 
 pub write_file-requires-clause-there : goal.write_file-requires-clause-there
 write_file-requires-clause-there g c =
     let i = c.loop-file.invariant in
-    told_moved (g.I.Inputs.told c.loop-file.inputs) (g.I.Inputs.told c.args.inputs.now) (map string_bytes c.args.files.now) (λ files. AllCells (IsInInput files) c.loop-file.composer.state) (sym i.same) i.there
+    told_moved (g.I.Inputs.told c.loop-file.inputs) (g.I.Inputs.told c.args.inputs.now) (map string_bytes c.args.task.now.files.now) (λ files. AllCells (IsInInput files) c.loop-file.composer.state) (sym i.same) i.there
 
 pub returns-in-Err-clause-ends : goal.returns-in-Err-clause-ends
 returns-in-Err-clause-ends g c tells =
     let i = c.loop-file.invariant in
-    files_stopped _ _ c.args.files.now (g.E.Known.base c.args.known.now) c.args.names.now c.args.survey.now c.args.composer.now _ c.loop-file.file c.loop-file.composer _ _ c.start-place.result c.loop-file.place c.in-Err.outcome
-    i.same c.loop-file-test.true (begun _ (map string_bytes c.args.files.now) (g.E.Known.base c.args.known.now) c.args.names.now c.args.survey.now c.args.composer.now c.requires.apart (c.requires.sayable tells) c.requires.surveyed (c.requires.start tells))
+    files_stopped _ _ c.args.task.now.files.now (g.E.Known.base c.args.task.now.known.now) c.args.task.now.names.now c.args.task.now.survey.now c.args.composer.now _ c.loop-file.file c.loop-file.composer _ _ c.start-place.result c.loop-file.place c.in-Err.outcome
+    i.same c.loop-file-test.true (begun _ (map string_bytes c.args.task.now.files.now) (g.E.Known.base c.args.task.now.known.now) c.args.task.now.names.now c.args.task.now.survey.now c.args.composer.now c.requires.apart (c.requires.sayable tells) c.requires.surveyed (c.requires.start tells))
     (c.in-Err.ensures.wrote tells) (i.stand tells)
 
 pub loop-file-preserved : goal.loop-file-preserved
@@ -43,30 +43,30 @@ loop-file-preserved g c =
     let e = c.in-Ok.ensures in
     record {
       within = omega (arith, c.loop-file-test.true);
-      same = e.same ∙ i.same;
-      sizes = long_then _ _ _ e.sizes i.sizes;
-      held = λ tells. e.held tells ∙ i.held tells;
-      steady = e.steady ∙ i.steady;
-      ends_steady = e.ends_steady ∙ i.ends_steady;
-      bytes_steady = e.bytes_steady ∙ i.bytes_steady;
-      out_steady = e.out_steady ∙ i.out_steady;
+      same = e.inputs.same ∙ i.same;
+      sizes = long_then _ _ _ e.bytes.sizes i.sizes;
+      held = λ tells. e.bytes.held tells ∙ i.held tells;
+      steady = e.inputs.steady ∙ i.steady;
+      ends_steady = e.inputs.ends_steady ∙ i.ends_steady;
+      bytes_steady = e.bytes.steady ∙ i.bytes_steady;
+      out_steady = e.out.steady ∙ i.out_steady;
       had = e.had;
-      there = told_moved (g.I.Inputs.told c.args.inputs.now) (g.I.Inputs.told c.loop-file.inputs) (map string_bytes c.args.files.now) (λ files. AllCells (IsInInput files) c.write_file.new.composer.state) i.same e.there;
-      stand = λ tells. files_after _ _ c.args.files.now (plan_with (g.E.Known.base c.args.known.now) c.args.survey.now) c.args.names.now c.args.composer.now _ c.loop-file.file c.loop-file.composer c.write_file.new.composer _ _ c.start-place.result c.loop-file.place c.in-Ok.place
+      there = told_moved (g.I.Inputs.told c.args.inputs.now) (g.I.Inputs.told c.loop-file.inputs) (map string_bytes c.args.task.now.files.now) (λ files. AllCells (IsInInput files) c.write_file.new.composer.state) i.same e.there;
+      stand = λ tells. files_after _ _ c.args.task.now.files.now (plan_with (g.E.Known.base c.args.task.now.known.now) c.args.task.now.survey.now) c.args.task.now.names.now c.args.composer.now _ c.loop-file.file c.loop-file.composer c.write_file.new.composer _ _ c.start-place.result c.loop-file.place c.in-Ok.place
           i.same c.loop-file-test.true (e.wrote tells) (i.stand tells);
     }
 
 pub returns-then-not-at_last-clause-ends : goal.returns-then-not-at_last-clause-ends
 returns-then-not-at_last-clause-ends g c tells =
-    files_empty _ c.args.files.now (g.E.Known.base c.args.known.now) c.args.names.now c.args.survey.now c.args.composer.now _ c.loop-file.file c.loop-file.composer _ c.start-place.result c.loop-file.place c.refused.result
+    files_empty _ c.args.task.now.files.now (g.E.Known.base c.args.task.now.known.now) c.args.task.now.names.now c.args.task.now.survey.now c.args.composer.now _ c.loop-file.file c.loop-file.composer _ c.start-place.result c.loop-file.place c.refused.result
     c.requires.some (omega (arith, c.loop-file-test.false)) (sym c.is_at_last-at_last.ensures.last ∙ c.if-not-at_last.true) c.refused.ensures.verdict
-    (begun _ (map string_bytes c.args.files.now) (g.E.Known.base c.args.known.now) c.args.names.now c.args.survey.now c.args.composer.now c.requires.apart (c.requires.sayable tells) c.requires.surveyed (c.requires.start tells)) (c.loop-file.invariant.stand tells)
+    (begun _ (map string_bytes c.args.task.now.files.now) (g.E.Known.base c.args.task.now.known.now) c.args.task.now.names.now c.args.task.now.survey.now c.args.composer.now c.requires.apart (c.requires.sayable tells) c.requires.surveyed (c.requires.start tells)) (c.loop-file.invariant.stand tells)
 
 pub returns-clause-ends : goal.returns-clause-ends
 returns-clause-ends g c tells =
-    files_ended _ c.args.files.now (g.E.Known.base c.args.known.now) c.args.names.now c.args.survey.now c.args.composer.now _ c.loop-file.file c.loop-file.composer _ _ c.start-place.result c.loop-file.place c.version.result _ _ c.end.result c.map_err.result
+    files_ended _ c.args.task.now.files.now (g.E.Known.base c.args.task.now.known.now) c.args.task.now.names.now c.args.task.now.survey.now c.args.composer.now _ c.loop-file.file c.loop-file.composer _ _ c.start-place.result c.loop-file.place c.version.result _ _ c.end.result c.map_err.result
     c.requires.some (omega (arith, c.loop-file-test.false)) (sym c.is_at_last-at_last.ensures.last ∙ c.if-not-at_last.false) c.version.ensures.version c.end.ensures.ended (answer_is c.end.result c.map_err.result c.map_err.ensures.cases)
-    (begun _ (map string_bytes c.args.files.now) (g.E.Known.base c.args.known.now) c.args.names.now c.args.survey.now c.args.composer.now c.requires.apart (c.requires.sayable tells) c.requires.surveyed (c.requires.start tells)) (c.loop-file.invariant.stand tells)
+    (begun _ (map string_bytes c.args.task.now.files.now) (g.E.Known.base c.args.task.now.known.now) c.args.task.now.names.now c.args.task.now.survey.now c.args.composer.now c.requires.apart (c.requires.sayable tells) c.requires.surveyed (c.requires.start tells)) (c.loop-file.invariant.stand tells)
 
 pub returns-clause-cause : goal.returns-clause-cause
 returns-clause-cause g c = end_caused _ _ _ _ _ _ _ _ _ _ c.end.result c.map_err.result (answer_is c.end.result c.map_err.result c.map_err.ensures.cases) (omega (arith, c.loop-file.invariant.out_steady)) c.end.ensures.ended
@@ -79,4 +79,4 @@ returns-clause-stops g c = handed_stops c.end.result c.map_err.result (answer_is
 
 pub returns-clause-last : goal.returns-clause-last
 returns-clause-last g c =
-    end_at_last c.end.result c.map_err.result c.loop-file.composer c.end.new.self c.args.survey.now.last (answer_is c.end.result c.map_err.result c.map_err.ensures.cases) c.end.ensures.all_out (sym c.is_at_last-at_last.ensures.last ∙ c.if-not-at_last.false)
+    end_at_last c.end.result c.map_err.result c.loop-file.composer c.end.new.self c.args.task.now.survey.now.last (answer_is c.end.result c.map_err.result c.map_err.ensures.cases) c.end.ensures.all_out (sym c.is_at_last-at_last.ensures.last ∙ c.if-not-at_last.false)

@@ -119,7 +119,7 @@ returns-in-Ok-write_stream-clause-answered g c tells =
     let wrote = c.in-Ok-write_stream.ensures.written tells in (
       wrote.0,
       wrote.1,
-      subst (λ (l : List ℕ). SendAnswers (form_of c.args.order) seen name (answer_of name [] (made.Ends ended.Done)) wrote.0 l) (sym ((c.write_stream.ensures.same tells).seen ∙ c.open.ensures.seen tells))
+      subst (λ (l : List ℕ). SendAnswers (form_of c.args.order) seen name (answer_of name [] (made.Ends ended.Done)) wrote.0 l) (sym ((c.write_stream.ensures.disk.same tells).seen ∙ c.open.ensures.seen tells))
           (send_done (form_of c.args.order) seen name (store_with_holes seen core) stands _ here tt wrote.0 (wrote.2 ∙ text)),
     )
 
@@ -140,7 +140,7 @@ returns-in-Ok-write_stream-clause-received g c tells =
 pub returns-in-Ok-write_stream-clause-any_moment : goal.returns-in-Ok-write_stream-clause-any_moment
 returns-in-Ok-write_stream-clause-any_moment g c tells =
     let D = g.D.Disk in
-    joins (c.open.ensures.any_moment tells) (weakens (c.write_stream.ensures.any_moment tells) (λ image is.
+    joins (c.open.ensures.any_moment tells) (weakens (c.write_stream.ensures.disk.any_moment tells) (λ image is.
     let whole : image ≡ D.seen c.open.new.disk = only_settled (D.seen c.open.new.disk) image (subst (λ (p : Pending). IsImage p image) (c.in-Ok.ensures.durable tells) is) in
     subst (λ (i : List ℕ). IsImage (D.pending c.args.disk.now) i) (sym (whole ∙ c.open.ensures.seen tells)) (g.met.D.Disk.seen_is_image c.args.disk.now tells)))
 
@@ -158,7 +158,7 @@ returns-clause-answered g c tells =
     let wrote = c.in-Err-write_stream.ensures.written tells in (
       wrote.0,
       wrote.1,
-      subst (λ (l : List ℕ). SendAnswers (form_of c.args.order) seen name (answer_of name [] c.in-Err-write_stream.end) wrote.0 l) (sym ((c.write_stream.ensures.same tells).seen ∙ c.open.ensures.seen tells))
+      subst (λ (l : List ℕ). SendAnswers (form_of c.args.order) seen name (answer_of name [] c.in-Err-write_stream.end) wrote.0 l) (sym ((c.write_stream.ensures.disk.same tells).seen ∙ c.open.ensures.seen tells))
           (send_stops (form_of c.args.order) seen name (store_with_holes seen core) stands _ here c.in-Err-write_stream.end wrote.0 (subst (λ (l : List ℕ). IsCutBy c.in-Err-write_stream.end l wrote.0) text wrote.2.0)),
     )
 
@@ -182,6 +182,6 @@ returns-clause-unfinished g c tells =
 pub returns-clause-any_moment : goal.returns-clause-any_moment
 returns-clause-any_moment g c tells =
     let D = g.D.Disk in
-    joins (c.open.ensures.any_moment tells) (weakens (c.write_stream.ensures.any_moment tells) (λ image is.
+    joins (c.open.ensures.any_moment tells) (weakens (c.write_stream.ensures.disk.any_moment tells) (λ image is.
     let whole : image ≡ D.seen c.open.new.disk = only_settled (D.seen c.open.new.disk) image (subst (λ (p : Pending). IsImage p image) (c.in-Ok.ensures.durable tells) is) in
     subst (λ (i : List ℕ). IsImage (D.pending c.args.disk.now) i) (sym (whole ∙ c.open.ensures.seen tells)) (g.met.D.Disk.seen_is_image c.args.disk.now tells)))

@@ -41,13 +41,13 @@ from_none : (text old new : List ℕ) (first last : Option (List ℕ)) (result :
 from_none text old new first last result none adds = subst (λ (l : List ℕ). Adds text l new first last result) none adds
 
 pub returns-in_default-clause-written : goal.returns-in_default-clause-written
-returns-in_default-clause-written g c tells = nothing_stopped c.args.order c.args.name.now (key_of c.args.key) (with_holes (g.D.Disk.seen c.args.disk.now) c.args.sub.now) (g.O.Sink.taken c.args.out.now)
+returns-in_default-clause-written g c tells = nothing_stopped c.args.order c.args.stored.now.name.now (key_of c.args.stored.now.key) (with_holes (g.D.Disk.seen c.args.disk.now) c.args.stored.now.sub.now) (g.O.Sink.taken c.args.out.now)
 
 pub returns-in_err-opening-in-Sent-clause-written : goal.returns-in_err-opening-in-Sent-clause-written
 returns-in_err-opening-in-Sent-clause-written g c tells =
     let image : List ℕ = g.D.Disk.seen c.args.disk.now in
     let w = c.new-writer.result in
-    let whole = sent_whole image c.args.name.now w.key c.args.key c.new-writer.ensures.key w.spelling.version c.in-Ok.version c.new-writer.ensures.version c.tree.result.now c.args.sub.now c.tree.result.now c.tree.ensures c.tree.ensures c.in-Ok.ensures c.args.order c.in-Sent.is in
+    let whole = sent_whole image c.args.stored.now.name.now w.key c.args.stored.now.key c.new-writer.ensures.key w.spelling.version c.in-Ok.version c.new-writer.ensures.version w.tree.now c.args.stored.now.sub.now c.tree-tree.result.now (c.new-writer.ensures.tree ∙ c.tree-tree.ensures) c.tree-tree.ensures c.in-Ok.ensures c.args.order c.in-Sent.is in
     stream_handed _ _ _ c.from_residual.result _ c.from_residual.ensures.1
     (opening_stops _ _ _ _ whole (end_some w.spelling.version) c.opening.new.bytes _ _ _ (from_none _ _ c.opening.new.bytes _ _ (Err c.in_err-opening-in-Sent.field-0.0) c.new-bytes.ensures.empty c.in_err-opening-in-Sent.ensures.adds))
 
@@ -55,7 +55,7 @@ pub returns-in_err-sent-in-Sent-clause-written : goal.returns-in_err-sent-in-Sen
 returns-in_err-sent-in-Sent-clause-written g c tells =
     let image : List ℕ = g.D.Disk.seen c.args.disk.now in
     let w = c.new-writer.result in
-    let whole = sent_whole image c.args.name.now w.key c.args.key c.new-writer.ensures.key w.spelling.version c.in-Ok.version c.new-writer.ensures.version c.tree-in-Sent.result.now c.args.sub.now c.tree.result.now c.tree-in-Sent.ensures c.tree.ensures c.in-Ok.ensures c.args.order c.in-Sent.is in
+    let whole = sent_whole image c.args.stored.now.name.now w.key c.args.stored.now.key c.new-writer.ensures.key w.spelling.version c.in-Ok.version c.new-writer.ensures.version w.tree.now c.args.stored.now.sub.now c.tree-tree.result.now (c.new-writer.ensures.tree ∙ c.tree-tree.ensures) c.tree-tree.ensures c.in-Ok.ensures c.args.order c.in-Sent.is in
     stream_handed _ _ _ c.from_residual-in_err-sent-in-Sent.result _ c.from_residual-in_err-sent-in-Sent.ensures.1
     (edits_stop _ _ _ _ whole (end_some w.spelling.version) c.opening.new.bytes c.sent.new.bytes _ _ _ _ (from_none _ _ _ _ _ (Ok c.in_ok-opening-in-Sent.field-0) c.new-bytes.ensures.empty c.in_ok-opening-in-Sent.ensures.adds) (c.in_err-sent-in-Sent.ensures.adds tells))
 
@@ -63,7 +63,7 @@ pub returns-in-Sent-clause-written : goal.returns-in-Sent-clause-written
 returns-in-Sent-clause-written g c tells =
     let image : List ℕ = g.D.Disk.seen c.args.disk.now in
     let w = c.new-writer.result in
-    let whole = sent_whole image c.args.name.now w.key c.args.key c.new-writer.ensures.key w.spelling.version c.in-Ok.version c.new-writer.ensures.version c.tree-in-Sent.result.now c.args.sub.now c.tree.result.now c.tree-in-Sent.ensures c.tree.ensures c.in-Ok.ensures c.args.order c.in-Sent.is in
+    let whole = sent_whole image c.args.stored.now.name.now w.key c.args.stored.now.key c.new-writer.ensures.key w.spelling.version c.in-Ok.version c.new-writer.ensures.version w.tree.now c.args.stored.now.sub.now c.tree-tree.result.now (c.new-writer.ensures.tree ∙ c.tree-tree.ensures) c.tree-tree.ensures c.in-Ok.ensures c.args.order c.in-Sent.is in
     stream_closed _ _ _ _ whole (end_some w.spelling.version) c.opening.new.bytes c.sent.new.bytes c.closing.new.bytes _ _ _ _ (from_none _ _ _ _ _ (Ok c.in_ok-opening-in-Sent.field-0) c.new-bytes.ensures.empty c.in_ok-opening-in-Sent.ensures.adds)
     (c.in_ok-sent-in-Sent.ensures.adds tells) c.closing.result _ c.closing.ensures.cause c.closing.ensures.nothing c.closing.ensures.all c.closing.ensures.adds
 
@@ -71,7 +71,7 @@ pub returns-in_err-opening-in-Restored-clause-written : goal.returns-in_err-open
 returns-in_err-opening-in-Restored-clause-written g c tells =
     let image : List ℕ = g.D.Disk.seen c.args.disk.now in
     let w = c.new-writer-in-Restored.result in
-    let whole = restored_whole image c.args.name.now w.key c.args.key c.new-writer-in-Restored.ensures.key w.spelling.version c.in-Ok.version c.new-writer-in-Restored.ensures.version c.tree.result.now c.args.sub.now c.tree.result.now c.tree.ensures c.tree.ensures c.in-Ok.ensures c.args.order c.in-Restored.is in
+    let whole = restored_whole image c.args.stored.now.name.now w.key c.args.stored.now.key c.new-writer-in-Restored.ensures.key w.spelling.version c.in-Ok.version c.new-writer-in-Restored.ensures.version w.tree.now c.args.stored.now.sub.now c.tree-tree.result.now (c.new-writer-in-Restored.ensures.tree ∙ c.tree-tree.ensures) c.tree-tree.ensures c.in-Ok.ensures c.args.order c.in-Restored.is in
     stream_handed _ _ _ c.from_residual-in_err-opening-in-Restored.result _ c.from_residual-in_err-opening-in-Restored.ensures.1
     (opening_stops _ _ _ _ whole (end_some_receivable w.spelling.version) c.opening-in-Restored.new.bytes _ _ _ (from_none _ _ c.opening-in-Restored.new.bytes _ _ (Err c.in_err-opening-in-Restored.field-0.0) c.new-bytes.ensures.empty c.in_err-opening-in-Restored.ensures.adds))
 
@@ -79,7 +79,7 @@ pub returns-in_err-restored-in-Restored-clause-written : goal.returns-in_err-res
 returns-in_err-restored-in-Restored-clause-written g c tells =
     let image : List ℕ = g.D.Disk.seen c.args.disk.now in
     let w = c.new-writer-in-Restored.result in
-    let whole = restored_whole image c.args.name.now w.key c.args.key c.new-writer-in-Restored.ensures.key w.spelling.version c.in-Ok.version c.new-writer-in-Restored.ensures.version c.tree-in-Restored.result.now c.args.sub.now c.tree.result.now c.tree-in-Restored.ensures c.tree.ensures c.in-Ok.ensures c.args.order c.in-Restored.is in
+    let whole = restored_whole image c.args.stored.now.name.now w.key c.args.stored.now.key c.new-writer-in-Restored.ensures.key w.spelling.version c.in-Ok.version c.new-writer-in-Restored.ensures.version w.tree.now c.args.stored.now.sub.now c.tree-tree.result.now (c.new-writer-in-Restored.ensures.tree ∙ c.tree-tree.ensures) c.tree-tree.ensures c.in-Ok.ensures c.args.order c.in-Restored.is in
     stream_handed _ _ _ c.from_residual-in_err-restored-in-Restored.result _ c.from_residual-in_err-restored-in-Restored.ensures.1
     (edits_stop _ _ _ _ whole (end_some_receivable w.spelling.version) c.opening-in-Restored.new.bytes c.restored.new.bytes _ _ _ _ (from_none _ _ _ _ _ (Ok c.in_ok-opening-in-Restored.field-0) c.new-bytes.ensures.empty c.in_ok-opening-in-Restored.ensures.adds) (c.in_err-restored-in-Restored.ensures.adds tells))
 
@@ -87,6 +87,6 @@ pub returns-clause-written : goal.returns-clause-written
 returns-clause-written g c tells =
     let image : List ℕ = g.D.Disk.seen c.args.disk.now in
     let w = c.new-writer-in-Restored.result in
-    let whole = restored_whole image c.args.name.now w.key c.args.key c.new-writer-in-Restored.ensures.key w.spelling.version c.in-Ok.version c.new-writer-in-Restored.ensures.version c.tree-in-Restored.result.now c.args.sub.now c.tree.result.now c.tree-in-Restored.ensures c.tree.ensures c.in-Ok.ensures c.args.order c.in-Restored.is in
+    let whole = restored_whole image c.args.stored.now.name.now w.key c.args.stored.now.key c.new-writer-in-Restored.ensures.key w.spelling.version c.in-Ok.version c.new-writer-in-Restored.ensures.version w.tree.now c.args.stored.now.sub.now c.tree-tree.result.now (c.new-writer-in-Restored.ensures.tree ∙ c.tree-tree.ensures) c.tree-tree.ensures c.in-Ok.ensures c.args.order c.in-Restored.is in
     stream_closed _ _ _ _ whole (end_some_receivable w.spelling.version) c.opening-in-Restored.new.bytes c.restored.new.bytes c.closing-in-Restored.new.bytes _ _ _ _ (from_none _ _ _ _ _ (Ok c.in_ok-opening-in-Restored.field-0) c.new-bytes.ensures.empty c.in_ok-opening-in-Restored.ensures.adds)
     (c.in_ok-restored-in-Restored.ensures.adds tells) c.closing-in-Restored.result _ c.closing-in-Restored.ensures.cause c.closing-in-Restored.ensures.nothing c.closing-in-Restored.ensures.all c.closing-in-Restored.ensures.adds

@@ -5,7 +5,7 @@ use Rattle.sx_base.specs.Calls.{IfAllTold}
 use Rattle.send_model.specs.Store.{Store}
 use Rattle.store_model.proofs.PassedStates.{IsOn}
 use Rattle.store_journal.specs.Shown.{IsIdle}
-use Rattle.receiver.specs.Disks.{RunsOn}
+use Rattle.receiver.specs.Disks.{work, RunsOn}
 use Rattle.receiver.specs.Running.{Spot, IsAt}
 use Rattle.receiver.proofs.AllTheFiles.{AllStand}
 use Rattle.receiver.proofs.files.receive_files.Given as goal
@@ -13,7 +13,7 @@ use Rattle.receiver.proofs.files.receive_files.Given as goal
 -- The commands of the files so far were taken; the inputs tell the same files, and no count rose.
 abbrev pub invariant-loop-file : goal.invariant-loop-file
 invariant-loop-file g l = record {
-  within : l.file ≤ length l.fn.files;
+  within : l.file ≤ length l.fn.given.files.now;
   same : g.I.Inputs.told l.inputs ≡ g.I.Inputs.told l.fn.inputs;
   steady : g.I.Inputs.faults l.inputs ≡ g.I.Inputs.faults l.fn.inputs;
   ends_steady : g.I.Inputs.ends l.inputs ≡ g.I.Inputs.ends l.fn.inputs;
@@ -22,9 +22,9 @@ invariant-loop-file g l = record {
   most : l.store.log.limit ≡ l.fn.store.log.limit;
   idle : IsIdle (g.D.Disk.len l.disk) l.store;
   stand : (base : Store ℕ) (spot : Spot) → IsAt spot (g.G.Guarding.kept l.fn.guards) l.fn.store None → IsOn base spot.watched.state.store spot.watched.state.part → spot.begun ≡ None
-      → IfAllTold (g.I.Inputs.told l.fn.inputs) (map string_bytes l.fn.files) (AllStand l.fn.names l.file l.fn.store.log.limit base spot (g.G.Guarding.kept l.guards) l.store (g.O.Sink.taken l.fn.out) (g.O.Sink.taken l.out)
-      (RunsOn g.D.Disk.tells g.D.Disk.moment g.D.Disk.left_since g.D.Disk.seen g.D.Disk.pending l.fn.disk l.disk None None None l.fn.store l.store));
+      → IfAllTold (g.I.Inputs.told l.fn.inputs) (map string_bytes l.fn.given.files.now) (AllStand l.fn.given.names.now l.file l.fn.store.log.limit base spot (g.G.Guarding.kept l.guards) l.store (g.O.Sink.taken l.fn.out) (g.O.Sink.taken l.out)
+      (RunsOn g.D.Disk (work l.fn.disk l.fn.store None) (work l.disk l.store None) None));
 }
 
 abbrev pub decreases-loop-file : goal.decreases-loop-file
-decreases-loop-file g l = length l.files - l.file
+decreases-loop-file g l = length l.given.files.now - l.file

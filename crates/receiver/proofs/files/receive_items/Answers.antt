@@ -1,4 +1,4 @@
-use Rattle.std.specs.Prelude.{ℕ, [], Option, None, Ok, Err, ◌++◌}
+use Rattle.std.specs.Prelude.{ℕ, [], None, Ok, Err, ◌++◌}
 use Rattle.std.specs.Option.{option_copied}
 use Rattle.sx_base.specs.declared.outcome.Outcome.TheVariants as ended
 use Rattle.std.proofs.Common.{rules, refl, sym, ap, subst, ◌∙◌, arith}
@@ -11,12 +11,10 @@ use Rattle.cmd_reader.proofs.Aheads.{start_ahead, next_ahead}
 use Rattle.auditor.specs.Following.{beside, follow}
 use Rattle.auditor.proofs.Short.{item_moves}
 use Rattle.store_model.specs.Written.{closed_by, begun_by, begun_after}
-use Rattle.receiver.specs.declared.opened.Opened.{Opened}
 use Rattle.receiver.specs.Standing.{behind_close, place_of}
 use Rattle.receiver.specs.Steps.{blank_of, begun_if}
 use Rattle.receiver.specs.Answers.{PiecesSay}
-use Rattle.receiver.specs.Disks.{HasNow, RunsOn, LeavesOn, StopsOn}
-use Rattle.receiver.specs.Running.{IsAt}
+use Rattle.receiver.specs.Disks.{work, HasNow, RunsOn, LeavesOn, StopsOn}
 use Rattle.receiver.proofs.NamedReads.{given_fits}
 use Rattle.receiver.proofs.FileSteps.{stands_at_start, stands_after}
 use Rattle.receiver.proofs.FileStops.{file_done, file_unopened, file_item, file_read_stops, ended_at_end}
@@ -26,16 +24,16 @@ use Rattle.receiver.proofs.files.receive_items.Goals as goal
 
 pub returns-in_default-clause-received : goal.returns-in_default-clause-received
 returns-in_default-clause-received g c base spot at on none =
-    file_unopened (g.I.Inputs.told c.args.inputs.now) (option_copied c.args.new_name) c.args.file c.args.store.now.log.limit c.args.name.now base spot (g.G.Guarding.kept c.args.guards.now) c.args.store.now (g.O.Sink.taken c.args.out.now)
-    (RunsOn g.D.Disk.tells g.D.Disk.moment g.D.Disk.left_since g.D.Disk.seen g.D.Disk.pending c.args.disk.now c.args.disk.now None None c.args.current.now c.args.store.now c.args.store.now)
-    (LeavesOn g.D.Disk.tells g.D.Disk.moment g.D.Disk.left_since g.D.Disk.seen g.D.Disk.pending c.args.disk.now c.args.disk.now None None c.args.store.now)
-    (StopsOn g.D.Disk.tells g.D.Disk.seen g.D.Disk.pending c.args.disk.now c.args.disk.now None c.args.current.now c.args.store.now c.args.store.now) on
-    (none_leaves g.D.Disk.tells g.D.Disk.moment g.D.Disk.left_since g.D.Disk.seen g.D.Disk.pending c.args.disk.now c.args.store.now (λ tells image. g.met.D.Disk.only_now c.args.disk.now image tells))
-    (λ V is. run_rests g.D.Disk.tells g.D.Disk.moment g.D.Disk.left_since g.D.Disk.seen g.D.Disk.pending c.args.disk.now c.args.disk.now c.args.store.now c.args.store.now c.args.current.now [] None ended.NoMemory V
-    (run_starts g.D.Disk.tells g.D.Disk.moment g.D.Disk.left_since g.D.Disk.seen g.D.Disk.pending c.args.disk.now c.args.store.now c.args.current.now c.requires.none (λ tells image. g.met.D.Disk.only_now c.args.disk.now image tells)) is)
+    file_unopened (g.I.Inputs.told c.args.inputs.now) (option_copied c.args.file.now.new_name) c.args.file.now.number c.args.store.now.log.limit c.args.file.now.name.now base spot (g.G.Guarding.kept c.args.guards.now) c.args.store.now (g.O.Sink.taken c.args.out.now)
+    (RunsOn g.D.Disk (work c.args.disk.now c.args.store.now None) (work c.args.disk.now c.args.store.now None) None)
+    (LeavesOn g.D.Disk (work c.args.disk.now c.args.store.now None) c.args.disk.now None)
+    (StopsOn g.D.Disk (work c.args.disk.now c.args.store.now None) (work c.args.disk.now c.args.store.now None)) on
+    (none_leaves g.D.Disk c.args.disk.now c.args.store.now (λ tells image. g.met.D.Disk.only_now c.args.disk.now image tells))
+    (λ V is. run_rests g.D.Disk c.args.disk.now c.args.disk.now c.args.store.now c.args.store.now None [] None ended.NoMemory V
+    (run_starts g.D.Disk c.args.disk.now c.args.store.now None refl (λ tells image. g.met.D.Disk.only_now c.args.disk.now image tells)) is)
 
-pub loop-reader-init : goal.loop-reader-init
-loop-reader-init g c =
+pub loop-ended-init : goal.loop-ended-init
+loop-ended-init g c =
     let fresh = c.in-Ok.ensures.start in
     record {
       same = refl;
@@ -50,32 +48,32 @@ loop-reader-init g c =
       ready = search rules;
       at_end = λ e. absurd (false≢true (sym (ap (λ (r : Reader). r.fed.ended) fresh) ∙ e));
       stands = λ base spot at on none.
-          stands_at_start (g.I.Inputs.told c.args.inputs.now) (option_copied c.args.new_name) c.args.file c.args.store.now.log.limit c.args.name.now base spot c.in-Ok.reader (g.G.Guarding.kept c.args.guards.now) c.args.store.now c.args.current.now (g.O.Sink.taken c.args.out.now) _ fresh
-          (subst (λ (o : Option Opened). IsAt spot (g.G.Guarding.kept c.args.guards.now) c.args.store.now o) (sym c.requires.none) at) on none
-          (run_starts g.D.Disk.tells g.D.Disk.moment g.D.Disk.left_since g.D.Disk.seen g.D.Disk.pending c.args.disk.now c.args.store.now c.args.current.now c.requires.none (λ tells image. g.met.D.Disk.only_now c.args.disk.now image tells));
-      ahead = start_ahead _ c.args.file c.args.name.now c.in-Ok.reader fresh;
+          stands_at_start (g.I.Inputs.told c.args.inputs.now) (option_copied c.args.file.now.new_name) c.args.file.now.number c.args.store.now.log.limit c.args.file.now.name.now base spot c.in-Ok.reader (g.G.Guarding.kept c.args.guards.now) c.args.store.now None (g.O.Sink.taken c.args.out.now) _ fresh
+          at on none
+          (run_starts g.D.Disk c.args.disk.now c.args.store.now None refl (λ tells image. g.met.D.Disk.only_now c.args.disk.now image tells));
+      ahead = start_ahead _ c.args.file.now.number c.args.file.now.name.now c.in-Ok.reader fresh;
     }
 
 pub returns-in-Ok-None-clause-received : goal.returns-in-Ok-None-clause-received
 returns-in-Ok-None-clause-received g c base spot at on none =
-    let i = c.loop-reader.invariant in
-    let ends = i.at_end (ended_at_end c.in-Ok-None.field-0 c.loop-reader.reader c.in-Ok-None.field-0-is c.in-Ok-None.ensures.end) in
-    file_done _ _ (option_copied c.args.new_name) c.args.file c.args.store.now.log.limit c.args.name.now base spot c.loop-reader.reader c.next.new.self (g.G.Guarding.kept c.loop-reader.guards) c.loop-reader.store c.loop-reader.current _ _
-    (RunsOn g.D.Disk.tells g.D.Disk.moment g.D.Disk.left_since g.D.Disk.seen g.D.Disk.pending c.args.disk.now c.loop-reader.disk None None c.loop-reader.current c.args.store.now c.loop-reader.store)
-    (LeavesOn g.D.Disk.tells g.D.Disk.moment g.D.Disk.left_since g.D.Disk.seen g.D.Disk.pending c.args.disk.now c.loop-reader.disk None None c.args.store.now)
-    (StopsOn g.D.Disk.tells g.D.Disk.seen g.D.Disk.pending c.args.disk.now c.loop-reader.disk None c.loop-reader.current c.args.store.now c.loop-reader.store) 0 0
+    let i = c.loop-ended.invariant in
+    let ends = i.at_end (ended_at_end c.in-Ok-None.field-0 c.loop-ended.reader c.in-Ok-None.field-0-is c.in-Ok-None.ensures.end) in
+    file_done _ _ (option_copied c.args.file.now.new_name) c.args.file.now.number c.args.store.now.log.limit c.args.file.now.name.now base spot c.loop-ended.reader c.next.new.self (g.G.Guarding.kept c.loop-ended.guards) c.loop-ended.store c.loop-ended.current _ _
+    (RunsOn g.D.Disk (work c.args.disk.now c.args.store.now None) (work c.loop-ended.disk c.loop-ended.store c.loop-ended.current) None)
+    (LeavesOn g.D.Disk (work c.args.disk.now c.args.store.now None) c.loop-ended.disk None)
+    (StopsOn g.D.Disk (work c.args.disk.now c.args.store.now None) (work c.loop-ended.disk c.loop-ended.store c.loop-ended.current)) 0 0
     c.in-Ok-None.field-0 c.in-Ok-None.field-0-is i.same i.name c.in-Ok-None.ensures.read ends.0 ends.1 (i.stands base spot at on none)
 
-pub loop-reader-preserved : goal.loop-reader-preserved
-loop-reader-preserved g c =
-    let i = c.loop-reader.invariant in
+pub loop-ended-preserved : goal.loop-ended-preserved
+loop-ended-preserved g c =
+    let i = c.loop-ended.invariant in
     let e = c.in-Ok-Some.ensures in
     let m = item_moves c.in-Ok-Some.field-0 c.in-Ok-Some.item _ _ c.in-Ok-Some.field-0-is e.fits in
     let given = c.in-Ok-rename.ensures in
-    let fits = given_fits (option_copied c.args.new_name) c.args.file c.loop-reader.reader c.next.new.self c.in-Ok-Some.item c.in-Ok-rename.item m (given.named c.args.file) given.can_write in
+    let fits = given_fits (option_copied c.args.file.now.new_name) c.args.file.now.number c.loop-ended.reader c.next.new.self c.in-Ok-Some.item c.in-Ok-rename.item m (given.named c.args.file.now.number) given.can_write in
     let r = c.in-Ok-received.ensures in
-    let item = item_of c.args.file c.in-Ok-rename.item in
-    let guards = g.G.Guarding.kept c.loop-reader.guards in
+    let item = item_of c.args.file.now.number c.in-Ok-rename.item in
+    let guards = g.G.Guarding.kept c.loop-ended.guards in
     record {
       same = e.same ∙ i.same;
       steady = e.steady ∙ i.steady;
@@ -89,90 +87,90 @@ loop-reader-preserved g c =
       ready = r.ready;
       at_end = at_stream_end c.next.new.self.fed.ended c.next.new.self.fed.due c.in-Ok-rename.item.version (meaning_of c.in-Ok-rename.item.command) c.receive_item-received.new.current fits.at_end fits.due r.at_end;
       stands = λ base spot at on none.
-          stands_after _ _ (option_copied c.args.new_name) c.args.file c.args.store.now.log.limit _ c.args.name.now base spot c.loop-reader.reader c.next.new.self guards (g.G.Guarding.kept c.receive_item-received.new.guards) c.loop-reader.store c.receive_item-received.new.store
-          c.loop-reader.current c.receive_item-received.new.current _ (g.O.Sink.taken c.loop-reader.out) (g.O.Sink.taken c.receive_item-received.new.out)
-          (RunsOn g.D.Disk.tells g.D.Disk.moment g.D.Disk.left_since g.D.Disk.seen g.D.Disk.pending c.args.disk.now c.loop-reader.disk None None c.loop-reader.current c.args.store.now c.loop-reader.store)
-          (RunsOn g.D.Disk.tells g.D.Disk.moment g.D.Disk.left_since g.D.Disk.seen g.D.Disk.pending c.args.disk.now c.receive_item-received.new.disk None None c.receive_item-received.new.current c.args.store.now c.receive_item-received.new.store)
-          0 0 c.in-Ok-Some.field-0 c.in-Ok-Some.item c.in-Ok-rename.item c.in-Ok-Some.field-0-is i.same i.name i.file e.read (given.named c.args.file) fits i.ready r.followed
-          (subst (λ (n : ℕ). PiecesSay (Ok tt) n (behind_close c.loop-reader.current item.command (place_of c.loop-reader.store c.loop-reader.current)) (place_of c.receive_item-received.new.store c.receive_item-received.new.current) item) i.most r.pieces)
+          stands_after _ _ (option_copied c.args.file.now.new_name) c.args.file.now.number c.args.store.now.log.limit _ c.args.file.now.name.now base spot c.loop-ended.reader c.next.new.self guards (g.G.Guarding.kept c.receive_item-received.new.guards) c.loop-ended.store c.receive_item-received.new.store
+          c.loop-ended.current c.receive_item-received.new.current _ (g.O.Sink.taken c.loop-ended.out) (g.O.Sink.taken c.receive_item-received.new.out)
+          (RunsOn g.D.Disk (work c.args.disk.now c.args.store.now None) (work c.loop-ended.disk c.loop-ended.store c.loop-ended.current) None)
+          (RunsOn g.D.Disk (work c.args.disk.now c.args.store.now None) (work c.receive_item-received.new.disk c.receive_item-received.new.store c.receive_item-received.new.current) None)
+          0 0 c.in-Ok-Some.field-0 c.in-Ok-Some.item c.in-Ok-rename.item c.in-Ok-Some.field-0-is i.same i.name i.file e.read (given.named c.args.file.now.number) fits i.ready r.followed
+          (subst (λ (n : ℕ). PiecesSay (Ok tt) n (behind_close c.loop-ended.current item.command (place_of c.loop-ended.store c.loop-ended.current)) (place_of c.receive_item-received.new.store c.receive_item-received.new.current) item) i.most r.pieces)
           r.written
           (λ groups begun version run.
-          run_goes g.D.Disk.tells g.D.Disk.moment g.D.Disk.left_since g.D.Disk.seen g.D.Disk.pending c.args.disk.now c.loop-reader.disk c.receive_item-received.new.disk c.args.store.now c.loop-reader.store c.receive_item-received.new.store c.loop-reader.current c.receive_item-received.new.current
-          groups (closed_by guards item.command begun ++ begun_if (follow (beside guards (blank_of c.loop-reader.store c.loop-reader.current)) item) item.command) (closed_by guards item.command begun ++ begun_by item.command) begun (begun_after begun item)
+          run_goes g.D.Disk c.args.disk.now c.loop-ended.disk c.receive_item-received.new.disk c.args.store.now c.loop-ended.store c.receive_item-received.new.store c.loop-ended.current c.receive_item-received.new.current
+          groups (closed_by guards item.command begun ++ begun_if (follow (beside guards (blank_of c.loop-ended.store c.loop-ended.current)) item) item.command) (closed_by guards item.command begun ++ begun_by item.command) begun (begun_after begun item)
           (taken_due guards item.command begun _ _ r.followed) run
           (λ tells header there keeps. r.keeps tells header there begun version keeps) (λ tells header there keeps. r.any_moment tells header there begun version keeps))
           (i.stands base spot at on none);
-      ahead = next_ahead _ _ c.loop-reader.reader c.next.new.self 0 0 c.in-Ok-Some.field-0 c.in-Ok-Some.item c.in-Ok-Some.field-0-is e.same e.name e.read;
+      ahead = next_ahead _ _ c.loop-ended.reader c.next.new.self 0 0 c.in-Ok-Some.field-0 c.in-Ok-Some.item c.in-Ok-Some.field-0-is e.same e.name e.read;
     }
 
 pub returns-in-Err-received-clause-received : goal.returns-in-Err-received-clause-received
 returns-in-Err-received-clause-received g c base spot at on none =
-    let i = c.loop-reader.invariant in
+    let i = c.loop-ended.invariant in
     let e = c.in-Ok-Some.ensures in
     let m = item_moves c.in-Ok-Some.field-0 c.in-Ok-Some.item _ _ c.in-Ok-Some.field-0-is e.fits in
     let given = c.in-Ok-rename.ensures in
-    let fits = given_fits (option_copied c.args.new_name) c.args.file c.loop-reader.reader c.next.new.self c.in-Ok-Some.item c.in-Ok-rename.item m (given.named c.args.file) given.can_write in
+    let fits = given_fits (option_copied c.args.file.now.new_name) c.args.file.now.number c.loop-ended.reader c.next.new.self c.in-Ok-Some.item c.in-Ok-rename.item m (given.named c.args.file.now.number) given.can_write in
     let r = c.in-Err-received.ensures in
-    let item = item_of c.args.file c.in-Ok-rename.item in
-    let guards = g.G.Guarding.kept c.loop-reader.guards in
-    file_item _ _ (option_copied c.args.new_name) c.args.file c.args.store.now.log.limit _ c.args.name.now base spot c.loop-reader.reader c.next.new.self guards (g.G.Guarding.kept c.receive_item-received.new.guards) c.loop-reader.store c.receive_item-received.new.store
-    c.loop-reader.current c.receive_item-received.new.current _ (g.O.Sink.taken c.loop-reader.out) (g.O.Sink.taken c.receive_item-received.new.out)
-    (RunsOn g.D.Disk.tells g.D.Disk.moment g.D.Disk.left_since g.D.Disk.seen g.D.Disk.pending c.args.disk.now c.loop-reader.disk None None c.loop-reader.current c.args.store.now c.loop-reader.store)
-    (RunsOn g.D.Disk.tells g.D.Disk.moment g.D.Disk.left_since g.D.Disk.seen g.D.Disk.pending c.args.disk.now c.receive_item-received.new.disk None None c.receive_item-received.new.current c.args.store.now c.receive_item-received.new.store)
-    (LeavesOn g.D.Disk.tells g.D.Disk.moment g.D.Disk.left_since g.D.Disk.seen g.D.Disk.pending c.args.disk.now c.receive_item-received.new.disk None None c.args.store.now)
-    (StopsOn g.D.Disk.tells g.D.Disk.seen g.D.Disk.pending c.args.disk.now c.receive_item-received.new.disk None c.receive_item-received.new.current c.args.store.now c.receive_item-received.new.store)
-    (HasNow g.D.Disk.tells g.D.Disk.seen g.D.Disk.pending c.loop-reader.disk c.receive_item-received.new.disk c.in-Ok-rename.item.version c.loop-reader.current c.loop-reader.store (closed_by guards item.command)
-    (begun_if (follow (beside guards (blank_of c.loop-reader.store c.loop-reader.current)) item) item.command))
-    0 0 c.in-Ok-Some.field-0 c.in-Ok-Some.item c.in-Ok-rename.item c.in-Err-received.ended c.in-Ok-Some.field-0-is i.same i.name i.file e.read (given.named c.args.file) fits i.ready r.followed
-    (subst (λ (n : ℕ). PiecesSay (Err c.in-Err-received.ended) n (behind_close c.loop-reader.current item.command (place_of c.loop-reader.store c.loop-reader.current)) (place_of c.receive_item-received.new.store c.receive_item-received.new.current) item) i.most r.pieces)
+    let item = item_of c.args.file.now.number c.in-Ok-rename.item in
+    let guards = g.G.Guarding.kept c.loop-ended.guards in
+    file_item _ _ (option_copied c.args.file.now.new_name) c.args.file.now.number c.args.store.now.log.limit _ c.args.file.now.name.now base spot c.loop-ended.reader c.next.new.self guards (g.G.Guarding.kept c.receive_item-received.new.guards) c.loop-ended.store c.receive_item-received.new.store
+    c.loop-ended.current c.receive_item-received.new.current _ (g.O.Sink.taken c.loop-ended.out) (g.O.Sink.taken c.receive_item-received.new.out)
+    (RunsOn g.D.Disk (work c.args.disk.now c.args.store.now None) (work c.loop-ended.disk c.loop-ended.store c.loop-ended.current) None)
+    (RunsOn g.D.Disk (work c.args.disk.now c.args.store.now None) (work c.receive_item-received.new.disk c.receive_item-received.new.store c.receive_item-received.new.current) None)
+    (LeavesOn g.D.Disk (work c.args.disk.now c.args.store.now None) c.receive_item-received.new.disk None)
+    (StopsOn g.D.Disk (work c.args.disk.now c.args.store.now None) (work c.receive_item-received.new.disk c.receive_item-received.new.store c.receive_item-received.new.current))
+    (HasNow g.D.Disk (work c.loop-ended.disk c.loop-ended.store c.loop-ended.current) c.receive_item-received.new.disk c.in-Ok-rename.item.version (closed_by guards item.command)
+    (begun_if (follow (beside guards (blank_of c.loop-ended.store c.loop-ended.current)) item) item.command))
+    0 0 c.in-Ok-Some.field-0 c.in-Ok-Some.item c.in-Ok-rename.item c.in-Err-received.why c.in-Ok-Some.field-0-is i.same i.name i.file e.read (given.named c.args.file.now.number) fits i.ready r.followed
+    (subst (λ (n : ℕ). PiecesSay (Err c.in-Err-received.why) n (behind_close c.loop-ended.current item.command (place_of c.loop-ended.store c.loop-ended.current)) (place_of c.receive_item-received.new.store c.receive_item-received.new.current) item) i.most r.pieces)
     r.written
     (λ groups more begun version run.
-    run_item g.D.Disk.tells g.D.Disk.moment g.D.Disk.left_since g.D.Disk.seen g.D.Disk.pending c.args.disk.now c.loop-reader.disk c.receive_item-received.new.disk c.args.store.now c.loop-reader.store c.loop-reader.current
-    groups (closed_by guards item.command begun ++ begun_if (follow (beside guards (blank_of c.loop-reader.store c.loop-reader.current)) item) item.command) more begun run
+    run_item g.D.Disk c.args.disk.now c.loop-ended.disk c.receive_item-received.new.disk c.args.store.now c.loop-ended.store c.loop-ended.current
+    groups (closed_by guards item.command begun ++ begun_if (follow (beside guards (blank_of c.loop-ended.store c.loop-ended.current)) item) item.command) more begun run
     (λ tells header there keeps. r.any_moment tells header there begun version keeps))
-    (run_left g.D.Disk.tells g.D.Disk.moment g.D.Disk.left_since g.D.Disk.seen g.D.Disk.pending c.args.disk.now c.loop-reader.disk c.receive_item-received.new.disk
-    (λ tells image later is. g.met.D.Disk.counts_now c.receive_item-received.new.disk (g.D.Disk.moment c.loop-reader.disk) image tells later is)
-    c.args.store.now.log.limit base item guards _ c.args.store.now c.loop-reader.store c.loop-reader.current i.ready (g.G.Guarding.kept c.receive_item-received.new.guards) c.receive_item-received.new.store c.receive_item-received.new.current i.most
-    c.in-Err-received.ended (λ begun groups. groups ++ (closed_by guards item.command begun ++ begun_by item.command)) (λ begun. begun_after begun item) r.followed
-    (subst (λ (n : ℕ). PiecesSay (Err c.in-Err-received.ended) n (behind_close c.loop-reader.current item.command (place_of c.loop-reader.store c.loop-reader.current)) (place_of c.receive_item-received.new.store c.receive_item-received.new.current) item) i.most r.pieces)
+    (run_left g.D.Disk c.args.disk.now c.loop-ended.disk c.receive_item-received.new.disk
+    (λ tells image later is. g.met.D.Disk.counts_now c.receive_item-received.new.disk (g.D.Disk.moment c.loop-ended.disk) image tells later is)
+    c.args.store.now.log.limit base item guards _ c.args.store.now c.loop-ended.store c.loop-ended.current i.ready (g.G.Guarding.kept c.receive_item-received.new.guards) c.receive_item-received.new.store c.receive_item-received.new.current i.most
+    c.in-Err-received.why (λ begun groups. groups ++ (closed_by guards item.command begun ++ begun_by item.command)) (λ begun. begun_after begun item) r.followed
+    (subst (λ (n : ℕ). PiecesSay (Err c.in-Err-received.why) n (behind_close c.loop-ended.current item.command (place_of c.loop-ended.store c.loop-ended.current)) (place_of c.receive_item-received.new.store c.receive_item-received.new.current) item) i.most r.pieces)
     r.keeps r.any_moment)
     (i.stands base spot at on none)
 
 pub returns-in-Err-clause-received : goal.returns-in-Err-clause-received
 returns-in-Err-clause-received g c base spot at on none =
-    let i = c.loop-reader.invariant in
-    file_read_stops _ _ (option_copied c.args.new_name) c.args.file c.args.store.now.log.limit c.args.name.now base spot c.loop-reader.reader c.next.new.self (g.G.Guarding.kept c.loop-reader.guards) c.loop-reader.store c.loop-reader.current _ (g.O.Sink.taken c.loop-reader.out)
-    (RunsOn g.D.Disk.tells g.D.Disk.moment g.D.Disk.left_since g.D.Disk.seen g.D.Disk.pending c.args.disk.now c.loop-reader.disk None None c.loop-reader.current c.args.store.now c.loop-reader.store)
-    (RunsOn g.D.Disk.tells g.D.Disk.moment g.D.Disk.left_since g.D.Disk.seen g.D.Disk.pending c.args.disk.now c.loop-reader.disk None None c.loop-reader.current c.args.store.now c.loop-reader.store)
-    (LeavesOn g.D.Disk.tells g.D.Disk.moment g.D.Disk.left_since g.D.Disk.seen g.D.Disk.pending c.args.disk.now c.loop-reader.disk None None c.args.store.now)
-    (StopsOn g.D.Disk.tells g.D.Disk.seen g.D.Disk.pending c.args.disk.now c.loop-reader.disk None c.loop-reader.current c.args.store.now c.loop-reader.store)
+    let i = c.loop-ended.invariant in
+    file_read_stops _ _ (option_copied c.args.file.now.new_name) c.args.file.now.number c.args.store.now.log.limit c.args.file.now.name.now base spot c.loop-ended.reader c.next.new.self (g.G.Guarding.kept c.loop-ended.guards) c.loop-ended.store c.loop-ended.current _ (g.O.Sink.taken c.loop-ended.out)
+    (RunsOn g.D.Disk (work c.args.disk.now c.args.store.now None) (work c.loop-ended.disk c.loop-ended.store c.loop-ended.current) None)
+    (RunsOn g.D.Disk (work c.args.disk.now c.args.store.now None) (work c.loop-ended.disk c.loop-ended.store c.loop-ended.current) None)
+    (LeavesOn g.D.Disk (work c.args.disk.now c.args.store.now None) c.loop-ended.disk None)
+    (StopsOn g.D.Disk (work c.args.disk.now c.args.store.now None) (work c.loop-ended.disk c.loop-ended.store c.loop-ended.current))
     _ _ c.in-Err.stop c.outcome_of.result i.same i.name c.in-Err.ensures.read c.outcome_of.ensures.outcome
-    (λ groups more begun run. run_leaves g.D.Disk.tells g.D.Disk.moment g.D.Disk.left_since g.D.Disk.seen g.D.Disk.pending c.args.disk.now c.loop-reader.disk c.args.store.now c.loop-reader.store c.loop-reader.current groups more begun run)
-    (λ groups begun x V run is. run_rests g.D.Disk.tells g.D.Disk.moment g.D.Disk.left_since g.D.Disk.seen g.D.Disk.pending c.args.disk.now c.loop-reader.disk c.args.store.now c.loop-reader.store c.loop-reader.current groups begun x V run is)
+    (λ groups more begun run. run_leaves g.D.Disk c.args.disk.now c.loop-ended.disk c.args.store.now c.loop-ended.store c.loop-ended.current groups more begun run)
+    (λ groups begun x V run is. run_rests g.D.Disk c.args.disk.now c.loop-ended.disk c.args.store.now c.loop-ended.store c.loop-ended.current groups begun x V run is)
     (i.stands base spot at on none)
 
 -- There was no memory for the name.
 pub returns-in_default-rename-clause-received : goal.returns-in_default-rename-clause-received
 returns-in_default-rename-clause-received g c base spot at on none =
-    let i = c.loop-reader.invariant in
-    file_read_stops _ _ (option_copied c.args.new_name) c.args.file c.args.store.now.log.limit c.args.name.now base spot c.loop-reader.reader c.next.new.self (g.G.Guarding.kept c.loop-reader.guards) c.loop-reader.store c.loop-reader.current _ (g.O.Sink.taken c.loop-reader.out)
-    (RunsOn g.D.Disk.tells g.D.Disk.moment g.D.Disk.left_since g.D.Disk.seen g.D.Disk.pending c.args.disk.now c.loop-reader.disk None None c.loop-reader.current c.args.store.now c.loop-reader.store)
-    (RunsOn g.D.Disk.tells g.D.Disk.moment g.D.Disk.left_since g.D.Disk.seen g.D.Disk.pending c.args.disk.now c.loop-reader.disk None None c.loop-reader.current c.args.store.now c.loop-reader.store)
-    (LeavesOn g.D.Disk.tells g.D.Disk.moment g.D.Disk.left_since g.D.Disk.seen g.D.Disk.pending c.args.disk.now c.loop-reader.disk None None c.args.store.now)
-    (StopsOn g.D.Disk.tells g.D.Disk.seen g.D.Disk.pending c.args.disk.now c.loop-reader.disk None c.loop-reader.current c.args.store.now c.loop-reader.store)
+    let i = c.loop-ended.invariant in
+    file_read_stops _ _ (option_copied c.args.file.now.new_name) c.args.file.now.number c.args.store.now.log.limit c.args.file.now.name.now base spot c.loop-ended.reader c.next.new.self (g.G.Guarding.kept c.loop-ended.guards) c.loop-ended.store c.loop-ended.current _ (g.O.Sink.taken c.loop-ended.out)
+    (RunsOn g.D.Disk (work c.args.disk.now c.args.store.now None) (work c.loop-ended.disk c.loop-ended.store c.loop-ended.current) None)
+    (RunsOn g.D.Disk (work c.args.disk.now c.args.store.now None) (work c.loop-ended.disk c.loop-ended.store c.loop-ended.current) None)
+    (LeavesOn g.D.Disk (work c.args.disk.now c.args.store.now None) c.loop-ended.disk None)
+    (StopsOn g.D.Disk (work c.args.disk.now c.args.store.now None) (work c.loop-ended.disk c.loop-ended.store c.loop-ended.current))
     0 0 stop.NoMemory ended.NoMemory i.same i.name tt refl
-    (λ groups more begun run. run_leaves g.D.Disk.tells g.D.Disk.moment g.D.Disk.left_since g.D.Disk.seen g.D.Disk.pending c.args.disk.now c.loop-reader.disk c.args.store.now c.loop-reader.store c.loop-reader.current groups more begun run)
-    (λ groups begun x V run is. run_rests g.D.Disk.tells g.D.Disk.moment g.D.Disk.left_since g.D.Disk.seen g.D.Disk.pending c.args.disk.now c.loop-reader.disk c.args.store.now c.loop-reader.store c.loop-reader.current groups begun x V run is)
+    (λ groups more begun run. run_leaves g.D.Disk c.args.disk.now c.loop-ended.disk c.args.store.now c.loop-ended.store c.loop-ended.current groups more begun run)
+    (λ groups begun x V run is. run_rests g.D.Disk c.args.disk.now c.loop-ended.disk c.args.store.now c.loop-ended.store c.loop-ended.current groups begun x V run is)
     (i.stands base spot at on none)
 
 pub receive_item-received-requires-clause-spellable : goal.receive_item-received-requires-clause-spellable
 receive_item-received-requires-clause-spellable g c =
     let m = item_moves c.in-Ok-Some.field-0 c.in-Ok-Some.item _ _ c.in-Ok-Some.field-0-is c.in-Ok-Some.ensures.fits in
     let given = c.in-Ok-rename.ensures in
-    (given_fits (option_copied c.args.new_name) c.args.file c.loop-reader.reader c.next.new.self c.in-Ok-Some.item c.in-Ok-rename.item m (given.named c.args.file) given.can_write).can_write.spellable
+    (given_fits (option_copied c.args.file.now.new_name) c.args.file.now.number c.loop-ended.reader c.next.new.self c.in-Ok-Some.item c.in-Ok-rename.item m (given.named c.args.file.now.number) given.can_write).can_write.spellable
 
 pub receive_item-received-requires-clause-version : goal.receive_item-received-requires-clause-version
 receive_item-received-requires-clause-version g c =
     let m = item_moves c.in-Ok-Some.field-0 c.in-Ok-Some.item _ _ c.in-Ok-Some.field-0-is c.in-Ok-Some.ensures.fits in
     let given = c.in-Ok-rename.ensures in
-    (given_fits (option_copied c.args.new_name) c.args.file c.loop-reader.reader c.next.new.self c.in-Ok-Some.item c.in-Ok-rename.item m (given.named c.args.file) given.can_write).version
+    (given_fits (option_copied c.args.file.now.new_name) c.args.file.now.number c.loop-ended.reader c.next.new.self c.in-Ok-Some.item c.in-Ok-rename.item m (given.named c.args.file.now.number) given.can_write).version

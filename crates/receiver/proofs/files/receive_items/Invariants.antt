@@ -8,31 +8,31 @@ use Rattle.store_model.proofs.PassedStates.{IsOn}
 use Rattle.cmd_reader.specs.Places.{IfTold}
 use Rattle.cmd_reader.specs.Left.{HasAhead}
 use Rattle.receiver.specs.Standing.{IsReady}
-use Rattle.receiver.specs.Disks.{RunsOn}
+use Rattle.receiver.specs.Disks.{work, RunsOn}
 use Rattle.receiver.specs.Running.{Spot, IsAt}
 use Rattle.receiver.proofs.FileSteps.{Stands}
 use Rattle.receiver.proofs.files.receive_items.Given as goal
 
 -- The commands that were read were taken; the inputs tell the same files, and no count rose.
-abbrev pub invariant-loop-reader : goal.invariant-loop-reader
-invariant-loop-reader g l = record {
+abbrev pub invariant-loop-ended : goal.invariant-loop-ended
+invariant-loop-ended g l = record {
   same : g.I.Inputs.told l.inputs ≡ g.I.Inputs.told l.fn.inputs;
   steady : g.I.Inputs.faults l.inputs ≡ g.I.Inputs.faults l.fn.inputs;
   ends_steady : g.I.Inputs.ends l.inputs ≡ g.I.Inputs.ends l.fn.inputs;
   out_steady : g.O.Sink.faults l.out ≡ g.O.Sink.faults l.fn.out;
   disk_steady : g.D.Disk.faults l.disk ≡ g.D.Disk.faults l.fn.disk;
   most : l.store.log.limit ≡ l.fn.store.log.limit;
-  file : l.reader.file ≡ l.fn.file;
-  name : l.reader.name ≡ l.fn.name;
+  file : l.reader.file ≡ l.fn.file.number;
+  name : l.reader.name ≡ l.fn.file.name.now;
   within : l.reader.offset ≤ limit;
   ready : IsReady (g.D.Disk.len l.disk) l.current l.store;
   at_end : l.reader.fed.ended ≡ true → (l.current ≡ None) × (l.reader.fed.due ≡ HeaderDue);
   stands : (base : Store ℕ) (spot : Spot) → IsAt spot (g.G.Guarding.kept l.fn.guards) l.fn.store None → IsOn base spot.watched.state.store spot.watched.state.part → spot.begun ≡ None
-      → IfTold (g.I.Inputs.told l.fn.inputs) l.fn.name (Stands (option_copied l.fn.new_name) l.fn.file l.fn.store.log.limit base spot l.reader (g.G.Guarding.kept l.guards) l.store l.current (g.O.Sink.taken l.fn.out) (g.O.Sink.taken l.out)
-      (RunsOn g.D.Disk.tells g.D.Disk.moment g.D.Disk.left_since g.D.Disk.seen g.D.Disk.pending l.fn.disk l.disk None None l.current l.fn.store l.store));
+      → IfTold (g.I.Inputs.told l.fn.inputs) l.fn.file.name.now (Stands (option_copied l.fn.file.new_name) l.fn.file.number l.fn.store.log.limit base spot l.reader (g.G.Guarding.kept l.guards) l.store l.current (g.O.Sink.taken l.fn.out) (g.O.Sink.taken l.out)
+      (RunsOn g.D.Disk (work l.fn.disk l.fn.store None) (work l.disk l.store l.current) None));
   ahead : IfTold (g.I.Inputs.told l.inputs) l.reader.name (HasAhead l.reader);
 }
 
 -- Each command brings the reader nearer to the limit.
-abbrev pub decreases-loop-reader : goal.decreases-loop-reader
-decreases-loop-reader g l = limit - l.reader.offset
+abbrev pub decreases-loop-ended : goal.decreases-loop-ended
+decreases-loop-ended g l = limit - l.reader.offset

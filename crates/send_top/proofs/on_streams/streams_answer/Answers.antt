@@ -11,28 +11,28 @@ use Rattle.send_top.proofs.on_streams.streams_answer.Goals as goal
 
 pub returns-in_default-clause-answered : goal.returns-in_default-clause-answered
 returns-in_default-clause-answered g c =
-    let words : List (List ℕ) = map string_bytes c.args.words.now in
-    nothing_read g.D.Disk.tells (g.I.Inputs.told c.args.inputs.now) words (streams_meant words c.args.request) (g.O.Sink.taken c.args.out.now) (g.D.Disk.seen c.args.disk.now)
+    let words : List (List ℕ) = map string_bytes c.args.asked.now.words.now in
+    nothing_read g.D.Disk.tells (g.I.Inputs.told c.args.inputs.now) words (streams_meant words c.args.asked.now.request) (g.O.Sink.taken c.args.out.now) (g.D.Disk.seen c.args.disk.now)
 
 -- ---- a store is read
 
 pub returns-then-reads_store-clause-composed : goal.returns-then-reads_store-clause-composed
 returns-then-reads_store-clause-composed g c done store at is =
-    let words : List (List ℕ) = map string_bytes c.args.words.now in
+    let words : List (List ℕ) = map string_bytes c.args.asked.now.words.now in
     wrote_over IsComposedFor (g.I.Inputs.told c.args.inputs.now) g.D.Disk.tells words (g.D.Disk.seen c.args.disk.now) (g.O.Sink.taken c.args.out.now) (g.O.Sink.taken c.streams_over_store.new.out) store at
     (subst (λ r. reads_store words (store_of r) ≡ true) is (sym c.reads_store.ensures ∙ c.if-reads_store.true))
     (λ tells. c.streams_over_store.ensures.composed tells done store at is)
 
 pub returns-then-reads_store-clause-refused : goal.returns-then-reads_store-clause-refused
 returns-then-reads_store-clause-refused g c verdict refused store at is =
-    let words : List (List ℕ) = map string_bytes c.args.words.now in
+    let words : List (List ℕ) = map string_bytes c.args.asked.now.words.now in
     wrote_over IsFrontFor (g.I.Inputs.told c.args.inputs.now) g.D.Disk.tells words (g.D.Disk.seen c.args.disk.now) (g.O.Sink.taken c.args.out.now) (g.O.Sink.taken c.streams_over_store.new.out) store at
     (subst (λ r. reads_store words (store_of r) ≡ true) is (sym c.reads_store.ensures ∙ c.if-reads_store.true))
     (λ tells. c.streams_over_store.ensures.refused tells verdict refused store at is)
 
 pub returns-then-reads_store-clause-exported : goal.returns-then-reads_store-clause-exported
 returns-then-reads_store-clause-exported g c done store at is =
-    let words : List (List ℕ) = map string_bytes c.args.words.now in
+    let words : List (List ℕ) = map string_bytes c.args.asked.now.words.now in
     wrote_over IsExportedFor (g.I.Inputs.told c.args.inputs.now) g.D.Disk.tells words (g.D.Disk.seen c.args.disk.now) (g.O.Sink.taken c.args.out.now) (g.O.Sink.taken c.streams_over_store.new.out) store at
     (subst (λ r. reads_store words (store_of r) ≡ true) is (sym c.reads_store.ensures ∙ c.if-reads_store.true))
     (λ tells. c.streams_over_store.ensures.exported tells done store at is)
@@ -41,14 +41,14 @@ returns-then-reads_store-clause-exported g c done store at is =
 
 pub returns-clause-composed : goal.returns-clause-composed
 returns-clause-composed g c done store at is =
-    let words : List (List ℕ) = map string_bytes c.args.words.now in
+    let words : List (List ℕ) = map string_bytes c.args.asked.now.words.now in
     wrote_alone IsComposedFor (g.I.Inputs.told c.args.inputs.now) g.D.Disk.tells words (g.D.Disk.seen c.args.disk.now) (g.O.Sink.taken c.args.out.now) (g.O.Sink.taken c.streams_end.new.out) store at
     (subst (λ r. reads_store words (store_of r) ≡ false) is (sym c.reads_store.ensures ∙ c.if-reads_store.false))
     (c.streams_end.ensures.composed (outcome_done c.streams_end.result done) store at is)
 
 pub returns-clause-refused : goal.returns-clause-refused
 returns-clause-refused g c verdict refused store at is =
-    let words : List (List ℕ) = map string_bytes c.args.words.now in
+    let words : List (List ℕ) = map string_bytes c.args.asked.now.words.now in
     let found = outcome_refused c.streams_end.result verdict refused in
     wrote_alone IsFrontFor (g.I.Inputs.told c.args.inputs.now) g.D.Disk.tells words (g.D.Disk.seen c.args.disk.now) (g.O.Sink.taken c.args.out.now) (g.O.Sink.taken c.streams_end.new.out) store at
     (subst (λ r. reads_store words (store_of r) ≡ false) is (sym c.reads_store.ensures ∙ c.if-reads_store.false))
@@ -56,15 +56,15 @@ returns-clause-refused g c verdict refused store at is =
 
 pub returns-clause-exported : goal.returns-clause-exported
 returns-clause-exported g c done store at is =
-    let words : List (List ℕ) = map string_bytes c.args.words.now in
+    let words : List (List ℕ) = map string_bytes c.args.asked.now.words.now in
     wrote_alone IsExportedFor (g.I.Inputs.told c.args.inputs.now) g.D.Disk.tells words (g.D.Disk.seen c.args.disk.now) (g.O.Sink.taken c.args.out.now) (g.O.Sink.taken c.streams_end.new.out) store at
     (subst (λ r. reads_store words (store_of r) ≡ false) is (sym c.reads_store.ensures ∙ c.if-reads_store.false))
     (c.streams_end.ensures.exported (outcome_done c.streams_end.result done) store at is)
 
 pub returns-clause-answered : goal.returns-clause-answered
 returns-clause-answered g c =
-    let words : List (List ℕ) = map string_bytes c.args.words.now in
-    unread_store g.D.Disk.tells (g.I.Inputs.told c.args.inputs.now) words (streams_meant words c.args.request) (g.O.Sink.taken c.args.out.now) (g.O.Sink.taken c.streams_end.new.out)
+    let words : List (List ℕ) = map string_bytes c.args.asked.now.words.now in
+    unread_store g.D.Disk.tells (g.I.Inputs.told c.args.inputs.now) words (streams_meant words c.args.asked.now.request) (g.O.Sink.taken c.args.out.now) (g.O.Sink.taken c.streams_end.new.out)
     (g.D.Disk.seen c.args.disk.now) c.streams_end.result (sym c.reads_store.ensures ∙ c.if-reads_store.false) c.streams_end.ensures.ends
 
 apart : true ≡ false → ⊥

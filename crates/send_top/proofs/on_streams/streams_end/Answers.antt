@@ -23,18 +23,18 @@ use Rattle.send_top.proofs.on_streams.streams_end.Goals.{After-compose, After-au
 use Rattle.send_top.proofs.on_streams.streams_end.Goals as goal
 
 -- What the words give, of the request that is composed, of the one that is checked and of the one that is exported.
-compose_given : (g : Over) (c : After-compose g) → IsGivenAt c.in-Compose.files (map string_bytes c.args.words.now) c.args.given.now
-compose_given g c = subst (λ r. HasGiven (streams_meant (map string_bytes c.args.words.now) r) (map string_bytes c.args.words.now) c.args.given.now) c.in-Compose.is c.requires.given
+compose_given : (g : Over) (c : After-compose g) → IsGivenAt c.in-Compose.files (map string_bytes c.args.asked.now.words.now) c.args.given.now
+compose_given g c = subst (λ r. HasGiven (streams_meant (map string_bytes c.args.asked.now.words.now) r) (map string_bytes c.args.asked.now.words.now) c.args.given.now) c.in-Compose.is c.requires.given
 
-audit_given : (g : Over) (c : After-audit g) → IsGivenAt c.in-Audit.files (map string_bytes c.args.words.now) c.args.given.now
-audit_given g c = subst (λ r. HasGiven (streams_meant (map string_bytes c.args.words.now) r) (map string_bytes c.args.words.now) c.args.given.now) c.in-Audit.is c.requires.given
+audit_given : (g : Over) (c : After-audit g) → IsGivenAt c.in-Audit.files (map string_bytes c.args.asked.now.words.now) c.args.given.now
+audit_given g c = subst (λ r. HasGiven (streams_meant (map string_bytes c.args.asked.now.words.now) r) (map string_bytes c.args.asked.now.words.now) c.args.given.now) c.in-Audit.is c.requires.given
 
-export_given : (g : Over) (c : After-export g) → IsGivenAt c.in-Export.files (map string_bytes c.args.words.now) c.args.given.now
-export_given g c = subst (λ r. HasGiven (streams_meant (map string_bytes c.args.words.now) r) (map string_bytes c.args.words.now) c.args.given.now) c.in-Export.is c.requires.given
+export_given : (g : Over) (c : After-export g) → IsGivenAt c.in-Export.files (map string_bytes c.args.asked.now.words.now) c.args.given.now
+export_given g c = subst (λ r. HasGiven (streams_meant (map string_bytes c.args.asked.now.words.now) r) (map string_bytes c.args.asked.now.words.now) c.args.given.now) c.in-Export.is c.requires.given
 
 pub compose-requires : goal.compose-requires
 compose-requires g c =
-    let is = subst (λ r. HasGiven (streams_meant (map string_bytes c.args.words.now) r) (map string_bytes c.args.words.now) c.args.given.now) c.in-Compose.is c.requires.given in
+    let is = subst (λ r. HasGiven (streams_meant (map string_bytes c.args.asked.now.words.now) r) (map string_bytes c.args.asked.now.words.now) c.args.given.now) c.in-Compose.is c.requires.given in
     record { some = λ none. is.some (sym c.files.ensures.files ∙ ap (map string_bytes) none) }
 
 pub returns-in-Compose-clause-composed : goal.returns-in-Compose-clause-composed
@@ -42,7 +42,7 @@ returns-in-Compose-clause-composed g c done =
     let told = g.I.Inputs.told c.args.inputs.now in
     let old = g.O.Sink.taken c.args.out.now in
     let new = g.O.Sink.taken c.compose.new.out in
-    let words : List (List ℕ) = map string_bytes c.args.words.now in
+    let words : List (List ℕ) = map string_bytes c.args.asked.now.words.now in
     let files : List (List ℕ) = map string_bytes c.files.result.now in
     let is = compose_given g (goal.at.returns-in-Compose-clause-composed g c).After-compose in
     let names : Names = names_in (drop c.in-Compose.files words) in
@@ -61,7 +61,7 @@ returns-in-Compose-clause-refused g c verdict refused =
     let told = g.I.Inputs.told c.args.inputs.now in
     let old = g.O.Sink.taken c.args.out.now in
     let new = g.O.Sink.taken c.compose.new.out in
-    let words : List (List ℕ) = map string_bytes c.args.words.now in
+    let words : List (List ℕ) = map string_bytes c.args.asked.now.words.now in
     let files : List (List ℕ) = map string_bytes c.files.result.now in
     let is = compose_given g (goal.at.returns-in-Compose-clause-refused g c).After-compose in
     let names : Names = names_in (drop c.in-Compose.files words) in
@@ -80,7 +80,7 @@ returns-in-Compose-clause-ends g c =
     let told = g.I.Inputs.told c.args.inputs.now in
     let old = g.O.Sink.taken c.args.out.now in
     let new = g.O.Sink.taken c.compose.new.out in
-    let words : List (List ℕ) = map string_bytes c.args.words.now in
+    let words : List (List ℕ) = map string_bytes c.args.asked.now.words.now in
     let files : List (List ℕ) = map string_bytes c.files.result.now in
     let is = compose_given g (goal.at.returns-in-Compose-clause-ends g c).After-compose in
     let names : Names = names_in (drop c.in-Compose.files words) in
@@ -98,7 +98,7 @@ returns-in-Audit-clause-ends g c =
     let told = g.I.Inputs.told c.args.inputs.now in
     let old = g.O.Sink.taken c.args.out.now in
     let new = g.O.Sink.taken c.audit.new.out in
-    let words : List (List ℕ) = map string_bytes c.args.words.now in
+    let words : List (List ℕ) = map string_bytes c.args.asked.now.words.now in
     let files : List (List ℕ) = map string_bytes c.files-in-Audit.result.now in
     let is = audit_given g (goal.at.returns-in-Audit-clause-ends g c).After-audit in
     let names : Names = names_in (drop c.in-Audit.files words) in
@@ -111,30 +111,30 @@ returns-in-Audit-clause-ends g c =
     (λ none. is.some (sym c.files-in-Audit.ensures.files ∙ none))
     (λ bytes. audits old new names bytes guards specs c.in-Audit.store c.in-Audit.files c.audit.result (subst (λ r. guards ≡ new_guards (streams_specs (streams_meant words r))) c.in-Audit.is c.requires.fits))
     (subst (λ (ns : Names). IfAllTold told files (λ bytes. Wrote old new (AuditEnds [] guards ns bytes c.audit.result)))
-    (c.names-names.ensures.names ∙ given_names c.in-Audit.files words c.args.given.now is)
+    (c.names-in-Audit.ensures.names ∙ given_names c.in-Audit.files words c.args.given.now is)
     (c.audit.ensures.audited [] (ap (λ (s : Store (Option Nowhere)). blank s) c.new-core.ensures))))
 
 pub returns-in-Dump-clause-ends : goal.returns-in-Dump-clause-ends
 returns-in-Dump-clause-ends g c =
-    rw c.in-Dump.is (of_one_file Dump dumps (g.I.Inputs.told c.args.inputs.now) c.name_at.result.now (map string_bytes c.args.words.now) c.in-Dump.file (g.O.Sink.taken c.args.out.now) (g.O.Sink.taken c.dump.new.out) c.dump.result c.name_at.ensures.name c.dump.ensures.dumped)
+    rw c.in-Dump.is (of_one_file Dump dumps (g.I.Inputs.told c.args.inputs.now) c.name_at.result.now (map string_bytes c.args.asked.now.words.now) c.in-Dump.file (g.O.Sink.taken c.args.out.now) (g.O.Sink.taken c.dump.new.out) c.dump.result c.name_at.ensures.name c.dump.ensures.dumped)
 
 pub returns-in-Export-clause-exported : goal.returns-in-Export-clause-exported
 returns-in-Export-clause-exported g c done =
     let old = g.O.Sink.taken c.args.out.now in
     let new = g.O.Sink.taken c.export.new.out in
     let told = g.I.Inputs.told c.args.inputs.now in
-    let words : List (List ℕ) = map string_bytes c.args.words.now in
+    let words : List (List ℕ) = map string_bytes c.args.asked.now.words.now in
     let files : List (List ℕ) = map string_bytes c.files-in-Export.result.now in
     let same = ap (λ (s : Store (Option Nowhere)). blank s) c.new-core-in-Export.ensures in
     let is = export_given g (goal.at.returns-in-Export-clause-exported g c).After-export in
-    let names : Names = c.names-names-in-Export.result.now in
+    let names : Names = c.names-in-Export.result.now in
     rw c.in-Export.is (λ store at is_at. subst (λ (n : ℕ). IfAllTold told (files_in (drop n words)) (λ bytes. Wrote old new (IsExportedFor [] (names_in (drop n words)) bytes)))
     (files_of_export c.in-Export.store c.in-Export.files store at is_at)
     (of_names told files (files_in (drop c.in-Export.files words))
     (λ bytes. Wrote old new (IsExportedFor [] (names_in (drop c.in-Export.files words)) bytes))
     (c.files-in-Export.ensures.files ∙ given_files c.in-Export.files words c.args.given.now is)
     (subst (λ (ns : Names). IfAllTold told files (λ bytes. Wrote old new (IsExportedFor [] ns bytes)))
-    (c.names-names-in-Export.ensures.names ∙ given_names c.in-Export.files words c.args.given.now is)
+    (c.names-in-Export.ensures.names ∙ given_names c.in-Export.files words c.args.given.now is)
     (promised [] none_can names c.are_given.ensures.given told files old new c.export.result (λ none. is.some (sym c.files-in-Export.ensures.files ∙ none)) done
     (c.export.ensures.exported [] same) (c.export.ensures.small [] same)))))
 
@@ -143,7 +143,7 @@ returns-in-Export-clause-ends g c =
     let told = g.I.Inputs.told c.args.inputs.now in
     let old = g.O.Sink.taken c.args.out.now in
     let new = g.O.Sink.taken c.export.new.out in
-    let words : List (List ℕ) = map string_bytes c.args.words.now in
+    let words : List (List ℕ) = map string_bytes c.args.asked.now.words.now in
     let files : List (List ℕ) = map string_bytes c.files-in-Export.result.now in
     let is = export_given g (goal.at.returns-in-Export-clause-ends g c).After-export in
     let names : Names = names_in (drop c.in-Export.files words) in
@@ -154,7 +154,7 @@ returns-in-Export-clause-ends g c =
     (λ none. is.some (sym c.files-in-Export.ensures.files ∙ none))
     (λ bytes. exports old new names bytes c.in-Export.store c.in-Export.files c.export.result)
     (subst (λ (ns : Names). IfAllTold told files (λ bytes. Wrote old new (λ written. EndsOf (Export 0 0) [] (sources_named ns bytes) c.export.result written)))
-    (c.names-names-in-Export.ensures.names ∙ given_names c.in-Export.files words c.args.given.now is)
+    (c.names-in-Export.ensures.names ∙ given_names c.in-Export.files words c.args.given.now is)
     (c.export.ensures.exported [] (ap (λ (s : Store (Option Nowhere)). blank s) c.new-core-in-Export.ensures))))
 
 pub returns-in-Trial-clause-cause : goal.returns-in-Trial-clause-cause
@@ -167,7 +167,7 @@ pub returns-in-Compose-clause-changed : goal.returns-in-Compose-clause-changed
 returns-in-Compose-clause-changed g c =
     let is = compose_given g (goal.at.returns-in-Compose-clause-changed g c).After-compose in
     rw c.in-Compose.is (subst (λ (names : List (List ℕ)). FoundChanged names (g.I.Inputs.last_end c.compose.new.inputs) c.compose.result)
-    (c.files.ensures.files ∙ given_files c.in-Compose.files (map string_bytes c.args.words.now) c.args.given.now is) c.compose.ensures.changed)
+    (c.files.ensures.files ∙ given_files c.in-Compose.files (map string_bytes c.args.asked.now.words.now) c.args.given.now is) c.compose.ensures.changed)
 
 pub returns-in-Gen-clause-steady : goal.returns-in-Gen-clause-steady
 returns-in-Gen-clause-steady g c = steady_anyway _ _ c.write_chain.result refl

@@ -7,7 +7,7 @@ use Rattle.send_model.specs.Store.{Store}
 use Rattle.send_model.specs.Words.{Compose, Audit, Export, new_guards}
 use Rattle.store_model.specs.Stored.{StandsFor}
 use Rattle.word_model.specs.NameWords.{files_in, names_in}
-use Rattle.store_model.specs.Requests.{OfStreams, store_of, reads_store}
+use Rattle.store_model.specs.Requests.{OfStreams, store_of, reads_store, at_entry}
 use Rattle.store_model.specs.Answers.{Answer, Answers}
 use Rattle.sx_base.specs.Calls.{IfAllTold, Wrote}
 use Rattle.sx_base.specs.declared.outcome.Outcome.TheVariants.{Done, Refused}
@@ -26,23 +26,23 @@ use Rattle.send_top.proofs.on_streams.streams_over_store.Goals as goal
 -- ---- composing
 
 -- What the words give, of the request that is composed, of the one that is checked and of the one that is exported.
-compose_given : (g : Over) (c : After-compose_store g) → IsGivenAt c.in-Compose.files (map string_bytes c.args.words.now) c.args.given.now
-compose_given g c = subst (λ r. HasGiven (streams_meant (map string_bytes c.args.words.now) r) (map string_bytes c.args.words.now) c.args.given.now) c.in-Compose.is c.requires.given
+compose_given : (g : Over) (c : After-compose_store g) → IsGivenAt c.in-Compose.files (map string_bytes c.args.asked.now.words.now) c.args.given.now
+compose_given g c = subst (λ r. HasGiven (streams_meant (map string_bytes c.args.asked.now.words.now) r) (map string_bytes c.args.asked.now.words.now) c.args.given.now) c.in-Compose.is c.requires.given
 
-audit_given : (g : Over) (c : After-audit_store g) → IsGivenAt c.in-Audit.files (map string_bytes c.args.words.now) c.args.given.now
-audit_given g c = subst (λ r. HasGiven (streams_meant (map string_bytes c.args.words.now) r) (map string_bytes c.args.words.now) c.args.given.now) c.in-Audit.is c.requires.given
+audit_given : (g : Over) (c : After-audit_store g) → IsGivenAt c.in-Audit.files (map string_bytes c.args.asked.now.words.now) c.args.given.now
+audit_given g c = subst (λ r. HasGiven (streams_meant (map string_bytes c.args.asked.now.words.now) r) (map string_bytes c.args.asked.now.words.now) c.args.given.now) c.in-Audit.is c.requires.given
 
-export_given : (g : Over) (c : After-export_store g) → IsGivenAt c.in-Export.files (map string_bytes c.args.words.now) c.args.given.now
-export_given g c = subst (λ r. HasGiven (streams_meant (map string_bytes c.args.words.now) r) (map string_bytes c.args.words.now) c.args.given.now) c.in-Export.is c.requires.given
+export_given : (g : Over) (c : After-export_store g) → IsGivenAt c.in-Export.files (map string_bytes c.args.asked.now.words.now) c.args.given.now
+export_given g c = subst (λ r. HasGiven (streams_meant (map string_bytes c.args.asked.now.words.now) r) (map string_bytes c.args.asked.now.words.now) c.args.given.now) c.in-Export.is c.requires.given
 
 pub compose_store-requires : goal.compose_store-requires
 compose_store-requires g c =
-    let is = subst (λ r. HasGiven (streams_meant (map string_bytes c.args.words.now) r) (map string_bytes c.args.words.now) c.args.given.now) c.in-Compose.is c.requires.given in
+    let is = subst (λ r. HasGiven (streams_meant (map string_bytes c.args.asked.now.words.now) r) (map string_bytes c.args.asked.now.words.now) c.args.given.now) c.in-Compose.is c.requires.given in
     record { some = λ none. is.some (sym c.files.ensures.files ∙ ap (map string_bytes) none) }
 
 pub returns-in-Compose-clause-answered : goal.returns-in-Compose-clause-answered
 returns-in-Compose-clause-answered g c =
-    let words : List (List ℕ) = map string_bytes c.args.words.now in
+    let words : List (List ℕ) = map string_bytes c.args.asked.now.words.now in
     let told = g.I.Inputs.told c.args.inputs.now in
     let files : List (List ℕ) = map string_bytes c.files.result.now in
     let old = g.O.Sink.taken c.args.out.now in
@@ -54,21 +54,21 @@ returns-in-Compose-clause-answered g c =
     let reads : reads_store words (Some c.in-Compose.store) ≡ true = subst (λ r. reads_store words (store_of (streams_meant words r)) ≡ true) c.in-Compose.is c.requires.reads in
     rw c.in-Compose.is (λ tells. read_of told files (files_in (drop c.in-Compose.files words))
     (λ bytes. Wrote old new (λ written. (words : List (List ℕ)) (store at : ℕ) → reads_store words (Some store) ≡ true
-    → Answers (OfStreams (Compose store at)) words image (record { bytes = bytes; names = names }) (answer_of c.end_answer.result) written left))
-    (λ bytes. Wrote old new (λ written. Answers (OfStreams (Compose c.in-Compose.store c.in-Compose.files)) words image (record { bytes = bytes; names = names }) (answer_of c.end_answer.result) written left))
+    → Answers (OfStreams (Compose store at)) (at_entry words image (record { bytes = bytes; names = names })) (answer_of c.end_answer.result) written left))
+    (λ bytes. Wrote old new (λ written. Answers (OfStreams (Compose c.in-Compose.store c.in-Compose.files)) (at_entry words image (record { bytes = bytes; names = names })) (answer_of c.end_answer.result) written left))
     (c.files.ensures.files ∙ given_files c.in-Compose.files words c.args.given.now is)
     (λ none. is.some (sym c.files.ensures.files ∙ none))
     (λ bytes w. (w.0, w.1, w.2 words c.in-Compose.store c.in-Compose.files reads))
     (subst (λ (ns : Names). IfAllTold told files (λ bytes. Wrote old new (λ written. (words : List (List ℕ)) (store at : ℕ) → reads_store words (Some store) ≡ true
-    → Answers (OfStreams (Compose store at)) words image (record { bytes = bytes; names = ns }) (answer_of c.end_answer.result) written left)))
+    → Answers (OfStreams (Compose store at)) (at_entry words image (record { bytes = bytes; names = ns })) (answer_of c.end_answer.result) written left)))
     (c.names.ensures.names ∙ given_names c.in-Compose.files words c.args.given.now is)
     (subst (λ (a : Answer). IfAllTold told files (λ bytes. Wrote old new (λ written. (words : List (List ℕ)) (store at : ℕ) → reads_store words (Some store) ≡ true
-    → Answers (OfStreams (Compose store at)) words image (record { bytes = bytes; names = c.names.result.now }) a written left)))
+    → Answers (OfStreams (Compose store at)) (at_entry words image (record { bytes = bytes; names = c.names.result.now })) a written left)))
     (sym c.end_answer.ensures.answer) (c.compose_store.ensures.answered tells))))
 
 pub returns-in-Compose-clause-composed : goal.returns-in-Compose-clause-composed
 returns-in-Compose-clause-composed g c =
-    let words : List (List ℕ) = map string_bytes c.args.words.now in
+    let words : List (List ℕ) = map string_bytes c.args.asked.now.words.now in
     let told = g.I.Inputs.told c.args.inputs.now in
     let files : List (List ℕ) = map string_bytes c.files.result.now in
     let old = g.O.Sink.taken c.args.out.now in
@@ -89,7 +89,7 @@ returns-in-Compose-clause-composed g c =
 
 pub returns-in-Compose-clause-refused : goal.returns-in-Compose-clause-refused
 returns-in-Compose-clause-refused g c =
-    let words : List (List ℕ) = map string_bytes c.args.words.now in
+    let words : List (List ℕ) = map string_bytes c.args.asked.now.words.now in
     let told = g.I.Inputs.told c.args.inputs.now in
     let files : List (List ℕ) = map string_bytes c.files.result.now in
     let old = g.O.Sink.taken c.args.out.now in
@@ -112,7 +112,7 @@ returns-in-Compose-clause-refused g c =
 pub returns-in-Compose-clause-changed_at : goal.returns-in-Compose-clause-changed_at
 returns-in-Compose-clause-changed_at g c =
     let is = compose_given g (goal.at.returns-in-Compose-clause-changed_at g c).After-compose_store in
-    let words : List (List ℕ) = map string_bytes c.args.words.now in
+    let words : List (List ℕ) = map string_bytes c.args.asked.now.words.now in
     rw c.in-Compose.is (change_found (files_in (drop c.in-Compose.files words)) (g.I.Inputs.last_end c.compose_store.new.inputs) c.compose_store.result (answer_of c.end_answer.result) c.end_answer.ensures.answer
     (subst (λ (names : List (List ℕ)). ChangeFound names (g.I.Inputs.last_end c.compose_store.new.inputs) c.compose_store.result)
     (c.files.ensures.files ∙ given_files c.in-Compose.files words c.args.given.now is) c.compose_store.ensures.changed))
@@ -121,7 +121,7 @@ returns-in-Compose-clause-changed_at g c =
 
 pub returns-in-Audit-clause-answered : goal.returns-in-Audit-clause-answered
 returns-in-Audit-clause-answered g c =
-    let words : List (List ℕ) = map string_bytes c.args.words.now in
+    let words : List (List ℕ) = map string_bytes c.args.asked.now.words.now in
     let told = g.I.Inputs.told c.args.inputs.now in
     let files : List (List ℕ) = map string_bytes c.files-in-Audit.result.now in
     let guards : List Guard = map (λ b. (goal.Guard-dyn g (b.vtable, b.value)).kept b.value) c.args.guards.now in
@@ -136,28 +136,28 @@ returns-in-Audit-clause-answered g c =
     let fits : guards ≡ new_guards specs = subst (λ r. guards ≡ new_guards (streams_specs (streams_meant words r))) c.in-Audit.is c.requires.fits in
     rw c.in-Audit.is (λ tells. read_of told files (files_in (drop c.in-Audit.files words))
     (λ bytes. Wrote old new (λ written. (words : List (List ℕ)) (specs : List GuardSpec) (store at : ℕ) → reads_store words (Some store) ≡ true → guards ≡ new_guards specs
-    → Answers (OfStreams (Audit specs store at)) words image (record { bytes = bytes; names = names }) (answer_of c.end_answer-in-Audit.result) written left))
-    (λ bytes. Wrote old new (λ written. Answers (OfStreams (Audit specs c.in-Audit.store c.in-Audit.files)) words image (record { bytes = bytes; names = names }) (answer_of c.end_answer-in-Audit.result) written left))
+    → Answers (OfStreams (Audit specs store at)) (at_entry words image (record { bytes = bytes; names = names })) (answer_of c.end_answer-in-Audit.result) written left))
+    (λ bytes. Wrote old new (λ written. Answers (OfStreams (Audit specs c.in-Audit.store c.in-Audit.files)) (at_entry words image (record { bytes = bytes; names = names })) (answer_of c.end_answer-in-Audit.result) written left))
     (c.files-in-Audit.ensures.files ∙ given_files c.in-Audit.files words c.args.given.now is)
     (λ none. is.some (sym c.files-in-Audit.ensures.files ∙ none))
     (λ bytes w. (w.0, w.1, w.2 words specs c.in-Audit.store c.in-Audit.files reads fits))
     (subst (λ (ns : Names). IfAllTold told files (λ bytes. Wrote old new (λ written. (words : List (List ℕ)) (specs : List GuardSpec) (store at : ℕ) → reads_store words (Some store) ≡ true → guards ≡ new_guards specs
-    → Answers (OfStreams (Audit specs store at)) words image (record { bytes = bytes; names = ns }) (answer_of c.end_answer-in-Audit.result) written left)))
-    (c.names-names.ensures.names ∙ given_names c.in-Audit.files words c.args.given.now is)
+    → Answers (OfStreams (Audit specs store at)) (at_entry words image (record { bytes = bytes; names = ns })) (answer_of c.end_answer-in-Audit.result) written left)))
+    (c.names-in-Audit.ensures.names ∙ given_names c.in-Audit.files words c.args.given.now is)
     (subst (λ (a : Answer). IfAllTold told files (λ bytes. Wrote old new (λ written. (words : List (List ℕ)) (specs : List GuardSpec) (store at : ℕ) → reads_store words (Some store) ≡ true → guards ≡ new_guards specs
-    → Answers (OfStreams (Audit specs store at)) words image (record { bytes = bytes; names = c.names-names.result.now }) a written left)))
+    → Answers (OfStreams (Audit specs store at)) (at_entry words image (record { bytes = bytes; names = c.names-in-Audit.result.now })) a written left)))
     (sym c.end_answer-in-Audit.ensures.answer) (c.audit_store.ensures.answered tells))))
 
 -- ---- exporting
 
 pub export_store-requires : goal.export_store-requires
 export_store-requires g c =
-    let is = subst (λ r. HasGiven (streams_meant (map string_bytes c.args.words.now) r) (map string_bytes c.args.words.now) c.args.given.now) c.in-Export.is c.requires.given in
+    let is = subst (λ r. HasGiven (streams_meant (map string_bytes c.args.asked.now.words.now) r) (map string_bytes c.args.asked.now.words.now) c.args.given.now) c.in-Export.is c.requires.given in
     record { some = λ none. is.some (sym c.files-in-Export.ensures.files ∙ ap (map string_bytes) none) }
 
 pub returns-in-Export-clause-answered : goal.returns-in-Export-clause-answered
 returns-in-Export-clause-answered g c =
-    let words : List (List ℕ) = map string_bytes c.args.words.now in
+    let words : List (List ℕ) = map string_bytes c.args.asked.now.words.now in
     let told = g.I.Inputs.told c.args.inputs.now in
     let files : List (List ℕ) = map string_bytes c.files-in-Export.result.now in
     let old = g.O.Sink.taken c.args.out.now in
@@ -169,21 +169,21 @@ returns-in-Export-clause-answered g c =
     let reads : reads_store words (Some c.in-Export.store) ≡ true = subst (λ r. reads_store words (store_of (streams_meant words r)) ≡ true) c.in-Export.is c.requires.reads in
     rw c.in-Export.is (λ tells. read_of told files (files_in (drop c.in-Export.files words))
     (λ bytes. Wrote old new (λ written. (words : List (List ℕ)) (store at : ℕ) → reads_store words (Some store) ≡ true
-    → Answers (OfStreams (Export store at)) words image (record { bytes = bytes; names = names }) (answer_of c.end_answer-in-Export.result) written left))
-    (λ bytes. Wrote old new (λ written. Answers (OfStreams (Export c.in-Export.store c.in-Export.files)) words image (record { bytes = bytes; names = names }) (answer_of c.end_answer-in-Export.result) written left))
+    → Answers (OfStreams (Export store at)) (at_entry words image (record { bytes = bytes; names = names })) (answer_of c.end_answer-in-Export.result) written left))
+    (λ bytes. Wrote old new (λ written. Answers (OfStreams (Export c.in-Export.store c.in-Export.files)) (at_entry words image (record { bytes = bytes; names = names })) (answer_of c.end_answer-in-Export.result) written left))
     (c.files-in-Export.ensures.files ∙ given_files c.in-Export.files words c.args.given.now is)
     (λ none. is.some (sym c.files-in-Export.ensures.files ∙ none))
     (λ bytes w. (w.0, w.1, w.2 words c.in-Export.store c.in-Export.files reads))
     (subst (λ (ns : Names). IfAllTold told files (λ bytes. Wrote old new (λ written. (words : List (List ℕ)) (store at : ℕ) → reads_store words (Some store) ≡ true
-    → Answers (OfStreams (Export store at)) words image (record { bytes = bytes; names = ns }) (answer_of c.end_answer-in-Export.result) written left)))
+    → Answers (OfStreams (Export store at)) (at_entry words image (record { bytes = bytes; names = ns })) (answer_of c.end_answer-in-Export.result) written left)))
     (c.names-in-Export.ensures.names ∙ given_names c.in-Export.files words c.args.given.now is)
     (subst (λ (a : Answer). IfAllTold told files (λ bytes. Wrote old new (λ written. (words : List (List ℕ)) (store at : ℕ) → reads_store words (Some store) ≡ true
-    → Answers (OfStreams (Export store at)) words image (record { bytes = bytes; names = c.names-in-Export.result.now }) a written left)))
+    → Answers (OfStreams (Export store at)) (at_entry words image (record { bytes = bytes; names = c.names-in-Export.result.now })) a written left)))
     (sym c.end_answer-in-Export.ensures.answer) (c.export_store.ensures.answered tells))))
 
 pub returns-in-Export-clause-exported : goal.returns-in-Export-clause-exported
 returns-in-Export-clause-exported g c =
-    let words : List (List ℕ) = map string_bytes c.args.words.now in
+    let words : List (List ℕ) = map string_bytes c.args.asked.now.words.now in
     let told = g.I.Inputs.told c.args.inputs.now in
     let files : List (List ℕ) = map string_bytes c.files-in-Export.result.now in
     let old = g.O.Sink.taken c.args.out.now in

@@ -6,14 +6,14 @@ use Rattle.std.proofs.KnownBytes.{Appends-nil}
 use Rattle.send_model.specs.Attribute.{IsBytes}
 use Rattle.send_model.specs.Words.{new_guards}
 use Rattle.store_model.specs.NamedFiles.{unnamed}
-use Rattle.store_model.specs.Requests.{DropEntry, word_at}
+use Rattle.store_model.specs.Requests.{DropEntry, word_at, at_entry}
 use Rattle.word_model.specs.NameWords.{files_in}
 use Rattle.store_model.specs.Answers.{Answer, Answers}
 use Rattle.word_model.specs.AllRequests.{TurnFiles, name_at}
 use Rattle.sent_model.specs.Sent.{sent_stream}
 use Rattle.sent_model.specs.Restored.{restored_stream}
 use Rattle.store_words.specs.Ending as ending
-use Rattle.turn_sessions.specs.Leaving.{LeftByTurns}
+use Rattle.turn_sessions.proofs.Unpacked.{LeftByTurns}
 use Rattle.store_words.specs.Receiving.{LeftByReceive}
 use Rattle.sx_base.specs.Calls.{IfAllTold, Wrote}
 use Rattle.sx_base.specs.Disk.{IsImage}
@@ -44,7 +44,7 @@ returns-in-Drop-clause-answered g c =
     rw c.in-Drop.is (λ tells. (
       [],
       Appends-nil (g.O.Sink.taken c.args.out.now),
-      subst (λ (a : Answer). Answers (DropEntry 0 1) asked seen (unnamed []) a [] left) (sym same) (c.drop_entry.ensures.answered tells asked 0 1 (sym name_is)),
+      subst (λ (a : Answer). Answers (DropEntry 0 1) (at_entry asked seen (unnamed [])) a [] left) (sym same) (c.drop_entry.ensures.answered tells asked 0 1 (sym name_is)),
     ))
 
 pub returns-in-Send-clause-answered : goal.returns-in-Send-clause-answered

@@ -3,7 +3,7 @@ use Rattle.std.specs.String.{string_bytes}
 use Rattle.std.proofs.Common.{refl, sym, ap, subst, ◌∙◌}
 use Rattle.send_model.specs.Guards.{Guard}
 use Rattle.send_model.specs.Words.{new_guards}
-use Rattle.store_model.specs.Requests.{OfStreams, ReceiveFiles}
+use Rattle.store_model.specs.Requests.{OfStreams, ReceiveFiles, at_entry}
 use Rattle.word_model.specs.AllRequests.{Request, OfStore}
 use Rattle.word_model.specs.AllAnswers.{Answers}
 use Rattle.sx_base.specs.Calls.{Wrote}
@@ -23,9 +23,9 @@ returns-in-Store-clause-answered g c =
     let image : List ℕ = g.D.Disk.seen c.args.disk.now in
     let left : List ℕ = g.D.Disk.seen c.store_answer.new.disk in
     let mine : Request = store_meant words c.in-Store.request in λ request asks.
-    of_asked (λ r. OfDisk g.D.Disk.tells (uses_store words r) (IfAllRead told (names_asked r words) (λ files. Wrote old new (λ written. IfBytes r files (Answers r words image (named_files r words files) (answer_of c.store_answer.result) written left)))))
+    of_asked (λ r. OfDisk g.D.Disk.tells (uses_store words r) (IfAllRead told (names_asked r words) (λ files. Wrote old new (λ written. IfBytes r files (Answers r (at_entry words image (named_files r words files)) (answer_of c.store_answer.result) written left)))))
     words guards mine request (ap (λ r. Some (request_meant words r)) (sym c.in-Store.is) ∙ c.in-Some.ensures.meaning)
-    (subst (λ (uses : Bool). OfDisk g.D.Disk.tells uses (IfAllRead told (names_asked mine words) (λ files. Wrote old new (λ written. IfBytes mine files (Answers mine words image (named_files mine words files) (answer_of c.store_answer.result) written left)))))
+    (subst (λ (uses : Bool). OfDisk g.D.Disk.tells uses (IfAllRead told (names_asked mine words) (λ files. Wrote old new (λ written. IfBytes mine files (Answers mine (at_entry words image (named_files mine words files)) (answer_of c.store_answer.result) written left)))))
     (sym (uses_over words c.in-Store.request)) c.store_answer.ensures.answered) asks
 
 pub returns-in-Store-clause-acknowledged : goal.returns-in-Store-clause-acknowledged

@@ -8,7 +8,7 @@ use Rattle.word_model.specs.AllAnswers.{ReadsFiles, ReadsOnly}
 use Rattle.sx_base.specs.Causes.{Rose}
 use Rattle.send_top.specs.Answered.{answer_of}
 use Rattle.send_top.specs.Requests.{AskNothing, Asks, uses_store}
-use Rattle.send_top.specs.Run.{Acknowledges, AreSteady, AskForStore, AskToCompose, Composes, ComposesFront, Exports, IsAllowed, IsAnswered, IsChangedAt, IsStoreStatus, Prints, Sends}
+use Rattle.send_top.specs.Run.{Acknowledges, AreSteady, AskForStore, AskToCompose, Composes, ComposesFront, Exports, IsAllowed, IsAnswered, IsChangedAt, IsStoreStatus, Prints, Sends, outside}
 use Rattle.send_top.proofs.SentAnew.{sends}
 use Rattle.send_top.proofs.Statuses.{usage-of_two, two-of_usage, zero-of_done, done-of_zero, refused-of_one, steady-of_zero, input_fault-of_three, output_fault-of_four, store_fault-of_five, changed-of_thirteen, of_compose, of_store}
 use Rattle.send_top.proofs.top_call.run.Given.{Over}
@@ -81,18 +81,18 @@ returns-clause-of_store g c is = subst (λ gs. AskForStore (map string_bytes c.a
 
 pub returns-clause-composed : goal.returns-clause-composed
 returns-clause-composed g c none =
-    subst (λ gs. Composes (g.I.Inputs.told c.args.inputs.now) g.D.Disk.tells (map string_bytes c.args.words.now) (map (λ b. (goal.Guard-dyn g (b.vtable, b.value)).kept b.value) gs) (g.D.Disk.seen c.args.disk.now) (g.O.Sink.taken c.args.out.now) (g.O.Sink.taken c.answer_to-answer.new.out))
+    subst (λ gs. Composes g.D.Disk.tells (map string_bytes c.args.words.now) (map (λ b. (goal.Guard-dyn g (b.vtable, b.value)).kept b.value) gs) (outside (g.I.Inputs.told c.args.inputs.now) (g.D.Disk.seen c.args.disk.now) (g.O.Sink.taken c.args.out.now) (g.O.Sink.taken c.answer_to-answer.new.out)))
     c.deref_mut.ensures.value (c.answer_to-answer.ensures.composed (done-of_zero (answer_of c.answer_to-answer.result) (sym c.status.ensures ∙ none)))
 
 pub returns-clause-refused : goal.returns-clause-refused
 returns-clause-refused g c one =
     let found = refused-of_one (answer_of c.answer_to-answer.result) (sym c.status.ensures ∙ one) in
-    subst (λ gs. ComposesFront (g.I.Inputs.told c.args.inputs.now) g.D.Disk.tells (map string_bytes c.args.words.now) (map (λ b. (goal.Guard-dyn g (b.vtable, b.value)).kept b.value) gs) (g.D.Disk.seen c.args.disk.now) (g.O.Sink.taken c.args.out.now) (g.O.Sink.taken c.answer_to-answer.new.out))
+    subst (λ gs. ComposesFront g.D.Disk.tells (map string_bytes c.args.words.now) (map (λ b. (goal.Guard-dyn g (b.vtable, b.value)).kept b.value) gs) (outside (g.I.Inputs.told c.args.inputs.now) (g.D.Disk.seen c.args.disk.now) (g.O.Sink.taken c.args.out.now) (g.O.Sink.taken c.answer_to-answer.new.out)))
     c.deref_mut.ensures.value (c.answer_to-answer.ensures.refused found.0 found.1)
 
 pub returns-clause-exported : goal.returns-clause-exported
 returns-clause-exported g c none =
-    subst (λ gs. Exports (g.I.Inputs.told c.args.inputs.now) g.D.Disk.tells (map string_bytes c.args.words.now) (map (λ b. (goal.Guard-dyn g (b.vtable, b.value)).kept b.value) gs) (g.D.Disk.seen c.args.disk.now) (g.O.Sink.taken c.args.out.now) (g.O.Sink.taken c.answer_to-answer.new.out))
+    subst (λ gs. Exports g.D.Disk.tells (map string_bytes c.args.words.now) (map (λ b. (goal.Guard-dyn g (b.vtable, b.value)).kept b.value) gs) (outside (g.I.Inputs.told c.args.inputs.now) (g.D.Disk.seen c.args.disk.now) (g.O.Sink.taken c.args.out.now) (g.O.Sink.taken c.answer_to-answer.new.out)))
     c.deref_mut.ensures.value (c.answer_to-answer.ensures.exported (done-of_zero (answer_of c.answer_to-answer.result) (sym c.status.ensures ∙ none)))
 
 pub returns-clause-sent : goal.returns-clause-sent
@@ -106,7 +106,7 @@ returns-clause-sent g c none =
     let guards : List Guard = map (λ b. (goal.Guard-dyn g (b.vtable, b.value)).kept b.value) c.deref_mut.result.now in
     subst (λ gs. Sends g.D.Disk.tells words (map (λ b. (goal.Guard-dyn g (b.vtable, b.value)).kept b.value) gs) image old new) c.deref_mut.ensures.value
     (sends told g.D.Disk.tells words guards old new image left
-    (subst (λ (a : Answer). IsAnswered told g.D.Disk.tells words guards old new image left a) (done-of_zero (answer_of c.answer_to-answer.result) (sym c.status.ensures ∙ none)) c.answer_to-answer.ensures.answered))
+    (subst (λ (a : Answer). IsAnswered g.D.Disk.tells words guards (outside told image old new) left a) (done-of_zero (answer_of c.answer_to-answer.result) (sym c.status.ensures ∙ none)) c.answer_to-answer.ensures.answered))
 
 pub returns-clause-in_part : goal.returns-clause-in_part
 returns-clause-in_part g c other tells request asks = c.answer_to-answer.ensures.in_part (λ done. other (c.status.ensures ∙ zero-of_done (answer_of c.answer_to-answer.result) done)) tells request
@@ -121,7 +121,7 @@ returns-clause-answered g c =
     let answer = answer_of c.answer_to-answer.result in
     let a = c.answer_to-answer.ensures in (
       answer,
-      subst (λ gs. IsAnswered (g.I.Inputs.told c.args.inputs.now) g.D.Disk.tells words (map (λ b. (goal.Guard-dyn g (b.vtable, b.value)).kept b.value) gs) (g.O.Sink.taken c.args.out.now) (g.O.Sink.taken c.answer_to-answer.new.out) (g.D.Disk.seen c.args.disk.now) (g.D.Disk.seen c.answer_to-answer.new.disk) answer) c.deref_mut.ensures.value a.answered,
+      subst (λ gs. IsAnswered g.D.Disk.tells words (map (λ b. (goal.Guard-dyn g (b.vtable, b.value)).kept b.value) gs) (outside (g.I.Inputs.told c.args.inputs.now) (g.D.Disk.seen c.args.disk.now) (g.O.Sink.taken c.args.out.now) (g.O.Sink.taken c.answer_to-answer.new.out)) (g.D.Disk.seen c.answer_to-answer.new.disk) answer) c.deref_mut.ensures.value a.answered,
       record { status_is = c.status.ensures; note = search rules },
       subst (λ gs. IsChangedAt words (map (λ b. (goal.Guard-dyn g (b.vtable, b.value)).kept b.value) gs) (g.I.Inputs.last_end c.answer_to-answer.new.inputs) answer) c.deref_mut.ensures.value a.changed_at,
       subst (λ gs. IsAllowed words (map (λ b. (goal.Guard-dyn g (b.vtable, b.value)).kept b.value) gs) answer) c.deref_mut.ensures.value a.allowed,
@@ -149,5 +149,6 @@ returns-clause-durable g c none tells request asks = c.answer_to-answer.ensures.
 
 pub returns-clause-acknowledged : goal.returns-clause-acknowledged
 returns-clause-acknowledged g c tells =
-    subst (λ gs. Acknowledges (g.I.Inputs.told c.args.inputs.now) (map string_bytes c.args.words.now) (map (λ b. (goal.Guard-dyn g (b.vtable, b.value)).kept b.value) gs) (g.O.Sink.taken c.args.out.now) (g.O.Sink.taken c.answer_to-answer.new.out)
-    (g.D.Disk.pending c.args.disk.now) (g.D.Disk.pending c.answer_to-answer.new.disk) (g.D.Disk.seen c.args.disk.now)) c.deref_mut.ensures.value (c.answer_to-answer.ensures.acknowledged tells)
+    subst (λ gs. Acknowledges (map string_bytes c.args.words.now) (map (λ b. (goal.Guard-dyn g (b.vtable, b.value)).kept b.value) gs)
+    (outside (g.I.Inputs.told c.args.inputs.now) (g.D.Disk.seen c.args.disk.now) (g.O.Sink.taken c.args.out.now) (g.O.Sink.taken c.answer_to-answer.new.out))
+    (g.D.Disk.pending c.args.disk.now) (g.D.Disk.pending c.answer_to-answer.new.disk)) c.deref_mut.ensures.value (c.answer_to-answer.ensures.acknowledged tells)

@@ -16,13 +16,13 @@ use Rattle.store_base.proofs.composing.compose_opened.Goals as goal
 -- ---- where the files can not be surveyed, or there is no memory
 
 pub returns-in-Err-clause-ends : goal.returns-in-Err-clause-ends
-returns-in-Err-clause-ends g c tells = stopped c.args.names.now _ (map string_bytes c.args.files.now) (with_bytes (g.D.Disk.seen c.args.disk.now) c.args.store.now.core) _ c.in-Err.outcome c.in-Err.ensures.surveyed
+returns-in-Err-clause-ends g c tells = stopped c.args.given.now.names.now _ (map string_bytes c.args.given.now.files.now) (with_bytes (g.D.Disk.seen c.args.disk.now) c.args.store.now.core) _ c.in-Err.outcome c.in-Err.ensures.surveyed
 
 pub returns-in_default-clause-ends : goal.returns-in_default-clause-ends
-returns-in_default-clause-ends g c tells = no_memory c.args.names.now _ _ (with_bytes (g.D.Disk.seen c.args.disk.now) c.args.store.now.core) _
+returns-in_default-clause-ends g c tells = no_memory c.args.given.now.names.now _ _ (with_bytes (g.D.Disk.seen c.args.disk.now) c.args.store.now.core) _
 
 pub returns-in_default-trace_all-clause-ends : goal.returns-in_default-trace_all-clause-ends
-returns-in_default-trace_all-clause-ends g c tells = no_memory c.args.names.now _ _ (with_bytes (g.D.Disk.seen c.args.disk.now) c.args.store.now.core) _
+returns-in_default-trace_all-clause-ends g c tells = no_memory c.args.given.now.names.now _ _ (with_bytes (g.D.Disk.seen c.args.disk.now) c.args.store.now.core) _
 
 -- ---- what stands beside the files
 
@@ -42,7 +42,7 @@ compose_read-over-requires-clause-part g c =
 
 pub compose_read-over-requires-clause-traced : goal.compose_read-over-requires-clause-traced
 compose_read-over-requires-clause-traced g c tells =
-    all_always _ (map string_bytes c.args.files.now) _
+    all_always _ (map string_bytes c.args.given.now.files.now) _
     (traced (g.D.Disk.seen c.args.disk.now) c.args.store.now.core c.in-Ok-index_all.indexes c.in-Ok.known (subst (λ (s : Cells). IsStore s) c.core.ensures.core c.catalog.ensures.apart)
     (lawful_of _ c.core.result.now c.args.store.now.core c.core.ensures.kept c.core.ensures.core) (c.in-Ok-index_all.ensures ∙ ap (standing c.in-Ok.known) (c.catalog.ensures.core ∙ c.core.ensures.core))
     c.in-Ok-trace_all.core c.in-Ok-trace_all.ensures)
@@ -68,7 +68,7 @@ pub returns-clause-ends : goal.returns-clause-ends
 returns-clause-ends g c tells =
     ends (g.D.Disk.seen c.args.disk.now) c.args.store.now.core c.in-Ok-index_all.indexes c.in-Ok.known (subst (λ (s : Cells). IsStore s) c.core.ensures.core c.catalog.ensures.apart)
     (lawful_of _ c.core.result.now c.args.store.now.core c.core.ensures.kept c.core.ensures.core) (c.in-Ok-index_all.ensures ∙ ap (standing c.in-Ok.known) (c.catalog.ensures.core ∙ c.core.ensures.core))
-    c.args.names.now (g.I.Inputs.told c.args.inputs.now) (map string_bytes c.args.files.now) (g.O.Sink.taken c.args.out.now) (g.O.Sink.taken c.compose_read-over.new.out) c.compose_read-over.result.end c.in-Ok.ensures.surveyed
-    (subst (λ told. IfAllTold told (map string_bytes c.args.files.now)
-    (λ files. Wrote (g.O.Sink.taken c.args.out.now) (g.O.Sink.taken c.compose_read-over.new.out) (EndsOver (bytes_in (g.D.Disk.seen c.args.disk.now) c.in-Ok-index_all.indexes) c.args.names.now files c.compose_read-over.result.end)))
+    c.args.given.now.names.now (g.I.Inputs.told c.args.inputs.now) (map string_bytes c.args.given.now.files.now) (g.O.Sink.taken c.args.out.now) (g.O.Sink.taken c.compose_read-over.new.out) c.compose_read-over.result.end c.in-Ok.ensures.surveyed
+    (subst (λ told. IfAllTold told (map string_bytes c.args.given.now.files.now)
+    (λ files. Wrote (g.O.Sink.taken c.args.out.now) (g.O.Sink.taken c.compose_read-over.new.out) (EndsOver (bytes_in (g.D.Disk.seen c.args.disk.now) c.in-Ok-index_all.indexes) c.args.given.now.names.now files c.compose_read-over.result.end)))
     c.survey.ensures.same (c.compose_read-over.ensures.ends tells))

@@ -6,6 +6,6 @@ use Rattle.store_base.proofs.composing.compose_read.Given as goal
 abbrev pub ghosts-compose_beside : goal.ghosts-compose_beside
 ghosts-compose_beside g a = record {
   image = g.D.Disk.seen a.reader.disk.now;
-  base = bytes_in (g.D.Disk.seen a.reader.disk.now) a.indexes;
+  base = bytes_in (g.D.Disk.seen a.reader.disk.now) a.beside.indexes;
   begun = Some a.reader;
 }

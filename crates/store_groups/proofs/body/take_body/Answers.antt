@@ -25,24 +25,24 @@ overflow_add-ahead g c = omega (arith, c.size-size.ensures, c.size-size.type_inv
 
 -- where the parts of the group stand
 module _ (g : Over) (c : After-seal_len g) where
-  there : g.D.Disk.tells → c.args.group.at + c.args.group.len ≤ length (g.D.Disk.seen c.args.disk.now)
+  there : g.D.Disk.tells → c.args.group.place.at + c.args.group.place.len ≤ length (g.D.Disk.seen c.args.disk.now)
   there tells = omega (arith, c.requires.within, c.requires.fits, g.met.D.Disk.sized c.args.disk.now tells)
 
-  ends : c.args.group.at + c.args.group.len - c.seal_len.result + seal_len c.args.tag.is_sealed ≡ c.args.group.at + c.args.group.len
+  ends : c.args.group.place.at + c.args.group.place.len - c.seal_len.result + seal_len c.args.group.tag.is_sealed ≡ c.args.group.place.at + c.args.group.place.len
   ends = let long = c.requires.long in omega (arith, long, c.seal_len.ensures)
 
-  begun : c.args.group.at ≤ c.args.group.at + c.args.group.len - c.seal_len.result
+  begun : c.args.group.place.at ≤ c.args.group.place.at + c.args.group.place.len - c.seal_len.result
   begun = let long = c.requires.long in omega (arith, long, c.seal_len.ensures)
 
-  eighteen : 18 ≤ c.args.group.at + c.args.group.len - c.seal_len.result - c.args.group.at → 18 ≤ min c.args.group.len 524_288
+  eighteen : 18 ≤ c.args.group.place.at + c.args.group.place.len - c.seal_len.result - c.args.group.place.at → 18 ≤ min c.args.group.place.len 524_288
   eighteen long = omega (arith, long)
 
 pub returns-then-end-group-clause-taken : goal.returns-then-end-group-clause-taken
 returns-then-end-group-clause-taken g c tells right =
     let at = (goal.at.returns-then-end-group-clause-taken g c).After-seal_len in
     let seen = g.D.Disk.seen c.args.disk.now in
-    let group = c.args.group in
-    let sealed = c.args.tag.is_sealed in
+    let group = c.args.group.place in
+    let sealed = c.args.group.tag.is_sealed in
     let bytes : List ℕ = drop 1 (in_front sealed (take group.len (drop group.at seen))) in
     subst (λ (k : Kind). IsBadContent k group.at bytes c.args.core.now) (sym c.requires.kind)
     (short_body group.at bytes c.args.core.now
@@ -52,8 +52,8 @@ pub returns-in_default-clause-taken : goal.returns-in_default-clause-taken
 returns-in_default-clause-taken g c tells right =
     let at = (goal.at.returns-in_default-clause-taken g c).After-seal_len in
     let seen = g.D.Disk.seen c.args.disk.now in
-    let group = c.args.group in
-    let sealed = c.args.tag.is_sealed in
+    let group = c.args.group.place in
+    let sealed = c.args.group.tag.is_sealed in
     let window = c.args.window.now in
     let end : ℕ = group.at + group.len - c.seal_len.result in
     let bytes : List ℕ = drop 1 (in_front sealed (take group.len (drop group.at seen))) in
@@ -68,8 +68,8 @@ pub returns-in_default-2-clause-taken : goal.returns-in_default-2-clause-taken
 returns-in_default-2-clause-taken g c tells right =
     let at = (goal.at.returns-in_default-2-clause-taken g c).After-seal_len in
     let seen = g.D.Disk.seen c.args.disk.now in
-    let group = c.args.group in
-    let sealed = c.args.tag.is_sealed in
+    let group = c.args.group.place in
+    let sealed = c.args.group.tag.is_sealed in
     let window = c.args.window.now in
     let end : ℕ = group.at + group.len - c.seal_len.result in
     let bytes : List ℕ = drop 1 (in_front sealed (take group.len (drop group.at seen))) in
@@ -85,11 +85,11 @@ pub take_frames-requires-clause-shows : goal.take_frames-requires-clause-shows
 take_frames-requires-clause-shows g c tells =
     let at = (goal.at.take_frames-requires-clause-shows g c).After-seal_len in
     let seen = g.D.Disk.seen c.args.disk.now in
-    let group = c.args.group in
+    let group = c.args.group.place in
     let window = c.args.window.now in
     let n : ℕ = min group.len 524_288 in
     subst (λ (k : ℕ). take (k - 18) (drop 18 window) ≡ take (k - 18) (drop (group.at + 18) seen)) (sym c.min.ensures)
-    (shown_behind c.args.tag.is_sealed group.at group.len (group.at + group.len - c.seal_len.result) seen (there g at tells) (ends g at) (begun g at) window n (c.requires.shows tells) (eighteen g at c.if-end-group.false) c.requires.room)
+    (shown_behind c.args.group.tag.is_sealed group.at group.len (group.at + group.len - c.seal_len.result) seen (there g at tells) (ends g at) (begun g at) window n (c.requires.shows tells) (eighteen g at c.if-end-group.false) c.requires.room)
 
 -- what became of the frames
 frames_taken : (frames : Frames) (at used have n m : ℕ) (seen : List ℕ) (s u : State (Option Place)) (t : Bool) → n ≡ m → TakesFrames frames (record { at = at; used = used; have = have; sum = n }) seen s u t → TakesFrames frames (record { at = at; used = used; have = have; sum = m }) seen s u t
@@ -99,8 +99,8 @@ pub returns-then-not-branch-clause-taken : goal.returns-then-not-branch-clause-t
 returns-then-not-branch-clause-taken g c tells right =
     let at = (goal.at.returns-then-not-branch-clause-taken g c).After-seal_len in
     let seen = g.D.Disk.seen c.args.disk.now in
-    let group = c.args.group in
-    let sealed = c.args.tag.is_sealed in
+    let group = c.args.group.place in
+    let sealed = c.args.group.tag.is_sealed in
     let window = c.args.window.now in
     let end : ℕ = group.at + group.len - c.seal_len.result in
     let bytes : List ℕ = drop 1 (in_front sealed (take group.len (drop group.at seen))) in
@@ -122,8 +122,8 @@ pub returns-clause-taken : goal.returns-clause-taken
 returns-clause-taken g c tells =
     let at = (goal.at.returns-clause-taken g c).After-seal_len in
     let seen = g.D.Disk.seen c.args.disk.now in
-    let group = c.args.group in
-    let sealed = c.args.tag.is_sealed in
+    let group = c.args.group.place in
+    let sealed = c.args.group.tag.is_sealed in
     let window = c.args.window.now in
     let end : ℕ = group.at + group.len - c.seal_len.result in
     let bytes : List ℕ = drop 1 (in_front sealed (take group.len (drop group.at seen))) in
@@ -145,7 +145,7 @@ returns-clause-taken g c tells =
 
 pub returns-clause-kept : goal.returns-clause-kept
 returns-clause-kept g c all same =
-    let group = c.args.group in
+    let group = c.args.group.place in
     let stop : ℕ = group.at + group.len in
     let end : ℕ = stop - c.seal_len.result in
     let long = c.requires.long in

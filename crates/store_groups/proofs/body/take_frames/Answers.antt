@@ -27,7 +27,7 @@ loop-ahead-init g c = record {
   later = omega arith;
   steady = refl;
   shows = c.requires.shows;
-  edits = λ tells. none_taken c.args.frames.version c.args.first.at (g.D.Disk.seen c.args.disk.now) (open_state c.args.core.now c.args.part.now);
+  edits = λ tells. none_taken c.args.run.now.frames.version c.args.first.at (g.D.Disk.seen c.args.disk.now) (open_state c.args.core.now c.args.part.now);
   sum_is = λ tells. sum_of_none c.args.first.sum c.args.first.at (g.D.Disk.seen c.args.disk.now);
   kept = λ all own. own;
 }
@@ -40,15 +40,15 @@ module _ (g : Over) (c : In_ok-next g) where
       subst (λ (l : List ℕ). Shows l c.refill.new.window c.in_ok-ahead.ahead) ((c.refill.ensures.same tells).seen ∙ (before.same tells).seen)
       (c.in_ok-ahead.ensures.shows tells (subst (λ (l : List ℕ). Shows l c.loop-ahead.window c.loop-ahead.ahead) (sym (before.same tells).seen) (before.shows tells)))
 
-  so_far : g.D.Disk.tells → AreEdits c.args.frames.version c.args.first.at (take (c.in_ok-ahead.ahead.at - c.args.first.at) (drop c.args.first.at (g.D.Disk.seen c.args.disk.now))) (open_state c.args.core.now c.args.part.now) (open_state c.args.core.now c.loop-ahead.part)
+  so_far : g.D.Disk.tells → AreEdits c.args.run.now.frames.version c.args.first.at (take (c.in_ok-ahead.ahead.at - c.args.first.at) (drop c.args.first.at (g.D.Disk.seen c.args.disk.now))) (open_state c.args.core.now c.args.part.now) (open_state c.args.core.now c.loop-ahead.part)
   so_far tells =
-      subst (λ (n : ℕ). AreEdits c.args.frames.version c.args.first.at (take (n - c.args.first.at) (drop c.args.first.at (g.D.Disk.seen c.args.disk.now))) (open_state c.args.core.now c.args.part.now) (open_state c.args.core.now c.loop-ahead.part))
+      subst (λ (n : ℕ). AreEdits c.args.run.now.frames.version c.args.first.at (take (n - c.args.first.at) (drop c.args.first.at (g.D.Disk.seen c.args.disk.now))) (open_state c.args.core.now c.args.part.now) (open_state c.args.core.now c.loop-ahead.part))
       (sym c.in_ok-ahead.ensures.refills.same) (c.loop-ahead.invariant.edits tells)
 
   begun : c.args.first.at ≤ c.in_ok-ahead.ahead.at
   begun = let same = c.in_ok-ahead.ensures.refills.same in omega (arith, same, c.loop-ahead.invariant.begun)
 
-  goes_on : c.in_ok-ahead.ahead.at ≤ c.args.frames.end
+  goes_on : c.in_ok-ahead.ahead.at ≤ c.args.run.now.frames.end
   goes_on = let same = c.in_ok-ahead.ensures.refills.same in omega (arith, same, c.loop-ahead.invariant.within)
 
   there : g.D.Disk.tells → c.in_ok-ahead.ahead.at ≤ length (g.D.Disk.seen c.args.disk.now)
@@ -68,9 +68,9 @@ loop-ahead-preserved g c =
     let t = open_state c.args.core.now c.loop-ahead.part in
     let u = open_state c.args.core.now c.take_shown.new.part in
     let refills = c.in_ok-ahead.ensures.refills in
-    let past = subst (λ (o : Option Ahead). IfSome o (GoesPast c.args.frames.end c.args.frames.stop (length window) now)) c.in-Some.is c.in_ok-next.ensures.past in
+    let past = subst (λ (o : Option Ahead). IfSome o (GoesPast c.args.run.now.frames.end c.args.run.now.frames.stop (length window) now)) c.in-Some.is c.in_ok-next.ensures.past in
     let later = past.later in
-    let took = λ (tells : D.tells). subst (λ (o : Option Ahead). TakesShown c.args.frames now seen window t u o) c.in-Some.is (c.in_ok-next.ensures.taken seen (shows_now g at tells)) in
+    let took = λ (tells : D.tells). subst (λ (o : Option Ahead). TakesShown c.args.run.now.frames now (record { seen = seen; window = window }) t u o) c.in-Some.is (c.in_ok-next.ensures.taken seen (shows_now g at tells)) in
     let less : now.at ≤ next.at = omega (arith, later) in
     record {
       begun = omega (arith, later, begun g at);
@@ -83,7 +83,7 @@ loop-ahead-preserved g c =
       later = omega (arith, before.later, c.refill.ensures.later);
       steady = c.in_ok-ahead.ensures.steady ∙ before.steady;
       shows = λ tells. (took tells).shows;
-      edits = λ tells. frames_join first.at now.at next.at seen (begun g at) less c.args.frames.version s t (there g at tells) (so_far g at tells) u (took tells).edits;
+      edits = λ tells. frames_join first.at now.at next.at seen (begun g at) less c.args.run.now.frames.version s t (there g at tells) (so_far g at tells) u (took tells).edits;
       sum_is = λ tells. (took tells).sum ∙ ap (λ (n : ℕ). crc_of n (take (next.at - now.at) (drop now.at seen)))
           (refills.sum ∙ before.sum_is tells ∙ ap (λ (n : ℕ). crc_of first.sum (take (n - first.at) (drop first.at seen))) (sym refills.same))
           ∙ sums_join first.at now.at next.at seen (begun g at) less first.sum;
@@ -100,10 +100,10 @@ returns-in-None-clause-taken g c tells right =
     let s = open_state c.args.core.now c.args.part.now in
     let t = open_state c.args.core.now c.loop-ahead.part in
     let u = open_state c.args.core.now c.take_shown.new.part in
-    let bad = subst (λ (o : Option Ahead). TakesShown c.args.frames now seen c.refill.new.window t u o) c.in-None.is (c.in_ok-next.ensures.taken seen (shows_now g at tells)) in
-    frames_bad c.args.first.at now.at c.args.frames.end seen (begun g at) (goes_on g at) c.args.frames.version s t (there g at tells) (so_far g at tells) bad
+    let bad = subst (λ (o : Option Ahead). TakesShown c.args.run.now.frames now (record { seen = seen; window = c.refill.new.window }) t u o) c.in-None.is (c.in_ok-next.ensures.taken seen (shows_now g at tells)) in
+    frames_bad c.args.first.at now.at c.args.run.now.frames.end seen (begun g at) (goes_on g at) c.args.run.now.frames.version s t (there g at tells) (so_far g at tells) bad
 
 pub returns-clause-kept : goal.returns-clause-kept
 returns-clause-kept g c all own right =
-    let end : c.loop-ahead.ahead.at ≡ c.args.frames.end = omega (arith, c.loop-ahead-test.false, c.loop-ahead.invariant.within) in
+    let end : c.loop-ahead.ahead.at ≡ c.args.run.now.frames.end = omega (arith, c.loop-ahead-test.false, c.loop-ahead.invariant.within) in
     subst (λ (n : ℕ). IsKept n c.loop-ahead.part.subvolume) end (c.loop-ahead.invariant.kept all own)

@@ -11,23 +11,23 @@ use Rattle.store_groups.proofs.body.take_frames.Given as goal
 
 -- Each turn takes bytes of the group.
 abbrev pub decreases-loop-ahead : goal.decreases-loop-ahead
-decreases-loop-ahead g l = l.frames.end - l.ahead.at
+decreases-loop-ahead g l = l.run.frames.end - l.ahead.at
 
 abbrev pub invariant-loop-ahead : goal.invariant-loop-ahead
 invariant-loop-ahead g l =
     let D = g.D.Disk in
     record {
       begun : l.fn.first.at ≤ l.ahead.at;
-      within : l.ahead.at ≤ l.frames.end;
+      within : l.ahead.at ≤ l.run.frames.end;
       key : l.part.key ≡ l.fn.part.key;
-      ahead : IsAhead l.frames.stop (length l.window) l.ahead;
+      ahead : IsAhead l.run.frames.stop (length l.window) l.ahead;
       len : D.len l.disk ≡ D.len l.fn.disk;
       same : D.tells → IsAsBefore D.seen D.pending l.fn.disk l.disk;
       any_moment : D.tells → LeavesOnly D.moment D.left_since l.fn.disk l.disk (IsImage (D.pending l.fn.disk));
       later : D.faults l.fn.disk ≤ D.faults l.disk;
       steady : D.faults l.disk ≡ D.faults l.fn.disk;
       shows : D.tells → Shows (D.seen l.fn.disk) l.window l.ahead;
-      edits : D.tells → AreEdits l.frames.version l.fn.first.at (take (l.ahead.at - l.fn.first.at) (drop l.fn.first.at (D.seen l.fn.disk))) (open_state l.core l.fn.part) (open_state l.core l.part);
+      edits : D.tells → AreEdits l.run.frames.version l.fn.first.at (take (l.ahead.at - l.fn.first.at) (drop l.fn.first.at (D.seen l.fn.disk))) (open_state l.core l.fn.part) (open_state l.core l.part);
       sum_is : D.tells → l.ahead.sum ≡ crc_of l.fn.first.sum (take (l.ahead.at - l.fn.first.at) (drop l.fn.first.at (D.seen l.fn.disk)));
       kept : AreKept l.fn.first.at l.core → IsKept l.fn.first.at l.fn.part.subvolume → IsKept l.ahead.at l.part.subvolume;
     }

@@ -11,7 +11,7 @@ use Rattle.store_words.proofs.auditing.audit_store.Goals as goal
 
 pub returns-in-Err-clause-answered : goal.returns-in-Err-clause-answered
 returns-in-Err-clause-answered g c tells =
-    not_audited _ _ (g.D.Disk.seen c.args.disk.now) (g.D.Disk.seen c.open.new.disk) c.args.names.now _ (c.open.ensures.seen tells) (g.O.Sink.taken c.args.out.now) _ c.in-Err.stop c.ended_by.result c.ended_by.ensures c.in-Err.ensures.not_refused
+    not_audited _ _ (g.D.Disk.seen c.args.disk.now) (g.D.Disk.seen c.open.new.disk) c.args.given.now.names.now _ (c.open.ensures.seen tells) (g.O.Sink.taken c.args.out.now) _ c.in-Err.stop c.ended_by.result c.ended_by.ensures c.in-Err.ensures.not_refused
     c.in-Err.ensures.stops (c.in-Err.ensures.says tells)
 
 pub returns-in-Err-clause-cause : goal.returns-in-Err-clause-cause
@@ -23,4 +23,4 @@ returns-clause-answered g c tells =
     let seen : List ℕ = g.D.Disk.seen c.args.disk.now in
     let core = c.in-Ok.store.core in
     let shape : HaveSameShape c.into_core-core.result (with_bytes seen core) = subst (λ (s : Store (Option Place)). HaveSameShape s (with_bytes seen core)) (sym c.into_core-core.ensures.core) (same_shape seen core) in
-    is_audited _ _ seen (g.D.Disk.seen c.open.new.disk) c.args.names.now _ (c.open.ensures.seen tells) _ _ (with_bytes seen core) c.audit.result (c.in-Ok.ensures.says tells) (c.audit.ensures.audited (with_bytes seen core) shape)
+    is_audited _ _ seen (g.D.Disk.seen c.open.new.disk) c.args.given.now.names.now _ (c.open.ensures.seen tells) _ _ (with_bytes seen core) c.audit.result (c.in-Ok.ensures.says tells) (c.audit.ensures.audited (with_bytes seen core) shape)

@@ -10,7 +10,7 @@ use Rattle.sx_base.proofs.DiskImages.{only_settled}
 use Rattle.sx_base.specs.Disk.{Pending, IsImage}
 use Rattle.store_model.specs.Dues.{complete_named, file_at, cat_output}
 use Rattle.store_model.specs.NamedFiles.{unnamed}
-use Rattle.store_model.specs.Requests.{CatFile, word_at}
+use Rattle.store_model.specs.Requests.{CatFile, word_at, at_entry}
 use Rattle.store_model.specs.Answers.{Answers}
 use Rattle.subvol_catalog.specs.Entries.{entry_of}
 use Rattle.store_journal.specs.Reading.{file_cells}
@@ -27,10 +27,10 @@ use Rattle.store_words.proofs.cat.cat_file.Goals as goal
 
 -- An answer of the words that ask for a name and a path, as one of these.
 asked : (words : List (List ℕ)) (store at to : ℕ) (image name path written : List ℕ) (end : StoreEnd) → word_at words at ≡ name → word_at words to ≡ path
-    → Answers (CatFile store at to) words image (unnamed []) (answer_of (word_at words at) (word_at words to) end) written image → Answers (CatFile store at to) words image (unnamed []) (answer_of name path end) written image
+    → Answers (CatFile store at to) (at_entry words image (unnamed [])) (answer_of (word_at words at) (word_at words to) end) written image → Answers (CatFile store at to) (at_entry words image (unnamed [])) (answer_of name path end) written image
 asked words store at to image name path written end asks_name asks_path answers =
-    subst (λ (n : List ℕ). Answers (CatFile store at to) words image (unnamed []) (answer_of n path end) written image) asks_name
-    (subst (λ (p : List ℕ). Answers (CatFile store at to) words image (unnamed []) (answer_of (word_at words at) p end) written image) asks_path answers)
+    subst (λ (n : List ℕ). Answers (CatFile store at to) (at_entry words image (unnamed [])) (answer_of n path end) written image) asks_name
+    (subst (λ (p : List ℕ). Answers (CatFile store at to) (at_entry words image (unnamed [])) (answer_of (word_at words at) p end) written image) asks_path answers)
 
 pub returns-in-Err-clause-answered : goal.returns-in-Err-clause-answered
 returns-in-Err-clause-answered g c tells =
@@ -40,8 +40,8 @@ returns-in-Err-clause-answered g c tells =
       [],
       Appends-nil (g.O.Sink.taken c.args.out.now),
       (λ words store at to asks_name asks_path.
-          subst (λ (l : List ℕ). Answers (CatFile store at to) words seen (unnamed []) (answer_of name path c.ended_by.result) [] l) (sym (c.open.ensures.seen tells))
-          (subst (λ (e : StoreEnd). Answers (CatFile store at to) words seen (unnamed []) (answer_of name path e) [] seen) (sym c.ended_by.ensures)
+          subst (λ (l : List ℕ). Answers (CatFile store at to) (at_entry words seen (unnamed [])) (answer_of name path c.ended_by.result) [] l) (sym (c.open.ensures.seen tells))
+          (subst (λ (e : StoreEnd). Answers (CatFile store at to) (at_entry words seen (unnamed [])) (answer_of name path e) [] seen) (sym c.ended_by.ensures)
           (not_opened (CatFile store at to) words seen (unnamed []) name path _ c.in-Err.stop (nothing_printed seen (cat_output (word_at words at) (word_at words to))) (nothing_printed seen (cat_output (word_at words at) (word_at words to)))
           (cat_of_none words store at to seen) c.in-Err.ensures.not_refused c.in-Err.ensures.stops (c.in-Err.ensures.says tells)))),
     )
@@ -56,7 +56,7 @@ returns-in_default-clause-answered g c tells =
       [],
       Appends-nil (g.O.Sink.taken c.args.out.now),
       (λ words store at to asks_name asks_path.
-          subst (λ (l : List ℕ). Answers (CatFile store at to) words seen (unnamed []) (answer_of name path made.NoName) [] l) (sym (c.open.ensures.seen tells))
+          subst (λ (l : List ℕ). Answers (CatFile store at to) (at_entry words seen (unnamed [])) (answer_of name path made.NoName) [] l) (sym (c.open.ensures.seen tells))
           (asked words store at to seen name path [] made.NoName asks_name asks_path
           (cat_missing words store at to seen (with_bytes seen core) (c.in-Ok.ensures.says tells) (ap (λ (n : List ℕ). complete_named n (with_bytes seen core)) asks_name ∙ gone seen core name none)))),
     )
@@ -72,7 +72,7 @@ returns-in_default-value-clause-answered g c tells =
       [],
       Appends-nil (g.O.Sink.taken c.args.out.now),
       (λ words store at to asks_name asks_path.
-          subst (λ (l : List ℕ). Answers (CatFile store at to) words seen (unnamed []) (answer_of name path made.NoName) [] l) (sym (c.open.ensures.seen tells))
+          subst (λ (l : List ℕ). Answers (CatFile store at to) (at_entry words seen (unnamed [])) (answer_of name path made.NoName) [] l) (sym (c.open.ensures.seen tells))
           (asked words store at to seen name path [] made.NoName asks_name asks_path
           (cat_missing words store at to seen (with_bytes seen core) (c.in-Ok.ensures.says tells) (ap (λ (n : List ℕ). complete_named n (with_bytes seen core)) asks_name ∙ unfinished_one seen core name e there c.in_default-value.is)))),
     )
@@ -90,7 +90,7 @@ returns-in_default-file_at-clause-answered g c tells =
       [],
       Appends-nil (g.O.Sink.taken c.args.out.now),
       (λ words store at to asks_name asks_path.
-          subst (λ (l : List ℕ). Answers (CatFile store at to) words seen (unnamed []) (answer_of name path made.NoFile) [] l) (sym (c.open.ensures.seen tells))
+          subst (λ (l : List ℕ). Answers (CatFile store at to) (at_entry words seen (unnamed [])) (answer_of name path made.NoFile) [] l) (sym (c.open.ensures.seen tells))
           (asked words store at to seen name path [] made.NoFile asks_name asks_path
           (cat_no_file words store at to seen (with_bytes seen core) (c.in-Ok.ensures.says tells) _
           (ap (λ (n : List ℕ). complete_named n (with_bytes seen core)) asks_name ∙ complete_one_there seen core name e sub there c.in-Some-value.is)
@@ -114,7 +114,7 @@ returns-clause-answered g c tells =
       wrote.0,
       wrote.1,
       (λ words store at to asks_name asks_path.
-          subst (λ (l : List ℕ). Answers (CatFile store at to) words seen (unnamed []) (answer_of name path c.write_file.result) wrote.0 l) (sym ((c.write_file.ensures.same tells).seen ∙ c.open.ensures.seen tells))
+          subst (λ (l : List ℕ). Answers (CatFile store at to) (at_entry words seen (unnamed [])) (answer_of name path c.write_file.result) wrote.0 l) (sym ((c.write_file.ensures.same tells).seen ∙ c.open.ensures.seen tells))
           (asked words store at to seen name path wrote.0 c.write_file.result asks_name asks_path
           (cat_answers words store at to seen (with_bytes seen core) (c.in-Ok.ensures.says tells) _
           (ap (λ (n : List ℕ). complete_named n (with_bytes seen core)) asks_name ∙ complete_one_there seen core name e sub there c.in-Some-value.is)

@@ -24,5 +24,5 @@ invariant-loop-at g l =
       any_moment : D.tells → LeavesOnly D.moment D.left_since l.fn.disk l.disk (IsImage (D.pending l.fn.disk));
       steady : D.faults l.disk ≡ D.faults l.fn.disk;
       out_steady : O.faults l.out ≡ O.faults l.fn.out;
-      written : D.tells → Appends (O.taken l.fn.out) (O.taken l.out) (take l.at (file_cells (with_bytes (D.seen l.fn.disk) l.fn.store.core) (key_of l.fn.key) l.fn.ino));
+      written : D.tells → Appends (O.taken l.fn.out) (O.taken l.out) (take l.at (file_cells (with_bytes (D.seen l.fn.disk) l.fn.file.store.now.core) (key_of l.fn.file.key) l.fn.file.ino));
     }

@@ -5,7 +5,7 @@ use Rattle.sx_base.proofs.DiskMoments.{begins, leaves_now}
 use Rattle.send_model.specs.Store.{has_name}
 use Rattle.sx_base.specs.declared.outcome.Outcome.TheVariants as ended
 use Rattle.store_model.specs.NamedFiles.{unnamed}
-use Rattle.store_model.specs.Requests.{DropEntry}
+use Rattle.store_model.specs.Requests.{DropEntry, at_entry}
 use Rattle.store_model.specs.Answers.{Answers, DropFault}
 use Rattle.store_journal.specs.Answers.{groups_without}
 use Rattle.store_journal.specs.Holding.{Holds}
@@ -23,8 +23,8 @@ pub returns-in-Err-clause-answered : goal.returns-in-Err-clause-answered
 returns-in-Err-clause-answered g c tells words store at asks =
     let seen : List ℕ = g.D.Disk.seen c.args.disk.now in
     let name : List ℕ = c.args.name.now in
-    subst (λ (l : List ℕ). Answers (DropEntry store at) words seen (unnamed []) (answer_of name [] c.ended_by.result) [] l) (sym (c.open.ensures.seen tells))
-    (subst (λ (e : StoreEnd). Answers (DropEntry store at) words seen (unnamed []) (answer_of name [] e) [] seen) (sym c.ended_by.ensures)
+    subst (λ (l : List ℕ). Answers (DropEntry store at) (at_entry words seen (unnamed [])) (answer_of name [] c.ended_by.result) [] l) (sym (c.open.ensures.seen tells))
+    (subst (λ (e : StoreEnd). Answers (DropEntry store at) (at_entry words seen (unnamed [])) (answer_of name [] e) [] seen) (sym c.ended_by.ensures)
     (not_opened (DropEntry store at) words seen (unnamed []) name [] _ c.in-Err.stop (nothing_dropped words store at seen) (nothing_at_fault words store at seen) (drop_of_none words store at seen) c.in-Err.ensures.not_refused
     c.in-Err.ensures.stops (c.in-Err.ensures.says tells)))
 
@@ -45,8 +45,8 @@ returns-in-Err-drop_name-clause-answered g c tells words store at asks =
     let there : has_name name c.in-Ok.store.core ≡ true = c.in-Err-drop_name.ensures.found in
     let run = found g (goal.at.returns-in-Err-drop_name-clause-answered g c).After-drop_name tells there in
     let fault = leaves_now g.D.Disk.pending run (λ image le is. g.met.D.Disk.counts_now c.drop_name.new.disk _ image tells le is) left (g.met.D.Disk.seen_is_image c.drop_name.new.disk tells) in
-    subst (λ (l : List ℕ). Answers (DropEntry store at) words l (unnamed []) (answer_of name [] c.ended_by-in-Err-drop_name.result) [] left) (c.open.ensures.seen tells)
-    (subst (λ (e : StoreEnd). Answers (DropEntry store at) words seen (unnamed []) (answer_of name [] e) [] left) (sym c.ended_by-in-Err-drop_name.ensures)
+    subst (λ (l : List ℕ). Answers (DropEntry store at) (at_entry words l (unnamed [])) (answer_of name [] c.ended_by-in-Err-drop_name.result) [] left) (c.open.ensures.seen tells)
+    (subst (λ (e : StoreEnd). Answers (DropEntry store at) (at_entry words seen (unnamed [])) (answer_of name [] e) [] left) (sym c.ended_by-in-Err-drop_name.ensures)
     (drop_stops seen name (g.D.Disk.pending c.open.new.disk) c.in-Ok.store h words store at asks left _ c.in-Err-drop_name.stop there c.in-Err-drop_name.ensures.not_refused c.in-Err-drop_name.ensures.stops
     (g.D.Disk.pending c.drop_name.new.disk) (c.in-Err-drop_name.ensures.held tells h.header h.groups h.holds) fault))
 
@@ -62,7 +62,7 @@ returns-then-not-there-clause-answered g c tells words store at asks =
     let name : List ℕ = c.args.name.now in
     let gone : has_name name c.in-Ok.store.core ≡ false = sym c.in-Ok-drop_name.ensures.there ∙ c.if-not-there.true in
     let same = (c.in-Ok-drop_name.ensures.missing (ap (λ (b : Bool). Ok b) c.if-not-there.true)).1 in
-    subst (λ (l : List ℕ). Answers (DropEntry store at) words l (unnamed []) (answer_of name [] made.NoName) [] left) (c.open.ensures.seen tells)
+    subst (λ (l : List ℕ). Answers (DropEntry store at) (at_entry words l (unnamed [])) (answer_of name [] made.NoName) [] left) (c.open.ensures.seen tells)
     (drop_missing seen name (g.D.Disk.pending c.open.new.disk) c.in-Ok.store (c.in-Ok.ensures.holds tells) words store at asks left gone (ap g.D.Disk.seen same))
 
 pub returns-then-not-there-clause-any_moment : goal.returns-then-not-there-clause-any_moment
@@ -84,7 +84,7 @@ returns-clause-answered g c tells words store at asks =
     let h = c.in-Ok.ensures.holds tells in
     let there : has_name name c.in-Ok.store.core ≡ true = sym c.in-Ok-drop_name.ensures.there ∙ c.if-not-there.false in
     let now = subst (λ (b : Bool). Holds h.header (groups_without b name h.groups) c.drop_name.new.self left known) c.if-not-there.false (c.in-Ok-drop_name.ensures.holds tells h.header h.groups h.holds) in
-    subst (λ (l : List ℕ). Answers (DropEntry store at) words l (unnamed []) (answer_of name [] (made.Ends ended.Done)) [] left) (c.open.ensures.seen tells)
+    subst (λ (l : List ℕ). Answers (DropEntry store at) (at_entry words l (unnamed [])) (answer_of name [] (made.Ends ended.Done)) [] left) (c.open.ensures.seen tells)
     (drop_done seen name (g.D.Disk.pending c.open.new.disk) c.in-Ok.store h words store at asks left there (c.in-Ok-drop_name.ensures.fits (ap (λ (b : Bool). Ok b) c.if-not-there.false))
     (has_seen h.header (groups_without true name h.groups) c.drop_name.new.self left known now))
 

@@ -2,7 +2,7 @@ use Rattle.std.specs.Prelude.{◌≡◌, ℕ, List, []}
 use Rattle.std.proofs.Common.{sym, ap, subst, ◌∙◌}
 use Rattle.std.proofs.KnownBytes.{Appends-nil}
 use Rattle.store_model.specs.NamedFiles.{unnamed}
-use Rattle.store_model.specs.Requests.{ListStore}
+use Rattle.store_model.specs.Requests.{ListStore, at_entry}
 use Rattle.store_model.specs.Answers.{Answers}
 use Rattle.store_model.specs.StoreLines.{listed}
 use Rattle.store_words.specs.declared.ends.StoreEnd.{StoreEnd}
@@ -20,8 +20,8 @@ returns-in-Err-clause-answered g c tells =
       [],
       Appends-nil (g.O.Sink.taken c.args.out.now),
       (λ words store.
-          subst (λ (l : List ℕ). Answers (ListStore store) words seen (unnamed []) (answer_of [] [] c.ended_by.result) [] l) (sym (c.open.ensures.seen tells))
-          (subst (λ (e : StoreEnd). Answers (ListStore store) words seen (unnamed []) (answer_of [] [] e) [] seen) (sym c.ended_by.ensures)
+          subst (λ (l : List ℕ). Answers (ListStore store) (at_entry words seen (unnamed [])) (answer_of [] [] c.ended_by.result) [] l) (sym (c.open.ensures.seen tells))
+          (subst (λ (e : StoreEnd). Answers (ListStore store) (at_entry words seen (unnamed [])) (answer_of [] [] e) [] seen) (sym c.ended_by.ensures)
           (not_opened (ListStore store) words seen (unnamed []) [] [] _ c.in-Err.stop (nothing_printed seen listed) (nothing_printed seen listed) (list_of_none words store seen) c.in-Err.ensures.not_refused
           c.in-Err.ensures.stops (c.in-Err.ensures.says tells)))),
     )
@@ -37,6 +37,6 @@ returns-clause-answered g c tells =
       wrote.0,
       wrote.1,
       (λ words store.
-          subst (λ (l : List ℕ). Answers (ListStore store) words seen (unnamed []) (answer_of [] [] (made.Ends c.list.result)) wrote.0 l) (sym (c.open.ensures.seen tells))
+          subst (λ (l : List ℕ). Answers (ListStore store) (at_entry words seen (unnamed [])) (answer_of [] [] (made.Ends c.list.result)) wrote.0 l) (sym (c.open.ensures.seen tells))
           (list_answers words store seen (with_bytes seen c.in-Ok.store.core) (listed c.catalog.result.now) c.list.result wrote.0 (c.in-Ok.ensures.says tells) same wrote.2)),
     )

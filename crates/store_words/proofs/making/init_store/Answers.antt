@@ -1,7 +1,7 @@
 use Rattle.std.specs.Prelude.{ℕ, List, []}
 use Rattle.std.proofs.Common.{sym, subst}
 use Rattle.store_model.specs.NamedFiles.{unnamed}
-use Rattle.store_model.specs.Requests.{InitStore}
+use Rattle.store_model.specs.Requests.{InitStore, at_entry}
 use Rattle.store_model.specs.Answers.{Answers}
 use Rattle.store_words.specs.declared.ends.StoreEnd.{StoreEnd}
 use Rattle.store_words.specs.Ending.{answer_of, init_ways, EndCaused}
@@ -16,7 +16,7 @@ returns-in-Ok-clause-answered g c tells words store =
 pub returns-in-Err-clause-answered : goal.returns-in-Err-clause-answered
 returns-in-Err-clause-answered g c tells words store =
     let seen : List ℕ = g.D.Disk.seen c.args.disk.now in
-    subst (λ (e : StoreEnd). Answers (InitStore store) words seen (unnamed []) (answer_of [] [] e) [] (g.D.Disk.seen c.create.new.disk)) (sym c.ended_at.ensures)
+    subst (λ (e : StoreEnd). Answers (InitStore store) (at_entry words seen (unnamed [])) (answer_of [] [] e) [] (g.D.Disk.seen c.create.new.disk)) (sym c.ended_at.ensures)
     (init_stops words store seen (g.D.Disk.seen c.create.new.disk) (g.D.Disk.len c.args.disk.now) _ c.in-Err.stop (g.met.D.Disk.sized c.args.disk.now tells) c.in-Err.ensures.empty c.in-Err.ensures.there
     (λ long. (c.in-Err.ensures.kept tells long).seen))
 

@@ -2,7 +2,7 @@ use Rattle.std.specs.Prelude.{ℕ, List, []}
 use Rattle.std.proofs.Common.{sym, subst}
 use Rattle.std.proofs.KnownBytes.{Appends-nil}
 use Rattle.store_model.specs.NamedFiles.{unnamed}
-use Rattle.store_model.specs.Requests.{ScrubStore}
+use Rattle.store_model.specs.Requests.{ScrubStore, at_entry}
 use Rattle.store_model.specs.Answers.{Answers}
 use Rattle.store_words.specs.declared.ends.StoreEnd.{StoreEnd}
 use Rattle.store_words.specs.Ending.{answer_of, scrub_ways, EndCaused}
@@ -15,8 +15,8 @@ returns-in-Err-clause-answered g c tells =
       [],
       Appends-nil (g.O.Sink.taken c.args.out.now),
       (λ words store.
-          subst (λ (l : List ℕ). Answers (ScrubStore store) words seen (unnamed []) (answer_of [] [] c.ended_scrub.result) [] l) (sym (c.scrub.ensures.seen tells))
-          (subst (λ (e : StoreEnd). Answers (ScrubStore store) words seen (unnamed []) (answer_of [] [] e) [] seen) (sym c.ended_scrub.ensures)
+          subst (λ (l : List ℕ). Answers (ScrubStore store) (at_entry words seen (unnamed [])) (answer_of [] [] c.ended_scrub.result) [] l) (sym (c.scrub.ensures.seen tells))
+          (subst (λ (e : StoreEnd). Answers (ScrubStore store) (at_entry words seen (unnamed [])) (answer_of [] [] e) [] seen) (sym c.ended_scrub.ensures)
           (scrub_stops words store seen _ c.in-Err.stop (c.in-Err.ensures.stopped tells) c.in-Err.ensures.stops))),
     )
 

@@ -4,7 +4,7 @@ use Rattle.std.proofs.KnownBytes.{Appends-nil}
 use Rattle.store_model.specs.Dues.{show_output}
 use Rattle.store_model.specs.StoreLines.{shown}
 use Rattle.store_model.specs.NamedFiles.{unnamed}
-use Rattle.store_model.specs.Requests.{ShowEntry, word_at}
+use Rattle.store_model.specs.Requests.{ShowEntry, word_at, at_entry}
 use Rattle.store_model.specs.Answers.{Answers}
 use Rattle.subvol_catalog.specs.Entries.{entry_of}
 use Rattle.store_words.specs.declared.ends.StoreEnd.{StoreEnd}
@@ -25,8 +25,8 @@ returns-in-Err-clause-answered g c tells =
       [],
       Appends-nil (g.O.Sink.taken c.args.out.now),
       (λ words store at asks.
-          subst (λ (l : List ℕ). Answers (ShowEntry store at) words seen (unnamed []) (answer_of name [] c.ended_by.result) [] l) (sym (c.open.ensures.seen tells))
-          (subst (λ (e : StoreEnd). Answers (ShowEntry store at) words seen (unnamed []) (answer_of name [] e) [] seen) (sym c.ended_by.ensures)
+          subst (λ (l : List ℕ). Answers (ShowEntry store at) (at_entry words seen (unnamed [])) (answer_of name [] c.ended_by.result) [] l) (sym (c.open.ensures.seen tells))
+          (subst (λ (e : StoreEnd). Answers (ShowEntry store at) (at_entry words seen (unnamed [])) (answer_of name [] e) [] seen) (sym c.ended_by.ensures)
           (not_opened (ShowEntry store at) words seen (unnamed []) name [] _ c.in-Err.stop (nothing_printed seen (show_output (word_at words at))) (nothing_printed seen (show_output (word_at words at))) (show_of_none words store at seen)
           c.in-Err.ensures.not_refused c.in-Err.ensures.stops (c.in-Err.ensures.says tells)))),
     )
@@ -42,7 +42,7 @@ returns-in_default-clause-answered g c tells =
       [],
       Appends-nil (g.O.Sink.taken c.args.out.now),
       (λ words store at asks.
-          subst (λ (l : List ℕ). Answers (ShowEntry store at) words seen (unnamed []) (answer_of name [] made.NoName) [] l) (sym (c.open.ensures.seen tells))
+          subst (λ (l : List ℕ). Answers (ShowEntry store at) (at_entry words seen (unnamed [])) (answer_of name [] made.NoName) [] l) (sym (c.open.ensures.seen tells))
           (show_missing words store at seen (with_bytes seen c.in-Ok.store.core) name asks (c.in-Ok.ensures.says tells) (gone seen c.in-Ok.store.core name none))),
     )
 
@@ -60,7 +60,7 @@ returns-in-Some-value-clause-answered g c tells =
       wrote.0,
       wrote.1,
       (λ words store at asks.
-          subst (λ (l : List ℕ). Answers (ShowEntry store at) words seen (unnamed []) (answer_of name [] (made.Ends c.show.result)) wrote.0 l) (sym (c.open.ensures.seen tells))
+          subst (λ (l : List ℕ). Answers (ShowEntry store at) (at_entry words seen (unnamed [])) (answer_of name [] (made.Ends c.show.result)) wrote.0 l) (sym (c.open.ensures.seen tells))
           (show_answers words store at seen (with_bytes seen core) name (shown c.as_slice.result.now e.key sub) _ c.show.result wrote.0 asks stands (complete_one_there seen core name e sub there c.in-Some-value.is) same wrote.2)),
     )
 
@@ -74,6 +74,6 @@ returns-clause-answered g c tells =
       [],
       Appends-nil (g.O.Sink.taken c.args.out.now),
       (λ words store at asks.
-          subst (λ (l : List ℕ). Answers (ShowEntry store at) words seen (unnamed []) (answer_of name [] made.NoName) [] l) (sym (c.open.ensures.seen tells))
+          subst (λ (l : List ℕ). Answers (ShowEntry store at) (at_entry words seen (unnamed [])) (answer_of name [] made.NoName) [] l) (sym (c.open.ensures.seen tells))
           (show_missing words store at seen (with_bytes seen core) name asks (c.in-Ok.ensures.says tells) (unfinished_one seen core name e there c.in-None.is))),
     )

@@ -14,9 +14,9 @@ invariant-loop-item g l = record {
   steady : g.I.Inputs.faults l.inputs ≡ g.I.Inputs.faults l.fn.inputs;
   ends_steady : g.I.Inputs.ends l.inputs ≡ g.I.Inputs.ends l.fn.inputs;
   out_steady : g.O.Sink.faults l.out ≡ g.O.Sink.faults l.fn.out;
-  file : l.reader.file ≡ l.fn.file;
-  name : l.reader.name ≡ l.fn.name;
-  stands : IfTold (g.I.Inputs.told l.fn.inputs) l.fn.name (Stands (option_copied l.fn.new_name) l.fn.file (point_at l.fn.exporter l.fn.gathered) (point_at l.exporter l.gathered)
+  file : l.reader.file ≡ l.fn.file.number;
+  name : l.reader.name ≡ l.fn.file.name.now;
+  stands : IfTold (g.I.Inputs.told l.fn.inputs) l.fn.file.name.now (Stands (option_copied l.fn.file.new_name) l.fn.file.number (point_at l.fn.exporter l.fn.gathered) (point_at l.exporter l.gathered)
       l.fn.gathered.bytes l.gathered.bytes (g.O.Sink.taken l.fn.out) (g.O.Sink.taken l.out) l.reader);
   ahead : IfTold (g.I.Inputs.told l.inputs) l.reader.name (HasAhead l.reader);
 }

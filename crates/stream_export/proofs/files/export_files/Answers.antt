@@ -1,7 +1,7 @@
 use Rattle.std.specs.Prelude.{map}
 use Rattle.std.specs.Option.{option_copied}
 use Rattle.std.specs.String.{string_bytes}
-use Rattle.std.proofs.Common.{refl, ◌∙◌, arith}
+use Rattle.std.proofs.Common.{refl, sym, ap, ◌∙◌, arith}
 use Rattle.stream_export.specs.Steps.{point_at}
 use Rattle.stream_export.proofs.AllFiles.{all_start, all_next, all_stop, all_end}
 use Rattle.stream_export.proofs.files.export_files.Goals as goal
@@ -13,15 +13,15 @@ loop-file-init g c = record {
   steady = refl;
   ends_steady = refl;
   out_steady = refl;
-  stand = all_start _ c.args.names.now (map string_bytes c.args.files.now) (point_at c.args.exporter.now c.args.gathered.now) c.args.gathered.now.bytes (g.O.Sink.taken c.args.out.now);
+  stand = all_start _ c.args.given.now.names.now (map string_bytes c.args.given.now.files.now) (point_at c.args.exporter.now c.args.gathered.now) c.args.gathered.now.bytes (g.O.Sink.taken c.args.out.now);
 }
 
 pub returns-in-Err-clause-exported : goal.returns-in-Err-clause-exported
 returns-in-Err-clause-exported g c =
     let i = c.loop-file.invariant in
-    all_stop _ _ c.args.names.now c.args.files.now c.loop-file.file (point_at c.args.exporter.now c.args.gathered.now) (point_at c.loop-file.exporter c.loop-file.gathered) (point_at c.export_file-exported.new.exporter c.export_file-exported.new.gathered)
+    all_stop _ _ c.args.given.now.names.now c.args.given.now.files.now c.loop-file.file (point_at c.args.exporter.now c.args.gathered.now) (point_at c.loop-file.exporter c.loop-file.gathered) (point_at c.export_file-exported.new.exporter c.export_file-exported.new.gathered)
     c.args.gathered.now.bytes c.loop-file.gathered.bytes c.export_file-exported.new.gathered.bytes (g.O.Sink.taken c.args.out.now) (g.O.Sink.taken c.loop-file.out) (g.O.Sink.taken c.export_file-exported.new.out)
-    c.index-files-file.result c.as_str-name.result.now (option_copied c.of_file-new_name.result) c.in-Err.outcome i.same c.loop-file-test.true c.index-files-file.is c.as_str-name.ensures.value c.of_file-new_name.ensures.name c.in-Err.ensures.exported i.stand
+    c.index-given-file.result c.as_str-name.result.now (option_copied c.of_file-new_name.result) c.in-Err.outcome i.same c.loop-file-test.true c.index-given-file.is (c.as_str-name.ensures.value ∙ ap string_bytes (sym c.index-given-file.is)) c.of_file-new_name.ensures.name c.in-Err.ensures.exported i.stand
 
 pub loop-file-preserved : goal.loop-file-preserved
 loop-file-preserved g c =
@@ -29,16 +29,16 @@ loop-file-preserved g c =
     let e = c.in_default.ensures in
     record {
       within = omega (arith, c.loop-file-test.true);
-      same = e.same ∙ i.same;
-      steady = e.steady ∙ i.steady;
-      ends_steady = e.ends_steady ∙ i.ends_steady;
-      out_steady = e.out_steady ∙ i.out_steady;
-      stand = all_next _ _ c.args.names.now c.args.files.now c.loop-file.file (point_at c.args.exporter.now c.args.gathered.now) (point_at c.loop-file.exporter c.loop-file.gathered) (point_at c.export_file-exported.new.exporter c.export_file-exported.new.gathered)
+      same = e.inputs.same ∙ i.same;
+      steady = e.inputs.steady ∙ i.steady;
+      ends_steady = e.inputs.ends_steady ∙ i.ends_steady;
+      out_steady = e.out.steady ∙ i.out_steady;
+      stand = all_next _ _ c.args.given.now.names.now c.args.given.now.files.now c.loop-file.file (point_at c.args.exporter.now c.args.gathered.now) (point_at c.loop-file.exporter c.loop-file.gathered) (point_at c.export_file-exported.new.exporter c.export_file-exported.new.gathered)
           c.args.gathered.now.bytes c.loop-file.gathered.bytes c.export_file-exported.new.gathered.bytes (g.O.Sink.taken c.args.out.now) (g.O.Sink.taken c.loop-file.out) (g.O.Sink.taken c.export_file-exported.new.out)
-          c.index-files-file.result c.as_str-name.result.now (option_copied c.of_file-new_name.result) i.same c.loop-file-test.true c.index-files-file.is c.as_str-name.ensures.value c.of_file-new_name.ensures.name e.exported i.stand;
+          c.index-given-file.result c.as_str-name.result.now (option_copied c.of_file-new_name.result) i.same c.loop-file-test.true c.index-given-file.is (c.as_str-name.ensures.value ∙ ap string_bytes (sym c.index-given-file.is)) c.of_file-new_name.ensures.name e.exported i.stand;
     }
 
 pub returns-clause-exported : goal.returns-clause-exported
 returns-clause-exported g c =
-    all_end _ c.args.names.now c.args.files.now c.loop-file.file (point_at c.args.exporter.now c.args.gathered.now) (point_at c.loop-file.exporter c.loop-file.gathered) c.args.gathered.now.bytes c.loop-file.gathered.bytes (g.O.Sink.taken c.args.out.now) (g.O.Sink.taken c.loop-file.out)
+    all_end _ c.args.given.now.names.now c.args.given.now.files.now c.loop-file.file (point_at c.args.exporter.now c.args.gathered.now) (point_at c.loop-file.exporter c.loop-file.gathered) c.args.gathered.now.bytes c.loop-file.gathered.bytes (g.O.Sink.taken c.args.out.now) (g.O.Sink.taken c.loop-file.out)
     c.loop-file-test.false c.loop-file.invariant.stand

@@ -11,12 +11,12 @@ pub export_item-requires : goal.export_item-requires
 export_item-requires g c =
     let item = c.args.item in
     let e = c.in-Ok.ensures in
-    let named = e.named c.args.file in
-    let new_name = option_copied c.args.new_name in
+    let named = e.named c.args.file.now.number in
+    let new_name = option_copied c.args.file.now.new_name in
     record {
-      frame = still_spelled c.args.file new_name item c.in-Ok.item named c.args.frame.now e.frame c.requires.frame;
+      frame = still_spelled c.args.file.now.number new_name item c.in-Ok.item named c.args.frame.now e.frame c.requires.frame;
       framed = c.requires.framed;
-      short = still_short c.args.file 262144 new_name item c.in-Ok.item named c.requires.short;
-      writable = in_version c.args.file new_name item c.in-Ok.item named (λ (version : ℕ). IsWritable version (meaning_of c.in-Ok.item.command)) (e.writable item.version c.requires.writable);
-      sayable = in_version c.args.file new_name item c.in-Ok.item named (λ (version : ℕ). CanWrite version (meaning_of c.in-Ok.item.command)) (e.can_write item.version c.requires.version c.requires.sayable);
+      short = still_short c.args.file.now.number 262144 new_name item c.in-Ok.item named c.requires.short;
+      writable = in_version c.args.file.now.number new_name item c.in-Ok.item named (λ (version : ℕ). IsWritable version (meaning_of c.in-Ok.item.command)) (e.writable item.version c.requires.writable);
+      sayable = in_version c.args.file.now.number new_name item c.in-Ok.item named (λ (version : ℕ). CanWrite version (meaning_of c.in-Ok.item.command)) (e.can_write item.version c.requires.version c.requires.sayable);
     }

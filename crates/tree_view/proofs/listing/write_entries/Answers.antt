@@ -21,7 +21,7 @@ returns-in_err-write_entry-clause-added g c =
 
 pub loop-place-preserved : goal.loop-place-preserved
 loop-place-preserved g c = record {
-  steady = c.in_ok-write_entry.ensures.steady ∙ c.loop-place.invariant.steady;
+  steady = c.in_ok-write_entry.ensures.out.steady ∙ c.loop-place.invariant.steady;
   printed = printed_next _ _ (entry_line (entry_of c.in-Some.entry.now)) _ _ c.loop-place.text.bytes _ _ _ _
       (lines_next entry_line _ _ _ (at_place c.args.catalog.now c.loop-place.place (entry_of c.in-Some.entry.now) c.in-Some.ensures.entry)) c.in_ok-write_entry.ensures.added c.loop-place.invariant.printed;
 }

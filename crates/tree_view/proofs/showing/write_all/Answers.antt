@@ -4,7 +4,8 @@ use Rattle.std.specs.Ordering.{nat_cmp}
 use Rattle.shared_map.specs.Sought.{entries_above}
 use Rattle.store_model.specs.StoreLines.{shown, inode_lines, name_line}
 use Rattle.subvol_catalog.specs.Entries.{key_of}
-use Rattle.tree_view.specs.Printing.{AddsText, subvol_line, at_zero}
+use Rattle.tree_view.specs.Printing.{subvol_line, at_zero}
+use Rattle.tree_view.proofs.Unpacked.{AddsText}
 use Rattle.tree_view.proofs.ShownParts.{shown_is}
 use Rattle.tree_view.proofs.Texts.{handed_on, added_then, then_adds, then_stops, stops_whole}
 use Rattle.tree_view.proofs.showing.write_all.Goals as goal
@@ -36,7 +37,7 @@ returns-in_err-write_zero-clause-added g c = λ lawful.
     let new = c.write_zero.new.text.bytes in
     handed_on _ _ new _ _ _ _ c.from_residual-in_err-write_zero.result _ c.from_residual-in_err-write_zero.ensures.1
     (stops_whole _ ((a ++ b) ++ d) e _ new _ _ _ _ _ whole (stops_whole _ (a ++ b) d _ new _ _ _ _ _ refl
-    (then_stops a b _ c.write_subvol.new.text.bytes new _ _ _ _ (g.O.Sink.faults c.write_subvol.new.out) _ _ c.in_ok-write_subvol.ensures.added c.in_ok-write_subvol.ensures.steady c.in_err-write_zero.ensures.added)))
+    (then_stops a b _ c.write_subvol.new.text.bytes new _ _ _ _ (g.O.Sink.faults c.write_subvol.new.out) _ _ c.in_ok-write_subvol.ensures.added c.in_ok-write_subvol.ensures.out.steady c.in_err-write_zero.ensures.added)))
 
 pub returns-in_err-write_inodes-clause-added : goal.returns-in_err-write_inodes-clause-added
 returns-in_err-write_inodes-clause-added g c = λ lawful.
@@ -52,7 +53,7 @@ returns-in_err-write_inodes-clause-added g c = λ lawful.
     handed_on _ _ new _ _ _ _ c.from_residual-in_err-write_inodes.result _ c.from_residual-in_err-write_inodes.ensures.1
     (stops_whole _ ((a ++ b) ++ d) e _ new _ _ _ _ _ whole
     (then_stops (a ++ b) d _ c.write_zero.new.text.bytes new _ _ _ _ (g.O.Sink.faults c.write_zero.new.out) _ _
-    (added_then a b _ _ _ _ _ _ c.in_ok-write_subvol.ensures.added c.in_ok-write_zero.ensures.added) (c.in_ok-write_zero.ensures.steady ∙ c.in_ok-write_subvol.ensures.steady)
+    (added_then a b _ _ _ _ _ _ c.in_ok-write_subvol.ensures.added c.in_ok-write_zero.ensures.added) (c.in_ok-write_zero.ensures.out.steady ∙ c.in_ok-write_subvol.ensures.out.steady)
     (c.in_err-write_inodes.ensures.added lawful.sound.inodes_in_order)))
 
 pub returns-clause-added : goal.returns-clause-added
@@ -68,5 +69,5 @@ returns-clause-added g c = λ lawful.
     subst (λ (l : List ℕ). AddsText l c.args.text.now.bytes c.write_names.new.text.bytes (g.O.Sink.taken c.args.out.now) (g.O.Sink.taken c.write_names.new.out) (g.O.Sink.faults c.args.out.now) (g.O.Sink.faults c.write_names.new.out) c.write_names.result) whole
     (then_adds ((a ++ b) ++ d) e _ c.write_inodes.new.text.bytes c.write_names.new.text.bytes _ _ _ _ (g.O.Sink.faults c.write_inodes.new.out) _ c.write_names.result
     (added_then (a ++ b) d _ _ _ _ _ _ (added_then a b _ _ _ _ _ _ c.in_ok-write_subvol.ensures.added c.in_ok-write_zero.ensures.added) (c.in_ok-write_inodes.ensures.added lawful.sound.inodes_in_order))
-    (c.in_ok-write_inodes.ensures.steady ∙ c.in_ok-write_zero.ensures.steady ∙ c.in_ok-write_subvol.ensures.steady)
+    (c.in_ok-write_inodes.ensures.out.steady ∙ c.in_ok-write_zero.ensures.out.steady ∙ c.in_ok-write_subvol.ensures.out.steady)
     (c.write_names.ensures.added lawful.sound.names_in_order lawful.lawful_names))

@@ -24,7 +24,7 @@ pub loop-ino-preserved : goal.loop-ino-preserved
 loop-ino-preserved g c =
     let at = next_with nat_cmp nat_cmp_total c.loop-ino.last c.in-Some.ino c.args.tree.now.inodes c.in-Some-inode.inode.now c.in-Some.ensures c.in-Some-inode.ensures in
     record {
-      steady = c.in_ok-write_with_xattrs.ensures.steady ∙ c.loop-ino.invariant.steady;
+      steady = c.in_ok-write_with_xattrs.ensures.out.steady ∙ c.loop-ino.invariant.steady;
       printed = λ ordered. printed_next _ _ (inode_lines (c.in-Some.ino, c.in-Some-inode.inode.now)) _ _ c.loop-ino.text.bytes _ _ _ _
           (lines_next inode_lines _ _ _ (at.above ordered)) c.in_ok-write_with_xattrs.ensures.added (c.loop-ino.invariant.printed ordered);
     }

@@ -25,7 +25,7 @@ pub loop-next-preserved : goal.loop-next-preserved
 loop-next-preserved g c =
     let at = next_above named_cmp named_cmp_total _ c.args.tree.now.names ((c.in-Some.next, c.in-Some.name.now), c.in-Some.ino) (sym c.in-Some.ensures) in
     record {
-      steady = c.in_ok-write_name.ensures.steady ∙ c.loop-next.invariant.steady;
+      steady = c.in_ok-write_name.ensures.out.steady ∙ c.loop-next.invariant.steady;
       printed = λ ordered lawful. printed_next _ _ (name_line ((c.in-Some.next, c.in-Some.name.now), c.in-Some.ino)) _ _ c.loop-next.text.bytes _ _ _ _
           (lines_next name_line _ _ _ (at.above ordered)) c.in_ok-write_name.ensures.added (c.loop-next.invariant.printed ordered lawful);
     }

@@ -13,7 +13,7 @@ next_line ino left rest e name value steps first second =
 
 pub loop-name-preserved : goal.loop-name-preserved
 loop-name-preserved g c = record {
-  steady = c.in_ok-write_xattr.ensures.steady ∙ c.loop-name.invariant.steady;
+  steady = c.in_ok-write_xattr.ensures.out.steady ∙ c.loop-name.invariant.steady;
   printed = printed_next _ _ (xattr_line c.args.ino (c.as_slice.result.now, c.as_slice-in-loop-name.result.now)) _ _ c.loop-name.text.bytes _ _ _ _
       (next_line c.args.ino _ _ c.in-Some.field-0.now _ _ c.in-Some.ensures.steps c.as_slice.ensures c.as_slice-in-loop-name.ensures) c.in_ok-write_xattr.ensures.added c.loop-name.invariant.printed;
 }

@@ -10,7 +10,8 @@ use Rattle.group_log.proofs.GatedGroups.{grows_has}
 use Rattle.store_groups.specs.Taking.{as_runs}
 use Rattle.store_groups.specs.Stopping.{IfLog}
 use Rattle.store_journal.specs.Filling.{first_full, piece_asks, IsStopOf}
-use Rattle.store_journal.specs.Holding.{bodies_of, Builds}
+use Rattle.store_journal.specs.Holding.{bodies_of}
+use Rattle.store_journal.proofs.Unpacked.{Builds}
 use Rattle.turn_model.proofs.Making.{edits_end}
 use Rattle.turn_sessions.specs.Edits.{AreMade, IsFront, frame_asks}
 use Rattle.turn_sessions.proofs.FramesLeft.{all_rest, front_there, rest_next, next_wants, none_left, stop_rest, front_shown, front_fits, some_left}

@@ -5,7 +5,8 @@ use Rattle.send_model.specs.Command.{Command}
 use Rattle.store_model.specs.Image.{Header}
 use Rattle.store_model.specs.Stored.{Group}
 use Rattle.store_journal.specs.Shown.{IsOpen}
-use Rattle.store_journal.specs.Holding.{HasThese, Builds}
+use Rattle.store_journal.specs.Holding.{HasThese}
+use Rattle.store_journal.proofs.Unpacked.{Builds}
 use Rattle.turn_sessions.specs.Edits.{AreFrames}
 use Rattle.turn_sessions.proofs.FramesLeft.{HasRest}
 use Rattle.turn_sessions.proofs.frames.write_frames.Given as goal

@@ -10,7 +10,8 @@ use Rattle.send_commands.specs.Meaning.{meaning_of}
 use Rattle.group_log.proofs.GatedGroups.{grows_has}
 use Rattle.store_groups.specs.Stopping.{IfLog}
 use Rattle.store_journal.specs.Filling.{first_full, piece_asks, IsStopOf}
-use Rattle.store_journal.specs.Holding.{bodies_of, Builds}
+use Rattle.store_journal.specs.Holding.{bodies_of}
+use Rattle.store_journal.proofs.Unpacked.{Builds}
 use Rattle.turn_sessions.specs.declared.frames.Front.{Front}
 use Rattle.turn_sessions.specs.Fronts.{IsInFront, FindsFront}
 use Rattle.turn_sessions.specs.Edits.{IsFront, IsTaken}

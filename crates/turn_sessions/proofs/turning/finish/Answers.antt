@@ -15,10 +15,11 @@ loop-sessions-init g c = record {
   count = refl;
   reading = λ names are. are;
   taking = c.requires.taking;
-  going = λ start was begun names w end last rest turns fewer are. begins_further (g.I.Inputs.told c.args.inputs.now) names c.args.place w turns (λ (files : List (List ℕ)) (v : Turns Blank) (k : ℕ). IsGoing g.D.Disk.tells g.D.Disk.moment g.D.Disk.left_since g.D.Disk.seen g.D.Disk.pending start c.args.disk.now was c.args.store.now begun (g.O.Sink.taken c.args.out.now) g.G.Guarding.kept (which_long 1 files) files v end last (replicate k c.args.place ++ rest) c.args.first c.args.sessions.now) fewer;
+  going = λ start was begun names w end last rest turns fewer are. begins_further (g.I.Inputs.told c.args.inputs.now) names c.args.turn.now.place w turns (λ (files : List (List ℕ)) (v : Turns Blank) (k : ℕ). IsGoing g.D.Disk.tells g.D.Disk.moment g.D.Disk.left_since g.D.Disk.seen g.D.Disk.pending start c.args.disk.now was c.args.store.now begun (g.O.Sink.taken c.args.out.now) g.G.Guarding.kept (which_long 1 files) files v end last (replicate k c.args.turn.now.place ++ rest) c.args.turn.now.refused c.args.sessions.now) fewer;
   limit = refl;
   later = omega arith;
   in_later = omega arith;
+  ends_later = omega arith;
   out_later = omega arith;
   steady = refl;
   in_steady = refl;
@@ -27,13 +28,13 @@ loop-sessions-init g c = record {
 }
 
 pub loop-sessions-smaller : goal.loop-sessions-smaller
-loop-sessions-smaller g c = less_at c.loop-sessions.sessions c.turn_at.new.sessions c.args.place (slice_index_or c.loop-sessions.sessions c.args.place c.index-sessions-place.result) (there c.loop-sessions.sessions c.args.place c.index-sessions-place.result (omega (arith, c.loop-sessions.invariant.count, c.requires.within))) c.loop-sessions-test.true c.in-Ok.ensures.fewer
+loop-sessions-smaller g c = less_at c.loop-sessions.sessions c.turn_at.new.sessions c.args.turn.now.place (slice_index_or c.loop-sessions.sessions c.args.turn.now.place c.index-sessions-place.result) (there c.loop-sessions.sessions c.args.turn.now.place c.index-sessions-place.result (omega (arith, c.loop-sessions.invariant.count, c.requires.within))) c.loop-sessions-test.true c.in-Ok.ensures.fewer
 
 pub returns-in-Err-clause-going : goal.returns-in-Err-clause-going
 returns-in-Err-clause-going g c start was begun names w end last rest turns fewer are =
     let i = c.loop-sessions.invariant in
-    stops_there g.D.Disk.tells g.D.Disk.moment g.D.Disk.left_since g.D.Disk.seen g.D.Disk.pending start was begun g.G.Guarding.kept end last c.loop-sessions.disk c.loop-sessions.store (g.O.Sink.taken c.loop-sessions.out) c.loop-sessions.refused c.loop-sessions.sessions c.args.place (slice_index_or c.loop-sessions.sessions c.args.place c.index-sessions-place.result) (there c.loop-sessions.sessions c.args.place c.index-sessions-place.result (omega (arith, c.loop-sessions.invariant.count, c.requires.within))) rest names (λ (files : List (List ℕ)). IsGoing g.D.Disk.tells g.D.Disk.moment g.D.Disk.left_since g.D.Disk.seen g.D.Disk.pending start c.args.disk.now was c.args.store.now begun (g.O.Sink.taken c.args.out.now) g.G.Guarding.kept (which_long 1 files) files w end last (replicate turns c.args.place ++ rest) c.args.first c.args.sessions.now) w turns (g.I.Inputs.told c.args.inputs.now) (g.I.Inputs.told c.loop-sessions.inputs) i.told c.loop-sessions-test.true (λ (files : List (List ℕ)). HasEnded g.D.Disk.tells g.D.Disk.moment g.D.Disk.left_since g.D.Disk.seen g.D.Disk.pending start c.turn_at.new.disk was c.turn_at.new.store begun (g.O.Sink.taken c.turn_at.new.out) c.in-Err.why end last) (i.going start was begun names w end last rest turns fewer are)
-    (λ v k. c.in-Err.ensures.going start was begun names v end last (replicate k c.args.place ++ rest) (i.reading names are))
+    stops_there g.D.Disk.tells g.D.Disk.moment g.D.Disk.left_since g.D.Disk.seen g.D.Disk.pending start was begun g.G.Guarding.kept end last c.loop-sessions.disk c.loop-sessions.store (g.O.Sink.taken c.loop-sessions.out) c.loop-sessions.refused c.loop-sessions.sessions c.args.turn.now.place (slice_index_or c.loop-sessions.sessions c.args.turn.now.place c.index-sessions-place.result) (there c.loop-sessions.sessions c.args.turn.now.place c.index-sessions-place.result (omega (arith, c.loop-sessions.invariant.count, c.requires.within))) rest names (λ (files : List (List ℕ)). IsGoing g.D.Disk.tells g.D.Disk.moment g.D.Disk.left_since g.D.Disk.seen g.D.Disk.pending start c.args.disk.now was c.args.store.now begun (g.O.Sink.taken c.args.out.now) g.G.Guarding.kept (which_long 1 files) files w end last (replicate turns c.args.turn.now.place ++ rest) c.args.turn.now.refused c.args.sessions.now) w turns (g.I.Inputs.told c.args.inputs.now) (g.I.Inputs.told c.loop-sessions.inputs) i.told c.loop-sessions-test.true (λ (files : List (List ℕ)). HasEnded g.D.Disk.tells g.D.Disk.moment g.D.Disk.left_since g.D.Disk.seen g.D.Disk.pending start c.turn_at.new.disk was c.turn_at.new.store begun (g.O.Sink.taken c.turn_at.new.out) c.in-Err.why end last) (i.going start was begun names w end last rest turns fewer are)
+    (λ v k. c.in-Err.ensures.going start was begun names v end last (replicate k c.args.turn.now.place ++ rest) (i.reading names are))
 
 pub loop-sessions-preserved : goal.loop-sessions-preserved
 loop-sessions-preserved g c =
@@ -41,23 +42,24 @@ loop-sessions-preserved g c =
     let e = c.in-Ok.ensures in
     record {
       idle = e.idle;
-      told = e.told ∙ i.told;
+      told = e.inputs.same ∙ i.told;
       count = e.count ∙ i.count;
       reading = λ names are. e.reading names (i.reading names are);
       taking = e.taking;
       going = λ start was begun names w end last rest turns fewer are.
-          goes_further g.D.Disk.tells g.D.Disk.moment g.D.Disk.left_since g.D.Disk.seen g.D.Disk.pending start was begun g.G.Guarding.kept end last c.loop-sessions.disk c.loop-sessions.store (g.O.Sink.taken c.loop-sessions.out) c.loop-sessions.refused c.loop-sessions.sessions c.args.place (slice_index_or c.loop-sessions.sessions c.args.place c.index-sessions-place.result) (there c.loop-sessions.sessions c.args.place c.index-sessions-place.result (omega (arith, c.loop-sessions.invariant.count, c.requires.within))) rest names (λ (files : List (List ℕ)). IsGoing g.D.Disk.tells g.D.Disk.moment g.D.Disk.left_since g.D.Disk.seen g.D.Disk.pending start c.args.disk.now was c.args.store.now begun (g.O.Sink.taken c.args.out.now) g.G.Guarding.kept (which_long 1 files) files w end last (replicate turns c.args.place ++ rest) c.args.first c.args.sessions.now) w turns (g.I.Inputs.told c.args.inputs.now) (g.I.Inputs.told c.loop-sessions.inputs) i.told c.loop-sessions-test.true (λ (files : List (List ℕ)) (v : Turns Blank) (k : ℕ). IsGoing g.D.Disk.tells g.D.Disk.moment g.D.Disk.left_since g.D.Disk.seen g.D.Disk.pending start c.turn_at.new.disk was c.turn_at.new.store begun (g.O.Sink.taken c.turn_at.new.out) g.G.Guarding.kept (which_long 1 files) files v end last (replicate k c.args.place ++ rest) c.in-Ok.now c.turn_at.new.sessions) (i.going start was begun names w end last rest turns fewer are)
-          (λ v k. e.going start was begun names v end last (replicate k c.args.place ++ rest) (i.reading names are));
+          goes_further g.D.Disk.tells g.D.Disk.moment g.D.Disk.left_since g.D.Disk.seen g.D.Disk.pending start was begun g.G.Guarding.kept end last c.loop-sessions.disk c.loop-sessions.store (g.O.Sink.taken c.loop-sessions.out) c.loop-sessions.refused c.loop-sessions.sessions c.args.turn.now.place (slice_index_or c.loop-sessions.sessions c.args.turn.now.place c.index-sessions-place.result) (there c.loop-sessions.sessions c.args.turn.now.place c.index-sessions-place.result (omega (arith, c.loop-sessions.invariant.count, c.requires.within))) rest names (λ (files : List (List ℕ)). IsGoing g.D.Disk.tells g.D.Disk.moment g.D.Disk.left_since g.D.Disk.seen g.D.Disk.pending start c.args.disk.now was c.args.store.now begun (g.O.Sink.taken c.args.out.now) g.G.Guarding.kept (which_long 1 files) files w end last (replicate turns c.args.turn.now.place ++ rest) c.args.turn.now.refused c.args.sessions.now) w turns (g.I.Inputs.told c.args.inputs.now) (g.I.Inputs.told c.loop-sessions.inputs) i.told c.loop-sessions-test.true (λ (files : List (List ℕ)) (v : Turns Blank) (k : ℕ). IsGoing g.D.Disk.tells g.D.Disk.moment g.D.Disk.left_since g.D.Disk.seen g.D.Disk.pending start c.turn_at.new.disk was c.turn_at.new.store begun (g.O.Sink.taken c.turn_at.new.out) g.G.Guarding.kept (which_long 1 files) files v end last (replicate k c.args.turn.now.place ++ rest) c.in-Ok.now c.turn_at.new.sessions) (i.going start was begun names w end last rest turns fewer are)
+          (λ v k. e.going start was begun names v end last (replicate k c.args.turn.now.place ++ rest) (i.reading names are));
       limit = e.limit ∙ i.limit;
       later = omega (arith, i.later, e.later);
-      in_later = omega (arith, i.in_later, e.in_later);
-      out_later = omega (arith, i.out_later, e.out_later);
+      in_later = omega (arith, i.in_later, e.inputs.later);
+      ends_later = omega (arith, i.ends_later, e.inputs.ends_later);
+      out_later = omega (arith, i.out_later, e.out.later);
       steady = e.steady ∙ i.steady;
-      in_steady = e.in_steady ∙ i.in_steady;
-      ends_steady = e.ends_steady ∙ i.ends_steady;
-      out_steady = e.out_steady ∙ i.out_steady;
+      in_steady = e.inputs.steady ∙ i.in_steady;
+      ends_steady = e.inputs.ends_steady ∙ i.ends_steady;
+      out_steady = e.out.steady ∙ i.out_steady;
     }
 
 pub returns-clause-going : goal.returns-clause-going
 returns-clause-going g c start was begun names w end last rest turns fewer are =
-    finished g.D.Disk.tells g.D.Disk.moment g.D.Disk.left_since g.D.Disk.seen g.D.Disk.pending start was begun g.G.Guarding.kept end last c.loop-sessions.disk c.loop-sessions.store (g.O.Sink.taken c.loop-sessions.out) c.loop-sessions.refused c.loop-sessions.sessions c.args.place (slice_index_or c.loop-sessions.sessions c.args.place c.index-sessions-place.result) (there c.loop-sessions.sessions c.args.place c.index-sessions-place.result (omega (arith, c.loop-sessions.invariant.count, c.requires.within))) rest names (λ (files : List (List ℕ)). IsGoing g.D.Disk.tells g.D.Disk.moment g.D.Disk.left_since g.D.Disk.seen g.D.Disk.pending start c.args.disk.now was c.args.store.now begun (g.O.Sink.taken c.args.out.now) g.G.Guarding.kept (which_long 1 files) files w end last (replicate turns c.args.place ++ rest) c.args.first c.args.sessions.now) w turns (g.I.Inputs.told c.args.inputs.now) c.loop-sessions-test.false (c.loop-sessions.invariant.going start was begun names w end last rest turns fewer are)
+    finished g.D.Disk.tells g.D.Disk.moment g.D.Disk.left_since g.D.Disk.seen g.D.Disk.pending start was begun g.G.Guarding.kept end last c.loop-sessions.disk c.loop-sessions.store (g.O.Sink.taken c.loop-sessions.out) c.loop-sessions.refused c.loop-sessions.sessions c.args.turn.now.place (slice_index_or c.loop-sessions.sessions c.args.turn.now.place c.index-sessions-place.result) (there c.loop-sessions.sessions c.args.turn.now.place c.index-sessions-place.result (omega (arith, c.loop-sessions.invariant.count, c.requires.within))) rest names (λ (files : List (List ℕ)). IsGoing g.D.Disk.tells g.D.Disk.moment g.D.Disk.left_since g.D.Disk.seen g.D.Disk.pending start c.args.disk.now was c.args.store.now begun (g.O.Sink.taken c.args.out.now) g.G.Guarding.kept (which_long 1 files) files w end last (replicate turns c.args.turn.now.place ++ rest) c.args.turn.now.refused c.args.sessions.now) w turns (g.I.Inputs.told c.args.inputs.now) c.loop-sessions-test.false (c.loop-sessions.invariant.going start was begun names w end last rest turns fewer are)

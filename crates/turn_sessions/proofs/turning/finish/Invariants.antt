@@ -18,12 +18,13 @@ invariant-loop-sessions g l = record {
   reading : (names : List (List ℕ)) → AreReading (g.I.Inputs.told l.fn.inputs) 1 names l.fn.sessions → AreReading (g.I.Inputs.told l.inputs) 1 names l.sessions;
   taking : (w : Turns Blank) × AreTaking g.G.Guarding.kept l.sessions (blank l.store.core) w;
   going : (start : g.row.D.Denot) (was : StoreState) (begun : Option (List ℕ)) (names : List (List ℕ)) (w : Turns Blank) (end : TurnsEnd) (last : Turns Blank) (rest : List ℕ) (turns : ℕ)
-      → HasFewer w l.fn.place turns → AreReading (g.I.Inputs.told l.fn.inputs) 1 names l.fn.sessions
-      → IfAllTold (g.I.Inputs.told l.fn.inputs) names (λ files. IsGoing g.D.Disk.tells g.D.Disk.moment g.D.Disk.left_since g.D.Disk.seen g.D.Disk.pending start l.fn.disk was l.fn.store begun (g.O.Sink.taken l.fn.out) g.G.Guarding.kept (which_long 1 files) files w end last (replicate turns l.fn.place ++ rest) l.fn.first l.fn.sessions
-      → Further l.fn.place w turns (λ v k. IsGoing g.D.Disk.tells g.D.Disk.moment g.D.Disk.left_since g.D.Disk.seen g.D.Disk.pending start l.disk was l.store begun (g.O.Sink.taken l.out) g.G.Guarding.kept (which_long 1 files) files v end last (replicate k l.fn.place ++ rest) l.refused l.sessions));
+      → HasFewer w l.fn.turn.place turns → AreReading (g.I.Inputs.told l.fn.inputs) 1 names l.fn.sessions
+      → IfAllTold (g.I.Inputs.told l.fn.inputs) names (λ files. IsGoing g.D.Disk.tells g.D.Disk.moment g.D.Disk.left_since g.D.Disk.seen g.D.Disk.pending start l.fn.disk was l.fn.store begun (g.O.Sink.taken l.fn.out) g.G.Guarding.kept (which_long 1 files) files w end last (replicate turns l.fn.turn.place ++ rest) l.fn.turn.refused l.fn.sessions
+      → Further l.fn.turn.place w turns (λ v k. IsGoing g.D.Disk.tells g.D.Disk.moment g.D.Disk.left_since g.D.Disk.seen g.D.Disk.pending start l.disk was l.store begun (g.O.Sink.taken l.out) g.G.Guarding.kept (which_long 1 files) files v end last (replicate k l.fn.turn.place ++ rest) l.refused l.sessions));
   limit : l.store.log.limit ≡ l.fn.store.log.limit;
   later : g.D.Disk.faults l.fn.disk ≤ g.D.Disk.faults l.disk;
   in_later : g.I.Inputs.faults l.fn.inputs ≤ g.I.Inputs.faults l.inputs;
+  ends_later : g.I.Inputs.ends l.fn.inputs ≤ g.I.Inputs.ends l.inputs;
   out_later : g.O.Sink.faults l.fn.out ≤ g.O.Sink.faults l.out;
   steady : g.D.Disk.faults l.disk ≡ g.D.Disk.faults l.fn.disk;
   in_steady : g.I.Inputs.faults l.inputs ≡ g.I.Inputs.faults l.fn.inputs;
@@ -33,4 +34,4 @@ invariant-loop-sessions g l = record {
 
 -- What it may still read is less after each turn.
 abbrev pub decreases-loop-sessions : goal.decreases-loop-sessions
-decreases-loop-sessions g l = left_at_place l.sessions l.fn.place
+decreases-loop-sessions g l = left_at_place l.sessions l.fn.turn.place

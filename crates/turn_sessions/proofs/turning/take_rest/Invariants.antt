@@ -19,11 +19,12 @@ invariant-loop-place g l = record {
   taking : (w : Turns Blank) × AreTaking g.G.Guarding.kept l.sessions (blank l.store.core) w;
   going : (start : g.row.D.Denot) (was : StoreState) (begun : Option (List ℕ)) (names : List (List ℕ)) (at_first : List (meant.Session Blank)) (w : Turns Blank) (end : TurnsEnd) (last : Turns Blank)
       → length at_first ≡ length l.fn.sessions → AreShorter at_first w.sessions → AreReading (g.I.Inputs.told l.fn.inputs) 1 names l.fn.sessions
-      → IfAllTold (g.I.Inputs.told l.fn.inputs) names (λ files. IsGoing g.D.Disk.tells g.D.Disk.moment g.D.Disk.left_since g.D.Disk.seen g.D.Disk.pending start l.fn.disk was l.fn.store begun (g.O.Sink.taken l.fn.out) g.G.Guarding.kept (which_long 1 files) files w end last (to_the_end 0 at_first) l.fn.first l.fn.sessions
+      → IfAllTold (g.I.Inputs.told l.fn.inputs) names (λ files. IsGoing g.D.Disk.tells g.D.Disk.moment g.D.Disk.left_since g.D.Disk.seen g.D.Disk.pending start l.fn.disk was l.fn.store begun (g.O.Sink.taken l.fn.out) g.G.Guarding.kept (which_long 1 files) files w end last (to_the_end 0 at_first) l.fn.turned.refused l.fn.sessions
       → IsGoing g.D.Disk.tells g.D.Disk.moment g.D.Disk.left_since g.D.Disk.seen g.D.Disk.pending start l.disk was l.store begun (g.O.Sink.taken l.out) g.G.Guarding.kept (which_long 1 files) files (after_turns tt blank_cells w (to_the_end 0 (take l.place at_first))) end last (to_the_end l.place (drop l.place at_first)) l.refused l.sessions);
   limit : l.store.log.limit ≡ l.fn.store.log.limit;
   later : g.D.Disk.faults l.fn.disk ≤ g.D.Disk.faults l.disk;
   in_later : g.I.Inputs.faults l.fn.inputs ≤ g.I.Inputs.faults l.inputs;
+  ends_later : g.I.Inputs.ends l.fn.inputs ≤ g.I.Inputs.ends l.inputs;
   out_later : g.O.Sink.faults l.fn.out ≤ g.O.Sink.faults l.out;
   steady : g.D.Disk.faults l.disk ≡ g.D.Disk.faults l.fn.disk;
   in_steady : g.I.Inputs.faults l.inputs ≡ g.I.Inputs.faults l.fn.inputs;

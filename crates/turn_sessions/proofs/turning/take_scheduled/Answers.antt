@@ -17,10 +17,11 @@ loop-i-init g c = record {
   count = refl;
   reading = λ names are. are;
   taking = c.requires.taking;
-  going = λ start was begun names w end last rest are. always_so (g.I.Inputs.told c.args.inputs.now) names (λ (files : List (List ℕ)). IsGoing g.D.Disk.tells g.D.Disk.moment g.D.Disk.left_since g.D.Disk.seen g.D.Disk.pending start c.args.disk.now was c.args.store.now begun (g.O.Sink.taken c.args.out.now) g.G.Guarding.kept (which_long 1 files) files w end last (places_of c.args.schedule.now ++ rest) None c.args.sessions.now);
+  going = λ start was begun names w end last rest are. always_so (g.I.Inputs.told c.args.inputs.now) names (λ (files : List (List ℕ)). IsGoing g.D.Disk.tells g.D.Disk.moment g.D.Disk.left_since g.D.Disk.seen g.D.Disk.pending start c.args.disk.now was c.args.store.now begun (g.O.Sink.taken c.args.out.now) g.G.Guarding.kept (which_long 1 files) files w end last (places_of c.args.task.now.schedule.now ++ rest) None c.args.sessions.now);
   limit = refl;
   later = omega arith;
   in_later = omega arith;
+  ends_later = omega arith;
   out_later = omega arith;
   steady = refl;
   in_steady = refl;
@@ -31,9 +32,9 @@ loop-i-init g c = record {
 pub returns-in-Err-clause-going : goal.returns-in-Err-clause-going
 returns-in-Err-clause-going g c start was begun names w end last rest are =
     let i = c.loop-i.invariant in
-    chain names (λ (files : List (List ℕ)). IsGoing g.D.Disk.tells g.D.Disk.moment g.D.Disk.left_since g.D.Disk.seen g.D.Disk.pending start c.args.disk.now was c.args.store.now begun (g.O.Sink.taken c.args.out.now) g.G.Guarding.kept (which_long 1 files) files w end last (places_of c.args.schedule.now ++ rest) None c.args.sessions.now) (λ (files : List (List ℕ)). HasEnded g.D.Disk.tells g.D.Disk.moment g.D.Disk.left_since g.D.Disk.seen g.D.Disk.pending start c.turn_at.new.disk was c.turn_at.new.store begun (g.O.Sink.taken c.turn_at.new.out) c.in-Err.why end last) (λ (l : List ℕ) (files : List (List ℕ)). IsGoing g.D.Disk.tells g.D.Disk.moment g.D.Disk.left_since g.D.Disk.seen g.D.Disk.pending start c.loop-i.disk was c.loop-i.store begun (g.O.Sink.taken c.loop-i.out) g.G.Guarding.kept (which_long 1 files) files (after_turns tt blank_cells w (take c.loop-i.i (places_of c.args.schedule.now))) end last l c.loop-i.refused c.loop-i.sessions) (drop c.loop-i.i (places_of c.args.schedule.now) ++ rest) ((get_or c.args.schedule.now c.loop-i.i 0 - 48) ∷ (drop (c.loop-i.i + 1) (places_of c.args.schedule.now) ++ rest)) (ap (λ (k : List ℕ). k ++ rest) (next_place c.args.schedule.now c.loop-i.i 0 c.loop-i-test.true))
+    chain names (λ (files : List (List ℕ)). IsGoing g.D.Disk.tells g.D.Disk.moment g.D.Disk.left_since g.D.Disk.seen g.D.Disk.pending start c.args.disk.now was c.args.store.now begun (g.O.Sink.taken c.args.out.now) g.G.Guarding.kept (which_long 1 files) files w end last (places_of c.args.task.now.schedule.now ++ rest) None c.args.sessions.now) (λ (files : List (List ℕ)). HasEnded g.D.Disk.tells g.D.Disk.moment g.D.Disk.left_since g.D.Disk.seen g.D.Disk.pending start c.turn_at.new.disk was c.turn_at.new.store begun (g.O.Sink.taken c.turn_at.new.out) c.in-Err.why end last) (λ (l : List ℕ) (files : List (List ℕ)). IsGoing g.D.Disk.tells g.D.Disk.moment g.D.Disk.left_since g.D.Disk.seen g.D.Disk.pending start c.loop-i.disk was c.loop-i.store begun (g.O.Sink.taken c.loop-i.out) g.G.Guarding.kept (which_long 1 files) files (after_turns tt blank_cells w (take c.loop-i.i (places_of c.args.task.now.schedule.now))) end last l c.loop-i.refused c.loop-i.sessions) (drop c.loop-i.i (places_of c.args.task.now.schedule.now) ++ rest) ((get_or c.args.task.now.schedule.now c.loop-i.i 0 - 48) ∷ (drop (c.loop-i.i + 1) (places_of c.args.task.now.schedule.now) ++ rest)) (ap (λ (k : List ℕ). k ++ rest) (next_place c.args.task.now.schedule.now c.loop-i.i 0 c.loop-i-test.true))
     (g.I.Inputs.told c.args.inputs.now) (g.I.Inputs.told c.loop-i.inputs) i.told (i.going start was begun names w end last rest are)
-    (c.in-Err.ensures.going start was begun names (after_turns tt blank_cells w (take c.loop-i.i (places_of c.args.schedule.now))) end last (drop (c.loop-i.i + 1) (places_of c.args.schedule.now) ++ rest) (i.reading names are))
+    (c.in-Err.ensures.going start was begun names (after_turns tt blank_cells w (take c.loop-i.i (places_of c.args.task.now.schedule.now))) end last (drop (c.loop-i.i + 1) (places_of c.args.task.now.schedule.now) ++ rest) (i.reading names are))
 
 pub loop-i-preserved : goal.loop-i-preserved
 loop-i-preserved g c =
@@ -41,28 +42,29 @@ loop-i-preserved g c =
     let e = c.in-Ok.ensures in
     record {
       idle = e.idle;
-      told = e.told ∙ i.told;
+      told = e.inputs.same ∙ i.told;
       count = e.count ∙ i.count;
       reading = λ names are. e.reading names (i.reading names are);
       taking = e.taking;
       going = λ start was begun names w end last rest are.
-          subst (λ (v : Turns Blank). IfAllTold (g.I.Inputs.told c.args.inputs.now) names (λ files. IsGoing g.D.Disk.tells g.D.Disk.moment g.D.Disk.left_since g.D.Disk.seen g.D.Disk.pending start c.args.disk.now was c.args.store.now begun (g.O.Sink.taken c.args.out.now) g.G.Guarding.kept (which_long 1 files) files w end last (places_of c.args.schedule.now ++ rest) None c.args.sessions.now → IsGoing g.D.Disk.tells g.D.Disk.moment g.D.Disk.left_since g.D.Disk.seen g.D.Disk.pending start c.turn_at.new.disk was c.turn_at.new.store begun (g.O.Sink.taken c.turn_at.new.out) g.G.Guarding.kept (which_long 1 files) files v end last (drop (c.loop-i.i + 1) (places_of c.args.schedule.now) ++ rest) c.in-Ok.now c.turn_at.new.sessions)) (sym (turns_next w c.args.schedule.now c.loop-i.i 0 c.loop-i-test.true))
-          (chain names (λ (files : List (List ℕ)). IsGoing g.D.Disk.tells g.D.Disk.moment g.D.Disk.left_since g.D.Disk.seen g.D.Disk.pending start c.args.disk.now was c.args.store.now begun (g.O.Sink.taken c.args.out.now) g.G.Guarding.kept (which_long 1 files) files w end last (places_of c.args.schedule.now ++ rest) None c.args.sessions.now) (λ (files : List (List ℕ)). IsGoing g.D.Disk.tells g.D.Disk.moment g.D.Disk.left_since g.D.Disk.seen g.D.Disk.pending start c.turn_at.new.disk was c.turn_at.new.store begun (g.O.Sink.taken c.turn_at.new.out) g.G.Guarding.kept (which_long 1 files) files (one_turn tt blank_cells (after_turns tt blank_cells w (take c.loop-i.i (places_of c.args.schedule.now))) (get_or c.args.schedule.now c.loop-i.i 0 - 48)) end last (drop (c.loop-i.i + 1) (places_of c.args.schedule.now) ++ rest) c.in-Ok.now c.turn_at.new.sessions) (λ (l : List ℕ) (files : List (List ℕ)). IsGoing g.D.Disk.tells g.D.Disk.moment g.D.Disk.left_since g.D.Disk.seen g.D.Disk.pending start c.loop-i.disk was c.loop-i.store begun (g.O.Sink.taken c.loop-i.out) g.G.Guarding.kept (which_long 1 files) files (after_turns tt blank_cells w (take c.loop-i.i (places_of c.args.schedule.now))) end last l c.loop-i.refused c.loop-i.sessions) (drop c.loop-i.i (places_of c.args.schedule.now) ++ rest) ((get_or c.args.schedule.now c.loop-i.i 0 - 48) ∷ (drop (c.loop-i.i + 1) (places_of c.args.schedule.now) ++ rest)) (ap (λ (k : List ℕ). k ++ rest) (next_place c.args.schedule.now c.loop-i.i 0 c.loop-i-test.true))
+          subst (λ (v : Turns Blank). IfAllTold (g.I.Inputs.told c.args.inputs.now) names (λ files. IsGoing g.D.Disk.tells g.D.Disk.moment g.D.Disk.left_since g.D.Disk.seen g.D.Disk.pending start c.args.disk.now was c.args.store.now begun (g.O.Sink.taken c.args.out.now) g.G.Guarding.kept (which_long 1 files) files w end last (places_of c.args.task.now.schedule.now ++ rest) None c.args.sessions.now → IsGoing g.D.Disk.tells g.D.Disk.moment g.D.Disk.left_since g.D.Disk.seen g.D.Disk.pending start c.turn_at.new.disk was c.turn_at.new.store begun (g.O.Sink.taken c.turn_at.new.out) g.G.Guarding.kept (which_long 1 files) files v end last (drop (c.loop-i.i + 1) (places_of c.args.task.now.schedule.now) ++ rest) c.in-Ok.now c.turn_at.new.sessions)) (sym (turns_next w c.args.task.now.schedule.now c.loop-i.i 0 c.loop-i-test.true))
+          (chain names (λ (files : List (List ℕ)). IsGoing g.D.Disk.tells g.D.Disk.moment g.D.Disk.left_since g.D.Disk.seen g.D.Disk.pending start c.args.disk.now was c.args.store.now begun (g.O.Sink.taken c.args.out.now) g.G.Guarding.kept (which_long 1 files) files w end last (places_of c.args.task.now.schedule.now ++ rest) None c.args.sessions.now) (λ (files : List (List ℕ)). IsGoing g.D.Disk.tells g.D.Disk.moment g.D.Disk.left_since g.D.Disk.seen g.D.Disk.pending start c.turn_at.new.disk was c.turn_at.new.store begun (g.O.Sink.taken c.turn_at.new.out) g.G.Guarding.kept (which_long 1 files) files (one_turn tt blank_cells (after_turns tt blank_cells w (take c.loop-i.i (places_of c.args.task.now.schedule.now))) (get_or c.args.task.now.schedule.now c.loop-i.i 0 - 48)) end last (drop (c.loop-i.i + 1) (places_of c.args.task.now.schedule.now) ++ rest) c.in-Ok.now c.turn_at.new.sessions) (λ (l : List ℕ) (files : List (List ℕ)). IsGoing g.D.Disk.tells g.D.Disk.moment g.D.Disk.left_since g.D.Disk.seen g.D.Disk.pending start c.loop-i.disk was c.loop-i.store begun (g.O.Sink.taken c.loop-i.out) g.G.Guarding.kept (which_long 1 files) files (after_turns tt blank_cells w (take c.loop-i.i (places_of c.args.task.now.schedule.now))) end last l c.loop-i.refused c.loop-i.sessions) (drop c.loop-i.i (places_of c.args.task.now.schedule.now) ++ rest) ((get_or c.args.task.now.schedule.now c.loop-i.i 0 - 48) ∷ (drop (c.loop-i.i + 1) (places_of c.args.task.now.schedule.now) ++ rest)) (ap (λ (k : List ℕ). k ++ rest) (next_place c.args.task.now.schedule.now c.loop-i.i 0 c.loop-i-test.true))
           (g.I.Inputs.told c.args.inputs.now) (g.I.Inputs.told c.loop-i.inputs) i.told (i.going start was begun names w end last rest are)
-          (e.going start was begun names (after_turns tt blank_cells w (take c.loop-i.i (places_of c.args.schedule.now))) end last (drop (c.loop-i.i + 1) (places_of c.args.schedule.now) ++ rest) (i.reading names are)));
+          (e.going start was begun names (after_turns tt blank_cells w (take c.loop-i.i (places_of c.args.task.now.schedule.now))) end last (drop (c.loop-i.i + 1) (places_of c.args.task.now.schedule.now) ++ rest) (i.reading names are)));
       limit = e.limit ∙ i.limit;
       later = omega (arith, i.later, e.later);
-      in_later = omega (arith, i.in_later, e.in_later);
-      out_later = omega (arith, i.out_later, e.out_later);
+      in_later = omega (arith, i.in_later, e.inputs.later);
+      ends_later = omega (arith, i.ends_later, e.inputs.ends_later);
+      out_later = omega (arith, i.out_later, e.out.later);
       steady = e.steady ∙ i.steady;
-      in_steady = e.in_steady ∙ i.in_steady;
-      ends_steady = e.ends_steady ∙ i.ends_steady;
-      out_steady = e.out_steady ∙ i.out_steady;
+      in_steady = e.inputs.steady ∙ i.in_steady;
+      ends_steady = e.inputs.ends_steady ∙ i.ends_steady;
+      out_steady = e.out.steady ∙ i.out_steady;
     }
 
 pub returns-clause-going : goal.returns-clause-going
 returns-clause-going g c start was begun names w end last rest are =
     let i = c.loop-i.invariant in
-    subst (λ (v : Turns Blank). IfAllTold (g.I.Inputs.told c.args.inputs.now) names (λ files. IsGoing g.D.Disk.tells g.D.Disk.moment g.D.Disk.left_since g.D.Disk.seen g.D.Disk.pending start c.args.disk.now was c.args.store.now begun (g.O.Sink.taken c.args.out.now) g.G.Guarding.kept (which_long 1 files) files w end last (places_of c.args.schedule.now ++ rest) None c.args.sessions.now → IsGoing g.D.Disk.tells g.D.Disk.moment g.D.Disk.left_since g.D.Disk.seen g.D.Disk.pending start c.loop-i.disk was c.loop-i.store begun (g.O.Sink.taken c.loop-i.out) g.G.Guarding.kept (which_long 1 files) files v end last rest c.loop-i.refused c.loop-i.sessions)) (ap (after_turns tt blank_cells w) (places_all c.args.schedule.now c.loop-i.i (omega (arith, c.loop-i-test.false))))
-    (at_end names (λ (files : List (List ℕ)). IsGoing g.D.Disk.tells g.D.Disk.moment g.D.Disk.left_since g.D.Disk.seen g.D.Disk.pending start c.args.disk.now was c.args.store.now begun (g.O.Sink.taken c.args.out.now) g.G.Guarding.kept (which_long 1 files) files w end last (places_of c.args.schedule.now ++ rest) None c.args.sessions.now) (λ (files : List (List ℕ)). IsGoing g.D.Disk.tells g.D.Disk.moment g.D.Disk.left_since g.D.Disk.seen g.D.Disk.pending start c.args.disk.now was c.args.store.now begun (g.O.Sink.taken c.args.out.now) g.G.Guarding.kept (which_long 1 files) files w end last (places_of c.args.schedule.now ++ rest) None c.args.sessions.now) (λ (l : List ℕ) (files : List (List ℕ)). IsGoing g.D.Disk.tells g.D.Disk.moment g.D.Disk.left_since g.D.Disk.seen g.D.Disk.pending start c.loop-i.disk was c.loop-i.store begun (g.O.Sink.taken c.loop-i.out) g.G.Guarding.kept (which_long 1 files) files (after_turns tt blank_cells w (take c.loop-i.i (places_of c.args.schedule.now))) end last l c.loop-i.refused c.loop-i.sessions) (drop c.loop-i.i (places_of c.args.schedule.now) ++ rest) rest (ap (λ (k : List ℕ). k ++ rest) (places_end c.args.schedule.now c.loop-i.i (omega (arith, c.loop-i-test.false))))
+    subst (λ (v : Turns Blank). IfAllTold (g.I.Inputs.told c.args.inputs.now) names (λ files. IsGoing g.D.Disk.tells g.D.Disk.moment g.D.Disk.left_since g.D.Disk.seen g.D.Disk.pending start c.args.disk.now was c.args.store.now begun (g.O.Sink.taken c.args.out.now) g.G.Guarding.kept (which_long 1 files) files w end last (places_of c.args.task.now.schedule.now ++ rest) None c.args.sessions.now → IsGoing g.D.Disk.tells g.D.Disk.moment g.D.Disk.left_since g.D.Disk.seen g.D.Disk.pending start c.loop-i.disk was c.loop-i.store begun (g.O.Sink.taken c.loop-i.out) g.G.Guarding.kept (which_long 1 files) files v end last rest c.loop-i.refused c.loop-i.sessions)) (ap (after_turns tt blank_cells w) (places_all c.args.task.now.schedule.now c.loop-i.i (omega (arith, c.loop-i-test.false))))
+    (at_end names (λ (files : List (List ℕ)). IsGoing g.D.Disk.tells g.D.Disk.moment g.D.Disk.left_since g.D.Disk.seen g.D.Disk.pending start c.args.disk.now was c.args.store.now begun (g.O.Sink.taken c.args.out.now) g.G.Guarding.kept (which_long 1 files) files w end last (places_of c.args.task.now.schedule.now ++ rest) None c.args.sessions.now) (λ (files : List (List ℕ)). IsGoing g.D.Disk.tells g.D.Disk.moment g.D.Disk.left_since g.D.Disk.seen g.D.Disk.pending start c.args.disk.now was c.args.store.now begun (g.O.Sink.taken c.args.out.now) g.G.Guarding.kept (which_long 1 files) files w end last (places_of c.args.task.now.schedule.now ++ rest) None c.args.sessions.now) (λ (l : List ℕ) (files : List (List ℕ)). IsGoing g.D.Disk.tells g.D.Disk.moment g.D.Disk.left_since g.D.Disk.seen g.D.Disk.pending start c.loop-i.disk was c.loop-i.store begun (g.O.Sink.taken c.loop-i.out) g.G.Guarding.kept (which_long 1 files) files (after_turns tt blank_cells w (take c.loop-i.i (places_of c.args.task.now.schedule.now))) end last l c.loop-i.refused c.loop-i.sessions) (drop c.loop-i.i (places_of c.args.task.now.schedule.now) ++ rest) rest (ap (λ (k : List ℕ). k ++ rest) (places_end c.args.task.now.schedule.now c.loop-i.i (omega (arith, c.loop-i-test.false))))
     (g.I.Inputs.told c.args.inputs.now) (i.going start was begun names w end last rest are))

@@ -18,11 +18,12 @@ invariant-loop-i g l = record {
   reading : (names : List (List ℕ)) → AreReading (g.I.Inputs.told l.fn.inputs) 1 names l.fn.sessions → AreReading (g.I.Inputs.told l.inputs) 1 names l.sessions;
   taking : (w : Turns Blank) × AreTaking g.G.Guarding.kept l.sessions (blank l.store.core) w;
   going : (start : g.row.D.Denot) (was : StoreState) (begun : Option (List ℕ)) (names : List (List ℕ)) (w : Turns Blank) (end : TurnsEnd) (last : Turns Blank) (rest : List ℕ) → AreReading (g.I.Inputs.told l.fn.inputs) 1 names l.fn.sessions
-      → IfAllTold (g.I.Inputs.told l.fn.inputs) names (λ files. IsGoing g.D.Disk.tells g.D.Disk.moment g.D.Disk.left_since g.D.Disk.seen g.D.Disk.pending start l.fn.disk was l.fn.store begun (g.O.Sink.taken l.fn.out) g.G.Guarding.kept (which_long 1 files) files w end last (places_of l.fn.schedule ++ rest) None l.fn.sessions
-      → IsGoing g.D.Disk.tells g.D.Disk.moment g.D.Disk.left_since g.D.Disk.seen g.D.Disk.pending start l.disk was l.store begun (g.O.Sink.taken l.out) g.G.Guarding.kept (which_long 1 files) files (after_turns tt blank_cells w (take l.i (places_of l.fn.schedule))) end last (drop l.i (places_of l.fn.schedule) ++ rest) l.refused l.sessions);
+      → IfAllTold (g.I.Inputs.told l.fn.inputs) names (λ files. IsGoing g.D.Disk.tells g.D.Disk.moment g.D.Disk.left_since g.D.Disk.seen g.D.Disk.pending start l.fn.disk was l.fn.store begun (g.O.Sink.taken l.fn.out) g.G.Guarding.kept (which_long 1 files) files w end last (places_of l.fn.task.schedule.now ++ rest) None l.fn.sessions
+      → IsGoing g.D.Disk.tells g.D.Disk.moment g.D.Disk.left_since g.D.Disk.seen g.D.Disk.pending start l.disk was l.store begun (g.O.Sink.taken l.out) g.G.Guarding.kept (which_long 1 files) files (after_turns tt blank_cells w (take l.i (places_of l.fn.task.schedule.now))) end last (drop l.i (places_of l.fn.task.schedule.now) ++ rest) l.refused l.sessions);
   limit : l.store.log.limit ≡ l.fn.store.log.limit;
   later : g.D.Disk.faults l.fn.disk ≤ g.D.Disk.faults l.disk;
   in_later : g.I.Inputs.faults l.fn.inputs ≤ g.I.Inputs.faults l.inputs;
+  ends_later : g.I.Inputs.ends l.fn.inputs ≤ g.I.Inputs.ends l.inputs;
   out_later : g.O.Sink.faults l.fn.out ≤ g.O.Sink.faults l.out;
   steady : g.D.Disk.faults l.disk ≡ g.D.Disk.faults l.fn.disk;
   in_steady : g.I.Inputs.faults l.inputs ≡ g.I.Inputs.faults l.fn.inputs;

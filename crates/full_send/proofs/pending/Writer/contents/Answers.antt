@@ -44,7 +44,7 @@ loop-origin-preserved-in-Some-origin g c =
       any_moment = i.any_moment;
       steady = i.steady;
       out_steady = i.out_steady;
-      hole = λ tells. sym (run_ends c.args.contents.now c.loop-origin.start c.loop-origin.at c.loop-origin.origin-iterator i.along (g.D.Disk.seen c.args.disk.now) c.args.path.now c.next.new.self r.places c.in-Some.len s.0 r.follows r.long);
+      hole = λ tells. sym (run_ends c.args.contents.now c.loop-origin.start c.loop-origin.at c.loop-origin.origin-iterator i.along (g.D.Disk.seen c.args.disk.now) c.args.file.now.path.now c.next.new.self r.places c.in-Some.len s.0 r.follows r.long);
       added = i.added;
     }
 
@@ -56,19 +56,19 @@ returns-in_err-stretch-in-None-origin-clause-adds g c tells =
     let v : ℕ = c.args.self.now.spelling.version in
     let core = c.args.self.now.store.now.core in
     let key = key_of c.args.self.now.key in
-    let path : List ℕ = c.args.path.now in
+    let path : List ℕ = c.args.file.now.path.now in
     let cells = c.args.contents.now in
     let i = c.loop-origin.invariant in
     let image : List ℕ = D.seen c.args.disk.now in
-    let all : List ℕ = file_cells (with_bytes image core) key c.args.ino in
-    let is : all ≡ map (place_byte image) cells = file_bytes image core key c.args.ino ∙ ap (map (place_byte image)) c.requires.cells in
+    let all : List ℕ = file_cells (with_bytes image core) key c.args.file.now.ino in
+    let is : all ≡ map (place_byte image) cells = file_bytes image core key c.args.file.now.ino ∙ ap (map (place_byte image)) c.requires.cells in
     let s = c.in-Some.ensures.steps in
     let follows = follows_hole c.in-Some.origin c.in-Some.len c.loop-origin.origin-iterator c.next.new.self c.in-None-origin.is s.2 in
     handed_on _ _ c.stretch.new.bytes _ _ c.from_residual.result _ c.from_residual.ensures.1
     (part_stops _ _ _ _ _ _ c.stretch.new.bytes _ _ _ _
     (step_hole F.spelled v image path all cells is c.loop-origin.start c.loop-origin.at c.loop-origin.origin-iterator i.along c.in-Some.len c.next.new.self s.0 follows)
     (i.added tells)
-    (subst (λ (image : List ℕ). Adds (spelled_all F.spelled v (stretch_of path c.loop-origin.start c.loop-origin.at (file_cells (with_bytes image core) key c.args.ino))) c.loop-origin.bytes c.stretch.new.bytes
+    (subst (λ (image : List ℕ). Adds (spelled_all F.spelled v (stretch_of path c.loop-origin.start c.loop-origin.at (file_cells (with_bytes image core) key c.args.file.now.ino))) c.loop-origin.bytes c.stretch.new.bytes
     (O.taken c.loop-origin.out) (O.taken c.stretch.new.out) (Err c.in_err-stretch-in-None-origin.field-0.0)) ((i.same tells).seen) (c.in_err-stretch-in-None-origin.ensures.adds tells)))
 
 pub loop-origin-preserved : goal.loop-origin-preserved
@@ -79,7 +79,7 @@ loop-origin-preserved g c =
     let v : ℕ = c.args.self.now.spelling.version in
     let core = c.args.self.now.store.now.core in
     let key = key_of c.args.self.now.key in
-    let path : List ℕ = c.args.path.now in
+    let path : List ℕ = c.args.file.now.path.now in
     let cells = c.args.contents.now in
     let i = c.loop-origin.invariant in
     let s = c.in-Some.ensures.steps in
@@ -96,12 +96,12 @@ loop-origin-preserved g c =
       hole = λ tells. sym (hole_ends cells c.loop-origin.start c.loop-origin.at c.loop-origin.origin-iterator i.along (D.seen c.args.disk.now) path c.in-Some.len c.next.new.self s.0 follows);
       added = λ tells.
           let image : List ℕ = D.seen c.args.disk.now in
-          let all : List ℕ = file_cells (with_bytes image core) key c.args.ino in
-          let is : all ≡ map (place_byte image) cells = file_bytes image core key c.args.ino ∙ ap (map (place_byte image)) c.requires.cells in
+          let all : List ℕ = file_cells (with_bytes image core) key c.args.file.now.ino in
+          let is : all ≡ map (place_byte image) cells = file_bytes image core key c.args.file.now.ino ∙ ap (map (place_byte image)) c.requires.cells in
           part_next _ _ _ _ _ _ _ _ _ _
           (step_hole F.spelled v image path all cells is c.loop-origin.start c.loop-origin.at c.loop-origin.origin-iterator i.along c.in-Some.len c.next.new.self s.0 follows)
           (i.added tells)
-          (subst (λ (image : List ℕ). Adds (spelled_all F.spelled v (stretch_of path c.loop-origin.start c.loop-origin.at (file_cells (with_bytes image core) key c.args.ino))) c.loop-origin.bytes c.stretch.new.bytes
+          (subst (λ (image : List ℕ). Adds (spelled_all F.spelled v (stretch_of path c.loop-origin.start c.loop-origin.at (file_cells (with_bytes image core) key c.args.file.now.ino))) c.loop-origin.bytes c.stretch.new.bytes
           (O.taken c.loop-origin.out) (O.taken c.stretch.new.out) (Ok c.in_ok-stretch-in-None-origin.field-0)) ((i.same tells).seen) (c.in_ok-stretch-in-None-origin.ensures.adds tells));
     }
 
@@ -113,17 +113,17 @@ returns-in_err-stretch-clause-adds g c tells =
     let v : ℕ = c.args.self.now.spelling.version in
     let core = c.args.self.now.store.now.core in
     let key = key_of c.args.self.now.key in
-    let path : List ℕ = c.args.path.now in
+    let path : List ℕ = c.args.file.now.path.now in
     let cells = c.args.contents.now in
     let i = c.loop-origin.invariant in
     let image : List ℕ = D.seen c.args.disk.now in
-    let all : List ℕ = file_cells (with_bytes image core) key c.args.ino in
-    let is : all ≡ map (place_byte image) cells = file_bytes image core key c.args.ino ∙ ap (map (place_byte image)) c.requires.cells in
+    let all : List ℕ = file_cells (with_bytes image core) key c.args.file.now.ino in
+    let is : all ≡ map (place_byte image) cells = file_bytes image core key c.args.file.now.ino ∙ ap (map (place_byte image)) c.requires.cells in
     handed_on _ _ c.stretch-2.new.bytes _ _ c.from_residual-in_err-stretch.result _ c.from_residual-in_err-stretch.ensures.1
     (part_stops _ _ _ _ _ _ c.stretch-2.new.bytes _ _ _ _
     (step_end F.spelled v image path all cells is c.loop-origin.start c.loop-origin.at c.loop-origin.origin-iterator i.along c.in-None.ensures.steps.0)
     (i.added tells)
-    (subst (λ (image : List ℕ). Adds (spelled_all F.spelled v (stretch_of path c.loop-origin.start c.loop-origin.at (file_cells (with_bytes image core) key c.args.ino))) c.loop-origin.bytes c.stretch-2.new.bytes
+    (subst (λ (image : List ℕ). Adds (spelled_all F.spelled v (stretch_of path c.loop-origin.start c.loop-origin.at (file_cells (with_bytes image core) key c.args.file.now.ino))) c.loop-origin.bytes c.stretch-2.new.bytes
     (O.taken c.loop-origin.out) (O.taken c.stretch-2.new.out) (Err c.in_err-stretch.field-0.0)) ((i.same tells).seen) (c.in_err-stretch.ensures.adds tells)))
 
 pub returns-in_err-truncate-clause-adds : goal.returns-in_err-truncate-clause-adds
@@ -134,19 +134,19 @@ returns-in_err-truncate-clause-adds g c tells =
     let v : ℕ = c.args.self.now.spelling.version in
     let core = c.args.self.now.store.now.core in
     let key = key_of c.args.self.now.key in
-    let path : List ℕ = c.args.path.now in
+    let path : List ℕ = c.args.file.now.path.now in
     let cells = c.args.contents.now in
     let i = c.loop-origin.invariant in
     let image : List ℕ = D.seen c.args.disk.now in
-    let all : List ℕ = file_cells (with_bytes image core) key c.args.ino in
-    let is : all ≡ map (place_byte image) cells = file_bytes image core key c.args.ino ∙ ap (map (place_byte image)) c.requires.cells in
+    let all : List ℕ = file_cells (with_bytes image core) key c.args.file.now.ino in
+    let is : all ≡ map (place_byte image) cells = file_bytes image core key c.args.file.now.ino ∙ ap (map (place_byte image)) c.requires.cells in
     let ends = last_is F.spelled v image path all cells is c.loop-origin.start c.loop-origin.at c.loop-origin.origin-iterator i.along c.in-None.ensures.steps.0 c.loop-origin.ends_in_hole (i.hole tells) ∙ c.if-ends_in_hole.true in
     handed_on _ _ c.truncate.new.bytes _ _ c.from_residual-in_err-truncate.result _ c.from_residual-in_err-truncate.ensures.1
     (part_stops _ _ _ _ _ _ c.truncate.new.bytes _ _ _ _ (cut_here F.spelled v image path all cells is c.size-size.result c.size-size.ensures.count ends)
     (part_next _ _ _ _ _ _ _ _ _ _
     (step_end F.spelled v image path all cells is c.loop-origin.start c.loop-origin.at c.loop-origin.origin-iterator i.along c.in-None.ensures.steps.0)
     (i.added tells)
-    (subst (λ (image : List ℕ). Adds (spelled_all F.spelled v (stretch_of path c.loop-origin.start c.loop-origin.at (file_cells (with_bytes image core) key c.args.ino))) c.loop-origin.bytes c.stretch-2.new.bytes
+    (subst (λ (image : List ℕ). Adds (spelled_all F.spelled v (stretch_of path c.loop-origin.start c.loop-origin.at (file_cells (with_bytes image core) key c.args.file.now.ino))) c.loop-origin.bytes c.stretch-2.new.bytes
     (O.taken c.loop-origin.out) (O.taken c.stretch-2.new.out) (Ok c.in_ok-stretch.field-0)) ((i.same tells).seen) (c.in_ok-stretch.ensures.adds tells)))
     c.in_err-truncate.ensures.adds)
 
@@ -158,19 +158,19 @@ returns-in_ok-truncate-clause-adds g c tells =
     let v : ℕ = c.args.self.now.spelling.version in
     let core = c.args.self.now.store.now.core in
     let key = key_of c.args.self.now.key in
-    let path : List ℕ = c.args.path.now in
+    let path : List ℕ = c.args.file.now.path.now in
     let cells = c.args.contents.now in
     let i = c.loop-origin.invariant in
     let image : List ℕ = D.seen c.args.disk.now in
-    let all : List ℕ = file_cells (with_bytes image core) key c.args.ino in
-    let is : all ≡ map (place_byte image) cells = file_bytes image core key c.args.ino ∙ ap (map (place_byte image)) c.requires.cells in
+    let all : List ℕ = file_cells (with_bytes image core) key c.args.file.now.ino in
+    let is : all ≡ map (place_byte image) cells = file_bytes image core key c.args.file.now.ino ∙ ap (map (place_byte image)) c.requires.cells in
     let ends = last_is F.spelled v image path all cells is c.loop-origin.start c.loop-origin.at c.loop-origin.origin-iterator i.along c.in-None.ensures.steps.0 c.loop-origin.ends_in_hole (i.hole tells) ∙ c.if-ends_in_hole.true in
     part_all _ [] _ _ _ _ refl
     (part_next _ _ _ [] _ _ _ _ _ _ (cut_here F.spelled v image path all cells is c.size-size.result c.size-size.ensures.count ends)
     (part_next _ _ _ _ _ _ _ _ _ _
     (step_end F.spelled v image path all cells is c.loop-origin.start c.loop-origin.at c.loop-origin.origin-iterator i.along c.in-None.ensures.steps.0)
     (i.added tells)
-    (subst (λ (image : List ℕ). Adds (spelled_all F.spelled v (stretch_of path c.loop-origin.start c.loop-origin.at (file_cells (with_bytes image core) key c.args.ino))) c.loop-origin.bytes c.stretch-2.new.bytes
+    (subst (λ (image : List ℕ). Adds (spelled_all F.spelled v (stretch_of path c.loop-origin.start c.loop-origin.at (file_cells (with_bytes image core) key c.args.file.now.ino))) c.loop-origin.bytes c.stretch-2.new.bytes
     (O.taken c.loop-origin.out) (O.taken c.stretch-2.new.out) (Ok c.in_ok-stretch.field-0)) ((i.same tells).seen) (c.in_ok-stretch.ensures.adds tells)))
     c.in_ok-truncate.ensures.adds)
 
@@ -182,16 +182,16 @@ returns-else-ends_in_hole-clause-adds g c tells =
     let v : ℕ = c.args.self.now.spelling.version in
     let core = c.args.self.now.store.now.core in
     let key = key_of c.args.self.now.key in
-    let path : List ℕ = c.args.path.now in
+    let path : List ℕ = c.args.file.now.path.now in
     let cells = c.args.contents.now in
     let i = c.loop-origin.invariant in
     let image : List ℕ = D.seen c.args.disk.now in
-    let all : List ℕ = file_cells (with_bytes image core) key c.args.ino in
-    let is : all ≡ map (place_byte image) cells = file_bytes image core key c.args.ino ∙ ap (map (place_byte image)) c.requires.cells in
+    let all : List ℕ = file_cells (with_bytes image core) key c.args.file.now.ino in
+    let is : all ≡ map (place_byte image) cells = file_bytes image core key c.args.file.now.ino ∙ ap (map (place_byte image)) c.requires.cells in
     let ends = last_is F.spelled v image path all cells is c.loop-origin.start c.loop-origin.at c.loop-origin.origin-iterator i.along c.in-None.ensures.steps.0 c.loop-origin.ends_in_hole (i.hole tells) ∙ c.if-ends_in_hole.false in
     part_all _ _ _ _ _ _ (cut_nowhere F.spelled v image path all cells is ends)
     (part_next _ _ _ _ _ _ _ _ _ _
     (step_end F.spelled v image path all cells is c.loop-origin.start c.loop-origin.at c.loop-origin.origin-iterator i.along c.in-None.ensures.steps.0)
     (i.added tells)
-    (subst (λ (image : List ℕ). Adds (spelled_all F.spelled v (stretch_of path c.loop-origin.start c.loop-origin.at (file_cells (with_bytes image core) key c.args.ino))) c.loop-origin.bytes c.stretch-2.new.bytes
+    (subst (λ (image : List ℕ). Adds (spelled_all F.spelled v (stretch_of path c.loop-origin.start c.loop-origin.at (file_cells (with_bytes image core) key c.args.file.now.ino))) c.loop-origin.bytes c.stretch-2.new.bytes
     (O.taken c.loop-origin.out) (O.taken c.stretch-2.new.out) (Ok c.in_ok-stretch.field-0)) ((i.same tells).seen) (c.in_ok-stretch.ensures.adds tells)))

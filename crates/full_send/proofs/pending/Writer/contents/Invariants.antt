@@ -24,7 +24,7 @@ invariant-loop-origin g l =
       steady : D.faults l.disk ≡ D.faults l.fn.disk;
       out_steady : O.faults l.out ≡ O.faults l.fn.out;
       hole : D.tells → l.ends_in_hole ≡ ends_in_hole (map (held_cell (D.seen l.fn.disk)) (take l.at l.contents));
-      added : D.tells → PartAdded (spelled_all F.spelled l.fn.self.spelling.version (contents_commands l.fn.path (map (held_cell (D.seen l.fn.disk)) l.contents)))
-          (spelled_all F.spelled l.fn.self.spelling.version (left_commands (D.seen l.fn.disk) l.fn.path l.contents l.start))
+      added : D.tells → PartAdded (spelled_all F.spelled l.fn.self.spelling.version (contents_commands l.fn.file.path.now (map (held_cell (D.seen l.fn.disk)) l.contents)))
+          (spelled_all F.spelled l.fn.self.spelling.version (left_commands (D.seen l.fn.disk) l.fn.file.path.now l.contents l.start))
           l.fn.bytes l.bytes (O.taken l.fn.out) (O.taken l.out);
     }

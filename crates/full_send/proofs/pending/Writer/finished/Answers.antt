@@ -10,13 +10,13 @@ use Rattle.full_send.proofs.RestoredPaths.{listed_is}
 use Rattle.full_send.proofs.pending.Writer.finished.Goals as goal
 
 pub unreachable-requires : goal.unreachable-requires
-unreachable-requires g c = inode_there c.args.tree.now c.args.self.now.store.now.log.gate c.requires.kept c.args.directory.now.path c.args.directory.now.ino c.requires.leads (sym c.in_default.ensures)
+unreachable-requires g c = inode_there c.args.self.now.tree.now c.args.self.now.store.now.log.gate c.requires.kept c.args.directory.now.path c.args.directory.now.ino c.requires.leads (sym c.in_default.ensures)
 
 pub finishing-requires-clause-short : goal.finishing-requires-clause-short
-finishing-requires-clause-short g c = subst IsShortPath (sym c.as_slice-path.ensures.bytes) (short_path c.args.tree.now c.args.self.now.store.now.log.gate c.requires.kept c.args.directory.now.path c.args.directory.now.ino c.requires.leads)
+finishing-requires-clause-short g c = subst IsShortPath (sym c.as_slice-path.ensures.bytes) (short_path c.args.self.now.tree.now c.args.self.now.store.now.log.gate c.requires.kept c.args.directory.now.path c.args.directory.now.ino c.requires.leads)
 
 pub finishing-requires-clause-said : goal.finishing-requires-clause-said
-finishing-requires-clause-said g c = inode_said c.args.tree.now c.args.self.now.store.now.log.gate c.requires.kept c.args.directory.now.path c.args.directory.now.ino c.requires.leads c.in-Some.inode.now (sym c.in-Some.ensures)
+finishing-requires-clause-said g c = inode_said c.args.self.now.tree.now c.args.self.now.store.now.log.gate c.requires.kept c.args.directory.now.path c.args.directory.now.ino c.requires.leads c.in-Some.inode.now (sym c.in-Some.ensures)
 
 pub returns-clause-adds : goal.returns-clause-adds
 returns-clause-adds g c =
@@ -25,5 +25,5 @@ returns-clause-adds g c =
     let v : ℕ = c.args.self.now.spelling.version in
     subst (λ (l : List ℕ). Adds l c.args.bytes.now c.finishing.new.bytes (O.taken c.args.out.now) (O.taken c.finishing.new.out) c.finishing.result)
     (ap (λ (p : List ℕ). spelled_all F.spelled v (finishing p c.in-Some.inode.now)) c.as_slice-path.ensures.bytes
-    ∙ ap (λ (j : Inode (Option Place)). spelled_all F.spelled v (finishing c.args.directory.now.path j)) (sym (listed_is c.args.tree.now c.args.self.now.store.now.log.gate c.requires.kept c.args.directory.now.path c.args.directory.now.ino c.requires.leads c.in-Some.inode.now (sym c.in-Some.ensures))))
+    ∙ ap (λ (j : Inode (Option Place)). spelled_all F.spelled v (finishing c.args.directory.now.path j)) (sym (listed_is c.args.self.now.tree.now c.args.self.now.store.now.log.gate c.requires.kept c.args.directory.now.path c.args.directory.now.ino c.requires.leads c.in-Some.inode.now (sym c.in-Some.ensures))))
     c.finishing.ensures.adds

@@ -14,14 +14,14 @@ use Rattle.full_send.proofs.Walking.{so_far, at_first, step_some, step_none, res
 use Rattle.full_send.proofs.pending.Writer.placed.Goals as goal
 
 pub placed_inode-requires-clause-leads : goal.placed_inode-requires-clause-leads
-placed_inode-requires-clause-leads g c = root_walks c.args.tree.now
+placed_inode-requires-clause-leads g c = root_walks c.args.self.now.tree.now
 
 pub returns-in_err-placed_inode-clause-adds : goal.returns-in_err-placed_inode-clause-adds
 returns-in_err-placed_inode-clause-adds g c tells =
     let O = g.O.Sink in
     let F = g.F.Form in
     let v : ℕ = c.args.self.now.spelling.version in
-    let s = c.args.tree.now in
+    let s = c.args.self.now.tree.now in
     let image : List ℕ = g.D.Disk.seen c.args.disk.now in
     let b = at_first s c.requires.kept.lawful c.in-Ok.paths c.in-Ok.ensures.begins in
     handed_on _ _ c.placed_inode.new.bytes _ _ c.from_residual.result _ c.from_residual.ensures.1
@@ -31,7 +31,7 @@ pub loop-ino-init : goal.loop-ino-init
 loop-ino-init g c =
     let F = g.F.Form in
     let v : ℕ = c.args.self.now.spelling.version in
-    let s = c.args.tree.now in
+    let s = c.args.self.now.tree.now in
     let image : List ℕ = g.D.Disk.seen c.args.disk.now in
     let b = at_first s c.requires.kept.lawful c.in-Ok.paths c.in-Ok.ensures.begins in
     record {
@@ -49,13 +49,13 @@ loop-ino-init g c =
 
 pub placed_path-requires-clause-passed : goal.placed_path-requires-clause-passed
 placed_path-requires-clause-passed g c =
-    let s = c.args.tree.now in
+    let s = c.args.self.now.tree.now in
     let goes = step_some s c.loop-ino.paths c.loop-ino.invariant.added.0 c.next.new.self c.in-Ok-Some.ino c.in-Ok-Some.field-0 c.in-Ok-Some.field-0-is c.in-Ok-Some.ensures.steps in
     goes.reached.same
 
 pub placed_path-requires-clause-leads : goal.placed_path-requires-clause-leads
 placed_path-requires-clause-leads g c =
-    let s = c.args.tree.now in
+    let s = c.args.self.now.tree.now in
     let goes = step_some s c.loop-ino.paths c.loop-ino.invariant.added.0 c.next.new.self c.in-Ok-Some.ino c.in-Ok-Some.field-0 c.in-Ok-Some.field-0-is c.in-Ok-Some.ensures.steps in
     walks_here s c.next.new.self goes.reached c.requires.kept.lawful ∙ ap (λ (n : ℕ). Ok n) goes.ino_is
 
@@ -65,7 +65,7 @@ returns-in_err-placed_path-in-Ok-Some-clause-adds g c tells =
     let O = g.O.Sink in
     let F = g.F.Form in
     let v : ℕ = c.args.self.now.spelling.version in
-    let s = c.args.tree.now in
+    let s = c.args.self.now.tree.now in
     let i = c.loop-ino.invariant in
     let image : List ℕ = D.seen c.args.disk.now in
     let goes = step_some s c.loop-ino.paths i.added.0 c.next.new.self c.in-Ok-Some.ino c.in-Ok-Some.field-0 c.in-Ok-Some.field-0-is c.in-Ok-Some.ensures.steps in
@@ -79,7 +79,7 @@ loop-ino-preserved g c =
     let O = g.O.Sink in
     let F = g.F.Form in
     let v : ℕ = c.args.self.now.spelling.version in
-    let s = c.args.tree.now in
+    let s = c.args.self.now.tree.now in
     let i = c.loop-ino.invariant in
     let image : List ℕ = D.seen c.args.disk.now in
     let goes = step_some s c.loop-ino.paths i.added.0 c.next.new.self c.in-Ok-Some.ino c.in-Ok-Some.field-0 c.in-Ok-Some.field-0-is c.in-Ok-Some.ensures.steps in
@@ -99,7 +99,7 @@ loop-ino-preserved g c =
 
 pub loop-ino-smaller : goal.loop-ino-smaller
 loop-ino-smaller g c =
-    let s = c.args.tree.now in
+    let s = c.args.self.now.tree.now in
     let r = c.loop-ino.invariant.added.0 in
     smaller s c.loop-ino.paths c.next.new.self r c.in-Ok-Some.ino (step_some s c.loop-ino.paths r c.next.new.self c.in-Ok-Some.ino c.in-Ok-Some.field-0 c.in-Ok-Some.field-0-is c.in-Ok-Some.ensures.steps)
 
@@ -107,14 +107,14 @@ pub returns-in-Ok-None-clause-adds : goal.returns-in-Ok-None-clause-adds
 returns-in-Ok-None-clause-adds g c tells =
     let F = g.F.Form in
     let v : ℕ = c.args.self.now.spelling.version in
-    let s = c.args.tree.now in
+    let s = c.args.self.now.tree.now in
     let i = c.loop-ino.invariant in
     let image : List ℕ = g.D.Disk.seen c.args.disk.now in
     part_all _ _ _ _ _ _ (ap (λ (m : Map (List ℕ) ℕ). spelled_all F.spelled v (places image s m)) (rest_none s c.loop-ino.paths i.added.0 c.next.new.self c.in-Ok-None.field-0 c.in-Ok-None.field-0-is c.in-Ok-None.ensures.steps)) (i.added.2 tells)
 
 pub returns-in-Ok-None-clause-directories : goal.returns-in-Ok-None-clause-directories
 returns-in-Ok-None-clause-directories g c =
-    let s = c.args.tree.now in
+    let s = c.args.self.now.tree.now in
     let i = c.loop-ino.invariant in
     i.added.1 ∙ ap (directories_in s) (step_none s c.loop-ino.paths i.added.0 c.next.new.self c.in-Ok-None.field-0 c.in-Ok-None.field-0-is c.in-Ok-None.ensures.steps)
 

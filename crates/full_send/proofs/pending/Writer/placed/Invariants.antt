@@ -23,10 +23,10 @@ invariant-loop-ino g l =
       any_moment : D.tells → LeavesOnly D.moment D.left_since l.fn.disk l.disk (IsImage (D.pending l.fn.disk));
       steady : D.faults l.disk ≡ D.faults l.fn.disk;
       out_steady : O.faults l.out ≡ O.faults l.fn.out;
-      added : (r : Reached l.fn.tree l.paths)
-          × (paths_passed l.directories.items ≡ directories_in l.fn.tree (so_far r))
-          × (D.tells → PartAdded (spelled_all F.spelled l.fn.self.spelling.version (places (D.seen l.fn.disk) l.fn.tree (paths_of l.fn.tree)))
-          (spelled_all F.spelled l.fn.self.spelling.version (places (D.seen l.fn.disk) l.fn.tree r.rest))
+      added : (r : Reached l.fn.self.tree.now l.paths)
+          × (paths_passed l.directories.items ≡ directories_in l.fn.self.tree.now (so_far r))
+          × (D.tells → PartAdded (spelled_all F.spelled l.fn.self.spelling.version (places (D.seen l.fn.disk) l.fn.self.tree.now (paths_of l.fn.self.tree.now)))
+          (spelled_all F.spelled l.fn.self.spelling.version (places (D.seen l.fn.disk) l.fn.self.tree.now r.rest))
           l.fn.bytes l.bytes (O.taken l.fn.out) (O.taken l.out));
     }
 

@@ -18,13 +18,13 @@ returns-in_err-placed-clause-adds g c tells =
     let v : ℕ = c.args.self.now.spelling.version in
     let image : List ℕ = g.D.Disk.seen c.args.disk.now in
     handed_on _ _ c.placed.new.bytes _ _ c.from_residual.result _ c.from_residual.ensures.1
-    (part_stops _ _ _ _ _ _ c.placed.new.bytes _ _ _ _ (directories_behind image c.args.tree.now F.spelled v) (part_first _ _ _ _ refl) (c.in_err-placed.ensures.adds tells))
+    (part_stops _ _ _ _ _ _ c.placed.new.bytes _ _ _ _ (directories_behind image c.args.self.now.tree.now F.spelled v) (part_first _ _ _ _ refl) (c.in_err-placed.ensures.adds tells))
 
 pub loop-directory-init : goal.loop-directory-init
 loop-directory-init g c =
     let F = g.F.Form in
     let v : ℕ = c.args.self.now.spelling.version in
-    let s = c.args.tree.now in
+    let s = c.args.self.now.tree.now in
     let image : List ℕ = g.D.Disk.seen c.args.disk.now in
     let are = c.in_ok-placed.ensures.directories in
     record {
@@ -41,14 +41,14 @@ loop-directory-init g c =
     }
 
 pub finished-requires-clause-leads : goal.finished-requires-clause-leads
-finished-requires-clause-leads g c = last_leads c.args.tree.now c.loop-directory.directories.items c.pop.new.self.items c.in-Some.directory c.in-Some.ensures.items c.loop-directory.invariant.lead
+finished-requires-clause-leads g c = last_leads c.args.self.now.tree.now c.loop-directory.directories.items c.pop.new.self.items c.in-Some.directory c.in-Some.ensures.items c.loop-directory.invariant.lead
 
 pub returns-in_err-finished-clause-adds : goal.returns-in_err-finished-clause-adds
 returns-in_err-finished-clause-adds g c tells =
     let F = g.F.Form in
     let v : ℕ = c.args.self.now.spelling.version in
     handed_on _ _ c.finished.new.bytes _ _ c.from_residual-in_err-finished.result _ c.from_residual-in_err-finished.ensures.1
-    (part_stops _ _ _ _ _ _ c.finished.new.bytes _ _ _ _ (last_ends c.args.tree.now c.loop-directory.directories.items c.pop.new.self.items c.in-Some.directory c.in-Some.ensures.items F.spelled v) (c.loop-directory.invariant.added tells)
+    (part_stops _ _ _ _ _ _ c.finished.new.bytes _ _ _ _ (last_ends c.args.self.now.tree.now c.loop-directory.directories.items c.pop.new.self.items c.in-Some.directory c.in-Some.ensures.items F.spelled v) (c.loop-directory.invariant.added tells)
     c.in_err-finished.ensures.adds)
 
 pub loop-directory-preserved : goal.loop-directory-preserved
@@ -62,9 +62,9 @@ loop-directory-preserved g c =
       any_moment = search rules;
       steady = search rules;
       out_steady = search rules;
-      lead = rest_lead c.args.tree.now c.loop-directory.directories.items c.pop.new.self.items c.in-Some.directory c.in-Some.ensures.items i.lead;
+      lead = rest_lead c.args.self.now.tree.now c.loop-directory.directories.items c.pop.new.self.items c.in-Some.directory c.in-Some.ensures.items i.lead;
       added = λ tells.
-          part_next _ _ _ _ _ _ _ _ _ _ (last_ends c.args.tree.now c.loop-directory.directories.items c.pop.new.self.items c.in-Some.directory c.in-Some.ensures.items F.spelled v) (i.added tells)
+          part_next _ _ _ _ _ _ _ _ _ _ (last_ends c.args.self.now.tree.now c.loop-directory.directories.items c.pop.new.self.items c.in-Some.directory c.in-Some.ensures.items F.spelled v) (i.added tells)
           c.in_ok-finished.ensures.adds;
     }
 
@@ -72,4 +72,4 @@ pub returns-in_default-clause-adds : goal.returns-in_default-clause-adds
 returns-in_default-clause-adds g c tells =
     let F = g.F.Form in
     let v : ℕ = c.args.self.now.spelling.version in
-    part_all _ _ _ _ _ _ (ap (λ (ds : List _). spelled_all F.spelled v (ends_back c.args.tree.now (paths_passed ds))) (none_left c.loop-directory.directories.items c.pop.new.self.items _ c.in_default.ensures.items c.in_default.ensures.rest c.in_default.ensures.cases.0)) (c.loop-directory.invariant.added tells)
+    part_all _ _ _ _ _ _ (ap (λ (ds : List _). spelled_all F.spelled v (ends_back c.args.self.now.tree.now (paths_passed ds))) (none_left c.loop-directory.directories.items c.pop.new.self.items _ c.in_default.ensures.items c.in_default.ensures.rest c.in_default.ensures.cases.0)) (c.loop-directory.invariant.added tells)

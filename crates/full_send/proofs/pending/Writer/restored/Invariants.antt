@@ -23,9 +23,9 @@ invariant-loop-directory g l =
       any_moment : D.tells → LeavesOnly D.moment D.left_since l.fn.disk l.disk (IsImage (D.pending l.fn.disk));
       steady : D.faults l.disk ≡ D.faults l.fn.disk;
       out_steady : O.faults l.out ≡ O.faults l.fn.out;
-      lead : AllByRecursion (λ e. walk l.fn.tree e.0 ≡ Ok e.1) (paths_passed l.directories.items);
-      added : D.tells → PartAdded (spelled_all F.spelled l.fn.self.spelling.version (restored_edits (with_holes (D.seen l.fn.disk) l.fn.tree)))
-          (spelled_all F.spelled l.fn.self.spelling.version (ends_back l.fn.tree (paths_passed l.directories.items)))
+      lead : AllByRecursion (λ e. walk l.fn.self.tree.now e.0 ≡ Ok e.1) (paths_passed l.directories.items);
+      added : D.tells → PartAdded (spelled_all F.spelled l.fn.self.spelling.version (restored_edits (with_holes (D.seen l.fn.disk) l.fn.self.tree.now)))
+          (spelled_all F.spelled l.fn.self.spelling.version (ends_back l.fn.self.tree.now (paths_passed l.directories.items)))
           l.fn.bytes l.bytes (O.taken l.fn.out) (O.taken l.out);
     }
 

@@ -15,13 +15,13 @@ use Rattle.full_send.proofs.Walking.{at_first, step_some, rest_none, smaller, wa
 use Rattle.full_send.proofs.pending.Writer.sent.Goals as goal
 
 pub sent_inode-requires-clause-leads : goal.sent_inode-requires-clause-leads
-sent_inode-requires-clause-leads g c = root_walks c.args.tree.now
+sent_inode-requires-clause-leads g c = root_walks c.args.self.now.tree.now
 
 pub loop-ino-init : goal.loop-ino-init
 loop-ino-init g c =
     let F = g.F.Form in
     let v : ℕ = c.args.self.now.spelling.version in
-    let s = c.args.tree.now in
+    let s = c.args.self.now.tree.now in
     let b = at_first s c.requires.kept.lawful c.in-Ok.paths c.in-Ok.ensures.begins in record {
       len = search rules;
       same = search rules;
@@ -40,7 +40,7 @@ pub returns-in_err-sent_inode-clause-adds : goal.returns-in_err-sent_inode-claus
 returns-in_err-sent_inode-clause-adds g c tells =
     let F = g.F.Form in
     let v : ℕ = c.args.self.now.spelling.version in
-    let s = c.args.tree.now in
+    let s = c.args.self.now.tree.now in
     let image : List ℕ = g.D.Disk.seen c.args.disk.now in
     let b = at_first s c.requires.kept.lawful c.in-Ok.paths c.in-Ok.ensures.begins in
     handed_on _ _ c.sent_inode.new.bytes _ _ c.from_residual.result _ c.from_residual.ensures.1
@@ -48,20 +48,20 @@ returns-in_err-sent_inode-clause-adds g c tells =
 
 pub sent_path-requires-clause-leads : goal.sent_path-requires-clause-leads
 sent_path-requires-clause-leads g c =
-    let s = c.args.tree.now in
+    let s = c.args.self.now.tree.now in
     let r = c.loop-ino.invariant.added.0 in
     let goes = step_some s c.loop-ino.paths r c.next.new.self c.in-Ok-Some.ino c.in-Ok-Some.field-0 c.in-Ok-Some.field-0-is c.in-Ok-Some.ensures.steps in
     walks_here s c.next.new.self goes.reached c.requires.kept.lawful ∙ ap (λ (n : ℕ). Ok n) goes.ino_is
 
 pub sent_path-requires-clause-passed : goal.sent_path-requires-clause-passed
 sent_path-requires-clause-passed g c =
-    let s = c.args.tree.now in
+    let s = c.args.self.now.tree.now in
     let r = c.loop-ino.invariant.added.0 in
     (step_some s c.loop-ino.paths r c.next.new.self c.in-Ok-Some.ino c.in-Ok-Some.field-0 c.in-Ok-Some.field-0-is c.in-Ok-Some.ensures.steps).reached.same
 
 pub loop-ino-smaller : goal.loop-ino-smaller
 loop-ino-smaller g c =
-    let s = c.args.tree.now in
+    let s = c.args.self.now.tree.now in
     let r = c.loop-ino.invariant.added.0 in
     smaller s c.loop-ino.paths c.next.new.self r c.in-Ok-Some.ino
     (step_some s c.loop-ino.paths r c.next.new.self c.in-Ok-Some.ino c.in-Ok-Some.field-0 c.in-Ok-Some.field-0-is c.in-Ok-Some.ensures.steps)
@@ -71,7 +71,7 @@ loop-ino-preserved g c =
     let F = g.F.Form in
     let O = g.O.Sink in
     let v : ℕ = c.args.self.now.spelling.version in
-    let s = c.args.tree.now in
+    let s = c.args.self.now.tree.now in
     let i = c.loop-ino.invariant in
     let r = i.added.0 in
     let goes = step_some s c.loop-ino.paths r c.next.new.self c.in-Ok-Some.ino c.in-Ok-Some.field-0 c.in-Ok-Some.field-0-is c.in-Ok-Some.ensures.steps in record {
@@ -95,7 +95,7 @@ returns-in_err-sent_path-in-Ok-Some-clause-adds g c tells =
     let F = g.F.Form in
     let O = g.O.Sink in
     let v : ℕ = c.args.self.now.spelling.version in
-    let s = c.args.tree.now in
+    let s = c.args.self.now.tree.now in
     let i = c.loop-ino.invariant in
     let r = i.added.0 in
     let image : List ℕ = g.D.Disk.seen c.args.disk.now in
@@ -109,7 +109,7 @@ pub returns-in-Ok-None-clause-adds : goal.returns-in-Ok-None-clause-adds
 returns-in-Ok-None-clause-adds g c tells =
     let F = g.F.Form in
     let v : ℕ = c.args.self.now.spelling.version in
-    let s = c.args.tree.now in
+    let s = c.args.self.now.tree.now in
     let i = c.loop-ino.invariant in
     let r = i.added.0 in
     let image : List ℕ = g.D.Disk.seen c.args.disk.now in
@@ -121,6 +121,6 @@ returns-in-Err-clause-adds g c tells =
     let O = g.O.Sink in
     let F = g.F.Form in
     let i = c.loop-ino.invariant in
-    let left : List ℕ = spelled_all F.spelled c.args.self.now.spelling.version (sends (g.D.Disk.seen c.args.disk.now) c.args.tree.now i.added.0.rest) in
+    let left : List ℕ = spelled_all F.spelled c.args.self.now.spelling.version (sends (g.D.Disk.seen c.args.disk.now) c.args.self.now.tree.now i.added.0.rest) in
     part_stops _ left left [] c.args.bytes.now c.loop-ino.bytes c.loop-ino.bytes (O.taken c.args.out.now) (O.taken c.loop-ino.out) (O.taken c.loop-ino.out) (made.Ends ended.NoMemory) (sym (append-nil left)) (i.added.1 tells)
     (nothing_sent left c.loop-ino.bytes (O.taken c.loop-ino.out))

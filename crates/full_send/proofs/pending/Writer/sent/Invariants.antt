@@ -24,8 +24,8 @@ invariant-loop-ino g l =
       any_moment : D.tells → LeavesOnly D.moment D.left_since l.fn.disk l.disk (IsImage (D.pending l.fn.disk));
       steady : D.faults l.disk ≡ D.faults l.fn.disk;
       out_steady : O.faults l.out ≡ O.faults l.fn.out;
-      added : (r : Reached l.fn.tree l.paths) × (D.tells → PartAdded (spelled_all F.spelled l.fn.self.spelling.version (sent_edits (with_holes (D.seen l.fn.disk) l.fn.tree)))
-          (spelled_all F.spelled l.fn.self.spelling.version (sends (D.seen l.fn.disk) l.fn.tree r.rest))
+      added : (r : Reached l.fn.self.tree.now l.paths) × (D.tells → PartAdded (spelled_all F.spelled l.fn.self.spelling.version (sent_edits (with_holes (D.seen l.fn.disk) l.fn.self.tree.now)))
+          (spelled_all F.spelled l.fn.self.spelling.version (sends (D.seen l.fn.disk) l.fn.self.tree.now r.rest))
           l.fn.bytes l.bytes (O.taken l.fn.out) (O.taken l.out));
     }
 

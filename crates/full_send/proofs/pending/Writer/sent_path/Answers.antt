@@ -10,10 +10,10 @@ use Rattle.full_send.proofs.HeldInodes.{short_path, short_first, listed_link, li
 use Rattle.full_send.proofs.pending.Writer.sent_path.Goals as goal
 
 pub link-requires-clause-short : goal.link-requires-clause-short
-link-requires-clause-short g c = subst IsShortPath (sym c.path.ensures) (short_path c.args.tree.now c.args.self.now.store.now.log.gate c.requires.kept c.args.paths.now.at c.args.ino c.requires.leads)
+link-requires-clause-short g c = subst IsShortPath (sym c.path.ensures) (short_path c.args.self.now.tree.now c.args.self.now.store.now.log.gate c.requires.kept c.args.last.now.paths.now.at c.args.last.now.ino c.requires.leads)
 
 pub link-requires-clause-short_first : goal.link-requires-clause-short_first
-link-requires-clause-short_first g c = short_first c.args.tree.now c.requires.kept.lawful c.args.paths.now c.requires.passed c.args.ino c.requires.leads c.in-Some.first.now (sym c.in-Some.ensures)
+link-requires-clause-short_first g c = short_first c.args.self.now.tree.now c.requires.kept.lawful c.args.last.now.paths.now c.requires.passed c.args.last.now.ino c.requires.leads c.in-Some.first.now (sym c.in-Some.ensures)
 
 pub returns-in-Some-clause-adds : goal.returns-in-Some-clause-adds
 returns-in-Some-clause-adds g c tells =
@@ -22,8 +22,8 @@ returns-in-Some-clause-adds g c tells =
     let v : ℕ = c.args.self.now.spelling.version in
     let image : List ℕ = g.D.Disk.seen c.args.disk.now in
     subst (λ (l : List ℕ). Adds l c.args.bytes.now c.link.new.bytes (O.taken c.args.out.now) (O.taken c.link.new.out) c.link.result)
-    (ap (λ (p : List ℕ). F.spelled v (Link p c.in-Some.first.now)) c.path.ensures ∙ sym (append-nil (F.spelled v (Link c.args.paths.now.at c.in-Some.first.now)))
-    ∙ ap (spelled_all F.spelled v) (sym (listed_link c.args.tree.now c.requires.kept.lawful c.args.paths.now c.requires.passed c.args.ino c.requires.leads image c.in-Some.first.now (sym c.in-Some.ensures))))
+    (ap (λ (p : List ℕ). F.spelled v (Link p c.in-Some.first.now)) c.path.ensures ∙ sym (append-nil (F.spelled v (Link c.args.last.now.paths.now.at c.in-Some.first.now)))
+    ∙ ap (spelled_all F.spelled v) (sym (listed_link c.args.self.now.tree.now c.requires.kept.lawful c.args.last.now.paths.now c.requires.passed c.args.last.now.ino c.requires.leads image c.in-Some.first.now (sym c.in-Some.ensures))))
     c.link.ensures.adds
 
 pub returns-in-None-clause-adds : goal.returns-in-None-clause-adds
@@ -33,6 +33,6 @@ returns-in-None-clause-adds g c tells =
     let v : ℕ = c.args.self.now.spelling.version in
     let image : List ℕ = g.D.Disk.seen c.args.disk.now in
     subst (λ (l : List ℕ). Adds l c.args.bytes.now c.sent_inode.new.bytes (O.taken c.args.out.now) (O.taken c.sent_inode.new.out) c.sent_inode.result)
-    (ap (λ (p : List ℕ). spelled_all F.spelled v (inode_commands p (listed (with_holes image c.args.tree.now) c.args.ino).inode)) c.path-in-None.ensures
-    ∙ ap (spelled_all F.spelled v) (sym (listed_own c.args.tree.now c.requires.kept.lawful c.args.paths.now c.requires.passed c.args.ino c.requires.leads image (sym c.in-None.ensures))))
+    (ap (λ (p : List ℕ). spelled_all F.spelled v (inode_commands p (listed (with_holes image c.args.self.now.tree.now) c.args.last.now.ino).inode)) c.path-in-None.ensures
+    ∙ ap (spelled_all F.spelled v) (sym (listed_own c.args.self.now.tree.now c.requires.kept.lawful c.args.last.now.paths.now c.requires.passed c.args.last.now.ino c.requires.leads image (sym c.in-None.ensures))))
     (c.sent_inode.ensures.adds tells)

@@ -8,7 +8,17 @@ use Rattle.inode_tree.proofs.ChangeLaws.{same_kind}
 use Rattle.inode_tree.proofs.TreeLaws.{whole_is, changed_whole}
 use Rattle.inode_tree.proofs.Known.{known_grows}
 use Rattle.inode_tree.proofs.KnownEdits.{remembered, changed_grows}
+use Rattle.inode_tree.proofs.RenameSteps.{sound_of}
+use Rattle.inode_tree.proofs.Standing.{never_missed, there_inside}
 use Rattle.inode_tree.proofs.tree.Tree.change.Goals as goal
+
+pub unreachable-requires : goal.unreachable-requires
+unreachable-requires g c =
+    let whole : c.self.inside.whole ≡ true = search rules in
+    let made = c.new-edit.result in
+    let sound = sound_of _ _ c.self.view_is _ _ whole c.self.invariant.0 in
+    absurd (never_missed (changed made) (λ inode. made) (value_at nat_cmp c.args.ino c.self.inside.inodes) (λ inode. with_value nat_cmp c.args.ino inode c.self.inside.inodes) _ c.edit.new.self _ c.edit.new.edit c.in_ok-edit.field-0
+    (there_inside _ _ c.self.view_is c.args.ino (c.requires sound)) c.in_ok-edit.ensures c.if-not-branch.true)
 
 pub invariant_of-self-2 : goal.invariant_of-self-2
 invariant_of-self-2 g c =

@@ -3,6 +3,7 @@ use Rattle.std.proofs.Common.{◌≡◌, Ok, true, false, ap, ◌∙◌, sym, su
 use Rattle.std.proofs.lemmas.Result.{err_from_is_err_and}
 use Rattle.send_model.specs.Edit.{is_xattr_name, has_xattr, change_inode}
 use Rattle.inode_tree.proofs.EditSteps.{remove_xattr_lost, remove_xattr_bad, remove_xattr_absent, remove_xattr_made}
+use Rattle.inode_tree.proofs.Standing.{still_there}
 use Rattle.inode_tree.proofs.tree.Tree.remove_xattr.Goals as goal
 
 pub returns-in_err-ino : goal.returns-in_err-ino
@@ -23,6 +24,9 @@ returns-then-not-has_xattr g c =
       remove_xattr_absent c.args.self.now c.args.path.now c.args.name.now c.in_ok-ino.ino c.in_ok-ino.ensures.found good (subst (λ s. has_xattr s c.in_ok-ino.ino c.args.name.now ≡ false) same absent),
       same,
     )
+
+pub change-requires : goal.change-requires
+change-requires g c = still_there c.reach.new.self c.args.self.now c.in_ok-ino.ensures.same c.args.path.now c.in_ok-ino.ino c.in_ok-ino.ensures.found
 
 pub returns : goal.returns
 returns g c =

@@ -1,6 +1,7 @@
 -- Each way out of a rename.
+use Rattle.std.specs.Prelude.{ℕ, Option, is_some}
 use Rattle.std.proofs.Common.{◌≡◌, ◌≢◌, ◌&&◌, Some, None, Ok, true, false, ap, ◌∙◌, rules, sym, subst}
-use Rattle.std.proofs.lemmas.Bool.{eq-eqb, ne_eqb}
+use Rattle.std.proofs.lemmas.Bool.{eq-eqb, ne_eqb, true≢false}
 use Rattle.std.proofs.lemmas.Result.{err_from_is_err_and}
 use Rattle.send_model.specs.Subvolume.{IsSound, named, is_directory}
 use Rattle.send_model.specs.Edit.{lies_below}
@@ -88,6 +89,14 @@ returns-then-branch g c =
     let was_free : c.in_ok-move_to.field-0 ≡ true = search rules in
     let moves = if_free _ _ _ _ _ was_free c.in_ok-move_to.ensures in
     rename_moved f moves.0 outside ∙ ap Ok (sym moves.1)
+
+-- A name stands at the second place still.
+pub unreachable-requires : goal.unreachable-requires
+unreachable-requires g c =
+    let taken : c.in_ok-move_to.field-0 ≡ false = search rules in
+    let free : named c.move_to.new.self c.in_ok-to.to.0 c.in_ok-to.to.1 ≡ None = search rules in
+    let stood = if_taken _ _ _ _ _ taken c.in_ok-move_to.ensures in
+    absurd (true≢false (sym stood.0 ∙ ap (λ (o : Option ℕ). is_some o) (subst (λ s. named s c.in_ok-to.to.0 c.in_ok-to.to.1 ≡ None) stood.1 free)))
 
 -- Where a name stands at the second place, nothing has moved.
 stays : (g : Over) (c : In_ok-move_to g) → c.in_ok-move_to.field-0 ≡ false → c.move_to.new.self ≡ c.place-2.new.self

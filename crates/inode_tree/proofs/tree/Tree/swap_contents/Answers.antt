@@ -2,12 +2,21 @@
 use Rattle.std.proofs.Common.{◌≡◌, Some, true, refl, ap, ◌∙◌, rules, sym, subst}
 use Rattle.std.specs.Ordering.{nat_cmp}
 use Rattle.send_model.specs.Map.{value_at, with_value}
+use Rattle.send_model.specs.Subvolume.{is_file}
 use Rattle.send_model.specs.Edit.{set_cells}
 use Rattle.shared_map.proofs.Editing.{was_there}
 use Rattle.inode_tree.proofs.TreeLaws.{whole_is, changed_whole, cells_found}
 use Rattle.inode_tree.proofs.Known.{known_grows}
 use Rattle.inode_tree.proofs.KnownEdits.{remembered, changed_grows}
+use Rattle.inode_tree.proofs.Standing.{never_missed, file_inside}
 use Rattle.inode_tree.proofs.tree.Tree.swap_contents.Goals as goal
+
+pub unreachable-requires : goal.unreachable-requires
+unreachable-requires g c =
+    let file : is_file c.args.self.now c.args.ino ≡ true = search rules in
+    let made = c.new-edit.result in
+    absurd (never_missed (set_cells (λ _. made)) (λ inode. inode.cells) (value_at nat_cmp c.args.ino c.self.inside.inodes) (λ inode. with_value nat_cmp c.args.ino inode c.self.inside.inodes) _ c.edit.new.self _ c.edit.new.edit c.in_ok-edit.field-0
+    (file_inside _ _ c.self.view_is c.args.ino file) c.in_ok-edit.ensures c.if-not-branch.true)
 
 pub invariant_of-self-2 : goal.invariant_of-self-2
 invariant_of-self-2 g c =

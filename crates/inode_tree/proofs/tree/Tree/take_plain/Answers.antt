@@ -9,6 +9,7 @@ use Rattle.inode_tree.specs.Trees.{further_names}
 use Rattle.inode_tree.proofs.TreeLaws.{whole_is}
 use Rattle.inode_tree.proofs.KnownEdits.{Edited, remembered}
 use Rattle.inode_tree.proofs.PlainSteps.{Stayed, nothing_there, one_less, directory_back, last_gone}
+use Rattle.inode_tree.proofs.Standing.{never_lost}
 use Rattle.inode_tree.proofs.tree.Tree.take_plain.Given.{Over}
 use Rattle.inode_tree.proofs.tree.Tree.take_plain.Goals.{In_default, After-forget_name, In_ok-insert-3, After-forget_name-2}
 use Rattle.inode_tree.proofs.tree.Tree.take_plain.Goals as goal
@@ -45,6 +46,14 @@ invariant_of-self-then-further-gt0 g c = let left = others_stay g (goal.at.invar
 
 pub returns-then-further-gt0 : goal.returns-then-further-gt0
 returns-then-further-gt0 g c = (others_stay g (goal.at.returns-then-further-gt0 g c).After-forget_name).says
+
+-- The inode that the name led to is there.
+pub unreachable-requires : goal.unreachable-requires
+unreachable-requires g c =
+    let whole : c.self.inside.whole ≡ true = search rules in
+    let tree = whole_is _ _ _ whole c.self.invariant.0 in
+    let there = sym c.in_ok-ino.ensures.was ∙ c.in-Some.is in
+    absurd (never_lost _ tree.sound c.args.place.now c.in-Some.ino there (sym c.in_ok-inode.ensures.was ∙ c.in_default-2.is))
 
 -- A directory is put back.
 put_back : (g : Over) (c : In_ok-insert-3 g)

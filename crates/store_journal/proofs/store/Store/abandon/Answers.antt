@@ -1,6 +1,7 @@
 use Rattle.std.proofs.Common.{sym, subst}
 use Rattle.store_journal.specs.Shown.{StoreState}
-use Rattle.store_journal.specs.Holding.{bodies_of, Builds}
+use Rattle.store_journal.specs.Holding.{bodies_of}
+use Rattle.store_journal.proofs.Unpacked.{Builds}
 use Rattle.store_journal.proofs.store.Store.abandon.Goals as goal
 
 pub returns-clause-holds : goal.returns-clause-holds

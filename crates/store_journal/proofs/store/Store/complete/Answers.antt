@@ -4,7 +4,8 @@ use Rattle.store_model.specs.Stored.{Body, Makes}
 use Rattle.sx_base.proofs.DiskMoments.{weakens}
 use Rattle.store_groups.specs.declared.place.Place.{Place}
 use Rattle.store_journal.specs.Shown.{StoreState}
-use Rattle.store_journal.specs.Holding.{bodies_of, new_group, Builds}
+use Rattle.store_journal.specs.Holding.{bodies_of, new_group}
+use Rattle.store_journal.proofs.Unpacked.{Builds}
 use Rattle.store_groups.specs.Taking.{as_runs}
 use Rattle.store_journal.proofs.Keeping.{more_has, more_rests, edits_spelled, completes}
 use Rattle.store_groups.specs.Kept.{AreKept}

@@ -12,7 +12,8 @@ use Rattle.clone_resolve.specs.Steps.{data_len}
 use Rattle.group_log.proofs.GatedGroups.{grows_has}
 use Rattle.store_groups.specs.Placing.{further}
 use Rattle.store_journal.specs.Shown.{StoreState}
-use Rattle.store_journal.specs.Holding.{bodies_of, Builds}
+use Rattle.store_journal.specs.Holding.{bodies_of}
+use Rattle.store_journal.proofs.Unpacked.{Builds}
 use Rattle.store_journal.proofs.Keeping.{edit_builds}
 use Rattle.store_groups.proofs.KeptParts.{run_before, kept_further, all_further, edit_kept}
 use Rattle.store_groups.proofs.Editing.{data_in_frame, short_data, near_data, edit_same}
