@@ -2,7 +2,9 @@
 ghost use Rattle.std.specs.Prelude.{◌≡◌, ◌≤◌, ◌^◌, ℕ, map, IfOk};
 ghost use Rattle.std.specs.String.{string_bytes};
 ghost use Rattle.send_model.specs.Store as meant;
+ghost use Rattle.sx_base.specs.Asks.{AreReadOnce};
 ghost use Rattle.sx_base.specs.Calls.{Caused, IfAllTold, Wrote, SteadyIfDone};
+ghost use Rattle.sx_base.specs.Later.{AskedOnly};
 ghost use Rattle.auditor.specs.Following.{HaveSameShape};
 ghost use Rattle.auditor.specs.Answers.{AuditEnds, WritesLine, accepted_text};
 
@@ -33,6 +35,8 @@ pub fn audit<R: Origin, I: Inputs, O: Sink>(
     ensures same { I.told inputs.new ≡ I.told inputs.old }
     ensures steady { SteadyIfDone (I.faults inputs.old) (I.faults inputs.new) result }
     ensures ends_steady { SteadyIfDone (I.ends inputs.old) (I.ends inputs.new) result }
+    ensures asked { AskedOnly I.Inputs inputs.old inputs.new
+        (AreReadOnce (map string_bytes given.now.files.now)) }
     ensures out_steady { SteadyIfDone (O.faults out.old) (O.faults out.new) result }
     ensures cause { Caused (I.faults inputs.old) (I.faults inputs.new)
         (O.faults out.old) (O.faults out.new) result }

@@ -8,7 +8,7 @@ use Rattle.send_model.specs.Command.{Command, Subvol, Snapshot, Clone, End}
 use Rattle.send_model.specs.Spelling.{canonical, canonical_all, frame_of, IsSpellable}
 use Rattle.send_model.specs.Reading.{Item}
 use Rattle.send_model.specs.Subvolume.{Subvolume}
-use Rattle.send_model.specs.Clone.{block_len, Cloned, cloned}
+use Rattle.send_model.specs.Clone.{block_len, Cloned, cloned, clone_values}
 use Rattle.send_model.specs.Refusal.{Refusal}
 use Rattle.send_model.specs.Store.{Key, Part, Store, State, clone_source}
 use Rattle.send_model.specs.Order.{commands_of}
@@ -116,11 +116,11 @@ abbrev pub cloned_in : List Command → ℕ
 cloned_in cs = sum_by cloned_by cs
 
 cells_few : (part : Subvolume Traced) (source : Option (Subvolume Traced)) (own : Bool) (path : List ℕ) (offset : ℕ) (clone_path : List ℕ) (from len : ℕ) (r : Result (Cloned Traced) Refusal)
-    → cloned part source own path offset clone_path from len ≡ r → length (elim r as (λ x. List Traced) [ Err refusal ↦ [] | Ok range ↦ range.cells ]) ≤ len
+    → cloned part source own (clone_values path offset clone_path from len) ≡ r → length (elim r as (λ x. List Traced) [ Err refusal ↦ [] | Ok range ↦ range.cells ]) ≤ len
 cells_few part source own path offset clone_path from len (Err refusal) e = zero-le
 cells_few part source own path offset clone_path from len (Ok range) e =
     let s = source_there part source own path offset clone_path from len range e in
-    let f = cloned_facts part s.0 own path offset clone_path from len range (ap (λ (o : Option (Subvolume Traced)). cloned part o own path offset clone_path from len) (sym s.1) ∙ e) in
+    let f = cloned_facts part s.0 own path offset clone_path from len range (ap (λ (o : Option (Subvolume Traced)). cloned part o own (clone_values path offset clone_path from len)) (sym s.1) ∙ e) in
     let l = f.length_is in
     omega (arith, l)
 
@@ -131,7 +131,7 @@ range_few state (Clone path offset clone_uuid clone_ctransid clone_path clone_of
     one : (o : Option (Part Traced)) → length (elim o as (λ x. List Traced) [
       | None ↦ []
       | Some part ↦ elim (cloned part.subvolume (clone_source state.store part (record { uuid = clone_uuid; ctransid = clone_ctransid }))
-          (bytes_eq clone_uuid part.key.uuid) path offset clone_path clone_offset clone_len) as (λ x. List Traced) [
+          (bytes_eq clone_uuid part.key.uuid) (clone_values path offset clone_path clone_offset clone_len)) as (λ x. List Traced) [
             | Err refusal ↦ []
             | Ok range ↦ range.cells
           ]

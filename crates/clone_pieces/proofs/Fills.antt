@@ -111,10 +111,14 @@ module _ {Z : Type 0} (names : List (String Z)) (held : meant.Key → ℕ → Li
   again_filled (Some table) new (Err stop.OutputFault) there long filled = absurd filled
   again_filled (Some table) new (Err stop.NoMemory) there long filled = absurd filled
 
+  -- What holds of each list in which the file has this name holds of the names.
+  pub again_named : (P : List (List ℕ) → Type 0) → ((spellings : List (List ℕ)) → file < length spellings → spelled ≡ get_or spellings file [] → P spellings) → P (map string_bytes names)
+  again_named P found = found (map string_bytes names) (count_names names file file_less) (name_at names file name spelled file_less name_is spelling)
+
   -- A file that was found changed is one of the names.
   pub again_changed : (last : EarlyEnd) (result : Result (Unit {0}) SendStop) → ((spellings : List (List ℕ)) → file < length spellings → spelled ≡ get_or spellings file [] → RedirectChanged spellings last result)
       → RedirectChanged (map string_bytes names) last result
-  again_changed last result found = found (map string_bytes names) (count_names names file file_less) (name_at names file name spelled file_less name_is spelling)
+  again_changed last result found = again_named (λ spellings. RedirectChanged spellings last result) found
 
 -- ---- piece by piece
 

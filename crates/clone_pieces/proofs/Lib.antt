@@ -3,6 +3,7 @@ pub mod Short
 pub mod Flow
 pub mod Told
 pub mod Lengths
+pub mod Asked
 pub mod Fills
 pub mod Chunks
 pub mod Literals

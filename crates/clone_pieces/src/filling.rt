@@ -3,13 +3,14 @@ ghost use Rattle.std.specs.Prelude.{◌≡◌, ℕ, ◌+◌, ◌<◌, ◌≤◌,
 ghost use Rattle.std.specs.List.{AllByRecursion};
 ghost use Rattle.std.specs.String.{string_bytes};
 ghost use Rattle.sx_base.specs.Again.{LiesIn, FillsFrom};
+ghost use Rattle.sx_base.specs.Asks.{IsAgain};
 ghost use Rattle.sx_base.specs.Calls.{IfAllTold};
 ghost use Rattle.extent_map.specs.Cells.{cells_between};
 ghost use Rattle.extent_map.specs.Pieces.{piece_cells};
 ghost use Rattle.provenance.specs.Traces.{advanced_by};
 ghost use Rattle.clone_pieces.specs.Origins.{IsInInput};
 ghost use Rattle.clone_pieces.specs.Later.{BytesLater};
-ghost use Rattle.sx_base.specs.Later.{InputsLater};
+ghost use Rattle.sx_base.specs.Later.{InputsLater, AskedOnly};
 ghost use Rattle.sx_base.specs.Causes.{counts};
 ghost use Rattle.clone_pieces.specs.Filling.{IsHadIn, PieceHad, PieceThere, FillEnd, AgainEnd};
 ghost use Rattle.clone_pieces.specs.Redirecting.{RedirectCaused, RedirectChanged};
@@ -36,6 +37,8 @@ pub(crate) fn fill_cells<I: Inputs, B: OutsideBytes>(
         (λ files. AllByRecursion (IsInInput files)
         (cells_between from (length buf.old) contents.now)) }
     ensures inputs { InputsLater I.Inputs inputs.old inputs.new result }
+    ensures asked { AskedOnly I.Inputs inputs.old inputs.new
+        (AllByRecursion (IsAgain (I.told inputs.old) (map string_bytes files.now))) }
     ensures bytes { BytesLater B.OutsideBytes bytes.old bytes.new result }
     ensures cause { RedirectCaused
         (counts (I.ends inputs.old) (I.faults inputs.old + B.faults bytes.old) 0)
@@ -68,6 +71,8 @@ fn fill_piece<I: Inputs, B: OutsideBytes>(
     requires there { IfAllTold (I.told inputs.old) (map string_bytes files.now)
         (PieceThere origin (length buf.old)) }
     ensures inputs { InputsLater I.Inputs inputs.old inputs.new result }
+    ensures asked { AskedOnly I.Inputs inputs.old inputs.new
+        (AllByRecursion (IsAgain (I.told inputs.old) (map string_bytes files.now))) }
     ensures bytes { BytesLater B.OutsideBytes bytes.old bytes.new result }
     ensures cause { RedirectCaused
         (counts (I.ends inputs.old) (I.faults inputs.old + B.faults bytes.old) 0)
@@ -105,6 +110,9 @@ fn read_part<I: Inputs>(
     requires range { LiesIn (I.told inputs.old) name.now at (length buf.old) }
     requires number { file + 1 < 2 ^ 64 }
     ensures inputs { InputsLater I.Inputs inputs.old inputs.new result }
+    ensures asked { (names : List (List ℕ)) → file < length names
+        → name.now ≡ get_or names file [] → AskedOnly I.Inputs inputs.old inputs.new
+        (AllByRecursion (IsAgain (I.told inputs.old) names)) }
     ensures cause { RedirectCaused (counts (I.ends inputs.old) (I.faults inputs.old) 0)
         (counts (I.ends inputs.new) (I.faults inputs.new) 0) result }
     ensures changed { (names : List (List ℕ)) → file < length names

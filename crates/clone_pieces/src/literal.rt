@@ -5,11 +5,12 @@ ghost use Rattle.std.specs.String.{string_bytes};
 ghost use Rattle.send_model.specs.Command.{Write};
 ghost use Rattle.send_model.specs.Spelling.{canonical, canonical_all};
 ghost use Rattle.send_model.specs.Composed.{writes_from};
+ghost use Rattle.sx_base.specs.Asks.{IsAgain};
 ghost use Rattle.sx_base.specs.Calls.{IfAllTold};
 ghost use Rattle.extent_map.specs.Cells.{cells_between};
 ghost use Rattle.clone_pieces.specs.Origins.{IsInInput};
 ghost use Rattle.clone_pieces.specs.Later.{BytesLater};
-ghost use Rattle.sx_base.specs.Later.{InputsLater, OutputLater};
+ghost use Rattle.sx_base.specs.Later.{InputsLater, OutputLater, AskedOnly};
 ghost use Rattle.sx_base.specs.Causes.{counts};
 ghost use Rattle.clone_pieces.specs.Filling.{byte_in, IsHadIn};
 ghost use Rattle.clone_pieces.specs.Redirecting.{RedirectEnd, RedirectCaused, RedirectChanged};
@@ -46,6 +47,8 @@ pub(crate) fn write_cells<I: Inputs, E, B: OutsideBytes, O: Sink>(
         (λ files. AllByRecursion (IsInInput files)
         (cells_between range.now.from range.now.len range.now.contents.now)) }
     ensures inputs { InputsLater I.Inputs inputs.old inputs.new result }
+    ensures asked { AskedOnly I.Inputs inputs.old inputs.new
+        (AllByRecursion (IsAgain (I.told inputs.old) (map string_bytes sources.now.files.now))) }
     ensures bytes { BytesLater B.OutsideBytes bytes.old bytes.new result }
     ensures out { OutputLater O.Sink out.old out.new result }
     ensures cause { RedirectCaused
@@ -104,6 +107,8 @@ fn write_some<I: Inputs, E, B: OutsideBytes, O: Sink>(
         (λ files. AllByRecursion (IsInInput files)
         (cells_between range.now.from range.now.len range.now.contents.now)) }
     ensures inputs { InputsLater I.Inputs inputs.old inputs.new result }
+    ensures asked { AskedOnly I.Inputs inputs.old inputs.new
+        (AllByRecursion (IsAgain (I.told inputs.old) (map string_bytes sources.now.files.now))) }
     ensures bytes { BytesLater B.OutsideBytes bytes.old bytes.new result }
     ensures out { OutputLater O.Sink out.old out.new result }
     ensures cause { RedirectCaused

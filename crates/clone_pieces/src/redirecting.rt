@@ -6,6 +6,7 @@ ghost use Rattle.send_model.specs.Command.{Clone};
 ghost use Rattle.send_model.specs.Spelling.{canonical, canonical_all};
 ghost use Rattle.send_model.specs.Provenance.{Traced, literal_len, pieces_of};
 ghost use Rattle.send_model.specs.Composed.{path_of};
+ghost use Rattle.sx_base.specs.Asks.{IsAgain};
 ghost use Rattle.sx_base.specs.Calls.{IfAllTold};
 ghost use Rattle.subvol_catalog.specs.Entries.{key_of};
 ghost use Rattle.extent_map.specs.Cells.{cells_between};
@@ -13,7 +14,7 @@ ghost use Rattle.provenance.specs.Traces.{place_in};
 ghost use Rattle.provenance.specs.Plans.{planned};
 ghost use Rattle.clone_pieces.specs.Origins.{outside_cells, IsHad, IsInInput, AreAsLong, AreHeld};
 ghost use Rattle.clone_pieces.specs.Later.{BytesLater};
-ghost use Rattle.sx_base.specs.Later.{InputsLater, OutputLater};
+ghost use Rattle.sx_base.specs.Later.{InputsLater, OutputLater, AskedOnly};
 ghost use Rattle.sx_base.specs.Causes.{counts};
 ghost use Rattle.clone_pieces.specs.Filling.{byte_in, IsHadIn};
 ghost use Rattle.clone_pieces.specs.Cutting.{cut_len, rest_len, rest_cells, StandsIn, IsNamed, cut_commands};
@@ -109,6 +110,8 @@ pub fn redirect<'a, I: Inputs, E: Known, B: OutsideBytes, O: Sink>(
         (λ files. AllByRecursion (IsInInput files)
         (cells_between range.now.from range.now.len range.now.contents.now)) }
     ensures inputs { InputsLater I.Inputs inputs.old inputs.new result }
+    ensures asked { AskedOnly I.Inputs inputs.old inputs.new
+        (AllByRecursion (IsAgain (I.told inputs.old) (map string_bytes sources.now.files.now))) }
     ensures bytes { BytesLater B.OutsideBytes bytes.old bytes.new result }
     ensures out { OutputLater O.Sink out.old out.new result }
     ensures cause { RedirectCaused
@@ -164,6 +167,8 @@ fn write_piece<I: Inputs, E: Known, B: OutsideBytes, O: Sink>(
         (λ files. AllByRecursion (IsInInput files)
         (rest_cells piece.now.contents.now (planned piece.now.plan))) }
     ensures inputs { InputsLater I.Inputs inputs.old inputs.new result }
+    ensures asked { AskedOnly I.Inputs inputs.old inputs.new
+        (AllByRecursion (IsAgain (I.told inputs.old) (map string_bytes sources.now.files.now))) }
     ensures bytes { BytesLater B.OutsideBytes bytes.old bytes.new result }
     ensures out { OutputLater O.Sink out.old out.new result }
     ensures cause { RedirectCaused

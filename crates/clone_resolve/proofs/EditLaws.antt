@@ -6,7 +6,7 @@ use Rattle.send_model.specs.Path.{path_names}
 use Rattle.send_model.specs.Command as meant
 use Rattle.send_model.specs.Subvolume.{Subvolume}
 use Rattle.send_model.specs.Edit.{edit, change_contents, written_at, resized, fallocate}
-use Rattle.send_model.specs.Clone.{clone, cloned}
+use Rattle.send_model.specs.Clone.{clone, cloned, clone_values}
 use Rattle.send_model.specs.Store.{Key, Store, Part, clone_source, edit_part, find}
 use Rattle.extent_map.specs.Pieces.{run_cells}
 use Rattle.extent_map.proofs.Layouts.{length-run_cells}
@@ -35,7 +35,7 @@ module _ {C : Type 0} (zero_cell : C) (put : List C) (store : Store C) (part : P
 
   pub clone_is : (path : List ℕ) (offset : ℕ) (clone_uuid : List ℕ) (clone_ctransid : ℕ) (clone_path : List ℕ) (clone_offset clone_len : ℕ)
       → edit_part zero_cell put store part (meant.Clone path offset clone_uuid clone_ctransid clone_path clone_offset clone_len)
-      ≡ clone zero_cell part.subvolume (clone_source store part (record { uuid = clone_uuid; ctransid = clone_ctransid })) (bytes_eq clone_uuid part.key.uuid) path offset clone_path clone_offset clone_len
+      ≡ clone zero_cell part.subvolume (clone_source store part (record { uuid = clone_uuid; ctransid = clone_ctransid })) (bytes_eq clone_uuid part.key.uuid) (clone_values path offset clone_path clone_offset clone_len)
   unfolding edit_part
   clone_is path offset clone_uuid clone_ctransid clone_path clone_offset clone_len = refl
 
@@ -59,16 +59,16 @@ of_tree zero_cell put store part c w t f l = record { elsewhere = refl; edits = 
 
 -- The refusals of a clone that come before its walks.
 module _ {C : Type 0} (zero_cell : C) (part : Subvolume C) (source : Option (Subvolume C)) (own : Bool) (path : List ℕ) (offset : ℕ) (clone_path : List ℕ) (from len : ℕ) where
-  pub clone_bad_path : path_names path ≡ None → clone zero_cell part source own path offset clone_path from len ≡ Err BadPath
+  pub clone_bad_path : path_names path ≡ None → clone zero_cell part source own (clone_values path offset clone_path from len) ≡ Err BadPath
   unfolding clone cloned
   clone_bad_path p = rw p refl
 
-  pub clone_bad_source : (names : List (List ℕ)) → path_names path ≡ Some names → path_names clone_path ≡ None → clone zero_cell part source own path offset clone_path from len ≡ Err BadPath
+  pub clone_bad_source : (names : List (List ℕ)) → path_names path ≡ Some names → path_names clone_path ≡ None → clone zero_cell part source own (clone_values path offset clone_path from len) ≡ Err BadPath
   unfolding clone cloned
   clone_bad_source names p q = rw (p, q) refl
 
   pub clone_no_source : (names clone_names : List (List ℕ)) → path_names path ≡ Some names → path_names clone_path ≡ Some clone_names → source ≡ None
-      → clone zero_cell part source own path offset clone_path from len ≡ Err NoSource
+      → clone zero_cell part source own (clone_values path offset clone_path from len) ≡ Err NoSource
   unfolding clone cloned
   clone_no_source names clone_names p q s = rw (p, q, s) refl
 

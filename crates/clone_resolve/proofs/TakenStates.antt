@@ -4,14 +4,14 @@ use Rattle.std.specs.Option.{option_map}
 use Rattle.std.specs.List.{AllByRecursion}
 use Rattle.std.specs.Str.{bytes_eq}
 use Rattle.std.proofs.Common.{refl, sym, ap, ap₂, subst, ◌∙◌, arith}
-use Rattle.std.proofs.lemmas.Bool.{false≢true, true≢false, leb-true, false_from_ne_true}
+use Rattle.std.proofs.lemmas.Bool.{false≢true, leb-true}
 use Rattle.send_model.specs.Refusal.{Refusal, NoSubvolume, NoParent}
 use Rattle.send_model.specs.Chain.{found}
 use Rattle.send_model.specs.Map.{Map}
 use Rattle.send_model.specs.Command.{Command, Subvol, Snapshot, Clone, End}
 use Rattle.send_model.specs.Subvolume.{Inode, Subvolume, root_alone, walk}
 use Rattle.send_model.specs.Edit.{greatest_end}
-use Rattle.send_model.specs.Clone.{cells_of, Cloned, cloned}
+use Rattle.send_model.specs.Clone.{cells_of, Cloned, cloned, clone_values}
 use Rattle.send_model.specs.Store.{Key, same_key, Head, head_of, Entry, Store, Part, State, Stepped, find, with_contents, completed, start_from, begun, unfinished, entered, step_head, clone_source, edit_part, edited, step_edit, step}
 use Rattle.send_model.specs.Provenance.{Traced, inode_with, uuid_after, is_own, clone_range}
 use Rattle.send_model.specs.Cells.{recelled, recelled_store, recelled_part, recelled_state, cell_of, Holds, AllCells}
@@ -19,7 +19,6 @@ use Rattle.send_model.specs.Counts.{is_clone}
 use Rattle.send_model.proofs.MergingClones.{turned_false}
 use Rattle.send_model.proofs.Sorts.{by_sort, is_plain, head_step, plain_step_edit, plain_edit_part, same_inside}
 use Rattle.send_model.proofs.Fuel.{ok_same}
-use Rattle.send_model.proofs.Stores.{bytes_eq_same, bytes_eq_true}
 use Rattle.send_model.proofs.ElementLaws.{all_both, all_take, all_drop}
 use Rattle.send_model.proofs.Merging.{begun_begins, edited_taken}
 use Rattle.send_model.proofs.CellSteps.{find-cells}
@@ -27,7 +26,7 @@ use Rattle.send_model.proofs.CellClones.{recloned, cloned-cells}
 use Rattle.send_model.proofs.Held.{cells_hold, edit_holds}
 use Rattle.send_model.proofs.Redirected.{cloned_facts, source_there, clone_ranged, clone_command_holds}
 use Rattle.extent_map.specs.Cells.{cells_between}
-use Rattle.clone_resolve.specs.Taken.{TakenFrom}
+use Rattle.clone_resolve.specs.Taken.{TakenFrom, taken_range}
 
 -- ---- the part after a step
 
@@ -263,7 +262,7 @@ record Ranged {C : Type 0} (state : State C) (path : List ℕ) (offset : ℕ) (k
   source : Subvolume C
   there : find state.store key ≡ Some source
   range : Cloned C
-  made : cloned own.subvolume (Some source) false path offset clone_path from len ≡ Ok range
+  made : cloned own.subvolume (Some source) false (clone_values path offset clone_path from len) ≡ Ok range
 
 module _ {C : Type 0} (zero_cell : C) (put : List C) (state : State C) where
   edited_store : (part : Part C) (r : Result (Subvolume C) Refusal) → (edited state.store part r).state.store ≡ state.store
@@ -296,9 +295,9 @@ module _ {C : Type 0} (zero_cell : C) (put : List C) (state : State C) where
     source_is own other = ap (λ (b : Bool). if b then Some own.subvolume else find state.store key) other
 
     ranged_by : (own : Part C) → state.part ≡ Some own → bytes_eq key.uuid own.key.uuid ≡ false → (source : Subvolume C) → clone_source state.store own key ≡ Some source → (range : Cloned C)
-        → cloned own.subvolume (clone_source state.store own key) (bytes_eq key.uuid own.key.uuid) path offset clone_path from len ≡ Ok range → Ranged state path offset key clone_path from len
+        → cloned own.subvolume (clone_source state.store own key) (bytes_eq key.uuid own.key.uuid) (clone_values path offset clone_path from len) ≡ Ok range → Ranged state path offset key clone_path from len
     ranged_by own own_is other source source_at range made =
-        let at : Option (Subvolume C) → Bool → Type 0 = λ o b. cloned own.subvolume o b path offset clone_path from len ≡ Ok range in
+        let at : Option (Subvolume C) → Bool → Type 0 = λ o b. cloned own.subvolume o b (clone_values path offset clone_path from len) ≡ Ok range in
         record {
           own = own;
           own_is = own_is;
@@ -321,7 +320,7 @@ module _ {C : Type 0} (zero_cell : C) (put : List C) (state : State C) where
         ranged_by own m.1 other s.0 s.1 a.0 a.1
 
     -- A clone that is taken and does not name its own part copies from a file of a complete subvolume.
-    pub taken_from : TakenFrom state (step zero_cell put state (Clone path offset key.uuid key.ctransid clone_path from len)).state path offset key clone_path from len
+    pub taken_from : TakenFrom state (step zero_cell put state (Clone path offset key.uuid key.ctransid clone_path from len)).state offset (taken_range key clone_path from len)
     taken_from =
         let r = ranged in
         let facts = cloned_facts r.own.subvolume r.source false path offset clone_path from len r.range r.made in
@@ -343,7 +342,7 @@ module _ {C : Type 0} (zero_cell : C) (put : List C) (state : State C) where
       cells_in (Ok range) = range.cells
 
       -- Over traced cells such a clone puts what its source's cells are traced to.
-      pub range_taken : (after : State C) (t : TakenFrom state after path offset key clone_path from len)
+      pub range_taken : (after : State C) (t : TakenFrom state after offset (taken_range key clone_path from len))
           → clone_range (recelled_state f state) (Clone path offset key.uuid key.ctransid clone_path from len) ≡ map f (cells_between from len (cells_of t.source t.ino))
       unfolding clone_range cells_between
       range_taken after t =
@@ -356,9 +355,9 @@ module _ {C : Type 0} (zero_cell : C) (put : List C) (state : State C) where
           let source : find (recelled_store f state.store) key ≡ Some (recelled f r.source) = find-cells f state.store key ∙ ap (option_map (recelled f)) r.there in
           ap (λ (o : Option (Part C)). elim (option_map (recelled_part f) o) as (λ x. List Traced) [
             | None ↦ []
-            | Some part ↦ cells_in (cloned part.subvolume (clone_source (recelled_store f state.store) part key) (bytes_eq key.uuid part.key.uuid) path offset clone_path from len)
+            | Some part ↦ cells_in (cloned part.subvolume (clone_source (recelled_store f state.store) part key) (bytes_eq key.uuid part.key.uuid) (clone_values path offset clone_path from len))
           ]) r.own_is
-          ∙ ap (λ (b : Bool). cells_in (cloned (recelled f own.subvolume) (if b then Some (recelled f own.subvolume) else find (recelled_store f state.store) key) b path offset clone_path from len)) r.other
-          ∙ ap (λ (o : Option (Subvolume Traced)). cells_in (cloned (recelled f own.subvolume) o false path offset clone_path from len)) source
+          ∙ ap (λ (b : Bool). cells_in (cloned (recelled f own.subvolume) (if b then Some (recelled f own.subvolume) else find (recelled_store f state.store) key) b (clone_values path offset clone_path from len))) r.other
+          ∙ ap (λ (o : Option (Subvolume Traced)). cells_in (cloned (recelled f own.subvolume) o false (clone_values path offset clone_path from len))) source
           ∙ ap cells_in (cloned-cells f own.subvolume (Some r.source) false path offset clone_path from len ∙ ap (recloned f) r.made)
           ∙ ap (map f) cells

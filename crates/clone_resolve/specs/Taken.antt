@@ -5,14 +5,25 @@ use Rattle.send_model.specs.Edit.{greatest_end}
 use Rattle.send_model.specs.Clone.{cells_of}
 use Rattle.send_model.specs.Store.{Key, State, find}
 
--- Where the cells come from that a clone puts: a range of a file of a complete subvolume of the store, which stays as it was.
-pub record TakenFrom {C : Type 0} (state after : State C) (path : List ℕ) (offset : ℕ) (key : Key) (clone_path : List ℕ) (from len : ℕ) : Type 0 where
+-- A range that a clone takes: the key of the subvolume, the path of the file in it, the place of its first cell, and how many it has.
+pub record TakenRange : Type 0 where
+  pub key : Key
+  pub path : List ℕ
+  pub from : ℕ
+  pub len : ℕ
+
+abbrev pub taken_range : (key : Key) (path : List ℕ) (from len : ℕ) → TakenRange
+taken_range key path from len = record { key = key; path = path; from = from; len = len }
+
+-- Where the cells come from that a clone puts at the place `offset` of a file: a range of a file of a complete subvolume of the store,
+-- which stays as it was.
+pub record TakenFrom {C : Type 0} (state after : State C) (offset : ℕ) (range : TakenRange) : Type 0 where
   pub source : Subvolume C
   pub ino : ℕ
-  pub found : find state.store key ≡ Some source
-  pub walked : walk source clone_path ≡ Ok ino
+  pub found : find state.store range.key ≡ Some source
+  pub walked : walk source range.path ≡ Ok ino
   pub file : is_file source ino ≡ true
-  pub some : 0 < len
-  pub within : from + len ≤ length (cells_of source ino)
-  pub fits : offset + len ≤ greatest_end
+  pub some : 0 < range.len
+  pub within : range.from + range.len ≤ length (cells_of source ino)
+  pub fits : offset + range.len ≤ greatest_end
   pub same_store : after.store ≡ state.store

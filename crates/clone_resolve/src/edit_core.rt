@@ -4,7 +4,7 @@ ghost use Rattle.std.specs.Option.{option_map};
 ghost use Rattle.std.specs.Str.{bytes_eq};
 ghost use Rattle.send_model.specs.Refusal.{NoParent};
 ghost use Rattle.send_model.specs.Chain.{found};
-ghost use Rattle.send_model.specs.Clone.{clone};
+ghost use Rattle.send_model.specs.Clone.{clone, clone_values};
 ghost use Rattle.send_model.specs.Store.{IsStore, has_name, with_contents, start_from, head_of, clone_source, edit_part, completed, step_head, step_edit, step};
 ghost use Rattle.send_commands.specs.Meaning.{meaning_of};
 ghost use Rattle.sx_base.specs.Answers.{MayChange};
@@ -222,8 +222,9 @@ impl<O: Origin> EditCore<O> {
         ensures key { part.new.key ≡ part.old.key }
         ensures cloned { MayChange result part.old.subvolume part.new.subvolume
             (clone None part.old.subvolume (clone_source self.now part.old (key_of source.now.key))
-            (bytes_eq source.now.key.uuid part.old.key.uuid) path.now at
-            source.now.range.path.now source.now.range.from source.now.range.len) }
+            (bytes_eq source.now.key.uuid part.old.key.uuid)
+            (clone_values path.now at source.now.range.path.now source.now.range.from
+            source.now.range.len)) }
     {
         if source.key.uuid == part.key.uuid {
             return part.sub.clone_here(path, at, &source.range);

@@ -1,4 +1,5 @@
 pub mod Told
+pub mod Asked
 mod Uncut
 mod Lefts
 mod Alone

@@ -1,5 +1,5 @@
 -- What a source of headers and frames has of its file, piece by piece.
-use Rattle.std.specs.Prelude.{◌≡◌, ℕ, ◌+◌, ◌-◌, ◌<◌, ◌≤◌, min, Bool, false, List, [], ◌++◌, length, take, drop, Option, None, Some, Result, Ok, Err}
+use Rattle.std.specs.Prelude.{◌≡◌, ℕ, ◌+◌, ◌-◌, ◌<◌, ◌≤◌, min, Bool, false, true, List, [], ◌++◌, length, take, drop, Option, None, Some, Result, Ok, Err}
 use Rattle.std.proofs.Common.{refl, sym, ap, subst, ◌∙◌, arith, length-take, length-drop, length-append, append_assoc, append-nil, drop_of_length-le, drop-drop}
 use Rattle.std.proofs.lemmas.List.{take-take, drop-take, take-append-drop, take-append-le, drop-append-le}
 use Rattle.send_model.specs.Refusal as meant
@@ -260,3 +260,14 @@ pub refused_pass : (told : Option (List (List ℕ × List ℕ))) (name : List �
 refused_pass told name at next before now feed mid new refusal place due ended new_is p ahead =
     let kept : new ≡ record mid { refused = Some (refusal_of refusal) } = new_is ∙ ap (after mid) p in
     (record { place = place; due = ap (λ (f : Fed). f.due) kept ∙ due; ended = ap (λ (f : Fed). f.ended) kept ∙ ended }, refuses told name at feed mid (refusal_of refusal) due p ahead)
+
+-- More bytes were given, to a source that goes by these words afterwards.
+pub given_more : (told now : Option (List (List ℕ × List ℕ))) (old new : Source) (before after : ℕ) (b : Bool) → b ≡ true → now ≡ told → new.name ≡ old.name → MoreSays told old new before after (Ok b)
+    → (new.feed.due ≡ old.feed.due) × (new.feed.ended ≡ old.feed.ended) × IfTold now (string_bytes new.name) (IsAhead new.at new.feed)
+given_more told now old new before after b is same named says =
+    let more = subst (λ (x : Bool). MoreSays told old new before after (Ok x)) is says in (
+      ap (λ (f : Fed). f.due) more.0.feed,
+      ap (λ (f : Fed). f.ended) more.0.feed,
+      subst (λ (t : Option (List (List ℕ × List ℕ))). IfTold t (string_bytes new.name) (IsAhead new.at new.feed)) (sym same)
+          (subst (λ (name : List ℕ). IfTold told name (IsAhead new.at new.feed)) (sym (ap string_bytes named)) more.1),
+    )

@@ -14,6 +14,10 @@ pub record Reader : Type 0 where
   pub offset : ℕ
   pub fed : Fed
 
+-- Up to where it was given the file.
+abbrev pub read_to : Reader → ℕ
+read_to r = r.offset + length r.fed.left
+
 -- A reader at the start of a file.
 abbrev pub at_start : ℕ → List ℕ → Reader
 at_start file name = record { file = file; name = name; number = 1; offset = 0; fed = unfed }

@@ -1,7 +1,8 @@
 // Reading commands one at a time.
 ghost use Rattle.std.specs.Prelude.{◌≡◌, ◌≤◌, IfOk};
 ghost use Rattle.cmd_reader.specs.Places.{IfTold};
-ghost use Rattle.cmd_reader.specs.Left.{Reader, at_start, HasAhead};
+ghost use Rattle.sx_base.specs.Later.{ReadsOn};
+ghost use Rattle.cmd_reader.specs.Left.{Reader, at_start, HasAhead, read_to};
 ghost use Rattle.cmd_reader.specs.Next.{NextSays, ItemFits, IfItem, EndsAfterEnd};
 ghost use Rattle.cmd_reader.specs.Stands.{NextStands, GlanceStands};
 ghost use Rattle.cmd_reader.specs.Frames.{FrameFits, StepSays, FrameSays, Halts, StepHalts};
@@ -19,8 +20,8 @@ use tlv_frame::Passed;
 
 /// Reads the commands of one file in order, one for each call. It is seen as its place in the
 /// file, with the bytes that it was given from there on. It asks the inputs for 65,536 bytes at a
-/// time, and only where it has no whole header or frame. Once made, it takes memory for the values
-/// of commands alone.
+/// time, each time from where the last ones ended, and only where it has no whole header or frame.
+/// Once made, it takes memory for the values of commands alone.
 #[derive(Debug, Drop)]
 pub struct CmdReader {
     alloc: Global,
@@ -67,6 +68,8 @@ impl CmdReader {
         ensures steady { UnlessFailed result (I.faults inputs.new ≡ I.faults inputs.old) }
         ensures ends_later { I.ends inputs.old ≤ I.ends inputs.new }
         ensures ends_steady { UnlessFailed result (I.ends inputs.new ≡ I.ends inputs.old) }
+        ensures asked { ReadsOn I.Inputs inputs.old inputs.new self.old.name
+            (read_to self.old) (read_to self.new) }
         ensures file { self.new.file ≡ self.old.file }
         ensures name { self.new.name ≡ self.old.name }
         ensures fits { IfItem result (ItemFits self.old self.new) }
@@ -93,6 +96,8 @@ impl CmdReader {
         ensures steady { UnlessFailed result (I.faults inputs.new ≡ I.faults inputs.old) }
         ensures ends_later { I.ends inputs.old ≤ I.ends inputs.new }
         ensures ends_steady { UnlessFailed result (I.ends inputs.new ≡ I.ends inputs.old) }
+        ensures asked { ReadsOn I.Inputs inputs.old inputs.new self.old.name
+            (read_to self.old) (read_to self.new) }
         ensures file { self.new.file ≡ self.old.file }
         ensures name { self.new.name ≡ self.old.name }
         ensures fits { IfItem result (GlanceFits self.old self.new) }
@@ -131,6 +136,8 @@ impl CmdReader {
         ensures steady { UnlessFailed result (I.faults inputs.new ≡ I.faults inputs.old) }
         ensures ends_later { I.ends inputs.old ≤ I.ends inputs.new }
         ensures ends_steady { UnlessFailed result (I.ends inputs.new ≡ I.ends inputs.old) }
+        ensures asked { ReadsOn I.Inputs inputs.old inputs.new self.old.name
+            (read_to self.old) (read_to self.new) }
         ensures file { self.new.file ≡ self.old.file }
         ensures name { self.new.name ≡ self.old.name }
         ensures fits { IfItem result (FrameFits self.new) }
@@ -154,6 +161,8 @@ impl CmdReader {
         ensures steady { UnlessStepFailed result (I.faults inputs.new ≡ I.faults inputs.old) }
         ensures ends_later { I.ends inputs.old ≤ I.ends inputs.new }
         ensures ends_steady { UnlessStepFailed result (I.ends inputs.new ≡ I.ends inputs.old) }
+        ensures asked { ReadsOn I.Inputs inputs.old inputs.new self.old.name
+            (read_to self.old) (read_to self.new) }
         ensures file { self.new.file ≡ self.old.file }
         ensures name { self.new.name ≡ self.old.name }
         ensures says { StepSays (I.told inputs.old) self.old self.new

@@ -3,6 +3,8 @@ ghost use Rattle.std.specs.Prelude.{◌≡◌, ◌+◌, ◌<◌, ◌≤◌, leng
 ghost use Rattle.std.specs.String.{string_bytes};
 ghost use Rattle.tlv_frame.specs.Feeding.{unfed, next_of};
 ghost use Rattle.send_model.specs.Lengths.{limit};
+ghost use Rattle.sx_base.specs.Asks.{came};
+ghost use Rattle.sx_base.specs.Later.{ReadsOn};
 ghost use Rattle.sx_base.specs.Outside.{GivesAt};
 ghost use Rattle.cmd_reader.specs.Sources.{IsSource, SourceAhead, SourcePasses, MoreSays, unit_len, IsInputFault};
 ghost use Rattle.cmd_reader.specs.Steadiness.{UnlessErr};
@@ -60,6 +62,8 @@ impl Source {
         ensures steady { UnlessErr result (I.faults inputs.new ≡ I.faults inputs.old) }
         ensures ends_later { I.ends inputs.old ≤ I.ends inputs.new }
         ensures ends_steady { UnlessErr result (I.ends inputs.new ≡ I.ends inputs.old) }
+        ensures asked { ReadsOn I.Inputs inputs.old inputs.new (string_bytes self.old.name)
+            self.old.fed self.new.fed }
         ensures source { IsSource self.new }
         ensures name { self.new.name ≡ self.old.name }
         ensures says { SourcePasses (I.told inputs.old) self.old self.new
@@ -92,6 +96,8 @@ impl Source {
         ensures steady { UnlessErr result (I.faults inputs.new ≡ I.faults inputs.old) }
         ensures ends_later { I.ends inputs.old ≤ I.ends inputs.new }
         ensures ends_steady { UnlessErr result (I.ends inputs.new ≡ I.ends inputs.old) }
+        ensures asked { ReadsOn I.Inputs inputs.old inputs.new (string_bytes self.old.name)
+            self.old.fed self.new.fed }
         ensures source { IsSource self.new }
         ensures name { self.new.name ≡ self.old.name }
         ensures place { self.new.at ≡ self.old.at }
@@ -130,6 +136,7 @@ fn read_piece<I: Inputs>(
     ensures steady { UnlessErr result (I.faults inputs.new ≡ I.faults inputs.old) }
     ensures ends_later { I.ends inputs.old ≤ I.ends inputs.new }
     ensures ends_steady { UnlessErr result (I.ends inputs.new ≡ I.ends inputs.old) }
+    ensures asked { ReadsOn I.Inputs inputs.old inputs.new name.now at (at + came result) }
     ensures bound { IfOk result (λ count. count ≤ 65_536) }
     ensures place { IfOk result (λ count. at + count ≤ limit) }
     ensures bytes { IfOk result (λ count. GivesAt (I.told inputs.old) name.now at piece.new count) }

@@ -1,5 +1,5 @@
 // That the calls succeed where there is memory, and the bytes that they write.
-ghost use Rattle.std.specs.Prelude.{◌≡◌, ℕ, ◌<◌, [], None, IfOk};
+ghost use Rattle.std.specs.Prelude.{◌≡◌, ⊤, ℕ, ◌<◌, [], None, IfOk};
 ghost use Rattle.std.specs.List.{AllByRecursion};
 ghost use Rattle.extent_map.specs.Cells.{cells_between};
 ghost use Rattle.clone_pieces.specs.Origins.{IsHad};
@@ -27,6 +27,8 @@ impl Inputs for Remainders {
     ghost ends = { λ inputs. 0 };
 
     ghost last_end = { λ inputs. no_end };
+
+    ghost asked = { λ inputs asks. ⊤ };
 
     fn read_at(&mut self, name: &str, at: u64, buf: &mut [u8]) -> Result<usize, Failed> {
         let _ = name;

@@ -23,7 +23,7 @@ use Rattle.send_commands.specs.Meaning.{meaning_of}
 use Rattle.extent_map.specs.Cells.{cells_between}
 use Rattle.provenance.specs.declared.trace.Trace.{Trace}
 use Rattle.provenance.specs.Traces.{place_of, place_in}
-use Rattle.clone_resolve.specs.Taken.{TakenFrom}
+use Rattle.clone_resolve.specs.Taken.{TakenFrom, taken_range}
 use Rattle.send_model.specs.Cells.{AllCells}
 use Rattle.clone_resolve.proofs.TakenStates.{part_after_step, cells_found, cells_of_found, taken_from, range_taken}
 use Rattle.clone_pieces.specs.Origins.{byte_of_trace}
@@ -258,10 +258,10 @@ module _ (files : List (List ℕ)) (base : Store ℕ) (survey : Surveyed) (last 
 -- ---- the range of a clone from an earlier part
 
 -- What holds of all cells holds of the cells of the range.
-pub range_had : (P : Option Trace → Type 0) (before after : State (Option Trace)) (path : List ℕ) (offset : ℕ) (key : Key) (clone_path : List ℕ) (from len : ℕ) (contents : List (Option Trace)) → TakenFrom before after path offset key clone_path from len
+pub range_had : (P : Option Trace → Type 0) (before after : State (Option Trace)) (offset : ℕ) (key : Key) (clone_path : List ℕ) (from len : ℕ) (contents : List (Option Trace)) → TakenFrom before after offset (taken_range key clone_path from len)
     → ((source : Subvolume (Option Trace)) (ino : ℕ) → find after.store key ≡ Some source → walk source clone_path ≡ Ok ino → is_file source ino ≡ true → ◌≡◌ {A = Option (List (Option Trace))} (Some contents) (Some (cells_of source ino)))
     → AllCells P after → AllByRecursion P (cells_between from len contents)
-range_had P before after path offset key clone_path from len contents t found all =
+range_had P before after offset key clone_path from len contents t found all =
     let there : find after.store key ≡ Some t.source = ap (λ (s : Store (Option Trace)). find s key) t.same_store ∙ t.found in
     let same : contents ≡ cells_of t.source t.ino = some_is contents (cells_of t.source t.ino) (found t.source t.ino there t.walked t.file) in
     subst (λ (cells : List (Option Trace)). AllByRecursion P (cells_between from len cells)) (sym same) (cells_of_found P t.source t.ino from len (cells_found P after key t.source all there))
@@ -286,12 +286,12 @@ source_added files base version path offset from len contents cells count sum ol
 
 -- A clone whose step was taken, and whose source is not the part itself.
 pub led_taken : (before after : State (Option Trace)) (put : List (Option Trace)) (path : List ℕ) (offset : ℕ) (key : Key) (clone_path : List ℕ) (from len : ℕ) → Led before after put (Clone path offset key.uuid key.ctransid clone_path from len)
-    → is_own (option_map (λ p. p.key.uuid) after.part) key.uuid ≡ false → TakenFrom before after path offset key clone_path from len
+    → is_own (option_map (λ p. p.key.uuid) after.part) key.uuid ≡ false → TakenFrom before after offset (taken_range key clone_path from len)
 led_taken before after put path offset key clone_path from len led own =
     let c : Command = Clone path offset key.uuid key.ctransid clone_path from len in
     let same : option_map (λ p. p.key.uuid) before.part ≡ option_map (λ p. p.key.uuid) after.part =
     sym (part_after_step None put before c (ap (λ s. s.refusal) led)) ∙ ap (λ s. option_map (λ p. p.key.uuid) s.state.part) led in
-    subst (λ (s : State (Option Trace)). TakenFrom before s path offset key clone_path from len) (ap (λ s. s.state) led)
+    subst (λ (s : State (Option Trace)). TakenFrom before s offset (taken_range key clone_path from len)) (ap (λ s. s.state) led)
     (taken_from None put before path offset key clone_path from len (ap (λ s. s.refusal) led) (ap (λ (o : Option (List ℕ)). is_own o key.uuid) same ∙ own))
 
 -- ---- what is not so

@@ -1,4 +1,5 @@
 pub mod AllTold
+pub mod Asked
 pub mod Starting
 pub mod LastHeads
 pub mod DataAhead

@@ -11,7 +11,7 @@ use Rattle.send_model.specs.Order.{heads_of, onto_heads, commands_of, breaks_ord
 use Rattle.send_model.specs.Provenance.{Traced, fresh, traced_step, uuid_after, ranges_from, uncarried_in}
 use Rattle.send_model.specs.Composed.{commands_for, composed_from}
 use Rattle.send_model.specs.Counts.{is_clone}
-use Rattle.send_model.specs.Due.{Due, TooMuch, most_literal, uncarried_of, then_due, due_from}
+use Rattle.send_model.specs.Due.{Due, TooMuch, most_literal, uncarried_of, then_due, come_to, due_from}
 use Rattle.send_model.proofs.Sorts.{by_sort, plain_step_without}
 use Rattle.send_model.proofs.Judging.{previous_after, AreOrdered}
 use Rattle.send_model.proofs.UncarriedSums.{uncarried_split}
@@ -62,11 +62,11 @@ due_on item (Some r) breaks sum rest e b low = cc
 -- Items that are taken in order, and do not come to too many bytes, leave the answer to those after them.
 pub due_done : (base : Store ℕ) (parts : List (List ℕ)) (items more : List Item) (state end : State Traced) (previous : Option Key) (current : Option (List ℕ)) (sum : ℕ)
     → AreTaken state items end → AreOrdered previous items → sum + uncarried_in base (ranges_from parts state current items) ≤ most_literal
-    → due_from base parts state previous current sum (items ++ more) ≡ due_from base parts end (previous_after previous items) (current_after current items) (sum + uncarried_in base (ranges_from parts state current items)) more
+    → due_from base parts (come_to state previous current sum) (items ++ more) ≡ due_from base parts (come_to end (previous_after previous items) (current_after current items) (sum + uncarried_in base (ranges_from parts state current items))) more
 unfolding due_from ranges_from
 due_done base parts [] more state end previous current sum t o low =
     let zero_more : sum ≡ sum + uncarried_in base (ranges_from parts state current []) = omega arith in
-    ap (λ (s : State Traced). due_from base parts s previous current sum more) t ∙ ap (λ (n : ℕ). due_from base parts end previous current n more) zero_more
+    ap (λ (s : State Traced). due_from base parts (come_to s previous current sum) more) t ∙ ap (λ (n : ℕ). due_from base parts (come_to end previous current n) more) zero_more
 due_done base parts (item ∷ items) more state end previous current sum t o low =
     let s = traced_step state item in
     let own : ℕ = uncarried_of base parts state current item in
@@ -74,9 +74,9 @@ due_done base parts (item ∷ items) more state end previous current sum t o low
     let left : ℕ = uncarried_in base (ranges_from parts s.state (uuid_after current item.command) items) in
     let all : sum + own + left ≡ sum + uncarried_in base (ranges_from parts state current (item ∷ items)) = omega (arith, split) in
     let next : Option Key = part_after previous (head_of item.command) in
-    due_on item s.refusal (breaks_order previous (head_of item.command)) (sum + own) (due_from base parts s.state next (uuid_after current item.command) (sum + own) (items ++ more)) t.0 o.0 (omega (arith, all, low))
+    due_on item s.refusal (breaks_order previous (head_of item.command)) (sum + own) (due_from base parts (come_to s.state next (uuid_after current item.command) (sum + own)) (items ++ more)) t.0 o.0 (omega (arith, all, low))
     ∙ due_done base parts items more s.state end next (uuid_after current item.command) (sum + own) t.1 o.1 (omega (arith, all, low))
-    ∙ ap (λ (n : ℕ). due_from base parts end (previous_after next items) (current_after (uuid_after current item.command) items) n more) all
+    ∙ ap (λ (n : ℕ). due_from base parts (come_to end (previous_after next items) (current_after (uuid_after current item.command) items) n) more) all
 
 -- ---- before the first head
 

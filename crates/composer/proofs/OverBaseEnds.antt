@@ -13,7 +13,7 @@ use Rattle.send_model.specs.Outside.{part_uuids, base_of, keys_outside, FindsSay
 use Rattle.send_model.specs.Provenance.{Traced, fresh, traced_store, traced_step, ranges_from, uncarried_in}
 use Rattle.send_model.specs.Composed.{last_head, head_command, version_of, composed_edits, composed_with}
 use Rattle.send_model.specs.Cells.{recelled_state, recelled_step}
-use Rattle.send_model.specs.Due.{Due, DoneWhole, RefusedAt, most_literal, due_from, refused_due, or_due, reading_due}
+use Rattle.send_model.specs.Due.{Due, DoneWhole, RefusedAt, most_literal, come_to, due_from, refused_due, or_due, reading_due}
 use Rattle.send_model.specs.Headline.{IsComposedOf, stream_front, output_of, whole_output_of}
 use Rattle.send_model.specs.Laws.{IsWhole, ReadingsHold}
 use Rattle.send_model.proofs.CellClones.{all_steps-cells}
@@ -33,17 +33,17 @@ use Rattle.composer.proofs.OverBaseProgress.{Progress, advance_err}
 
 -- The items so far leave the answer to those after them.
 due_after : (base : Store ℕ) (reading : Reading) (items more : List Item) (now : Composing) (sent : List ℕ) → reading.items ≡ items ++ more → Progress (plan_of base reading.items) items now sent
-    → due_from base (part_uuids reading.items) (start_of (traced_store base)) None None 0 reading.items ≡ due_from base (part_uuids reading.items) now.state now.previous now.current now.sum more
+    → due_from base (part_uuids reading.items) (come_to (start_of (traced_store base)) None None 0) reading.items ≡ due_from base (part_uuids reading.items) (come_to now.state now.previous now.current now.sum) more
 due_after base reading items more now sent is p =
     let parts : List (List ℕ) = part_uuids reading.items in
     let all : ℕ = uncarried_in base (ranges_from parts (start_of (traced_store base)) None items) in
     let sum_is : now.sum ≡ all = p.sum in
     let sum_from : now.sum ≡ 0 + all = omega (arith, sum_is) in
     let low : 0 + all ≤ most_literal = subst (λ (n : ℕ). n ≤ most_literal) sum_from p.low in
-    ap (due_from base parts (start_of (traced_store base)) None None 0) is
+    ap (due_from base parts (come_to (start_of (traced_store base)) None None 0)) is
     ∙ due_done base parts items more (start_of (traced_store base)) now.state None None 0 p.taken p.ordered low
-    ∙ ap (λ (k : Option Key). due_from base parts now.state k (current_after None items) (0 + all) more) (sym p.previous)
-    ∙ ap₂ (λ (c : Option (List ℕ)) (n : ℕ). due_from base parts now.state now.previous c n more) (sym p.current) (sym sum_from)
+    ∙ ap (λ (k : Option Key). due_from base parts (come_to now.state k (current_after None items) (0 + all)) more) (sym p.previous)
+    ∙ ap₂ (λ (c : Option (List ℕ)) (n : ℕ). due_from base parts (come_to now.state now.previous c n) more) (sym p.current) (sym sum_from)
 
 -- The answer that is due where an item is not taken: its refusal, or that there is too much.
 pub due_halted : (base : Store ℕ) (reading : Reading) (items : List Item) (item : Item) (more : List Item) (now : Composing) (sent : List ℕ) (halt : Halt) → reading.items ≡ items ++ item ∷ more

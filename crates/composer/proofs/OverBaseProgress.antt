@@ -13,7 +13,7 @@ use Rattle.send_model.specs.Order.{heads, heads_of, onto_heads, breaks_order, pa
 use Rattle.send_model.specs.Provenance.{Traced, traced_store, traced_step, uuid_after, ranges_from, uncarried_in}
 use Rattle.send_model.specs.Composed.{first_head, head_command, commands_for, composed_from}
 use Rattle.send_model.specs.Headline.{stream_front}
-use Rattle.send_model.specs.Due.{Due, TooMuch, most_literal, uncarried_of, then_due, due_from}
+use Rattle.send_model.specs.Due.{Due, TooMuch, most_literal, uncarried_of, then_due, come_to, due_from}
 use Rattle.send_model.proofs.Judging.{previous_after, AreOrdered, AreOrdered-append, previous_after-append}
 use Rattle.send_model.proofs.Writing.{canonical_all-append}
 use Rattle.composer.specs.OverBase.{Plan, Composing, at_start, Halt, Exceeds, halt_due, begin_bytes, added_with, after_item, is_unforeseen, then_kept, advance, then_items, advance_all, composed_up_to, written_with, written_up_to, current_after, AreTaken}
@@ -227,9 +227,9 @@ foreseen None (Some head) known = absurd (let k = known head refl in (let e = k.
 
 -- An item that is not taken, where a head was foreseen, is the first that ends composing, with the answer that is due.
 pub advance_err : (plan : Plan) (item : Item) (more : List Item) (now : Composing) (halt : Halt) → ((head : Head) → head_of item.command ≡ Some head → (last : Head) × (plan.last ≡ Some last))
-    → advance plan now item ≡ Err halt → due_from plan.base plan.parts now.state now.previous now.current now.sum (item ∷ more) ≡ Some (halt_due item halt)
+    → advance plan now item ≡ Err halt → due_from plan.base plan.parts (come_to now.state now.previous now.current now.sum) (item ∷ more) ≡ Some (halt_due item halt)
 unfolding advance due_from
 advance_err plan item more now halt known e =
     let next = after_item plan now item in
     halted item (traced_step now.state item).refusal (breaks_order now.previous (head_of item.command)) (is_unforeseen plan.last (head_of item.command)) next halt
-    (due_from plan.base plan.parts next.state next.previous next.current next.sum more) (foreseen plan.last (head_of item.command) known) e
+    (due_from plan.base plan.parts (come_to next.state next.previous next.current next.sum) more) (foreseen plan.last (head_of item.command) known) e

@@ -9,7 +9,7 @@ use Rattle.std.proofs.lemmas.Bool.{false≢true}
 use Rattle.send_model.specs.Refusal.{Refusal, NoSubvolume}
 use Rattle.send_model.specs.Command.{Command, Subvol, Snapshot, Clone, End}
 use Rattle.send_model.specs.Subvolume.{Subvolume}
-use Rattle.send_model.specs.Clone.{clone}
+use Rattle.send_model.specs.Clone.{clone, clone_values}
 use Rattle.send_model.specs.Reading.{Item}
 use Rattle.send_model.specs.Store.{Key, Head, head_of, Store, Part, State, Stepped, step, step_head, step_edit, edit_part, find, with_contents, completed, begun, entered, edited, unfinished, clone_source}
 use Rattle.send_model.specs.Receive.{bytes_of, start_of}
@@ -94,16 +94,16 @@ module _ (base : Store ℕ) (some others : List (List ℕ)) where
 
     -- Own, or redirected in both or in none.
     clone_either : (state : State Traced) (p : Part Traced) (current : Option (List ℕ)) → state.part ≡ Some p → IsKnown state current → (path : List ℕ) (offset : ℕ) (uuid : List ℕ) (ctransid : ℕ) (clone_path : List ℕ) (from len : ℕ) (s : Subvolume Traced)
-        → clone (fresh 0) p.subvolume (clone_source state.store p (record { uuid = uuid; ctransid = ctransid })) (bytes_eq uuid p.key.uuid) path offset clone_path from len ≡ Ok s
+        → clone (fresh 0) p.subvolume (clone_source state.store p (record { uuid = uuid; ctransid = ctransid })) (bytes_eq uuid p.key.uuid) (clone_values path offset clone_path from len) ≡ Ok s
         → (is_own current uuid ≡ true) ⊎ (is_among some uuid ≡ is_among others uuid)
     clone_either state p current o known path offset uuid ctransid clone_path from len s e = one (bytes_eq uuid p.key.uuid) refl e
       where
-        one : (b : Bool) → bytes_eq uuid p.key.uuid ≡ b → clone (fresh 0) p.subvolume (if b then Some p.subvolume else find state.store (record { uuid = uuid; ctransid = ctransid })) b path offset clone_path from len ≡ Ok s
+        one : (b : Bool) → bytes_eq uuid p.key.uuid ≡ b → clone (fresh 0) p.subvolume (if b then Some p.subvolume else find state.store (record { uuid = uuid; ctransid = ctransid })) b (clone_values path offset clone_path from len) ≡ Ok s
             → (is_own current uuid ≡ true) ⊎ (is_among some uuid ≡ is_among others uuid)
         one true h q = let ours = known.part p o in inl (ap (λ (c : Option (List ℕ)). is_own c uuid) ours.1 ∙ turned uuid p.key.uuid h)
         one false h q = there (find state.store (record { uuid = uuid; ctransid = ctransid })) refl q
           where
-            there : (f : Option (Subvolume Traced)) → find state.store (record { uuid = uuid; ctransid = ctransid }) ≡ f → clone (fresh 0) p.subvolume f false path offset clone_path from len ≡ Ok s
+            there : (f : Option (Subvolume Traced)) → find state.store (record { uuid = uuid; ctransid = ctransid }) ≡ f → clone (fresh 0) p.subvolume f false (clone_values path offset clone_path from len) ≡ Ok s
                 → (is_own current uuid ≡ true) ⊎ (is_among some uuid ≡ is_among others uuid)
             there None f r = absurd (no_source (fresh 0) p.subvolume s false path offset clone_path from len r)
             there (Some t) f r = inr (same_among state current (record { uuid = uuid; ctransid = ctransid }) t known f)

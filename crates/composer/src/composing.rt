@@ -1,6 +1,7 @@
 // Composing, item by item.
 ghost use Rattle.std.specs.Prelude.{◌≡◌, ◌⊎◌, ℕ, ◌+◌, ◌≤◌, ◌<◌, ◌^◌, List, [], ◌++◌, length, map, not, true, Option, None, Some, is_some, Ok, OnOk, IfOk, IfErr};
 ghost use Rattle.std.specs.Option.{option_map, option_copied};
+ghost use Rattle.std.specs.List.{AllByRecursion};
 ghost use Rattle.std.specs.String.{string_bytes};
 ghost use Rattle.send_model.specs.Command.{Clone, End};
 ghost use Rattle.send_model.specs.Subvolume.{Subvolume, walk, is_file};
@@ -11,6 +12,7 @@ ghost use Rattle.send_model.specs.Provenance.{is_own};
 ghost use Rattle.send_model.specs.Spelling.{canonical};
 ghost use Rattle.send_model.specs.Laws.{CanWrite};
 ghost use Rattle.send_model.specs.Lengths.{limit};
+ghost use Rattle.sx_base.specs.Asks.{IsAgain};
 ghost use Rattle.sx_base.specs.Calls.{IfAllTold, ErrFoundChanged, IsStop};
 ghost use Rattle.sx_base.specs.Causes.{Steady, counts};
 ghost use Rattle.sx_base.specs.Refusals.{refusal_of, verdict_meant};
@@ -21,11 +23,11 @@ ghost use Rattle.extent_map.specs.Cells.{cells_between};
 ghost use Rattle.subvol_catalog.specs.Entries.{key_of, head_with};
 ghost use Rattle.cmd_reader.specs.Next.{item_of};
 ghost use Rattle.provenance.specs.declared.trace.Trace.{Trace};
-ghost use Rattle.clone_resolve.specs.Taken.{TakenFrom};
+ghost use Rattle.clone_resolve.specs.Taken.{TakenFrom, taken_range};
 ghost use Rattle.send_model.specs.Cells.{AllCells};
 ghost use Rattle.clone_pieces.specs.Origins.{outside_cells, IsHad, IsInInput, AreAsLong, AreHeld};
 ghost use Rattle.clone_pieces.specs.Later.{BytesLater};
-ghost use Rattle.sx_base.specs.Later.{InputsLater, OutputLater};
+ghost use Rattle.sx_base.specs.Later.{InputsLater, OutputLater, AskedOnly};
 ghost use Rattle.clone_pieces.specs.Sending.{output, PutEnd};
 ghost use Rattle.clone_pieces.specs.Redirecting.{seen_cells};
 ghost use Rattle.composer.specs.Kept.{kept_at_start};
@@ -157,6 +159,8 @@ impl Composer {
             (IfAllTold (I.told inputs.old) (map string_bytes task.now.files.now)
             (λ told. AllCells (IsInInput told) self.new.state)) }
         ensures inputs { InputsLater I.Inputs inputs.old inputs.new result }
+        ensures asked { AskedOnly I.Inputs inputs.old inputs.new
+            (AllByRecursion (IsAgain (I.told inputs.old) (map string_bytes task.now.files.now))) }
         ensures bytes { BytesLater B.OutsideBytes bytes.old bytes.new result }
         ensures out { OutputLater O.Sink out.old out.new result }
         ensures cause { ErrCausedAgain
@@ -283,6 +287,8 @@ impl Composer {
         ensures state { self.new.state ≡ self.old.state }
         ensures latest { self.new.latest ≡ self.old.latest }
         ensures inputs { InputsLater I.Inputs inputs.old inputs.new result }
+        ensures asked { AskedOnly I.Inputs inputs.old inputs.new
+            (AllByRecursion (IsAgain (I.told inputs.old) (map string_bytes task.now.files.now))) }
         ensures bytes { BytesLater B.OutsideBytes bytes.old bytes.new result }
         ensures out { OutputLater O.Sink out.old out.new result }
         ensures cause { ErrCausedAgain
@@ -409,8 +415,9 @@ impl Composer {
         out: &mut O,
     ) -> Result<(), Outcome>
         requires taken { (before : State (Option Trace))
-            × TakenFrom before self.old.state range.now.path.now range.now.offset
-            (key_of range.now.source) range.now.source_path.now range.now.from range.now.len }
+            × TakenFrom before self.old.state range.now.offset
+            (taken_range (key_of range.now.source) range.now.source_path.now range.now.from
+            range.now.len) }
         requires short { length range.now.path.now < 2 ^ 16 }
         requires had { AllCells (IsHad (length task.now.files.now) (E.base task.now.known.now))
             self.old.state }
@@ -421,6 +428,8 @@ impl Composer {
         ensures state { self.new.state ≡ self.old.state }
         ensures latest { self.new.latest ≡ self.old.latest }
         ensures inputs { InputsLater I.Inputs inputs.old inputs.new result }
+        ensures asked { AskedOnly I.Inputs inputs.old inputs.new
+            (AllByRecursion (IsAgain (I.told inputs.old) (map string_bytes task.now.files.now))) }
         ensures bytes { BytesLater B.OutsideBytes bytes.old bytes.new result }
         ensures out { OutputLater O.Sink out.old out.new result }
         ensures cause { ErrCausedAgain

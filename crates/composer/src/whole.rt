@@ -10,8 +10,9 @@ ghost use Rattle.provenance.specs.Traces.{place_of};
 ghost use Rattle.clone_pieces.specs.Origins.{outside_cells, IsHad, IsInInput, AreAsLong, AreHeld, byte_of_trace};
 ghost use Rattle.clone_pieces.specs.Seen.{seen};
 ghost use Rattle.clone_pieces.specs.Later.{BytesLater};
-ghost use Rattle.sx_base.specs.Later.{InputsLater, OutputLater};
+ghost use Rattle.sx_base.specs.Later.{InputsLater, OutputLater, AskedOnly};
 ghost use Rattle.file_survey.specs.Findings.{SurveyEnd};
+ghost use Rattle.sx_base.specs.Asks.{IsReadWithRanges, AreReadWithRanges, AreReadTwice};
 ghost use Rattle.sx_base.specs.Calls.{IfAllTold, CausedAgain, FoundChanged, ErrFoundChanged, Wrote, SteadyIfDone, IsStop};
 ghost use Rattle.sx_base.specs.Causes.{Steady, counts};
 ghost use Rattle.sx_base.specs.declared.outcome.Outcome.TheVariants as ended;
@@ -48,6 +49,8 @@ pub fn compose<I: Inputs, O: Sink>(
 ) -> Outcome
     requires some { files.now ≢ [] }
     ensures same { I.told inputs.new ≡ I.told inputs.old }
+    ensures asked { AskedOnly I.Inputs inputs.old inputs.new
+        (AreReadTwice (I.told inputs.old) (map string_bytes files.now)) }
     ensures steady { SteadyIfDone (I.faults inputs.old) (I.faults inputs.new) result }
     ensures ends_steady { SteadyIfDone (I.ends inputs.old) (I.ends inputs.new) result }
     ensures out_steady { SteadyIfDone (O.faults out.old) (O.faults out.new) result }
@@ -99,6 +102,8 @@ pub fn compose_over<I: Inputs, E: Known, B: OutsideBytes, O: Sink>(
         ≡ E.base task.now.known.now }
     requires sayable { B.tells → AllSayable (E.base task.now.known.now) }
     ensures same { I.told inputs.new ≡ I.told inputs.old }
+    ensures asked { AskedOnly I.Inputs inputs.old inputs.new
+        (AreReadWithRanges (I.told inputs.old) (map string_bytes task.now.files.now)) }
     ensures steady { SteadyIfDone (I.faults inputs.old) (I.faults inputs.new) result }
     ensures ends_steady { SteadyIfDone (I.ends inputs.old) (I.ends inputs.new) result }
     ensures bytes_steady { SteadyIfDone (B.faults bytes.old) (B.faults bytes.new) result }
@@ -146,6 +151,8 @@ fn write_files<I: Inputs, E: Known, B: OutsideBytes, O: Sink>(
         ≡ E.base task.now.known.now }
     requires sayable { B.tells → AllSayable (E.base task.now.known.now) }
     ensures same { I.told inputs.new ≡ I.told inputs.old }
+    ensures asked { AskedOnly I.Inputs inputs.old inputs.new
+        (AreReadWithRanges (I.told inputs.old) (map string_bytes task.now.files.now)) }
     ensures steady { Steady (I.faults inputs.old) (I.faults inputs.new) result }
     ensures ends_steady { Steady (I.ends inputs.old) (I.ends inputs.new) result }
     ensures bytes_steady { Steady (B.faults bytes.old) (B.faults bytes.new) result }
@@ -213,6 +220,9 @@ fn write_file<I: Inputs, E: Known, B: OutsideBytes, O: Sink>(
     ensures there { OnOk result (IfAllTold (I.told inputs.old) (map string_bytes task.now.files.now)
         (λ told. AllCells (IsInInput told) composer.new.state)) }
     ensures inputs { InputsLater I.Inputs inputs.old inputs.new result }
+    ensures asked { AskedOnly I.Inputs inputs.old inputs.new
+        (IsReadWithRanges (I.told inputs.old) (map string_bytes task.now.files.now)
+        (get_or (map string_bytes task.now.files.now) turn.number [])) }
     ensures bytes { BytesLater B.OutsideBytes bytes.old bytes.new result }
     ensures out { OutputLater O.Sink out.old out.new result }
     ensures cause { ErrCausedAgain

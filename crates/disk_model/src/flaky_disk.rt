@@ -1,7 +1,7 @@
 // A disk that fails now and then.
 ghost use Rattle.std.specs.Prelude.{◌≡◌, ◌⊎◌, ◌+◌, ◌-◌, ◌^◌, ◌<◌, ◌≤◌, [], false, IsTrue, length, take, min, max, IfOk, OnOk, OnErr, IsErr, if◌then◌else◌};
 ghost use Rattle.sx_base.specs.Causes.{Rose, Steady};
-ghost use Rattle.sx_base.specs.Disk.{IsAsBefore, IsReadAt, Passes, written, shortened, settled};
+ghost use Rattle.sx_base.specs.Disk.{IsAsBefore, IsReadAt, Passes, members, written, shortened, settled};
 ghost use Rattle.sx_base.specs.Bytes.{put_at};
 ghost use Rattle.disk_model.specs.FlakyDisk.{is_listed, CountsCall, within, left_within, faults_within};
 
@@ -95,8 +95,8 @@ impl<D: Disk> Disk for FlakyDisk<D> {
         ensures len { D.len self.new.disk ≡ D.len self.old.disk }
         ensures same { D.tells →
             IsAsBefore (within D.seen) (within D.pending) self.old self.new }
-        ensures passes { Passes D.tells (within D.moment) (left_within D.left_since)
-            (within D.pending) (faults_within D.faults) self.old self.new result }
+        ensures passes { Passes (members D.tells (within D.moment)
+            (left_within D.left_since) (within D.pending) (faults_within D.faults)) self.old self.new result }
         ensures steady { Steady (faults_within D.faults self.old)
             (faults_within D.faults self.new) result }
         ensures counts { CountsCall self.old self.new }
@@ -116,8 +116,8 @@ impl<D: Disk> Disk for FlakyDisk<D> {
         ensures len { D.len self.new.disk ≡ D.len self.old.disk }
         ensures same { D.tells →
             IsAsBefore (within D.seen) (within D.pending) self.old self.new }
-        ensures passes { Passes D.tells (within D.moment) (left_within D.left_since)
-            (within D.pending) (faults_within D.faults) self.old self.new result }
+        ensures passes { Passes (members D.tells (within D.moment)
+            (left_within D.left_since) (within D.pending) (faults_within D.faults)) self.old self.new result }
         ensures steady { Steady (faults_within D.faults self.old)
             (faults_within D.faults self.new) result }
         ensures counts { CountsCall self.old self.new }
@@ -143,8 +143,8 @@ impl<D: Disk> Disk for FlakyDisk<D> {
         ensures reaches { D.tells →
             (D.seen self.new.disk ≡ put_at at piece.now (D.seen self.old.disk))
             ⊎ Rose (D.faults self.old.disk) (D.faults self.new.disk) }
-        ensures passes { Passes D.tells (within D.moment) (left_within D.left_since)
-            (within D.pending) (faults_within D.faults) self.old self.new result }
+        ensures passes { Passes (members D.tells (within D.moment)
+            (left_within D.left_since) (within D.pending) (faults_within D.faults)) self.old self.new result }
         ensures steady { Steady (faults_within D.faults self.old)
             (faults_within D.faults self.new) result }
         ensures counts { CountsCall self.old self.new }
@@ -168,8 +168,8 @@ impl<D: Disk> Disk for FlakyDisk<D> {
         ensures reaches { D.tells →
             (D.seen self.new.disk ≡ take size (D.seen self.old.disk))
             ⊎ Rose (D.faults self.old.disk) (D.faults self.new.disk) }
-        ensures passes { Passes D.tells (within D.moment) (left_within D.left_since)
-            (within D.pending) (faults_within D.faults) self.old self.new result }
+        ensures passes { Passes (members D.tells (within D.moment)
+            (left_within D.left_since) (within D.pending) (faults_within D.faults)) self.old self.new result }
         ensures steady { Steady (faults_within D.faults self.old)
             (faults_within D.faults self.new) result }
         ensures counts { CountsCall self.old self.new }
@@ -188,8 +188,8 @@ impl<D: Disk> Disk for FlakyDisk<D> {
             OnOk result (D.pending self.new.disk ≡ settled (D.seen self.old.disk)) }
         ensures pending_err { D.tells →
             OnErr result (D.pending self.new.disk ≡ D.pending self.old.disk) }
-        ensures passes { Passes D.tells (within D.moment) (left_within D.left_since)
-            (within D.pending) (faults_within D.faults) self.old self.new result }
+        ensures passes { Passes (members D.tells (within D.moment)
+            (left_within D.left_since) (within D.pending) (faults_within D.faults)) self.old self.new result }
         ensures steady { Steady (faults_within D.faults self.old)
             (faults_within D.faults self.new) result }
         ensures counts { CountsCall self.old self.new }

@@ -1,7 +1,7 @@
 // A disk that stops.
 ghost use Rattle.std.specs.Prelude.{◌≡◌, ◌⊎◌, ◌+◌, ◌-◌, ◌^◌, ◌<◌, ◌≤◌, ◌↔◌, IsTrue, length, take, min, max, IfOk, OnOk, OnErr, IsErr, if◌then◌else◌};
 ghost use Rattle.sx_base.specs.Causes.{Rose, Steady};
-ghost use Rattle.sx_base.specs.Disk.{IsAsBefore, IsReadAt, Passes, written, shortened, settled};
+ghost use Rattle.sx_base.specs.Disk.{IsAsBefore, IsReadAt, Passes, members, written, shortened, settled};
 ghost use Rattle.sx_base.specs.Bytes.{put_at};
 ghost use Rattle.disk_model.specs.FuseDisk.{of_inner, left_inside, faults_of};
 
@@ -103,8 +103,8 @@ impl<D: Disk> Disk for FuseDisk<D> {
         ensures len { D.len self.new.disk ≡ D.len self.old.disk }
         ensures same { D.tells →
             IsAsBefore (of_inner D.seen) (of_inner D.pending) self.old self.new }
-        ensures passes { Passes D.tells (of_inner D.moment) (left_inside D.left_since)
-            (of_inner D.pending) (faults_of D.faults) self.old self.new result }
+        ensures passes { Passes (members D.tells (of_inner D.moment)
+            (left_inside D.left_since) (of_inner D.pending) (faults_of D.faults)) self.old self.new result }
         ensures steady { Steady (faults_of D.faults self.old) (faults_of D.faults self.new) result }
         ensures counts { self.new.left ≡ self.old.left - 1 }
         ensures stopped { self.old.left ≡ 0 → IsErr result }
@@ -127,8 +127,8 @@ impl<D: Disk> Disk for FuseDisk<D> {
         ensures len { D.len self.new.disk ≡ D.len self.old.disk }
         ensures same { D.tells →
             IsAsBefore (of_inner D.seen) (of_inner D.pending) self.old self.new }
-        ensures passes { Passes D.tells (of_inner D.moment) (left_inside D.left_since)
-            (of_inner D.pending) (faults_of D.faults) self.old self.new result }
+        ensures passes { Passes (members D.tells (of_inner D.moment)
+            (left_inside D.left_since) (of_inner D.pending) (faults_of D.faults)) self.old self.new result }
         ensures steady { Steady (faults_of D.faults self.old) (faults_of D.faults self.new) result }
         ensures counts { self.new.left ≡ self.old.left - 1 }
         ensures stopped { self.old.left ≡ 0 → IsErr result }
@@ -158,8 +158,8 @@ impl<D: Disk> Disk for FuseDisk<D> {
         ensures reaches { D.tells →
             (D.seen self.new.disk ≡ put_at at piece.now (D.seen self.old.disk))
             ⊎ Rose (D.faults self.old.disk) (D.faults self.new.disk) }
-        ensures passes { Passes D.tells (of_inner D.moment) (left_inside D.left_since)
-            (of_inner D.pending) (faults_of D.faults) self.old self.new result }
+        ensures passes { Passes (members D.tells (of_inner D.moment)
+            (left_inside D.left_since) (of_inner D.pending) (faults_of D.faults)) self.old self.new result }
         ensures steady { Steady (faults_of D.faults self.old) (faults_of D.faults self.new) result }
         ensures counts { self.new.left ≡ self.old.left - 1 }
         ensures stopped { self.old.left ≡ 0 → IsErr result }
@@ -186,8 +186,8 @@ impl<D: Disk> Disk for FuseDisk<D> {
         ensures reaches { D.tells →
             (D.seen self.new.disk ≡ take size (D.seen self.old.disk))
             ⊎ Rose (D.faults self.old.disk) (D.faults self.new.disk) }
-        ensures passes { Passes D.tells (of_inner D.moment) (left_inside D.left_since)
-            (of_inner D.pending) (faults_of D.faults) self.old self.new result }
+        ensures passes { Passes (members D.tells (of_inner D.moment)
+            (left_inside D.left_since) (of_inner D.pending) (faults_of D.faults)) self.old self.new result }
         ensures steady { Steady (faults_of D.faults self.old) (faults_of D.faults self.new) result }
         ensures counts { self.new.left ≡ self.old.left - 1 }
         ensures stopped { self.old.left ≡ 0 → IsErr result }
@@ -209,8 +209,8 @@ impl<D: Disk> Disk for FuseDisk<D> {
             OnOk result (D.pending self.new.disk ≡ settled (D.seen self.old.disk)) }
         ensures pending_err { D.tells →
             OnErr result (D.pending self.new.disk ≡ D.pending self.old.disk) }
-        ensures passes { Passes D.tells (of_inner D.moment) (left_inside D.left_since)
-            (of_inner D.pending) (faults_of D.faults) self.old self.new result }
+        ensures passes { Passes (members D.tells (of_inner D.moment)
+            (left_inside D.left_since) (of_inner D.pending) (faults_of D.faults)) self.old self.new result }
         ensures steady { Steady (faults_of D.faults self.old) (faults_of D.faults self.new) result }
         ensures counts { self.new.left ≡ self.old.left - 1 }
         ensures stopped { self.old.left ≡ 0 → IsErr result }

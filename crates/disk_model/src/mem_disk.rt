@@ -2,7 +2,7 @@
 ghost use Rattle.std.specs.Prelude.{◌≡◌, ◌+◌, ◌-◌, ◌^◌, ◌<◌, ◌≤◌, ◌++◌, [], ◌∷◌, length, take, min, max, IfOk, OnOk, OnErr, IsOk, is_ok, if◌then◌else◌};
 ghost use Rattle.std.proofs.Common.{inr, refl};
 ghost use Rattle.sx_base.specs.Causes.{Steady};
-ghost use Rattle.sx_base.specs.Disk.{IsAsBefore, IsReadAt, Passes, written, shortened, settled};
+ghost use Rattle.sx_base.specs.Disk.{IsAsBefore, IsReadAt, Passes, members, written, shortened, settled};
 ghost use Rattle.sx_base.specs.Bytes.{put_at};
 ghost use Rattle.disk_model.specs.Stretch.{pending_in};
 ghost use Rattle.disk_model.specs.History.{only_this, bytes_are_image};
@@ -116,7 +116,7 @@ impl Disk for MemDisk {
         ensures size { IfOk result (λ size. size ≡ length (seen_of self.old)) }
         ensures len { length (seen_of self.new) ≡ length (seen_of self.old) }
         ensures same { IsAsBefore seen_of pending_of self.old self.new }
-        ensures passes { Passes (Unit {0}) moment_of left_of pending_of refused_of
+        ensures passes { Passes (members (Unit {0}) moment_of left_of pending_of refused_of)
             self.old self.new result }
         ensures steady { Steady (refused_of self.old) (refused_of self.new) result }
         ensures succeeds { IsOk result }
@@ -133,7 +133,7 @@ impl Disk for MemDisk {
         ensures bytes { IfOk result (IsReadAt (seen_of self.old) at buf.new) }
         ensures len { length (seen_of self.new) ≡ length (seen_of self.old) }
         ensures same { IsAsBefore seen_of pending_of self.old self.new }
-        ensures passes { Passes (Unit {0}) moment_of left_of pending_of refused_of
+        ensures passes { Passes (members (Unit {0}) moment_of left_of pending_of refused_of)
             self.old self.new result }
         ensures steady { Steady (refused_of self.old) (refused_of self.new) result }
         ensures succeeds { IsOk result }
@@ -159,7 +159,7 @@ impl Disk for MemDisk {
             (seen_of self.new ≡ put_at at piece.now (seen_of self.old)) }
         ensures pending { pending_of self.new
             ≡ written at (length piece.now) (pending_of self.old) }
-        ensures passes { Passes (Unit {0}) moment_of left_of pending_of refused_of
+        ensures passes { Passes (members (Unit {0}) moment_of left_of pending_of refused_of)
             self.old self.new result }
         ensures steady { Steady (refused_of self.old) (refused_of self.new) result }
         ensures refused { refused_of self.new
@@ -184,7 +184,7 @@ impl Disk for MemDisk {
             × (length (seen_of self.new) ≤ length (seen_of self.old))) }
         ensures seen { OnOk result (seen_of self.new ≡ take size (seen_of self.old)) }
         ensures pending { pending_of self.new ≡ shortened size (pending_of self.old) }
-        ensures passes { Passes (Unit {0}) moment_of left_of pending_of refused_of
+        ensures passes { Passes (members (Unit {0}) moment_of left_of pending_of refused_of)
             self.old self.new result }
         ensures steady { Steady (refused_of self.old) (refused_of self.new) result }
         ensures succeeds { IsOk result }
@@ -200,7 +200,7 @@ impl Disk for MemDisk {
         ensures seen { seen_of self.new ≡ seen_of self.old }
         ensures pending { OnOk result (pending_of self.new ≡ settled (seen_of self.old)) }
         ensures pending_err { OnErr result (pending_of self.new ≡ pending_of self.old) }
-        ensures passes { Passes (Unit {0}) moment_of left_of pending_of refused_of
+        ensures passes { Passes (members (Unit {0}) moment_of left_of pending_of refused_of)
             self.old self.new result }
         ensures steady { Steady (refused_of self.old) (refused_of self.new) result }
         ensures refused { refused_of self.new

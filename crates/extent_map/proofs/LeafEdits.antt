@@ -6,7 +6,7 @@ use Rattle.std.specs.List.{sum_by, insert, remove}
 use Rattle.std.proofs.lemmas.List.Concat.{flat_map-append}
 use Rattle.std.proofs.lemmas.List.Sums.{sum_by-append}
 use Rattle.extent_map.specs.declared.piece.Piece.{Piece}
-use Rattle.extent_map.specs.Leaves.{cells_in, all_cells, IsReached, IsPiece, ArePieces, IsBoth, IsAdded, HaveCells, overwritten}
+use Rattle.extent_map.specs.Leaves.{cells_in, all_cells, IsReached, IsPiece, ArePieces, IsBoth, IsAdded, pieces_at, HaveCells, overwritten}
 use Rattle.extent_map.proofs.Layouts.{length-piece}
 use Rattle.extent_map.specs.Parts.{IsFound}
 use Rattle.extent_map.proofs.Spans.{length-all, found_sum, found_part, found_before, found_from, found_after, found_below, take_found, drop_found}
@@ -19,7 +19,7 @@ module _ {O : Type 0} (advanced : O → ℕ → O) (reach : O → ℕ) where
   length-all_cells ps = length-all (cells_in advanced) (λ p. p.len) length-cells_in ps
 
   -- a piece of no cells
-  pub added_none : (old : List (Piece O)) (at : ℕ) (p : Piece O) → at ≤ length old → p.len ≡ 0 → ArePieces reach old → IsAdded advanced reach old at p old at
+  pub added_none : (old : List (Piece O)) (at : ℕ) (p : Piece O) → at ≤ length old → p.len ≡ 0 → ArePieces reach old → IsAdded advanced reach (pieces_at old at) p (pieces_at old at)
   added_none old at p within none are =
       record {
         front =
@@ -31,7 +31,7 @@ module _ {O : Type 0} (advanced : O → ℕ → O) (reach : O → ℕ) where
       }
 
   -- a piece that was put in
-  pub added_in : (old new : List (Piece O)) (at : ℕ) (p : Piece O) → at ≤ length old → new ≡ insert old at p → IsPiece reach p → ArePieces reach old → IsAdded advanced reach old at p new (at + 1)
+  pub added_in : (old new : List (Piece O)) (at : ℕ) (p : Piece O) → at ≤ length old → new ≡ insert old at p → IsPiece reach p → ArePieces reach old → IsAdded advanced reach (pieces_at old at) p (pieces_at new (at + 1))
   added_in old new at p within is good are =
       let n : length (take at old) ≡ at = length-take-le at old within in
       let e : new ≡ (take at old ++ p ∷ []) ++ drop at old = is ∙ sym (append_assoc (take at old) (p ∷ []) (drop at old)) in
@@ -51,7 +51,7 @@ module _ {O : Type 0} (advanced : O → ℕ → O) (reach : O → ℕ) where
 
   -- a piece that was joined to the one before it
   pub added_to : (old new : List (Piece O)) (i at : ℕ) (p q both : Piece O) → at ≡ i + 1 → at ≤ length old → q ≡ get_or old i q → IsBoth advanced reach q p both → 0 < p.len → new ≡ set old i both → ArePieces reach old
-      → IsAdded advanced reach old at p new at
+      → IsAdded advanced reach (pieces_at old at) p (pieces_at new at)
   added_to old new i at p q both e within q_is is some new_is are =
       let lt : i < length old = omega (arith, e, within) in
       let t : take at new ≡ take i old ++ both ∷ [] = ap₂ (λ (n : ℕ) (l : List (Piece O)). take n l) e new_is ∙ take_more_set old i both lt in
@@ -73,14 +73,14 @@ module _ {O : Type 0} (advanced : O → ℕ → O) (reach : O → ℕ) where
       }
 
   -- all pieces where one was put in
-  pub added_all : (old new : List (Piece O)) (at next : ℕ) (p : Piece O) → IsAdded advanced reach old at p new next
+  pub added_all : (old new : List (Piece O)) (at next : ℕ) (p : Piece O) → IsAdded advanced reach (pieces_at old at) p (pieces_at new next)
       → all_cells advanced new ≡ (all_cells advanced (take at old) ++ cells_in advanced p) ++ all_cells advanced (drop at old)
   added_all old new at next p is =
       ap (all_cells advanced) (sym (take-append-drop next new))
       ∙ flat_map-append (cells_in advanced) (take next new) (drop next new)
       ∙ ap₂ (λ (k l : List (Option O)). k ++ l) is.front (ap (all_cells advanced) is.back)
 
-  pub added_sum : (old new : List (Piece O)) (at next : ℕ) (p : Piece O) → IsAdded advanced reach old at p new next → sum_by (λ p. p.len) new ≡ sum_by (λ p. p.len) old + p.len
+  pub added_sum : (old new : List (Piece O)) (at next : ℕ) (p : Piece O) → IsAdded advanced reach (pieces_at old at) p (pieces_at new next) → sum_by (λ p. p.len) new ≡ sum_by (λ p. p.len) old + p.len
   added_sum old new at next p is =
       omega (
         arith,
@@ -163,9 +163,9 @@ module _ {O : Type 0} (advanced : O → ℕ → O) (reach : O → ℕ) where
   pub written : (old p1 p2 p3 p4 p5 : List (Piece O)) (at first last n1 n2 n3 : ℕ) (lead new tail : Piece O)
       → first ≤ length old
       → p1 ≡ take first old ++ drop (last + 1) old
-      → IsAdded advanced reach p1 first lead p2 n1
-      → IsAdded advanced reach p2 n1 new p3 n2
-      → IsAdded advanced reach p3 n2 tail p4 n3
+      → IsAdded advanced reach (pieces_at p1 first) lead (pieces_at p2 n1)
+      → IsAdded advanced reach (pieces_at p2 n1) new (pieces_at p3 n2)
+      → IsAdded advanced reach (pieces_at p3 n2) tail (pieces_at p4 n3)
       → HaveCells advanced reach (all_cells advanced p4) p5
       → all_cells advanced (take first old) ++ cells_in advanced lead ≡ take at (all_cells advanced old)
       → cells_in advanced tail ++ all_cells advanced (drop (last + 1) old) ≡ drop (at + new.len) (all_cells advanced old)
@@ -205,7 +205,7 @@ module _ {O : Type 0} (advanced : O → ℕ → O) (reach : O → ℕ) where
 
   -- the pieces before a place, the last of them cut there
   pub split_front : (old low new : List (Piece O)) (at index start next : ℕ) (x lead : Piece O) → (f : IsFound (λ p. p.len) old at index start) → x ≡ get_or old index x
-      → cells_in advanced lead ≡ take (at - start) (cells_in advanced x) → low ≡ take index old → IsAdded advanced reach low index lead new next → HaveCells advanced reach (take at (all_cells advanced old)) new
+      → cells_in advanced lead ≡ take (at - start) (cells_in advanced x) → low ≡ take index old → IsAdded advanced reach (pieces_at low index) lead (pieces_at new next) → HaveCells advanced reach (take at (all_cells advanced old)) new
   split_front old low new at index start next x lead f x_is lead_is low_is is =
       let n : length (take index old) ≡ index = length-take-le index old (omega (arith, found_below (λ p. p.len) old at index start f)) in
       let t : take index low ≡ take index old = ap (take index) low_is ∙ take_all index (take index old) (omega (arith, n)) in

@@ -8,7 +8,7 @@ use Rattle.std.proofs.lemmas.List.Sums.{sum_by-cons, sum_by-take-drop}
 use Rattle.std.specs.List.{sum_by, flat_map}
 use Rattle.std.specs.Prelude.{IfSome, Some, None}
 use Rattle.extent_map.specs.declared.piece.Piece.{Piece}
-use Rattle.extent_map.specs.Leaves.{all_cells, cells_in, IsPiece, ArePieces, HaveCells, IsAdded}
+use Rattle.extent_map.specs.Leaves.{all_cells, cells_in, IsPiece, ArePieces, HaveCells, IsAdded, pieces_at}
 use Rattle.extent_map.specs.Opened.{ArePiecesOf, AreKidsOf}
 use Rattle.extent_map.proofs.LeafEdits.{length-all_cells, length-cells_in, added_all}
 use Rattle.extent_map.specs.Seen.{Seen, cells_count, joined, around, some_of, filled, IsKid, AreKids, AreBelow, IsFork, IsOpenAt, IsTaken}
@@ -253,14 +253,14 @@ module _ {O : Type 0} where
 
 -- a leaf that was written to at its end
 module _ {O : Type 0} (advanced : O → ℕ → O) (reach : O → ℕ) where
-  pub pushed_cells : (tree : Seen O) (ps new : List (Piece O)) (at next : ℕ) (p : Piece O) → ArePiecesOf advanced reach tree ps → at ≡ length ps → IsAdded advanced reach ps at p new next → all_cells advanced new ≡ tree.cells ++ cells_in advanced p
+  pub pushed_cells : (tree : Seen O) (ps new : List (Piece O)) (at next : ℕ) (p : Piece O) → ArePiecesOf advanced reach tree ps → at ≡ length ps → IsAdded advanced reach (pieces_at ps at) p (pieces_at new next) → all_cells advanced new ≡ tree.cells ++ cells_in advanced p
   pushed_cells tree ps new at next p are end is =
       added_all advanced reach ps new at next p is
       ∙ ap₂ (λ (a b : List (Piece O)). (all_cells advanced a ++ cells_in advanced p) ++ all_cells advanced b) (take_all at ps (omega (arith, end))) (drop_all at ps (omega (arith, end)))
       ∙ append-nil (all_cells advanced ps ++ cells_in advanced p)
       ∙ ap (λ (l : List (Option O)). l ++ cells_in advanced p) are.have.are
 
-  pub pushed_leaf : (tree : Seen O) (ps new : List (Piece O)) (at next len : ℕ) (p : Piece O) → ArePiecesOf advanced reach tree ps → at ≡ length ps → IsAdded advanced reach ps at p new next → len ≡ length tree.cells + p.len → IsLeaf reach len new
+  pub pushed_leaf : (tree : Seen O) (ps new : List (Piece O)) (at next len : ℕ) (p : Piece O) → ArePiecesOf advanced reach tree ps → at ≡ length ps → IsAdded advanced reach (pieces_at ps at) p (pieces_at new next) → len ≡ length tree.cells + p.len → IsLeaf reach len new
   pushed_leaf tree ps new at next len p are end is count =
       record {
         each = is.pieces;

@@ -30,13 +30,21 @@ pub record IsBoth {O : Type 0} (advanced : O → ℕ → O) (reach : O → ℕ) 
   pub len : both.len ≡ first.len + second.len
   pub reaches : IsReached reach both
 
--- A piece was put in before the one at `at`, or joined to the one before it: the first `next` pieces are then those before it and
--- itself.
-pub record IsAdded {O : Type 0} (advanced : O → ℕ → O) (reach : O → ℕ) (old : List (Piece O)) (at : ℕ) (piece : Piece O) (new : List (Piece O)) (next : ℕ) : Type 0 where
-  pub front : all_cells advanced (take next new) ≡ all_cells advanced (take at old) ++ cells_in advanced piece
-  pub back : drop next new ≡ drop at old
-  pub within : next ≤ length new
-  pub pieces : ArePieces reach new
+-- Pieces, and how many of them stand before a place.
+pub record PiecesAt (O : Type 0) : Type 0 where
+  pub pieces : List (Piece O)
+  pub at : ℕ
+
+abbrev pub pieces_at : {O : Type 0} → List (Piece O) → ℕ → PiecesAt O
+pieces_at pieces at = record { pieces = pieces; at = at }
+
+-- A piece was put in at the place of the old pieces, or joined to the one before it: before the place of the new ones stand those that
+-- stood before it, and the piece itself.
+pub record IsAdded {O : Type 0} (advanced : O → ℕ → O) (reach : O → ℕ) (old : PiecesAt O) (piece : Piece O) (new : PiecesAt O) : Type 0 where
+  pub front : all_cells advanced (take new.at new.pieces) ≡ all_cells advanced (take old.at old.pieces) ++ cells_in advanced piece
+  pub back : drop new.at new.pieces ≡ drop old.at old.pieces
+  pub within : new.at ≤ length new.pieces
+  pub pieces : ArePieces reach new.pieces
 
 -- Pieces that have some cells.
 pub record HaveCells {O : Type 0} (advanced : O → ℕ → O) (reach : O → ℕ) (cells : List (Option O)) (pieces : List (Piece O)) : Type 0 where

@@ -1,7 +1,7 @@
 // The pieces of a leaf.
 ghost use Rattle.std.specs.Prelude.{◌≡◌, ℕ, ◌+◌, ◌^◌, ◌<◌, ◌≤◌, OnOk, IfOk, ◌++◌, length, take, drop};
 ghost use Rattle.std.specs.List.{sum_by};
-ghost use Rattle.extent_map.specs.Leaves.{cells_in, all_cells, IsReached, ArePieces, IsAdded, HaveCells, overwritten};
+ghost use Rattle.extent_map.specs.Leaves.{cells_in, all_cells, IsReached, ArePieces, IsAdded, pieces_at, HaveCells, overwritten};
 
 use crate::origin::Origin;
 use crate::parts::find;
@@ -18,8 +18,8 @@ pub(crate) fn add_at<O: Origin>(
     requires at { at ≤ length pieces.old.items }
     requires reaches { IsReached O.reach piece }
     requires fits { sum_by (λ p. p.len) pieces.old.items + piece.len < 2 ^ 63 }
-    ensures { IfOk result
-        (λ next. IsAdded O.advanced O.reach pieces.old.items at piece pieces.new.items next) }
+    ensures { IfOk result (λ next. IsAdded O.advanced O.reach
+        (pieces_at pieces.old.items at) piece (pieces_at pieces.new.items next)) }
 {
     if piece.len == 0 {
         return Ok(at);

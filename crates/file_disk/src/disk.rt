@@ -1,7 +1,7 @@
 // The disk.
 ghost use Rattle.std.specs.Prelude.{◌≡◌, ◌⊎◌, ◌-◌, ◌+◌, ◌^◌, ◌<◌, ◌≤◌, [], true, false, IsTrue, IsOk, IsErr, is_some, length, min, max, IfOk, OnOk, OnErr};
 ghost use Rattle.sx_base.specs.Causes.{Steady};
-ghost use Rattle.sx_base.specs.Disk.{Passes};
+ghost use Rattle.sx_base.specs.Disk.{Passes, members};
 ghost use Rattle.file_disk.specs.State.{opened, passed, failed, size_of, moment_of, faults_of, unseen, unknown, never, sent, broken_down, follows, after_write, HasRoom, IsBroken, IsCounted};
 
 use std::alloc::{AllocError, Global};
@@ -233,7 +233,8 @@ impl<F: FileExt + OpenFile + Drop> Disk for FileDisk<F> {
     fn size(&mut self) -> Result<u64, Failed>
         ensures size { IfOk result (λ size. size ≡ self.old.size) }
         ensures len { self.new.size ≡ self.old.size }
-        ensures passes { Passes ⊥ moment_of never unknown faults_of self.old self.new result }
+        ensures passes { Passes (members ⊥ moment_of never unknown faults_of)
+            self.old self.new result }
         ensures steady { Steady self.old.faults self.new.faults result }
         ensures passed { OnOk result (self.new ≡ passed self.old) }
         ensures failed { OnErr result (self.new ≡ failed self.old) }
@@ -254,7 +255,8 @@ impl<F: FileExt + OpenFile + Drop> Disk for FileDisk<F> {
         ensures progress { IfOk result
             (λ count. count ≡ 0 → 0 < length buf.new → self.old.size ≤ at) }
         ensures len { self.new.size ≡ self.old.size }
-        ensures passes { Passes ⊥ moment_of never unknown faults_of self.old self.new result }
+        ensures passes { Passes (members ⊥ moment_of never unknown faults_of)
+            self.old self.new result }
         ensures steady { Steady self.old.faults self.new.faults result }
         ensures passed { OnOk result (self.new ≡ passed (sent self.old)) }
         ensures failed { OnErr result ((self.new ≡ failed (sent self.old))
@@ -280,7 +282,8 @@ impl<F: FileExt + OpenFile + Drop> Disk for FileDisk<F> {
             (self.new.size ≡ max self.old.size (at + length piece.now)) }
         ensures len_err { OnErr result ((self.old.size ≤ self.new.size)
             × (self.new.size ≤ max self.old.size (at + length piece.now))) }
-        ensures passes { Passes ⊥ moment_of never unknown faults_of self.old self.new result }
+        ensures passes { Passes (members ⊥ moment_of never unknown faults_of)
+            self.old self.new result }
         ensures steady { Steady self.old.faults self.new.faults result }
         ensures passed { OnOk result (self.new ≡ passed (after_write at piece.now self.old)) }
         ensures failed { OnErr result (IsBroken self.old self.new) }
@@ -316,7 +319,8 @@ impl<F: FileExt + OpenFile + Drop> Disk for FileDisk<F> {
         ensures len { OnOk result (self.new.size ≡ size) }
         ensures len_err { OnErr result
             ((size ≤ self.new.size) × (self.new.size ≤ self.old.size)) }
-        ensures passes { Passes ⊥ moment_of never unknown faults_of self.old self.new result }
+        ensures passes { Passes (members ⊥ moment_of never unknown faults_of)
+            self.old self.new result }
         ensures steady { Steady self.old.faults self.new.faults result }
         ensures passed { OnOk result (self.new ≡ passed (record (sent self.old) { size = size })) }
         ensures failed { OnErr result (IsBroken self.old self.new) }
@@ -339,7 +343,8 @@ impl<F: FileExt + OpenFile + Drop> Disk for FileDisk<F> {
 
     fn sync(&mut self) -> Result<(), Failed>
         ensures len { self.new.size ≡ self.old.size }
-        ensures passes { Passes ⊥ moment_of never unknown faults_of self.old self.new result }
+        ensures passes { Passes (members ⊥ moment_of never unknown faults_of)
+            self.old self.new result }
         ensures steady { Steady self.old.faults self.new.faults result }
         ensures passed { OnOk result (self.new ≡ passed (record (sent self.old) { fresh = false })) }
         ensures failed { OnErr result (IsBroken self.old self.new) }

@@ -7,8 +7,10 @@ ghost use Rattle.cmd_reader.specs.Places.{IfTold};
 ghost use Rattle.part_names.specs.Naming.{IsShort};
 ghost use Rattle.file_survey.specs.Findings.{FileEnd, SurveyEnd};
 ghost use Rattle.file_survey.specs.NamedGlances.{HasName};
+ghost use Rattle.sx_base.specs.Asks.{IsReadOnce, AreReadOnce};
 ghost use Rattle.sx_base.specs.Calls.{IfAllTold, ErrCaused, IsStop};
 ghost use Rattle.sx_base.specs.Causes.{Steady};
+ghost use Rattle.sx_base.specs.Later.{AskedOnly};
 
 use crate::summary::Survey;
 use cmd_reader::{CmdReader, Glance, ReadStop, outcome_of};
@@ -30,6 +32,8 @@ pub fn survey<I: Inputs>(
     ensures steady { Steady (I.faults inputs.old) (I.faults inputs.new) result }
     ensures ends_later { I.ends inputs.old ≤ I.ends inputs.new }
     ensures ends_steady { Steady (I.ends inputs.old) (I.ends inputs.new) result }
+    ensures asked { AskedOnly I.Inputs inputs.old inputs.new
+        (AreReadOnce (map string_bytes files.now)) }
     ensures cause { ErrCaused (I.faults inputs.old) (I.faults inputs.new) 0 0 result }
     ensures stops { IfErr result IsStop }
     ensures surveyed { IfAllTold (I.told inputs.old) (map string_bytes files.now)
@@ -63,6 +67,7 @@ fn survey_file<I: Inputs>(
     ensures steady { Steady (I.faults inputs.old) (I.faults inputs.new) result }
     ensures ends_later { I.ends inputs.old ≤ I.ends inputs.new }
     ensures ends_steady { Steady (I.ends inputs.old) (I.ends inputs.new) result }
+    ensures asked { AskedOnly I.Inputs inputs.old inputs.new (IsReadOnce name.now) }
     ensures cause { ErrCaused (I.faults inputs.old) (I.faults inputs.new) 0 0 result }
     ensures stops { IfErr result IsStop }
     ensures seen { IfTold (I.told inputs.old) name.now

@@ -1,5 +1,5 @@
 // A file that is read to its end, and one that is cut. The bytes are from another program.
-ghost use Rattle.std.specs.Prelude.{None};
+ghost use Rattle.std.specs.Prelude.{None, ⊤};
 ghost use Rattle.sx_base.specs.Again.{no_end};
 
 use crate::same::same;
@@ -37,6 +37,8 @@ impl Inputs for CountedInputs {
     ghost ends = { λ _. 0 };
 
     ghost last_end = { λ _. no_end };
+
+    ghost asked = { λ _ _. ⊤ };
 
     fn read_at(&mut self, name: &str, at: u64, buf: &mut [u8]) -> Result<usize, Failed> {
         self.calls = self.calls.saturating_add(1);

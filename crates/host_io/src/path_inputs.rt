@@ -1,5 +1,5 @@
 // Files of the system, named by their paths.
-ghost use Rattle.std.specs.Prelude.{◌≡◌, ◌≤◌, length, string_bytes, IfOk, OnOk, None};
+ghost use Rattle.std.specs.Prelude.{◌≡◌, ⊤, ◌≤◌, length, string_bytes, IfOk, OnOk, None};
 ghost use Rattle.sx_base.specs.Again.{FillsFrom, EndsKept, LostFor, MeetsEnd};
 ghost use Rattle.sx_base.specs.Causes.{HasCause, Rose, Steady, counts};
 ghost use Rattle.sx_base.specs.Outside.{GivesAt};
@@ -23,7 +23,7 @@ const TRIES: u64 = 1000;
 // What is wrong with moving a pipe, and with opening it again.
 const READ_ONCE: &str = "it can be read only once";
 
-/// Files of the system, named by their paths. They tell nothing of their bytes. Each `Failed` raises the count of faults, and
+/// Files of the system, named by their paths. They tell nothing of their bytes, and keep nothing of what was asked. Each `Failed` raises the count of faults, and
 /// each `Ended` that of ends; both end at the greatest u64. Of the last end the name and the place are kept; where there is no
 /// memory for the name, `Failed` is answered in its place.
 ///
@@ -236,6 +236,8 @@ impl<'a, R: Files> Inputs for PathInputs<'a, R> {
     ghost ends = { λ s. s.ends };
 
     ghost last_end = { λ s. record { name = string_bytes s.last_name; place = s.last_place } };
+
+    ghost asked = { λ _ _. ⊤ };
 
     fn read_at(&mut self, name: &str, at: u64, buf: &mut [u8]) -> Result<usize, Failed>
         ensures bound { IfOk result (λ count. count ≤ length buf.new) }

@@ -1,6 +1,7 @@
 // Inputs that say on a terminal how far a run is.
 ghost use Rattle.std.specs.Prelude.{◌≡◌, ◌≤◌, ◌==◌, ◌&&◌, ◌||◌, not, false, true, length, bytes_eq, string_bytes, IfOk, OnOk, OnErr};
 ghost use Rattle.sx_base.specs.Again.{LiesIn, FillsFrom, EndsKept, LostFor, MeetsEnd};
+ghost use Rattle.sx_base.specs.Asks.{Adds, ask, ask_again, came};
 ghost use Rattle.sx_base.specs.Causes.{HasCause, Steady, counts};
 ghost use Rattle.sx_base.specs.Outside.{GivesAt};
 ghost use Rattle.host_io.specs.Showing.{next_pass, next_done, next_ended};
@@ -51,7 +52,7 @@ impl Tally {
 }
 
 /// Inputs that say on a terminal how far a run is, once it goes on for more than two seconds. What is read is what the inner
-/// inputs give, and the counts of faults and of ends and the last end are theirs; faults of the clock and of the terminal, and
+/// inputs give, and the counts of faults and of ends, the last end and what was asked are theirs; faults of the clock and of the terminal, and
 /// want of memory for a line, only leave lines out.
 ///
 /// A pass is counted by what `read_at` gives. What `read_again` gives was counted before.
@@ -139,11 +140,15 @@ impl<'a, I: Inputs, C: Clock, S: Sink> Inputs for Progress<'a, I, C, S> {
 
     ghost last_end = { λ s. I.last_end s.inputs };
 
+    ghost asked = { λ s. I.asked s.inputs };
+
     fn read_at(&mut self, name: &str, at: u64, buf: &mut [u8]) -> Result<usize, Failed>
         ensures same { I.told self.new.inputs ≡ I.told self.old.inputs }
         ensures bound { IfOk result (λ count. count ≤ length buf.new) }
         ensures bytes { IfOk result
             (λ count. GivesAt (I.told self.old.inputs) name.now at buf.new count) }
+        ensures asked { Adds (I.asked self.old.inputs) (I.asked self.new.inputs)
+            (ask name.now at (came result)) }
         ensures ends { EndsKept (I.told self.old.inputs)
             (I.ends self.old.inputs) (I.ends self.new.inputs) }
         ensures cause { HasCause (I.faults self.old.inputs) (I.faults self.new.inputs) result }
@@ -177,6 +182,8 @@ impl<'a, I: Inputs, C: Clock, S: Sink> Inputs for Progress<'a, I, C, S> {
         requires range { LiesIn (I.told self.old.inputs) name.now at (length buf.old) }
         ensures same { I.told self.new.inputs ≡ I.told self.old.inputs }
         ensures bytes { OnOk result (FillsFrom (I.told self.old.inputs) name.now at buf.new) }
+        ensures asked { Adds (I.asked self.old.inputs) (I.asked self.new.inputs)
+            (ask_again name.now at (length buf.old)) }
         ensures later { I.faults self.old.inputs ≤ I.faults self.new.inputs }
         ensures ends { EndsKept (I.told self.old.inputs)
             (I.ends self.old.inputs) (I.ends self.new.inputs) }

@@ -79,6 +79,10 @@ impl Key for Bytes {
         self.copy()
     }
 
+    fn most_entries() -> usize {
+        128
+    }
+
     ghost total = { nat_list_cmp_total };
 }
 
@@ -269,6 +273,10 @@ impl Key for Name {
             opening: self.opening,
             rest,
         })
+    }
+
+    fn most_entries() -> usize {
+        128
     }
 
     ghost total = { named_cmp_total };

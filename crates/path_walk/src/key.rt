@@ -57,6 +57,10 @@ impl Key for Path {
         self.copy()
     }
 
+    fn most_entries() -> usize {
+        128
+    }
+
     ghost total = { nat_list_cmp_total };
 }
 

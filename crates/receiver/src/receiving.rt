@@ -1,8 +1,10 @@
 // Receiving files into a store.
 ghost use Rattle.std.specs.Prelude.{◌≡◌, ◌≤◌, ℕ, List, None, map};
 ghost use Rattle.std.specs.String.{string_bytes};
+ghost use Rattle.sx_base.specs.Asks.{AreReadOnce};
 ghost use Rattle.sx_base.specs.Calls.{IfAllTold, Wrote};
 ghost use Rattle.sx_base.specs.Crash.{LeavesOnly};
+ghost use Rattle.sx_base.specs.Later.{AskedOnly};
 ghost use Rattle.send_model.specs.Due.{limited_from};
 ghost use Rattle.send_model.specs.Renamed.{renamed_limited};
 ghost use Rattle.send_model.specs.Store as meant;
@@ -41,6 +43,8 @@ pub fn receive<I: Inputs, O: Sink, D: Disk, G: Guarding>(
 ) -> Received
     requires idle { IsIdle (D.len disk.old) store.old }
     ensures same { I.told inputs.new ≡ I.told inputs.old }
+    ensures asked { AskedOnly I.Inputs inputs.old inputs.new
+        (AreReadOnce (map string_bytes given.now.files.now)) }
     ensures limit { store.new.log.limit ≡ store.old.log.limit }
     ensures idle { IdleAfter result (D.len disk.new) store.new }
     ensures received { (base : meant.Store ℕ) → HaveSameShape store.old.core base →

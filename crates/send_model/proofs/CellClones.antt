@@ -8,7 +8,7 @@ use Rattle.send_model.specs.Refusal.{Refusal, NoSubvolume, NoSource, NotFile, Ba
 use Rattle.send_model.specs.Chain.{◌>>=◌, ◌>>◌, require, refuse_if, found}
 use Rattle.send_model.specs.Subvolume.{Inode, Subvolume, inode_at, is_file, walk}
 use Rattle.send_model.specs.Edit.{greatest_end, overwritten, change_inode, set_cells}
-use Rattle.send_model.specs.Clone.{cells_of, is_aligned, overlap, Cloned, cloned, clone}
+use Rattle.send_model.specs.Clone.{cells_of, is_aligned, overlap, Cloned, cloned, clone, clone_values}
 use Rattle.send_model.specs.Provenance.{inode_with}
 use Rattle.send_model.specs.Command.{Command, Clone}
 use Rattle.send_model.specs.Store.{Key, Store, Part, State, Stepped, find, clone_source, edit_part, edited, step_edit, step}
@@ -57,7 +57,7 @@ module _ {C D : Type 0} (f : C → D) where
       Ok (record { ino = ino; cells = take len (drop from (cells_of other source_ino)) }))))))
 
   pub cloned-cells : (part : Subvolume C) (source : Option (Subvolume C)) (own : Bool) (path : List ℕ) (offset : ℕ) (clone_path : List ℕ) (from len : ℕ)
-      → cloned (recelled f part) (option_map (recelled f) source) own path offset clone_path from len ≡ recloned (cloned part source own path offset clone_path from len)
+      → cloned (recelled f part) (option_map (recelled f) source) own (clone_values path offset clone_path from len) ≡ recloned (cloned part source own (clone_values path offset clone_path from len))
   unfolding cloned
   cloned-cells part source own path offset clone_path from len =
       then_re _ _ _ _ refl (then_re _ _ _ _ refl (with_source source))
@@ -90,11 +90,11 @@ module _ {C D : Type 0} (f : C → D) where
       (λ inode. let at : List D → Inode D = λ cells. inode_with inode cells in ap at (sym (overwritten-cells f zero_cell offset range.cells inode.cells))))
 
   pub clone-cells : (zero_cell : C) (part : Subvolume C) (source : Option (Subvolume C)) (own : Bool) (path : List ℕ) (offset : ℕ) (clone_path : List ℕ) (from len : ℕ)
-      → clone (f zero_cell) (recelled f part) (option_map (recelled f) source) own path offset clone_path from len ≡ recelled_result f (clone zero_cell part source own path offset clone_path from len)
+      → clone (f zero_cell) (recelled f part) (option_map (recelled f) source) own (clone_values path offset clone_path from len) ≡ recelled_result f (clone zero_cell part source own (clone_values path offset clone_path from len))
   unfolding clone
   clone-cells zero_cell part source own path offset clone_path from len =
       ap (λ (r : Result (Cloned D) Refusal). r >>= λ range. Ok (change_inode range.ino (set_cells (overwritten (f zero_cell) offset range.cells)) (recelled f part))) (cloned-cells part source own path offset clone_path from len)
-      ∙ clone_on zero_cell part offset (cloned part source own path offset clone_path from len)
+      ∙ clone_on zero_cell part offset (cloned part source own (clone_values path offset clone_path from len))
 
 module _ {C D : Type 0} (f : C → D) where
   source_cells : (store : Store C) (part : Part C) (key : Key) → clone_source (recelled_store f store) (recelled_part f part) key ≡ option_map (recelled f) (clone_source store part key)
@@ -107,7 +107,7 @@ module _ {C D : Type 0} (f : C → D) where
   pub edit_part-cells : (x : C) (put : List C) (store : Store C) (part : Part C) (c : Command) → edit_part (f x) (map f put) (recelled_store f store) (recelled_part f part) c ≡ recelled_result f (edit_part x put store part c)
   unfolding edit_part
   edit_part-cells x put store part (Clone path offset clone_uuid clone_ctransid clone_path clone_offset clone_len) =
-      ap (λ (o : Option (Subvolume D)). clone (f x) (recelled f part.subvolume) o (bytes_eq clone_uuid part.key.uuid) path offset clone_path clone_offset clone_len) (source_cells store part (record { uuid = clone_uuid; ctransid = clone_ctransid }))
+      ap (λ (o : Option (Subvolume D)). clone (f x) (recelled f part.subvolume) o (bytes_eq clone_uuid part.key.uuid) (clone_values path offset clone_path clone_offset clone_len)) (source_cells store part (record { uuid = clone_uuid; ctransid = clone_ctransid }))
       ∙ clone-cells f x part.subvolume (clone_source store part (record { uuid = clone_uuid; ctransid = clone_ctransid })) (bytes_eq clone_uuid part.key.uuid) path offset clone_path clone_offset clone_len
   edit_part-cells x put store part c = edit-cells f x put c part.subvolume
 

@@ -11,7 +11,7 @@ use Rattle.send_model.specs.Order.{heads, breaks_order, part_after, then_judge, 
 use Rattle.send_model.specs.Outside.{part_uuids}
 use Rattle.send_model.specs.Provenance.{Traced, traced_store, traced_step, uuid_after, ranges_from, uncarried_in, uncarried_cells}
 use Rattle.send_model.specs.Cells.{recelled_state, recelled_step}
-use Rattle.send_model.specs.Due.{Due, DoneWhole, RefusedAt, TooLong, TooMuch, most_literal, uncarried_of, then_due, due_from, refused_due, or_due, reading_due, IsJudgedOf, IsJudged}
+use Rattle.send_model.specs.Due.{Due, DoneWhole, RefusedAt, TooLong, TooMuch, most_literal, uncarried_of, then_due, come_to, due_from, refused_due, or_due, reading_due, IsJudgedOf, IsJudged}
 use Rattle.send_model.proofs.Tracing.{byte_of, untraced_store}
 use Rattle.send_model.proofs.UncarriedSums.{plain_is, uncarried_split}
 use Rattle.send_model.proofs.FirstMuch.{items_due, is_first_much, first_much_is_due}
@@ -35,7 +35,7 @@ one_item item state None false so_far all rest verdict low more = one (nat_lt mo
     one false e = more (ltb-false most_literal so_far e)
 
 due_says : (base : Store ℕ) (parts : List (List ℕ)) (items : List Item) (state : State Traced) (previous : Option Key) (current : Option (List ℕ)) (sum : ℕ) → sum ≤ most_literal
-    → Says (due_from base parts state previous current sum items) (judge_items 0 byte_cells (recelled_state byte_of state) previous items) (sum + uncarried_in base (ranges_from parts state current items))
+    → Says (due_from base parts (come_to state previous current sum) items) (judge_items 0 byte_cells (recelled_state byte_of state) previous items) (sum + uncarried_in base (ranges_from parts state current items))
 unfolding due_from judge_items ranges_from
 due_says base parts [] state previous current sum low = (refl, omega (arith, low))
 due_says base parts (item ∷ items) state previous current sum low =
@@ -43,7 +43,7 @@ due_says base parts (item ∷ items) state previous current sum low =
     let plain : Stepped ℕ = recelled_step byte_of stepped in
     let own : ℕ = uncarried_of base parts state current item in
     let next : Option Key = part_after previous (head_of item.command) in
-    let rest : Option Due = due_from base parts stepped.state next (uuid_after current item.command) (sum + own) items in
+    let rest : Option Due = due_from base parts (come_to stepped.state next (uuid_after current item.command) (sum + own)) items in
     let left : ℕ = uncarried_in base (ranges_from parts stepped.state (uuid_after current item.command) items) in
     let split = uncarried_split base parts state current item items in
     let all : sum + own + left ≡ sum + uncarried_in base (ranges_from parts state current (item ∷ items)) = omega (arith, split) in
@@ -130,7 +130,7 @@ unfolding judge_reading
 reading_ends base reading = ends due (judge_items 0 byte_cells (start_of base) None reading.items) (first_of (fault_of reading.end) (without_parts reading.items (heads reading.items))) (uncarried_cells base reading.items) items_say
   where
     due : Option Due
-    due = due_from base (part_uuids reading.items) (start_of (traced_store base)) None None 0 reading.items
+    due = due_from base (part_uuids reading.items) (come_to (start_of (traced_store base)) None None 0) reading.items
 
     items_say : Says due (judge_items 0 byte_cells (start_of base) None reading.items) (uncarried_cells base reading.items)
     items_say =

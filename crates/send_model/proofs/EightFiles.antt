@@ -8,7 +8,7 @@ use Rattle.send_model.specs.Chain.{◌>>=◌, ◌>>◌, require}
 use Rattle.send_model.specs.Path.{path_names}
 use Rattle.send_model.specs.Subvolume.{Subvolume, is_file, walk}
 use Rattle.send_model.specs.Edit.{greatest_end, overwritten, written_at, change_inode, set_cells, change_contents, rename, edit}
-use Rattle.send_model.specs.Clone.{cells_of, is_aligned, cloned, clone}
+use Rattle.send_model.specs.Clone.{cells_of, is_aligned, cloned, clone, clone_values}
 use Rattle.send_model.specs.Command.{Write}
 use Rattle.send_model.specs.Generated.{file_name}
 use Rattle.send_model.proofs.ExampleWords.{directory, file, edit_words}
@@ -85,7 +85,7 @@ writes_file f i offset put low end =
 -- ---- clones
 
 pub clones_file : (f g : ℕ → List ℕ) (i j offset from : ℕ) → i < 8 → j < 8 → length (g j) ≡ 12_288 → is_aligned offset from 4_096 12_288 ≡ true → nat_lt 12_288 (from + 4_096) ≡ false → nat_le (offset + 4_096) greatest_end ≡ true
-    → clone 0 (eight f) (Some (eight g)) false (file_name i) offset (file_name j) from 4_096 ≡ Ok (eight (changed i (overwritten 0 offset (take 4_096 (drop from (g j)))) f))
+    → clone 0 (eight f) (Some (eight g)) false (clone_values (file_name i) offset (file_name j) from 4_096) ≡ Ok (eight (changed i (overwritten 0 offset (take 4_096 (drop from (g j)))) f))
 unfolding clone cloned
 clones_file f g i j offset from low low' size aligned inside end =
     let here = knows_file f i low in

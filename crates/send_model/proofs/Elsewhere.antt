@@ -6,7 +6,7 @@ use Rattle.std.specs.Str.{bytes_eq}
 use Rattle.send_model.specs.Map.{IsMap}
 use Rattle.send_model.specs.Subvolume.{Subvolume}
 use Rattle.send_model.specs.Edit.{overwritten, change_inode, set_cells}
-use Rattle.send_model.specs.Clone.{Cloned, cloned}
+use Rattle.send_model.specs.Clone.{Cloned, cloned, clone_values}
 use Rattle.send_model.specs.Store.{Key, Store, State, find}
 use Rattle.send_model.specs.Outside.{IsAmong, FindsLawful}
 use Rattle.send_model.specs.Provenance.{Traced, fresh, pieces_of}
@@ -40,7 +40,7 @@ there last u s = record { store = u; part = Some (record { key = last; subvolume
 abbrev pub RedirectedLaw : Store ℕ → List Key → Key → Type 0
 RedirectedLaw base keys last = (u : Store ℕ) (s source : Subvolume Traced) (path : List ℕ) (offset : ℕ) (clone_path : List ℕ) (from len : ℕ) (range : Cloned Traced)
     → Agrees base keys u → AreApart keys last → Holds (InPlace base keys) s → Holds (InPlace base keys) source
-    → cloned s (Some source) false path offset clone_path from len ≡ Ok range
+    → cloned s (Some source) false (clone_values path offset clone_path from len) ≡ Ok range
     → Takes (there last u s) (flat_map (piece_commands base path offset) (pieces_of base range.cells)) (there last u (change_inode range.ino (set_cells (overwritten (fresh 0) offset range.cells)) s))
 
 pub lawful_ordered : (base : Store ℕ) (keys : List Key) → FindsLawful base keys → AreOrdered base keys

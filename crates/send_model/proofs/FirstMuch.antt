@@ -10,7 +10,7 @@ use Rattle.send_model.specs.Order.{breaks_order, part_after, then_judge, judge_i
 use Rattle.send_model.specs.Provenance.{Traced, traced_store, traced_step, uuid_after, ranges_from, uncarried_in}
 use Rattle.send_model.specs.Cells.{recelled_state, recelled_step}
 use Rattle.send_model.specs.Outside.{part_uuids}
-use Rattle.send_model.specs.Due.{Due, TooMuch, most_literal, uncarried_of, then_due, due_from, IsFirstMuch}
+use Rattle.send_model.specs.Due.{Due, TooMuch, most_literal, uncarried_of, then_due, come_to, due_from, IsFirstMuch}
 use Rattle.send_model.proofs.Tracing.{byte_of, untraced_store}
 use Rattle.send_model.proofs.UncarriedSums.{plain_is, uncarried_split}
 
@@ -99,7 +99,7 @@ came item None false so_far much rest e = one (nat_lt most_literal so_far) refl 
     one false q r = let low = ltb-false most_literal so_far q in record { taken = refl; ordered = refl; here = λ l. absurd (omega (arith, low, l)); later = λ l. r }
 
 first_from : (base : Store ℕ) (parts : List (List ℕ)) (items : List Item) (state : State Traced) (previous : Option Key) (current : Option (List ℕ)) (sum much : ℕ) → sum ≤ most_literal
-    → due_from base parts state previous current sum items ≡ Some (TooMuch much) → IsFirstFrom base parts state previous current sum items much
+    → due_from base parts (come_to state previous current sum) items ≡ Some (TooMuch much) → IsFirstFrom base parts state previous current sum items much
 unfolding due_from
 first_from base parts [] state previous current sum much low e = cc
 first_from base parts (item ∷ items) state previous current sum much low e =
@@ -117,13 +117,13 @@ first_from base parts (item ∷ items) state previous current sum much low e =
     so_far : ℕ
     so_far = sum + uncarried_of base parts state current item
 
-    came_so : Came stepped.refusal (breaks_order previous (head_of item.command)) so_far much (due_from base parts stepped.state next uuid so_far items)
-    came_so = came item stepped.refusal (breaks_order previous (head_of item.command)) so_far much (due_from base parts stepped.state next uuid so_far items) e
+    came_so : Came stepped.refusal (breaks_order previous (head_of item.command)) so_far much (due_from base parts (come_to stepped.state next uuid so_far) items)
+    came_so = came item stepped.refusal (breaks_order previous (head_of item.command)) so_far much (due_from base parts (come_to stepped.state next uuid so_far) items) e
 
     none_before : uncarried_in base (ranges_from parts state current []) ≡ 0
     none_before = nothing_of base parts state current
 
-    by_sum : (so_far ≤ most_literal → due_from base parts stepped.state next uuid so_far items ≡ Some (TooMuch much) → IsFirstFrom base parts stepped.state next uuid so_far items much)
+    by_sum : (so_far ≤ most_literal → due_from base parts (come_to stepped.state next uuid so_far) items ≡ Some (TooMuch much) → IsFirstFrom base parts stepped.state next uuid so_far items much)
         → (b : Bool) → nat_lt most_literal so_far ≡ b → IsFirstFrom base parts state previous current sum (item ∷ items) much
     by_sum on true q =
         let over = ltb-true most_literal so_far q in
@@ -173,7 +173,7 @@ due_later item (Some r) breaks so_far rest e b low = cc
 much_from : (base : Store ℕ) (parts : List (List ℕ)) (before : List Item) (item : Item) (after : List Item) (state : State Traced) (previous : Option Key) (current : Option (List ℕ)) (sum much : ℕ)
     → judged state previous (before ++ item ∷ []) ≡ None → sum + uncarried_in base (ranges_from parts state current before) ≤ most_literal
     → much ≡ sum + uncarried_in base (ranges_from parts state current (before ++ item ∷ [])) → most_literal < much
-    → due_from base parts state previous current sum (before ++ item ∷ after) ≡ Some (TooMuch much)
+    → due_from base parts (come_to state previous current sum) (before ++ item ∷ after) ≡ Some (TooMuch much)
 unfolding due_from
 much_from base parts [] item after state previous current sum much accepted within is more =
     let stepped : Stepped Traced = traced_step state item in
@@ -182,7 +182,7 @@ much_from base parts [] item after state previous current sum much accepted with
     let all = uncarried_split base parts state current item [] in
     let nothing = nothing_of base parts stepped.state (uuid_after current item.command) in
     let same : so_far ≡ much = omega (arith, is, all, nothing) in
-    due_here item stepped.refusal (breaks_order previous (head_of item.command)) so_far (due_from base parts stepped.state (part_after previous (head_of item.command)) (uuid_after current item.command) so_far after) t.taken t.ordered (omega (arith, same, more))
+    due_here item stepped.refusal (breaks_order previous (head_of item.command)) so_far (due_from base parts (come_to stepped.state (part_after previous (head_of item.command)) (uuid_after current item.command) so_far) after) t.taken t.ordered (omega (arith, same, more))
     ∙ ap (λ (n : ℕ). Some (TooMuch n)) same
 much_from base parts (first ∷ before) item after state previous current sum much accepted within is more =
     let stepped : Stepped Traced = traced_step state first in
@@ -190,14 +190,14 @@ much_from base parts (first ∷ before) item after state previous current sum mu
     let t = is_taken first (before ++ item ∷ []) state previous accepted in
     let front = uncarried_split base parts state current first before in
     let whole = uncarried_split base parts state current first (before ++ item ∷ []) in
-    due_later first stepped.refusal (breaks_order previous (head_of first.command)) so_far (due_from base parts stepped.state (part_after previous (head_of first.command)) (uuid_after current first.command) so_far (before ++ item ∷ after)) t.taken t.ordered (omega (arith, within, front))
+    due_later first stepped.refusal (breaks_order previous (head_of first.command)) so_far (due_from base parts (come_to stepped.state (part_after previous (head_of first.command)) (uuid_after current first.command) so_far) (before ++ item ∷ after)) t.taken t.ordered (omega (arith, within, front))
     ∙ much_from base parts before item after stepped.state (part_after previous (head_of first.command)) (uuid_after current first.command) so_far much t.others (omega (arith, within, front)) (omega (arith, is, whole)) more
 
 -- ---- of a whole reading
 
 -- The answer over items, from the start.
 abbrev pub items_due : Store ℕ → List Item → Option Due
-items_due base items = due_from base (part_uuids items) (start_of (traced_store base)) None None 0 items
+items_due base items = due_from base (part_uuids items) (come_to (start_of (traced_store base)) None None 0) items
 
 same_start : (base : Store ℕ) (front : List Item) → judged (start_of (traced_store base)) None front ≡ judge_items 0 byte_cells (start_of base) None front
 same_start base front = ap (λ (s : Store ℕ). judge_items 0 byte_cells (start_of s) None front) (untraced_store base)
@@ -223,4 +223,4 @@ first_much_is_due base items sum f =
     let within = f.within in
     let is = f.sum_is in
     let here = much_from base (part_uuids items) f.before f.item f.after (start_of (traced_store base)) None None 0 sum (same_start base (f.before ++ f.item ∷ []) ∙ f.accepted) (omega (arith, within)) (omega (arith, is)) f.much in
-    ap (λ (x : List Item). due_from base (part_uuids items) (start_of (traced_store base)) None None 0 x) f.parts ∙ here
+    ap (λ (x : List Item). due_from base (part_uuids items) (come_to (start_of (traced_store base)) None None 0) x) f.parts ∙ here

@@ -17,7 +17,7 @@ use Rattle.send_model.specs.Command.{Command, Subvol, Snapshot, MkFile, Rename, 
 use Rattle.send_model.specs.Path.{slash, is_name}
 use Rattle.send_model.specs.Subvolume.{Subvolume}
 use Rattle.send_model.specs.Edit.{greatest_end, overwritten, written_at, rename, edit}
-use Rattle.send_model.specs.Clone.{is_aligned, clone}
+use Rattle.send_model.specs.Clone.{is_aligned, clone, clone_values}
 use Rattle.send_model.specs.Store.{Key, Head, head_of, Entry, Store, State, Stepped, has_name, has_uuid, find, completed, unfinished, begun, start_from, entered, step_head, edit_part, edited, step_edit, step}
 use Rattle.send_model.specs.Reading.{Item, Verdict}
 use Rattle.send_model.specs.Receive.{bytes_of, byte_cells, start_of, first_of}
@@ -88,7 +88,7 @@ edit_step : (store : Store ℕ) (key : Key) (s after : Subvolume ℕ) (c : Comma
 edit_step store key s after c plain e = plain_step 0 (bytes_of c) store (record { key = key; subvolume = s }) c plain ∙ ap (edited store (record { key = key; subvolume = s })) e
 
 clone_step : (store : Store ℕ) (key source : Key) (s other after : Subvolume ℕ) (path : List ℕ) (offset : ℕ) (clone_path : List ℕ) (from len : ℕ) → bytes_eq source.uuid key.uuid ≡ false → find store source ≡ Some other
-    → clone 0 s (Some other) false path offset clone_path from len ≡ Ok after
+    → clone 0 s (Some other) false (clone_values path offset clone_path from len) ≡ Ok after
     → step_of (inside store key s) (Clone path offset source.uuid source.ctransid clone_path from len) ≡ record { state = inside store key after; refusal = None }
 unfolding step step_edit edit_part
 clone_step store key source s other after path offset clone_path from len own f e =

@@ -7,7 +7,7 @@ use Rattle.send_model.specs.Refusal.{Refusal}
 use Rattle.send_model.specs.Command.{Command}
 use Rattle.send_model.specs.Subvolume.{Subvolume}
 use Rattle.send_model.specs.Edit.{edit}
-use Rattle.send_model.specs.Clone.{cells_of, Cloned, cloned, clone}
+use Rattle.send_model.specs.Clone.{cells_of, Cloned, cloned, clone, clone_values}
 use Rattle.send_model.specs.Cells.{recelled, recelled_result, Good, cell_of, Holds}
 use Rattle.send_model.proofs.CellEdits.{edit-cells}
 use Rattle.send_model.proofs.CellClones.{cells_of-cells, recloned, cloned-cells, clone-cells}
@@ -40,12 +40,12 @@ module _ {C : Type 0} (P : C → Type 0) where
   source_holds (Some u) h = let k = h u refl in (Some k.0, (let some : Subvolume C → Option (Subvolume C) = λ v. Some v in ap some k.1))
 
   pub clone_holds : (x : C) (s : Subvolume C) (o : Option (Subvolume C)) (own : Bool) (path : List ℕ) (offset : ℕ) (clone_path : List ℕ) (from len : ℕ) (t : Subvolume C)
-      → P x → Holds P s → ((u : Subvolume C) → o ≡ Some u → Holds P u) → clone x s o own path offset clone_path from len ≡ Ok t → Holds P t
+      → P x → Holds P s → ((u : Subvolume C) → o ≡ Some u → Holds P u) → clone x s o own (clone_values path offset clone_path from len) ≡ Ok t → Holds P t
   clone_holds x s o own path offset clone_path from len t px (s', e) h ok =
       let o' = source_holds o h in
-      let same : clone x s o own path offset clone_path from len ≡ recelled_result (cell_of P) (clone (x, px) s' o'.0 own path offset clone_path from len) =
-      ap₂ (λ (u : Subvolume C) (p : Option (Subvolume C)). clone x u p own path offset clone_path from len) (sym e) (sym o'.1) ∙ clone-cells (cell_of P) (x, px) s' o'.0 own path offset clone_path from len in
-      result_holds (clone (x, px) s' o'.0 own path offset clone_path from len) t (sym same ∙ ok)
+      let same : clone x s o own (clone_values path offset clone_path from len) ≡ recelled_result (cell_of P) (clone (x, px) s' o'.0 own (clone_values path offset clone_path from len)) =
+      ap₂ (λ (u : Subvolume C) (p : Option (Subvolume C)). clone x u p own (clone_values path offset clone_path from len)) (sym e) (sym o'.1) ∙ clone-cells (cell_of P) (x, px) s' o'.0 own path offset clone_path from len in
+      result_holds (clone (x, px) s' o'.0 own (clone_values path offset clone_path from len)) t (sym same ∙ ok)
 
   goods_hold : (gs : List (Good P)) → AllByRecursion P (map (cell_of P) gs)
   goods_hold [] = tt
@@ -56,9 +56,9 @@ module _ {C : Type 0} (P : C → Type 0) where
   range_holds (Err refusal) range e = cc
 
   pub cloned_holds : (s : Subvolume C) (o : Option (Subvolume C)) (own : Bool) (path : List ℕ) (offset : ℕ) (clone_path : List ℕ) (from len : ℕ) (range : Cloned C)
-      → Holds P s → ((u : Subvolume C) → o ≡ Some u → Holds P u) → cloned s o own path offset clone_path from len ≡ Ok range → AllByRecursion P range.cells
+      → Holds P s → ((u : Subvolume C) → o ≡ Some u → Holds P u) → cloned s o own (clone_values path offset clone_path from len) ≡ Ok range → AllByRecursion P range.cells
   cloned_holds s o own path offset clone_path from len range (s', e) h ok =
       let o' = source_holds o h in
-      let same : cloned s o own path offset clone_path from len ≡ recloned (cell_of P) (cloned s' o'.0 own path offset clone_path from len) =
-      ap₂ (λ (u : Subvolume C) (p : Option (Subvolume C)). cloned u p own path offset clone_path from len) (sym e) (sym o'.1) ∙ cloned-cells (cell_of P) s' o'.0 own path offset clone_path from len in
-      range_holds (cloned s' o'.0 own path offset clone_path from len) range (sym same ∙ ok)
+      let same : cloned s o own (clone_values path offset clone_path from len) ≡ recloned (cell_of P) (cloned s' o'.0 own (clone_values path offset clone_path from len)) =
+      ap₂ (λ (u : Subvolume C) (p : Option (Subvolume C)). cloned u p own (clone_values path offset clone_path from len)) (sym e) (sym o'.1) ∙ cloned-cells (cell_of P) s' o'.0 own path offset clone_path from len in
+      range_holds (cloned s' o'.0 own (clone_values path offset clone_path from len)) range (sym same ∙ ok)

@@ -14,13 +14,13 @@ use Rattle.send_model.specs.Reading.{Item, Whole, input}
 use Rattle.send_model.specs.Lengths.{is_too_long, too_long, too_long_from}
 use Rattle.send_model.specs.Subvolume.{Subvolume, root_alone, is_directory, is_file, walk_names, walk, spot}
 use Rattle.send_model.specs.Edit.{greatest_end, resized, overwritten, change_inode, set_cells, add_inode, make, change_contents, edit}
-use Rattle.send_model.specs.Clone.{block_len, cells_of, is_aligned, overlap, Cloned, cloned, clone}
+use Rattle.send_model.specs.Clone.{block_len, cells_of, is_aligned, overlap, Cloned, cloned, clone, clone_values}
 use Rattle.send_model.specs.Store.{Store, State, find, with_contents, completed, begun, edited, step_head, edit_part, step_edit, step}
 use Rattle.send_model.specs.Receive.{start_of}
 use Rattle.send_model.specs.Order.{heads, heads_of}
 use Rattle.send_model.specs.Provenance.{Place, Traced, fresh, inode_with, traced_store, traced_step, come_from, can_serve, carried_from, Piece, Carried, Literal, piece_of, join_piece, pieces_from, pieces_of, literal_len, blocks_from, blocks, clone_range, uncarried_in}
 use Rattle.send_model.specs.Composed.{first_head, last_head, composed_from, composed_edits, composed_with, composed_of, composed_part}
-use Rattle.send_model.specs.Due.{Due, TooMuch, uncarried_of, then_due, due_from, reading_due, or_due, refused_due, compose_due_of, compose_due}
+use Rattle.send_model.specs.Due.{Due, TooMuch, uncarried_of, then_due, come_to, due_from, reading_due, or_due, refused_due, compose_due_of, compose_due}
 use Rattle.send_model.proofs.ExampleWords.{hexadecimal, uuid, key, directory, file, reading_words}
 
 -- ---- over a store with nothing in it
@@ -176,12 +176,12 @@ state_with cells = record {
 }
 
 abbrev due_with : List Traced → List Item → Option Due
-due_with cells items = due_from nothing parts (state_with cells) (Some (key 0x22 2)) (Some (uuid 0x22)) 0 items
+due_with cells items = due_from nothing parts (come_to (state_with cells) (Some (key 0x22 2)) (Some (uuid 0x22)) 0) items
 
 abbrev hole : List Traced
 hole = resized (fresh 0) size []
 
-up_to_clone : (items : List Item) → due_from nothing parts (start_of (traced_store nothing)) None None 0 (before ++ items) ≡ due_with hole items
+up_to_clone : (items : List Item) → due_from nothing parts (come_to (start_of (traced_store nothing)) None None 0) (before ++ items) ≡ due_with hole items
 unfolding hole_words
 up_to_clone items = refl
 
@@ -196,7 +196,7 @@ unfolding resized
 resized_len n = let zeros = length-replicate (n - 0) (fresh 0) in taken_len n (replicate (n - 0) (fresh 0)) (omega (arith, zeros))
 
 abbrev cloned_with : List Traced → Result (Cloned Traced) Refusal
-cloned_with cells = cloned (second_part cells) (Some (first_part cells)) false (codes "k") 0 (codes "h") 0 size
+cloned_with cells = cloned (second_part cells) (Some (first_part cells)) false (clone_values (codes "k") 0 (codes "h") 0 size)
 
 -- The clone is taken, and puts all of them.
 clone_taken : (cells : List Traced) → length cells ≡ size → cloned_with cells ≡ Ok (record { ino = 258; cells = take size cells })
@@ -225,7 +225,7 @@ too_much_with : (cells : List Traced) (rest : List Item) → length cells ≡ si
 unfolding due_from
 too_much_with cells rest long =
     let state : State Traced = (traced_step (state_with cells) the_clone).state in
-    let others : ℕ → Option Due = λ sum. due_from nothing parts state (Some (key 0x22 2)) (Some (uuid 0x22)) sum rest in
+    let others : ℕ → Option Due = λ sum. due_from nothing parts (come_to state (Some (key 0x22 2)) (Some (uuid 0x22)) sum) rest in
     let own : ℕ = uncarried_of nothing parts (state_with cells) (Some (uuid 0x22)) the_clone in
     ap (λ (o : Option Refusal). then_due the_clone o false (0 + own) (others (0 + own))) (not_refused cells long)
     ∙ ap (λ (n : ℕ). then_due the_clone None false (0 + n) (others (0 + n))) (uncarried_is cells long)

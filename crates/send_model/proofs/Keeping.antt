@@ -15,7 +15,7 @@ use Rattle.send_model.specs.Path.{path_names}
 use Rattle.send_model.specs.Map.{Map, bytes_cmp, named_cmp, value_at, with_value, without}
 use Rattle.send_model.specs.Subvolume.{NodeKind, Inode, Subvolume, Spot, new_inode, root, inode_at, is_directory, is_file, walk_names, walk, spot, last_name, all_but_last, name_count, is_empty_directory}
 use Rattle.send_model.specs.Edit.{greatest_end, written_at, resized, overwritten, Allocation, allocation_of, fallocated, set_cells, change_inode, set_inode, add_name, add_inode, remove_name, remove_inode, take_name, move_name, at_spot, greatest_number, device_kind, make, make_device, link, unlink, rmdir, lies_below, can_replace, rename_onto, rename, change_at, is_xattr_name, set_xattr, has_xattr, remove_xattr, change_contents, fallocate, edit}
-use Rattle.send_model.specs.Clone.{Cloned, cloned, clone}
+use Rattle.send_model.specs.Clone.{Cloned, cloned, clone, clone_values}
 use Rattle.send_model.proofs.Fuel.{required, not_refused, tested, bound, ok_same}
 use Rattle.send_model.proofs.Sorts.{same_inside}
 use Rattle.send_model.proofs.Sound.{found_is}
@@ -270,9 +270,9 @@ module _ {C : Type 0} (N : List ℕ → Type 0) (X : Inode C → Type 0) where
 
   -- So has what a clone makes of it, where the cells that it puts keep each inode.
   pub clone_keeps : (zero_cell : C) (part : Subvolume C) (source : Option (Subvolume C)) (is_own : Bool) (path : List ℕ) (offset : ℕ) (clone_path : List ℕ) (from len : ℕ) (t : Subvolume C)
-      → ((range : Cloned C) → cloned part source is_own path offset clone_path from len ≡ Ok range → (inode : Inode C) → X inode → X (set_cells (overwritten zero_cell offset range.cells) inode)) → Has part
-      → clone zero_cell part source is_own path offset clone_path from len ≡ Ok t → Has t
+      → ((range : Cloned C) → cloned part source is_own (clone_values path offset clone_path from len) ≡ Ok range → (inode : Inode C) → X inode → X (set_cells (overwritten zero_cell offset range.cells) inode)) → Has part
+      → clone zero_cell part source is_own (clone_values path offset clone_path from len) ≡ Ok t → Has t
   unfolding clone
   clone_keeps zero_cell part source is_own path offset clone_path from len t keeps h e =
-      let a = bound (cloned part source is_own path offset clone_path from len) _ t e in
+      let a = bound (cloned part source is_own (clone_values path offset clone_path from len)) _ t e in
       subst (λ (u : Subvolume C). Has u) (ok_same a.2) (changed a.0.ino _ part (keeps a.0 a.1) h)

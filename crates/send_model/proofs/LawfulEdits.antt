@@ -15,7 +15,7 @@ use Rattle.send_model.specs.Path.{slash, is_name, between_slashes, onto_first, p
 use Rattle.send_model.specs.Map.{IsMap, bytes_cmp}
 use Rattle.send_model.specs.Subvolume.{Inode, Subvolume, inode_at, root_alone, IsLawful}
 use Rattle.send_model.specs.Edit.{greatest_end, filled, resized, overwritten, written_at, Allocation, Lengthen, KeepSize, PunchHole, ZeroRange, ZeroWithin, zeroed, allocated, fallocated, set_cells, edit}
-use Rattle.send_model.specs.Clone.{cells_of, Cloned, cloned, clone}
+use Rattle.send_model.specs.Clone.{cells_of, Cloned, cloned, clone, clone_values}
 use Rattle.send_model.specs.Receive.{bytes_of}
 use Rattle.send_model.specs.Outside.{IsSayable}
 use Rattle.send_model.specs.Lawful.{KeepsLawfulness, EditsKeepSayable}
@@ -64,7 +64,7 @@ module _ {C : Type 0} where
       let k = edit_keeps IsName IsOrdered zero_cell put c s t (ordered_kept zero_cell put c) (lawful_names (new_path c)) (record { names = h.lawful_names; inodes = h.ordered_attributes }) e in
       record { sound = edit_keeps_sound zero_cell put c s t h.sound e; lawful_names = k.names; ordered_attributes = k.inodes }
 
-  pub clone_keeps_lawful : (zero_cell : C) (source : Option (Subvolume C)) (is_own : Bool) (path : List ℕ) (offset : ℕ) (clone_path : List ℕ) (from len : ℕ) → KeepsLawfulness (λ part. clone zero_cell part source is_own path offset clone_path from len)
+  pub clone_keeps_lawful : (zero_cell : C) (source : Option (Subvolume C)) (is_own : Bool) (path : List ℕ) (offset : ℕ) (clone_path : List ℕ) (from len : ℕ) → KeepsLawfulness (λ part. clone zero_cell part source is_own (clone_values path offset clone_path from len))
   clone_keeps_lawful zero_cell source is_own path offset clone_path from len s t h e =
       let k = clone_keeps IsName IsOrdered zero_cell s source is_own path offset clone_path from len t (λ range is inode own. own) (record { names = h.lawful_names; inodes = h.ordered_attributes }) e in
       record { sound = clone_keeps_sound zero_cell s source is_own path offset clone_path from len t h.sound e; lawful_names = k.names; ordered_attributes = k.inodes }
@@ -256,7 +256,7 @@ edits_keep_sayable version c s t spelled h e =
     (edit_keeps IsByteName IsSayableInode 0 (bytes_of c) c s t (sayable_kept (bytes_of c) c (written_bytes version c spelled)) (byte_names (new_path c) (new_bytes version c spelled)) (has_sayable s h) e)
 
 -- A clone that is taken has a source.
-source_there : {C : Type 0} (part : Subvolume C) (own : Bool) (path : List ℕ) (offset : ℕ) (clone_path : List ℕ) (from len : ℕ) (range : Cloned C) → cloned part None own path offset clone_path from len ≡ Ok range → ⊥
+source_there : {C : Type 0} (part : Subvolume C) (own : Bool) (path : List ℕ) (offset : ℕ) (clone_path : List ℕ) (from len : ℕ) (range : Cloned C) → cloned part None own (clone_values path offset clone_path from len) ≡ Ok range → ⊥
 unfolding cloned
 source_there part own path offset clone_path from len range e =
     let a = required (is_some (path_names path)) BadPath _ range e in
@@ -265,15 +265,15 @@ source_there part own path offset clone_path from len range e =
 
 -- So does a clone, where its source can be said.
 pub clone_keeps_sayable : (part : Subvolume ℕ) (source : Option (Subvolume ℕ)) (is_own : Bool) (path : List ℕ) (offset : ℕ) (clone_path : List ℕ) (from len : ℕ) (t : Subvolume ℕ)
-    → IsSayable part → ((u : Subvolume ℕ) → source ≡ Some u → IsSayable u) → clone 0 part source is_own path offset clone_path from len ≡ Ok t → IsSayable t
+    → IsSayable part → ((u : Subvolume ℕ) → source ≡ Some u → IsSayable u) → clone 0 part source is_own (clone_values path offset clone_path from len) ≡ Ok t → IsSayable t
 clone_keeps_sayable part source is_own path offset clone_path from len t h hs e =
     sayable_from t (clone_keeps_lawful 0 source is_own path offset clone_path from len part t h.lawful e)
     (clone_keeps IsByteName IsSayableInode 0 part source is_own path offset clone_path from len t (λ range made. put source refl range made) (has_sayable part h) e)
   where
-    put : (o : Option (Subvolume ℕ)) → source ≡ o → (range : Cloned ℕ) → cloned part source is_own path offset clone_path from len ≡ Ok range → (inode : Inode ℕ) → IsSayableInode inode → IsSayableInode (set_cells (overwritten 0 offset range.cells) inode)
-    put None is range made inode own = absurd (source_there part is_own path offset clone_path from len range (ap (λ (o : Option (Subvolume ℕ)). cloned part o is_own path offset clone_path from len) (sym is) ∙ made))
+    put : (o : Option (Subvolume ℕ)) → source ≡ o → (range : Cloned ℕ) → cloned part source is_own (clone_values path offset clone_path from len) ≡ Ok range → (inode : Inode ℕ) → IsSayableInode inode → IsSayableInode (set_cells (overwritten 0 offset range.cells) inode)
+    put None is range made inode own = absurd (source_there part is_own path offset clone_path from len range (ap (λ (o : Option (Subvolume ℕ)). cloned part o is_own (clone_values path offset clone_path from len)) (sym is) ∙ made))
     put (Some u) is range made inode own =
-        let facts = cloned_facts part u is_own path offset clone_path from len range (ap (λ (o : Option (Subvolume ℕ)). cloned part o is_own path offset clone_path from len) (sym is) ∙ made) in
+        let facts = cloned_facts part u is_own path offset clone_path from len range (ap (λ (o : Option (Subvolume ℕ)). cloned part o is_own (clone_values path offset clone_path from len)) (sym is) ∙ made) in
         let bytes : IsBytes range.cells = subst IsBytes (sym facts.cells_are) (all_take IsByte len _ (all_drop IsByte from _ (cells_known u facts.source_ino (hs u is)))) in
         let end = leb-true (offset + len) greatest_end facts.fits in
         let long = facts.length_is in

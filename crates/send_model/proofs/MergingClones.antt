@@ -13,7 +13,7 @@ use Rattle.send_model.specs.Command.{Command, Subvol, Snapshot, Clone, End}
 use Rattle.send_model.specs.Path.{path_names}
 use Rattle.send_model.specs.Subvolume.{Subvolume}
 use Rattle.send_model.specs.Edit.{overwritten, change_inode, set_cells, edit}
-use Rattle.send_model.specs.Clone.{Cloned, cloned, clone}
+use Rattle.send_model.specs.Clone.{Cloned, cloned, clone, clone_values}
 use Rattle.send_model.specs.Store.{Key, Head, head_of, Store, Part, State, Stepped, step, step_head, step_edit, edit_part, find, with_contents, completed, begun, entered, edited, unfinished, clone_source}
 use Rattle.send_model.specs.Receive.{bytes_of}
 use Rattle.send_model.specs.Reading.{Item}
@@ -89,7 +89,7 @@ turned_false a b e = one (bytes_eq b a) refl
 
 -- ---- a clone without a source
 
-pub no_source : (x : Traced) (s next : Subvolume Traced) (own : Bool) (path : List ℕ) (offset : ℕ) (clone_path : List ℕ) (from len : ℕ) → clone x s None own path offset clone_path from len ≡ Ok next → ⊥
+pub no_source : (x : Traced) (s next : Subvolume Traced) (own : Bool) (path : List ℕ) (offset : ℕ) (clone_path : List ℕ) (from len : ℕ) → clone x s None own (clone_values path offset clone_path from len) ≡ Ok next → ⊥
 unfolding clone cloned
 no_source x s next own path offset clone_path from len e = one (is_some (path_names path)) (is_some (path_names clone_path)) e
   where
@@ -299,12 +299,12 @@ module _ (base : Store ℕ) (keys : List Key) (parts : List (List ℕ)) (last : 
 
   clone_step_is : (store : Store Traced) (key : Key) (s : Subvolume Traced) (path : List ℕ) (offset : ℕ) (uuid : List ℕ) (ctransid : ℕ) (clone_path : List ℕ) (from len : ℕ)
       → step (fresh 0) [] (here store key s) (Clone path offset uuid ctransid clone_path from len)
-      ≡ edited store (record { key = key; subvolume = s }) (clone (fresh 0) s (clone_source store (record { key = key; subvolume = s }) (record { uuid = uuid; ctransid = ctransid })) (bytes_eq uuid key.uuid) path offset clone_path from len)
+      ≡ edited store (record { key = key; subvolume = s }) (clone (fresh 0) s (clone_source store (record { key = key; subvolume = s }) (record { uuid = uuid; ctransid = ctransid })) (bytes_eq uuid key.uuid) (clone_values path offset clone_path from len))
   unfolding step step_edit edit_part
   clone_step_is store key s path offset uuid ctransid clone_path from len = refl
 
   clone_there : (u : Store ℕ) (s next : Subvolume ℕ) (path : List ℕ) (offset : ℕ) (key : Key) (clone_path : List ℕ) (from len : ℕ)
-      → clone 0 s (clone_source u (record { key = last; subvolume = s }) key) (bytes_eq key.uuid last.uuid) path offset clone_path from len ≡ Ok next
+      → clone 0 s (clone_source u (record { key = last; subvolume = s }) key) (bytes_eq key.uuid last.uuid) (clone_values path offset clone_path from len) ≡ Ok next
       → Takes (record { store = u; part = Some (record { key = last; subvolume = s }) }) (Clone path offset key.uuid key.ctransid clone_path from len ∷ []) (record { store = u; part = Some (record { key = last; subvolume = next }) })
   unfolding step step_edit edit_part
   clone_there u s next path offset key clone_path from len e =
@@ -330,12 +330,12 @@ module _ (base : Store ℕ) (keys : List Key) (parts : List (List ℕ)) (last : 
       held : Holds (InPlace base keys) next
 
     own_stands : (store : Store Traced) (key : Key) (s next : Subvolume Traced) → bytes_eq key.uuid uuid ≡ true → Holds (InPlace base keys) s
-        → clone (fresh 0) s (Some s) true path offset clone_path from len ≡ Ok next → StandsFor store key s next
+        → clone (fresh 0) s (Some s) true (clone_values path offset clone_path from len) ≡ Ok next → StandsFor store key s next
     own_stands store key s next own held ok = record {
       commands = Clone path offset last.uuid last.ctransid clone_path from len ∷ [];
       are = rw own refl;
       taken = λ u agrees. clone_there u (plain s) (plain next) path offset last clone_path from len
-          (ap (λ (b : Bool). clone 0 (plain s) (if b then Some (plain s) else find u last) b path offset clone_path from len) (bytes_eq_same last.uuid) ∙ clone-cells byte_of (fresh 0) s (Some s) true path offset clone_path from len ∙ ap (recelled_result byte_of) ok);
+          (ap (λ (b : Bool). clone 0 (plain s) (if b then Some (plain s) else find u last) b (clone_values path offset clone_path from len)) (bytes_eq_same last.uuid) ∙ clone-cells byte_of (fresh 0) s (Some s) true path offset clone_path from len ∙ ap (recelled_result byte_of) ok);
       named = (inr refl, tt);
       held = clone_holds (InPlace base keys) (fresh 0) s (Some s) true path offset clone_path from len next tt held (λ v e. subst (λ (x : Subvolume Traced). Holds (InPlace base keys) x) (some_same s v e) held) ok;
     }
@@ -344,15 +344,15 @@ module _ (base : Store ℕ) (keys : List Key) (parts : List (List ℕ)) (last : 
         some_same a b e = cc
 
     outside_stands : (store : Store Traced) (key : Key) (s next : Subvolume Traced) → bytes_eq key.uuid uuid ≡ false → is_among parts uuid ≡ false → IsAmong source_key keys → IsCarried store → Holds (InPlace base keys) s
-        → clone (fresh 0) s (find store source_key) false path offset clone_path from len ≡ Ok next → StandsFor store key s next
+        → clone (fresh 0) s (find store source_key) false (clone_values path offset clone_path from len) ≡ Ok next → StandsFor store key s next
     outside_stands store key s next own among listed carried held ok = record {
       commands = this ∷ [];
       are = rw (own, among) refl;
       taken = λ u agrees.
           let here_is : find u source_key ≡ option_map plain (find store source_key) = agrees source_key listed ∙ found_untraced base source_key ∙ ap (option_map plain) (sym (carried.outside source_key among)) in
           clone_there u (plain s) (plain next) path offset source_key clone_path from len
-          (ap (λ (b : Bool). clone 0 (plain s) (if b then Some (plain s) else find u source_key) b path offset clone_path from len) (apart source_key listed)
-          ∙ ap (λ (o : Option (Subvolume ℕ)). clone 0 (plain s) o false path offset clone_path from len) here_is
+          (ap (λ (b : Bool). clone 0 (plain s) (if b then Some (plain s) else find u source_key) b (clone_values path offset clone_path from len)) (apart source_key listed)
+          ∙ ap (λ (o : Option (Subvolume ℕ)). clone 0 (plain s) o false (clone_values path offset clone_path from len)) here_is
           ∙ clone-cells byte_of (fresh 0) s (find store source_key) false path offset clone_path from len ∙ ap (recelled_result byte_of) ok);
       named = (inl listed, tt);
       held = clone_holds (InPlace base keys) (fresh 0) s (find store source_key) false path offset clone_path from len next tt held
@@ -364,22 +364,22 @@ module _ (base : Store ℕ) (keys : List Key) (parts : List (List ℕ)) (last : 
     all_left (k ∷ ks) a = (inl a.0, all_left ks a.1)
 
     range_is : (store : Store Traced) (key : Key) (s : Subvolume Traced) (range : Cloned Traced)
-        → cloned s (clone_source store (record { key = key; subvolume = s }) source_key) (bytes_eq uuid key.uuid) path offset clone_path from len ≡ Ok range → clone_range (here store key s) this ≡ range.cells
+        → cloned s (clone_source store (record { key = key; subvolume = s }) source_key) (bytes_eq uuid key.uuid) (clone_values path offset clone_path from len) ≡ Ok range → clone_range (here store key s) this ≡ range.cells
     unfolding clone_range
     range_is store key s range e = ap (λ (r : Result (Cloned Traced) Refusal). elim r as (λ x. List Traced) [ Err refusal ↦ [] | Ok x ↦ x.cells ]) e
 
     redirected_stands : (store : Store Traced) (key : Key) (s next source : Subvolume Traced) → bytes_eq key.uuid uuid ≡ false → is_among parts uuid ≡ true → IsCarried store → Holds (InPlace base keys) s
-        → find store source_key ≡ Some source → clone (fresh 0) s (Some source) false path offset clone_path from len ≡ Ok next → StandsFor store key s next
+        → find store source_key ≡ Some source → clone (fresh 0) s (Some source) false (clone_values path offset clone_path from len) ≡ Ok next → StandsFor store key s next
     unfolding clone
     redirected_stands store key s next source own among carried held f ok =
-        let r = bound (cloned s (Some source) false path offset clone_path from len) (λ range. Ok (change_inode range.ino (set_cells (overwritten (fresh 0) offset range.cells)) s)) next ok in
+        let r = bound (cloned s (Some source) false (clone_values path offset clone_path from len)) (λ range. Ok (change_inode range.ino (set_cells (overwritten (fresh 0) offset range.cells)) s)) next ok in
         let range : Cloned Traced = r.0 in
         let after : change_inode range.ino (set_cells (overwritten (fresh 0) offset range.cells)) s ≡ next = ok_same r.2 in
         let source_held : Holds (InPlace base keys) source = carried.inside source_key source among f in
         let same_source : (v : Subvolume Traced) → Some source ≡ Some v → Holds (InPlace base keys) v = λ v e. carried.inside source_key v among (f ∙ e) in
         let cells_held : AllByRecursion (InPlace base keys) range.cells = cloned_holds (InPlace base keys) s (Some source) false path offset clone_path from len range held same_source r.1 in
         let at : clone_range (here store key s) this ≡ range.cells = range_is store key s range
-        (ap (λ (b : Bool). cloned s (if b then Some s else find store source_key) b path offset clone_path from len) (turned_false key.uuid uuid own) ∙ ap (λ (o : Option (Subvolume Traced)). cloned s o false path offset clone_path from len) f ∙ r.1) in
+        (ap (λ (b : Bool). cloned s (if b then Some s else find store source_key) b (clone_values path offset clone_path from len)) (turned_false key.uuid uuid own) ∙ ap (λ (o : Option (Subvolume Traced)). cloned s o false (clone_values path offset clone_path from len)) f ∙ r.1) in
         let of_range : List Traced → List Command = λ cells. flat_map (piece_commands base path offset) (pieces_of base cells) in
         record {
           commands = of_range range.cells;
@@ -391,22 +391,22 @@ module _ (base : Store ℕ) (keys : List Key) (parts : List (List ℕ)) (last : 
 
     stand : (store : Store Traced) (key : Key) (s next : Subvolume Traced) (a : Bool) → bytes_eq key.uuid uuid ≡ a → (b : Bool) → is_among parts uuid ≡ b → (o : Option (Subvolume Traced)) → find store source_key ≡ o
         → (is_among parts uuid ≡ false → IsAmong source_key keys) → IsCarried store → Holds (InPlace base keys) s
-        → clone (fresh 0) s (clone_source store (record { key = key; subvolume = s }) source_key) (bytes_eq uuid key.uuid) path offset clone_path from len ≡ Ok next → StandsFor store key s next
+        → clone (fresh 0) s (clone_source store (record { key = key; subvolume = s }) source_key) (bytes_eq uuid key.uuid) (clone_values path offset clone_path from len) ≡ Ok next → StandsFor store key s next
     stand store key s next true own b among o f listed carried held ok =
-        own_stands store key s next own held (subst (λ (t : Bool). clone (fresh 0) s (if t then Some s else find store source_key) t path offset clone_path from len ≡ Ok next) (turned_true key.uuid uuid own) ok)
+        own_stands store key s next own held (subst (λ (t : Bool). clone (fresh 0) s (if t then Some s else find store source_key) t (clone_values path offset clone_path from len) ≡ Ok next) (turned_true key.uuid uuid own) ok)
     stand store key s next false own false among o f listed carried held ok =
-        outside_stands store key s next own among (listed among) carried held (subst (λ (t : Bool). clone (fresh 0) s (if t then Some s else find store source_key) t path offset clone_path from len ≡ Ok next) (turned_false key.uuid uuid own) ok)
+        outside_stands store key s next own among (listed among) carried held (subst (λ (t : Bool). clone (fresh 0) s (if t then Some s else find store source_key) t (clone_values path offset clone_path from len) ≡ Ok next) (turned_false key.uuid uuid own) ok)
     stand store key s next false own true among None f listed carried held ok =
-        let ok' : clone (fresh 0) s (find store source_key) false path offset clone_path from len ≡ Ok next = subst (λ (t : Bool). clone (fresh 0) s (if t then Some s else find store source_key) t path offset clone_path from len ≡ Ok next) (turned_false key.uuid uuid own) ok in
-        absurd (no_source (fresh 0) s next false path offset clone_path from len (subst (λ (o : Option (Subvolume Traced)). clone (fresh 0) s o false path offset clone_path from len ≡ Ok next) f ok'))
+        let ok' : clone (fresh 0) s (find store source_key) false (clone_values path offset clone_path from len) ≡ Ok next = subst (λ (t : Bool). clone (fresh 0) s (if t then Some s else find store source_key) t (clone_values path offset clone_path from len) ≡ Ok next) (turned_false key.uuid uuid own) ok in
+        absurd (no_source (fresh 0) s next false path offset clone_path from len (subst (λ (o : Option (Subvolume Traced)). clone (fresh 0) s o false (clone_values path offset clone_path from len) ≡ Ok next) f ok'))
     stand store key s next false own true among (Some source) f listed carried held ok =
-        let ok' : clone (fresh 0) s (find store source_key) false path offset clone_path from len ≡ Ok next = subst (λ (t : Bool). clone (fresh 0) s (if t then Some s else find store source_key) t path offset clone_path from len ≡ Ok next) (turned_false key.uuid uuid own) ok in
-        redirected_stands store key s next source own among carried held f (subst (λ (o : Option (Subvolume Traced)). clone (fresh 0) s o false path offset clone_path from len ≡ Ok next) f ok')
+        let ok' : clone (fresh 0) s (find store source_key) false (clone_values path offset clone_path from len) ≡ Ok next = subst (λ (t : Bool). clone (fresh 0) s (if t then Some s else find store source_key) t (clone_values path offset clone_path from len) ≡ Ok next) (turned_false key.uuid uuid own) ok in
+        redirected_stands store key s next source own among carried held f (subst (λ (o : Option (Subvolume Traced)). clone (fresh 0) s o false (clone_values path offset clone_path from len) ≡ Ok next) f ok')
 
     in_clone : (cs : List Command) → Merges cs → InPart this cs
     in_clone cs ih store key s end f ours out carried held our at t =
         let part : Part Traced = record { key = key; subvolume = s } in
-        let r : Result (Subvolume Traced) Refusal = clone (fresh 0) s (clone_source store part source_key) (bytes_eq uuid key.uuid) path offset clone_path from len in
+        let r : Result (Subvolume Traced) Refusal = clone (fresh 0) s (clone_source store part source_key) (bytes_eq uuid key.uuid) (clone_values path offset clone_path from len) in
         let is_edit : step (fresh 0) [] (here store key s) this ≡ edited store part r = clone_step_is store key s path offset uuid ctransid clone_path from len in
         let ok = edited_taken store part r (subst (λ (x : Stepped Traced). x.refusal ≡ None) is_edit t.0) in
         let k = stand store key s ok.0 (bytes_eq key.uuid uuid) refl (is_among parts uuid) refl (find store source_key) refl out.0 carried held ok.1 in

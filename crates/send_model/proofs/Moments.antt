@@ -12,7 +12,7 @@ use Rattle.send_model.specs.Command.{Command, Clone, Utimes, End, row}
 use Rattle.send_model.specs.Spelling.{IsSpellable}
 use Rattle.send_model.specs.Subvolume.{Inode, Subvolume, root, epoch, inode_at, root_alone}
 use Rattle.send_model.specs.Edit.{edit}
-use Rattle.send_model.specs.Clone.{clone}
+use Rattle.send_model.specs.Clone.{clone, clone_values}
 use Rattle.send_model.specs.Store.{Key, Head, head_of, Store, Part, State, Stepped, find, completed, begun, start_from, entered, step_head, clone_source, edit_part, edited, step_edit, step}
 use Rattle.send_model.specs.Reading.{Item, input}
 use Rattle.send_model.specs.Receive.{bytes_of, byte_cells, start_of, Ran, run_by, then_run, run_items, receive_items}
@@ -69,7 +69,7 @@ edit_times version c s t spelled h e =
 
 clone_times : (s : Subvolume ℕ) (source : Option (Subvolume ℕ)) (is_own : Bool) (path : List ℕ) (offset : ℕ) (clone_path : List ℕ) (from len : ℕ) (t : Subvolume ℕ)
     → HasTimes s
-    → clone 0 s source is_own path offset clone_path from len ≡ Ok t → HasTimes t
+    → clone 0 s source is_own (clone_values path offset clone_path from len) ≡ Ok t → HasTimes t
 clone_times s source is_own path offset clone_path from len t h e =
     let k = clone_keeps AnyName HasMoments 0 s source is_own path offset clone_path from len t (λ range is inode own. own) (record { names = all_any s.names; inodes = h }) e in
     k.inodes

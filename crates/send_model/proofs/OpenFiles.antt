@@ -8,7 +8,7 @@ use Rattle.send_model.specs.Command.{Command, Write, Clone, Fallocate}
 use Rattle.send_model.specs.Path.{path_names}
 use Rattle.send_model.specs.Subvolume.{Subvolume, is_file, walk}
 use Rattle.send_model.specs.Edit.{edit, change_contents, fallocate, greatest_end, allocation_of, fallocated, written_at, overwritten, change_inode, set_cells}
-use Rattle.send_model.specs.Clone.{Cloned, cloned, clone, cells_of, is_aligned, overlap}
+use Rattle.send_model.specs.Clone.{Cloned, cloned, clone, cells_of, is_aligned, overlap, clone_values}
 use Rattle.send_model.specs.Store.{Store, Part, State, After, Stepped, step, step_edit, edit_part, edited, clone_source, key_of}
 use Rattle.send_model.specs.Receive.{bytes_of}
 use Rattle.send_model.specs.Opened.{Opened, Receiver, written_path, kept_at, opened_after, edit_open, step_open, stepped_by, receiver_step, leads_elsewhere, is_astray_at, is_astray, AreSteady}
@@ -66,7 +66,7 @@ module _ (put : List ℕ) (store : Store ℕ) (part : Part ℕ) (ino : ℕ) wher
   clone_open path offset clone_uuid clone_ctransid clone_path from len next e w =
       let source : Option (Subvolume ℕ) = clone_source store part (key_of clone_uuid clone_ctransid) in
       let own : Bool = bytes_eq clone_uuid part.key.uuid in
-      let r = bound (cloned part.subvolume source own path offset clone_path from len) (λ range. Ok (change_inode range.ino (set_cells (overwritten 0 offset range.cells)) part.subvolume)) next e in
+      let r = bound (cloned part.subvolume source own (clone_values path offset clone_path from len)) (λ range. Ok (change_inode range.ino (set_cells (overwritten 0 offset range.cells)) part.subvolume)) next e in
       let end : ℕ → Subvolume ℕ → ℕ → Result (Cloned ℕ) Refusal = λ at other from_ino.
       refuse_if ((len == 0) || nat_lt (length (cells_of other from_ino)) (from + len)) BadRange >>
       (require (is_aligned offset from len (length (cells_of other from_ino))) Unaligned >>
@@ -106,7 +106,7 @@ module _ (put : List ℕ) (store : Store ℕ) (part : Part ℕ) (ino : ℕ) wher
   edit_walks (Clone path offset clone_uuid clone_ctransid clone_path from len) p next h e =
       let source : Option (Subvolume ℕ) = clone_source store part (key_of clone_uuid clone_ctransid) in
       let own : Bool = bytes_eq clone_uuid part.key.uuid in
-      let r = bound (cloned part.subvolume source own path offset clone_path from len) (λ range. Ok (change_inode range.ino (set_cells (overwritten 0 offset range.cells)) part.subvolume)) next e in
+      let r = bound (cloned part.subvolume source own (clone_values path offset clone_path from len)) (λ range. Ok (change_inode range.ino (set_cells (overwritten 0 offset range.cells)) part.subvolume)) next e in
       let end : Subvolume ℕ → ℕ → ℕ → Result (Cloned ℕ) Refusal = λ other at from_ino.
       refuse_if ((len == 0) || nat_lt (length (cells_of other from_ino)) (from + len)) BadRange >>
       (require (is_aligned offset from len (length (cells_of other from_ino))) Unaligned >>

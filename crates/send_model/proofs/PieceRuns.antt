@@ -12,7 +12,7 @@ use Rattle.send_model.specs.Path.{path_names}
 use Rattle.send_model.specs.Subvolume.{Subvolume, is_file, walk, is_nameable}
 use Rattle.send_model.specs.Outside.{IsAmong}
 use Rattle.send_model.specs.Edit.{greatest_end, overwritten, written_at, change_inode, change_contents, set_cells, edit}
-use Rattle.send_model.specs.Clone.{cells_of, is_aligned, block_len, Cloned, cloned, clone}
+use Rattle.send_model.specs.Clone.{cells_of, is_aligned, block_len, Cloned, cloned, clone, clone_values}
 use Rattle.send_model.specs.Store.{Key, Store, Part, State, find, clone_source, edit_part, edited, step, step_edit}
 use Rattle.send_model.specs.Provenance.{Place, Piece, Carried, Literal}
 use Rattle.send_model.specs.Composed.{write_len, writes_from, path_of, piece_commands}
@@ -128,12 +128,12 @@ module _ (u : Store ℕ) (new : Key) (path : List ℕ) (ino : ℕ) where
   clone_made : (off : ℕ) (clone_path : List ℕ) (from len source_ino : ℕ) (source : Option (Subvolume ℕ)) (other s : Subvolume ℕ) → source ≡ Some other → IsPlace s → is_some (path_names path) ≡ true → is_some (path_names clone_path) ≡ true
       → walk other clone_path ≡ Ok source_ino → is_file other source_ino ≡ true → (len == 0) ≡ false → nat_lt (length (cells_of other source_ino)) (from + len) ≡ false
       → is_aligned off from len (length (cells_of other source_ino)) ≡ true → nat_le (off + len) greatest_end ≡ true
-      → cloned s source false path off clone_path from len ≡ Ok (record { ino = ino; cells = take len (drop from (cells_of other source_ino)) })
+      → cloned s source false (clone_values path off clone_path from len) ≡ Ok (record { ino = ino; cells = take len (drop from (cells_of other source_ino)) })
   unfolding cloned
   clone_made off clone_path from len source_ino source other s e p n n' w f some within aligned fits = rw (e, n, n', p.walked, p.file, w, f, some, within, aligned, fits) refl
 
   clone_step : (s : Subvolume ℕ) (off : ℕ) (key : Key) (clone_path : List ℕ) (from len : ℕ) (t : Subvolume ℕ)
-      → clone 0 s (clone_source u (record { key = new; subvolume = s }) key) (bytes_eq key.uuid new.uuid) path off clone_path from len ≡ Ok t
+      → clone 0 s (clone_source u (record { key = new; subvolume = s }) key) (bytes_eq key.uuid new.uuid) (clone_values path off clone_path from len) ≡ Ok t
       → Takes (state_of s) (Clone path off key.uuid key.ctransid clone_path from len ∷ []) (state_of t)
   unfolding step step_edit edit_part
   clone_step s off key clone_path from len t e =
@@ -152,7 +152,7 @@ module _ (u : Store ℕ) (new : Key) (path : List ℕ) (ino : ℕ) where
       let at : source ≡ Some other = ap (λ (b : Bool). if b then Some s else find u key) apart ∙ f in
       let made = clone_made off clone_path from len source_ino source other s at p n n' w file some within aligned fits in
       clone_step s off key clone_path from len _
-      (ap (λ (b : Bool). clone 0 s source b path off clone_path from len) apart
+      (ap (λ (b : Bool). clone 0 s source b (clone_values path off clone_path from len)) apart
       ∙ ap (λ (r : Result (Cloned ℕ) Refusal). r >>= λ range. Ok (change_inode range.ino (set_cells (overwritten 0 off range.cells)) s)) made)
 
   pub overwritten_put : (off : ℕ) (bytes : List ℕ) (s : Subvolume ℕ) → 1 ≤ length bytes → change_inode ino (set_cells (overwritten 0 off bytes)) s ≡ put_bytes off bytes s

@@ -11,7 +11,7 @@ use Rattle.send_model.specs.Command.{Command, Clone}
 use Rattle.send_model.specs.Path.{path_names}
 use Rattle.send_model.specs.Subvolume.{Inode, Subvolume, is_file, walk, is_nameable}
 use Rattle.send_model.specs.Edit.{greatest_end, overwritten, change_inode, set_cells}
-use Rattle.send_model.specs.Clone.{cells_of, is_aligned, overlap, Cloned, cloned, clone}
+use Rattle.send_model.specs.Clone.{cells_of, is_aligned, overlap, Cloned, cloned, clone, clone_values}
 use Rattle.send_model.specs.Store.{Key, Store, Part, State, find, clone_source, edit_part, edited, step, step_edit}
 use Rattle.send_model.specs.Outside.{IsAmong, is_among, FindsLawful}
 use Rattle.send_model.specs.Cells.{recelled, Holds}
@@ -60,7 +60,7 @@ not_zero n e = let h = eqb-false n 0 e in one n h
     one (suc n) h = omega arith
 
 pub cloned_facts : {C : Type 0} (part source : Subvolume C) (own : Bool) (path : List ℕ) (offset : ℕ) (clone_path : List ℕ) (from len : ℕ) (range : Cloned C)
-    → cloned part (Some source) own path offset clone_path from len ≡ Ok range → ClonedFacts part source path offset clone_path from len range
+    → cloned part (Some source) own (clone_values path offset clone_path from len) ≡ Ok range → ClonedFacts part source path offset clone_path from len range
 unfolding cloned
 cloned_facts part source own path offset clone_path from len range e =
     let a = required (is_some (path_names path)) BadPath _ range e in
@@ -104,7 +104,7 @@ cloned_facts part source own path offset clone_path from len range e =
 
 -- A clone that is taken has a source.
 pub source_there : {C : Type 0} (part : Subvolume C) (source : Option (Subvolume C)) (own : Bool) (path : List ℕ) (offset : ℕ) (clone_path : List ℕ) (from len : ℕ) (range : Cloned C)
-    → cloned part source own path offset clone_path from len ≡ Ok range → (s : Subvolume C) × (source ≡ Some s)
+    → cloned part source own (clone_values path offset clone_path from len) ≡ Ok range → (s : Subvolume C) × (source ≡ Some s)
 unfolding cloned
 source_there part None own path offset clone_path from len range e =
     let a = required (is_some (path_names path)) BadPath _ range e in
@@ -115,11 +115,11 @@ source_there part (Some s) own path offset clone_path from len range e = (s, ref
 
 -- The range of a clone, from the part after it.
 pub clone_ranged : {C : Type 0} (x : C) (part : Subvolume C) (source : Option (Subvolume C)) (own : Bool) (path : List ℕ) (offset : ℕ) (clone_path : List ℕ) (from len : ℕ) (after : Subvolume C)
-    → clone x part source own path offset clone_path from len ≡ Ok after
-    → (range : Cloned C) × (cloned part source own path offset clone_path from len ≡ Ok range) × (change_inode range.ino (set_cells (overwritten x offset range.cells)) part ≡ after)
+    → clone x part source own (clone_values path offset clone_path from len) ≡ Ok after
+    → (range : Cloned C) × (cloned part source own (clone_values path offset clone_path from len) ≡ Ok range) × (change_inode range.ino (set_cells (overwritten x offset range.cells)) part ≡ after)
 unfolding clone
 clone_ranged x part source own path offset clone_path from len after e =
-    let a = bound (cloned part source own path offset clone_path from len) (λ c. Ok (change_inode c.ino (set_cells (overwritten x offset c.cells)) part)) after e in
+    let a = bound (cloned part source own (clone_values path offset clone_path from len)) (λ c. Ok (change_inode c.ino (set_cells (overwritten x offset c.cells)) part)) after e in
     (a.0, a.1, ok_same a.2)
 
 -- Without its traces, the part after a clone is the part with the bytes of the range put at their place.
@@ -187,7 +187,7 @@ pub record Redirection (base : Store ℕ) (store : Store Traced) (part : Part Tr
   pub source : Subvolume Traced
   pub there : find store key ≡ Some source
   pub range : Cloned Traced
-  pub made : cloned part.subvolume (Some source) false path offset clone_path from len ≡ Ok range
+  pub made : cloned part.subvolume (Some source) false (clone_values path offset clone_path from len) ≡ Ok range
   pub commands_are : commands ≡ flat_map (piece_commands base path offset) (pieces_of base range.cells)
   pub after_is : change_inode range.ino (set_cells (overwritten (fresh 0) offset range.cells)) part.subvolume ≡ after
 
@@ -211,7 +211,7 @@ redirection base parts last store part current put path offset clone_uuid clone_
       source = s.0;
       there = sym source_is ∙ s.1;
       range = range;
-      made = ap₂ (λ (o : Option (Subvolume Traced)) (b : Bool). cloned part.subvolume o b path offset clone_path clone_offset clone_len) (sym s.1) (sym other.1) ∙ a.1;
+      made = ap₂ (λ (o : Option (Subvolume Traced)) (b : Bool). cloned part.subvolume o b (clone_values path offset clone_path clone_offset clone_len)) (sym s.1) (sym other.1) ∙ a.1;
       commands_are =
           ap₂ (λ (b c : Bool). if b then Clone path offset last.uuid last.ctransid clone_path clone_offset clone_len ∷ []
           else (if c then flat_map (piece_commands base path offset) (pieces_of base (clone_range (record { store = store; part = Some part }) command)) else command ∷ [])) other.0 redirected
@@ -230,7 +230,7 @@ module _ (base : Store ℕ) (keys : List Key) where
   module _ (lawful : FindsLawful base keys)
       (u : Store ℕ) (new : Key) (same : (key : Key) → IsAmong key keys → (find u key ≡ find base key) × (bytes_eq key.uuid new.uuid ≡ false)) where
     pub range_taken : (part source : Subvolume Traced) (path : List ℕ) (offset : ℕ) (clone_path : List ℕ) (from len : ℕ) (range : Cloned Traced)
-        → cloned part (Some source) false path offset clone_path from len ≡ Ok range → Holds (InPlace base keys) source
+        → cloned part (Some source) false (clone_values path offset clone_path from len) ≡ Ok range → Holds (InPlace base keys) source
         → Takes (holding u new (recelled byte_of part)) (flat_map (piece_commands base path offset) (pieces_of base range.cells))
         (holding u new (recelled byte_of (change_inode range.ino (set_cells (overwritten (fresh 0) offset range.cells)) part)))
     range_taken part source path offset clone_path from len range e holds =

@@ -6,7 +6,7 @@ use Rattle.std.proofs.Common.{refl, sym, ap, ◌∙◌, inl, inr, arith}
 use Rattle.std.proofs.lemmas.List.Sums.{sum_by-cons}
 use Rattle.send_model.specs.Command.{Command, Subvol, Snapshot, Clone, End}
 use Rattle.send_model.specs.Subvolume.{Subvolume}
-use Rattle.send_model.specs.Clone.{clone}
+use Rattle.send_model.specs.Clone.{clone, clone_values}
 use Rattle.send_model.specs.Store.{Key, Head, head_of, Store, Part, State, step, step_edit, edit_part, edited, clone_source, find, key_of}
 use Rattle.send_model.specs.Receive.{bytes_of}
 use Rattle.send_model.specs.Order.{onto_heads, heads_of}
@@ -134,5 +134,5 @@ same_source store other part k (inr found) = ap (λ (o : Option (Subvolume ℕ))
 pub same_edit : (put : List ℕ) (store other : Store ℕ) (part : Part ℕ) (c : Command) → IsAlike store other part.key c → edit_part 0 put store part c ≡ edit_part 0 put other part c
 unfolding edit_part
 same_edit put store other part (Clone path offset clone_uuid clone_ctransid clone_path from len) a =
-    ap (λ (o : Option (Subvolume ℕ)). clone 0 part.subvolume o (bytes_eq clone_uuid part.key.uuid) path offset clone_path from len) (same_source store other part (key_of clone_uuid clone_ctransid) a.sources.0)
+    ap (λ (o : Option (Subvolume ℕ)). clone 0 part.subvolume o (bytes_eq clone_uuid part.key.uuid) (clone_values path offset clone_path from len)) (same_source store other part (key_of clone_uuid clone_ctransid) a.sources.0)
 same_edit put store other part c a = refl

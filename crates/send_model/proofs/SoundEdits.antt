@@ -12,7 +12,7 @@ use Rattle.send_model.specs.Path.{path_names}
 use Rattle.send_model.specs.Map.{Map, named_cmp, value_at}
 use Rattle.send_model.specs.Subvolume.{Inode, Subvolume, Spot, root, inode_at, named, is_directory, is_file, walk_names, walk, spot, all_but_last, last_name, name_count, is_empty_directory, IsSound}
 use Rattle.send_model.specs.Edit.{make, make_device, device_kind, add_inode, add_name, at_spot, link, unlink, rmdir, change_at, set_cells, set_xattr, remove_xattr, has_xattr, is_xattr_name, change_contents, allocation_of, fallocated, fallocate, greatest_number, greatest_end}
-use Rattle.send_model.specs.Clone.{clone, cloned}
+use Rattle.send_model.specs.Clone.{clone, cloned, clone_values}
 use Rattle.send_model.proofs.Fuel.{required, not_refused, bound, ok_same}
 use Rattle.send_model.proofs.MapLaws.{named_cmp_total, named_cmp_exact, with_value-order, with_value-here, with_value-other, count-key}
 use Rattle.send_model.proofs.WalkLaws.{Leads, Step, leads_from_walk}
@@ -207,8 +207,8 @@ module _ {C : Type 0} where
 
   -- A clone keeps a part sound, whatever it reads.
   pub clone_keeps_sound : (zero_cell : C) (part : Subvolume C) (source : Option (Subvolume C)) (is_own : Bool) (path : List ℕ) (offset : ℕ) (clone_path : List ℕ) (from len : ℕ) (t : Subvolume C)
-      → IsSound part → clone zero_cell part source is_own path offset clone_path from len ≡ Ok t → IsSound t
+      → IsSound part → clone zero_cell part source is_own (clone_values path offset clone_path from len) ≡ Ok t → IsSound t
   unfolding clone
   clone_keeps_sound zero_cell part source is_own path offset clone_path from len t h e =
-      let a = bound (cloned part source is_own path offset clone_path from len) _ t e in
+      let a = bound (cloned part source is_own (clone_values path offset clone_path from len)) _ t e in
       subst (λ (u : Subvolume C). IsSound u) (ok_same a.2) (changed_is_sound a.0.ino _ part (λ inode. refl) h)

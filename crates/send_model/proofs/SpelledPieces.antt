@@ -13,7 +13,7 @@ use Rattle.send_model.specs.Map.{Map}
 use Rattle.send_model.specs.Path.{slash, path_names, longest_path}
 use Rattle.send_model.specs.Subvolume.{Inode, Subvolume, inode_at, root, path_below, Reached, one_further, all_further, paths_from, all_paths, first_path, is_nameable, IsLawful}
 use Rattle.send_model.specs.Edit.{greatest_end}
-use Rattle.send_model.specs.Clone.{cells_of, Cloned, cloned}
+use Rattle.send_model.specs.Clone.{cells_of, Cloned, cloned, clone_values}
 use Rattle.send_model.specs.Store.{Key, Store, Part, head_of, find, edit_part}
 use Rattle.send_model.specs.Outside.{IsAmong, FindsSayable}
 use Rattle.send_model.specs.Counts.{is_end}
@@ -207,7 +207,7 @@ module _ (version : ℕ) (is : IsVersion version) (store : Store ℕ) (keys : Li
 
   -- The commands of a clone's range.
   pub range_inside : (part source : Subvolume Traced) (clone_path : List ℕ) (from len : ℕ) (range : Cloned Traced)
-      → cloned part (Some source) false path offset clone_path from len ≡ Ok range → Holds (InPlace store keys) source → Holds (λ c. c.byte < 256) source
+      → cloned part (Some source) false (clone_values path offset clone_path from len) ≡ Ok range → Holds (InPlace store keys) source → Holds (λ c. c.byte < 256) source
       → AllByRecursion (IsInside version) (flat_map (piece_commands store path offset) (pieces_of store range.cells))
   range_inside part source clone_path from len range e placed small =
       let facts = cloned_facts part source false path offset clone_path from len range e in

@@ -10,13 +10,13 @@ use Rattle.send_model.specs.Command.{Command, Clone}
 use Rattle.send_model.specs.Map.{Map}
 use Rattle.send_model.specs.Reading.{Item}
 use Rattle.send_model.specs.Subvolume.{Inode, Subvolume, first_path}
-use Rattle.send_model.specs.Clone.{block_len, Cloned, cloned}
+use Rattle.send_model.specs.Clone.{block_len, Cloned, cloned, clone_values}
 use Rattle.send_model.specs.Store.{Key, head_of, Entry, Store, Part, State, Stepped, step, find, clone_source}
 use Rattle.send_model.specs.Receive.{bytes_of, start_of}
 use Rattle.send_model.specs.Order.{breaks_order, part_after}
 use Rattle.send_model.specs.Provenance.{Place, Traced, fresh, traced_from, inode_with, traced_subvolume, traced_store, fresh_cells, uuid_after, is_own, is_redirected, clone_range, traced_step, ranges_from, blocks_from, blocks, come_from, can_serve, carried_from, Piece, Carried, Literal, piece_of, join_piece, same_place, place_after, pieces_from, pieces_of, literal_len, is_run, uncarried_in, runs_in}
 use Rattle.send_model.specs.Composed.{piece_commands, commands_for, composed_from}
-use Rattle.send_model.specs.Due.{uncarried_of, then_due, due_from}
+use Rattle.send_model.specs.Due.{uncarried_of, then_due, come_to, due_from}
 use Rattle.send_model.specs.Counts.{is_clone}
 use Rattle.send_model.specs.Cells.{recelled, recelled_entry, recelled_store, recelled_part, recelled_state, Good, cell_of, Holds}
 use Rattle.send_model.proofs.ElementLaws.{all_take, all_drop}
@@ -149,10 +149,10 @@ module _ (keep : Key → Bool) where
       over : (s : State Traced) → clone_range (thinned_state keep s) (Clone path offset uuid ctransid clone_path from len) ≡ clone_range s (Clone path offset uuid ctransid clone_path from len)
       over s = one s.part
         where
-          one : (o : Option (Part Traced)) → (elim o as (λ x. List Traced) [ None ↦ [] | Some part ↦ cells_in (cloned part.subvolume (clone_source (thinned keep s.store) part (record { uuid = uuid; ctransid = ctransid })) (bytes_eq uuid part.key.uuid) path offset clone_path from len) ])
-              ≡ (elim o as (λ x. List Traced) [ None ↦ [] | Some part ↦ cells_in (cloned part.subvolume (clone_source s.store part (record { uuid = uuid; ctransid = ctransid })) (bytes_eq uuid part.key.uuid) path offset clone_path from len) ])
+          one : (o : Option (Part Traced)) → (elim o as (λ x. List Traced) [ None ↦ [] | Some part ↦ cells_in (cloned part.subvolume (clone_source (thinned keep s.store) part (record { uuid = uuid; ctransid = ctransid })) (bytes_eq uuid part.key.uuid) (clone_values path offset clone_path from len)) ])
+              ≡ (elim o as (λ x. List Traced) [ None ↦ [] | Some part ↦ cells_in (cloned part.subvolume (clone_source s.store part (record { uuid = uuid; ctransid = ctransid })) (bytes_eq uuid part.key.uuid) (clone_values path offset clone_path from len)) ])
           one None = refl
-          one (Some part) = ap (λ (x : Option (Subvolume Traced)). cells_in (cloned part.subvolume x (bytes_eq uuid part.key.uuid) path offset clone_path from len)) (source-thinned keep s.store part (record { uuid = uuid; ctransid = ctransid }) kept.0)
+          one (Some part) = ap (λ (x : Option (Subvolume Traced)). cells_in (cloned part.subvolume x (bytes_eq uuid part.key.uuid) (clone_values path offset clone_path from len))) (source-thinned keep s.store part (record { uuid = uuid; ctransid = ctransid }) kept.0)
   range_alike a b c kept same = refl
 
   range_kept : (state : State Traced) (c : Command) → HoldsAll InKept state → AllByRecursion InKept (clone_range state c)
@@ -170,14 +170,14 @@ module _ (keep : Key → Bool) where
       source_kept part held false u e = found_holds_all InKept state h key u e
 
       of_part : (part : Part Traced) → Holds InKept part.subvolume → (r : Result (Cloned Traced) Refusal)
-          → cloned part.subvolume (clone_source state.store part key) (bytes_eq uuid part.key.uuid) path offset clone_path from len ≡ r → AllByRecursion InKept (cells_in r)
+          → cloned part.subvolume (clone_source state.store part key) (bytes_eq uuid part.key.uuid) (clone_values path offset clone_path from len) ≡ r → AllByRecursion InKept (cells_in r)
       of_part part held (Err refusal) e = tt
       of_part part held (Ok range) e = cloned_holds InKept part.subvolume (clone_source state.store part key) (bytes_eq uuid part.key.uuid) path offset clone_path from len range held (source_kept part held (bytes_eq key.uuid part.key.uuid)) e
 
       one : (o : Option (Part Traced)) → state.part ≡ o
-          → AllByRecursion InKept (elim o as (λ x. List Traced) [ None ↦ [] | Some part ↦ cells_in (cloned part.subvolume (clone_source state.store part key) (bytes_eq uuid part.key.uuid) path offset clone_path from len) ])
+          → AllByRecursion InKept (elim o as (λ x. List Traced) [ None ↦ [] | Some part ↦ cells_in (cloned part.subvolume (clone_source state.store part key) (bytes_eq uuid part.key.uuid) (clone_values path offset clone_path from len)) ])
       one None e = tt
-      one (Some part) e = of_part part (part_holds InKept state h part e) (cloned part.subvolume (clone_source state.store part key) (bytes_eq uuid part.key.uuid) path offset clone_path from len) refl
+      one (Some part) e = of_part part (part_holds InKept state h part e) (cloned part.subvolume (clone_source state.store part key) (bytes_eq uuid part.key.uuid) (clone_values path offset clone_path from len)) refl
   range_kept state c h = tt
 
   -- ---- pieces
@@ -342,7 +342,7 @@ module _ (keep : Key → Bool) where
         (uncarried_alike (clone_range a item.command ∷ []) (range_kept a item.command h, tt) ∙ ap (λ (r : List Traced). uncarried_in base (r ∷ [])) (range_alike a b item.command kept same))
 
     pub due-thinned : (parts : List (List ℕ)) (items : List Item) (a b : State Traced) (previous : Option Key) (current : Option (List ℕ)) (sum sum' : ℕ) → KeepsNamed keep items → HoldsAll InKept a → thinned_state keep a ≡ thinned_state keep b → sum ≡ sum'
-        → due_from (thinned keep base) parts a previous current sum items ≡ due_from base parts b previous current sum' items
+        → due_from (thinned keep base) parts (come_to a previous current sum) items ≡ due_from base parts (come_to b previous current sum') items
     unfolding due_from
     due-thinned parts [] a b previous current sum sum' kept h same sums = refl
     due-thinned parts (item ∷ items) a b previous current sum sum' kept h same sums =
@@ -351,6 +351,6 @@ module _ (keep : Key → Bool) where
         let sums' : sum + uncarried_of (thinned keep base) parts a current item ≡ sum' + uncarried_of base parts b current item = ap₂ (λ (m n : ℕ). m + n) sums (own_alike parts a b current item k h same) in
         let breaks : Bool = breaks_order previous (head_of item.command) in
         let next : Option Key = part_after previous (head_of item.command) in
-        ap₂ (λ (o : Option Refusal) (n : ℕ). then_due item o breaks n (due_from (thinned keep base) parts (traced_step a item).state next (uuid_after current item.command) (sum + uncarried_of (thinned keep base) parts a current item) items)) (ap (λ (y : Stepped Traced). y.refusal) alike) sums'
+        ap₂ (λ (o : Option Refusal) (n : ℕ). then_due item o breaks n (due_from (thinned keep base) parts (come_to (traced_step a item).state next (uuid_after current item.command) (sum + uncarried_of (thinned keep base) parts a current item)) items)) (ap (λ (y : Stepped Traced). y.refusal) alike) sums'
         ∙ ap (then_due item (traced_step b item).refusal breaks (sum' + uncarried_of base parts b current item))
         (due-thinned parts items (traced_step a item).state (traced_step b item).state next (uuid_after current item.command) (sum + uncarried_of (thinned keep base) parts a current item) (sum' + uncarried_of base parts b current item) (keeps_later keep item items kept) (traced_holds a item h) (ap (λ (y : Stepped Traced). y.state) alike) sums')

@@ -11,7 +11,7 @@ use Rattle.send_model.specs.Path.{is_name}
 use Rattle.send_model.specs.Command.{Command, Subvol, Snapshot, Clone, End}
 use Rattle.send_model.specs.Subvolume.{Subvolume}
 use Rattle.send_model.specs.Store.{Key, same_key, Head, head_of, Entry, Store, Part, State, Stepped, has_name, has_uuid, find, with_contents, completed, start_from, begun, unfinished, entered, step_head, clone_source, edit_part, edited, step_edit, step}
-use Rattle.send_model.specs.Clone.{clone}
+use Rattle.send_model.specs.Clone.{clone, clone_values}
 use Rattle.send_model.specs.Outside.{keys_named}
 use Rattle.send_model.specs.Counts.{is_clone}
 use Rattle.send_model.proofs.Sorts.{by_sort, head_step, plain_edit_part, plain_step_edit, same_inside}
@@ -178,7 +178,7 @@ module _ (keep : Key → Bool) where
     unfolding step edit_part
     clone_thinned (Clone path offset uuid ctransid clone_path from len) h kept x put state =
         step_edit-thinned x put state (Clone path offset uuid ctransid clone_path from len) (λ part.
-        ap (λ (o : Option (Subvolume C)). clone x part.subvolume o (bytes_eq uuid part.key.uuid) path offset clone_path from len) (source-thinned state.store part (record { uuid = uuid; ctransid = ctransid }) kept.0))
+        ap (λ (o : Option (Subvolume C)). clone x part.subvolume o (bytes_eq uuid part.key.uuid) (clone_values path offset clone_path from len)) (source-thinned state.store part (record { uuid = uuid; ctransid = ctransid }) kept.0))
     clone_thinned c h kept x put state = absurd (false≢true h)
 
     pub step-thinned : (c : Command) → SameStep C c

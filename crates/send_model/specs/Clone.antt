@@ -29,27 +29,39 @@ pub record Cloned (C : Type 0) : Type 0 where
   pub ino : ℕ
   pub cells : List C
 
+-- The values of a CLONE but its key: the path of the file that it changes and the place in it, the path of the file that it reads and the
+-- place in that, and how many cells it copies.
+pub record CloneValues : Type 0 where
+  pub path : List ℕ
+  pub offset : ℕ
+  pub clone_path : List ℕ
+  pub from : ℕ
+  pub len : ℕ
+
+abbrev pub clone_values : (path : List ℕ) (offset : ℕ) (clone_path : List ℕ) (from len : ℕ) → CloneValues
+clone_values path offset clone_path from len = record { path = path; offset = offset; clone_path = clone_path; from = from; len = len }
+
 -- Every refusal of a CLONE in its order, for the part, the subvolume of the source (nothing where there is none), whether
 -- that is the part itself, and the command's values.
-unfoldable pub cloned : {C : Type 0} → (part : Subvolume C) (source : Option (Subvolume C)) (is_own : Bool) (path : List ℕ) (offset : ℕ)
-    (clone_path : List ℕ) (from len : ℕ) → Result (Cloned C) Refusal
-cloned part source is_own path offset clone_path from len = do
-  require (is_some (path_names path)) BadPath
-  require (is_some (path_names clone_path)) BadPath
+unfoldable pub cloned : {C : Type 0} → (part : Subvolume C) (source : Option (Subvolume C)) (is_own : Bool) (values : CloneValues)
+    → Result (Cloned C) Refusal
+cloned part source is_own values = do
+  require (is_some (path_names values.path)) BadPath
+  require (is_some (path_names values.clone_path)) BadPath
   other ← found source NoSource
-  ino ← walk part path
+  ino ← walk part values.path
   require (is_file part ino) NotFile
-  source_ino ← walk other clone_path
+  source_ino ← walk other values.clone_path
   require (is_file other source_ino) NotFile
-  refuse_if ((len == 0) || nat_lt (length (cells_of other source_ino)) (from + len)) BadRange
-  require (is_aligned offset from len (length (cells_of other source_ino))) Unaligned
-  require (nat_le (offset + len) greatest_end) FileTooBig
-  refuse_if (is_own && (source_ino == ino) && overlap offset from len) Overlap
-  Ok (record { ino = ino; cells = take len (drop from (cells_of other source_ino)) })
+  refuse_if ((values.len == 0) || nat_lt (length (cells_of other source_ino)) (values.from + values.len)) BadRange
+  require (is_aligned values.offset values.from values.len (length (cells_of other source_ino))) Unaligned
+  require (nat_le (values.offset + values.len) greatest_end) FileTooBig
+  refuse_if (is_own && (source_ino == ino) && overlap values.offset values.from values.len) Overlap
+  Ok (record { ino = ino; cells = take values.len (drop values.from (cells_of other source_ino)) })
 
 -- The part after the clone.
-unfoldable pub clone : {C : Type 0} → (zero_cell : C) (part : Subvolume C) (source : Option (Subvolume C)) (is_own : Bool) (path : List ℕ)
-    (offset : ℕ) (clone_path : List ℕ) (from len : ℕ) → Result (Subvolume C) Refusal
-clone zero_cell part source is_own path offset clone_path from len = do
-  range ← cloned part source is_own path offset clone_path from len
-  Ok (change_inode range.ino (set_cells (overwritten zero_cell offset range.cells)) part)
+unfoldable pub clone : {C : Type 0} → (zero_cell : C) (part : Subvolume C) (source : Option (Subvolume C)) (is_own : Bool) (values : CloneValues)
+    → Result (Subvolume C) Refusal
+clone zero_cell part source is_own values = do
+  range ← cloned part source is_own values
+  Ok (change_inode range.ino (set_cells (overwritten zero_cell values.offset range.cells)) part)

@@ -36,14 +36,25 @@ then_due item (Some refusal) breaks sum rest = Some (RefusedAt (verdict_of item 
 then_due item None true sum rest = Some (RefusedAt (verdict_of item NotConsecutive))
 then_due item None false sum rest = if nat_lt most_literal sum then Some (TooMuch sum) else rest
 
--- The first item that ends composing, where so many uncarried bytes stand before it.
-unfoldable pub due_from : Store ℕ → List (List ℕ) → State Traced → Option Key → Option (List ℕ) → ℕ → List Item → Option Due
-due_from base parts state previous current sum [] = None
-due_from base parts state previous current sum (item ∷ items) =
-    let stepped : Stepped Traced = traced_step state item in
-    let so_far : ℕ = sum + uncarried_of base parts state current item in
-    then_due item stepped.refusal (breaks_order previous (head_of item.command)) so_far
-    (due_from base parts stepped.state (part_after previous (head_of item.command)) (uuid_after current item.command) so_far items)
+-- How far composing has come: the store and the part so far, the part that the next head has to follow, the uuid of the part so
+-- far, and how many uncarried bytes there were.
+pub record SoFar : Type 0 where
+  pub state : State Traced
+  pub previous : Option Key
+  pub current : Option (List ℕ)
+  pub sum : ℕ
+
+abbrev pub come_to : (state : State Traced) (previous : Option Key) (current : Option (List ℕ)) (sum : ℕ) → SoFar
+come_to state previous current sum = record { state = state; previous = previous; current = current; sum = sum }
+
+-- The first item that ends composing, where it has come so far before them.
+unfoldable pub due_from : Store ℕ → List (List ℕ) → SoFar → List Item → Option Due
+due_from base parts so_far [] = None
+due_from base parts so_far (item ∷ items) =
+    let stepped : Stepped Traced = traced_step so_far.state item in
+    let sum : ℕ = so_far.sum + uncarried_of base parts so_far.state so_far.current item in
+    then_due item stepped.refusal (breaks_order so_far.previous (head_of item.command)) sum
+    (due_from base parts (come_to stepped.state (part_after so_far.previous (head_of item.command)) (uuid_after so_far.current item.command) sum) items)
 
 abbrev pub refused_due : Option Verdict → Due
 refused_due None = DoneWhole
@@ -56,7 +67,7 @@ or_due (Some due) other = due
 -- Of what was read: the commands in order; then the fault that ended the reading; and last, that there is no part.
 abbrev pub reading_due : Store ℕ → Reading → Due
 reading_due base reading =
-    or_due (due_from base (part_uuids reading.items) (start_of (traced_store base)) None None 0 reading.items)
+    or_due (due_from base (part_uuids reading.items) (come_to (start_of (traced_store base)) None None 0) reading.items)
     (refused_due (first_of (fault_of reading.end) (without_parts reading.items (heads reading.items))))
 
 -- All files are read for their heads before a command is looked at, up to the first fault. So the first among these that is too

@@ -7,7 +7,7 @@ use Rattle.std.specs.Str.{bytes_eq}
 use Rattle.send_model.specs.Command.{Command, Subvol, Snapshot, MkFile, MkDir, MkNod, MkFifo, MkSock, Symlink, Rename, Link, Unlink, Rmdir, SetXattr, RemoveXattr, Write, Clone, Truncate, Chmod, Chown, Utimes, End, UpdateExtent, Fallocate, FileAttr}
 use Rattle.send_model.specs.Reading.{Item, input}
 use Rattle.send_model.specs.Subvolume.{Inode, Subvolume, is_file, is_nameable}
-use Rattle.send_model.specs.Clone.{block_len, cells_of, cloned}
+use Rattle.send_model.specs.Clone.{block_len, cells_of, cloned, clone_values}
 use Rattle.send_model.specs.Store.{Key, same_key, Entry, Store, State, Stepped, step, find, clone_source}
 use Rattle.send_model.specs.Receive.{bytes_of, start_of}
 use Rattle.send_model.specs.Outside.{is_among, part_uuids}
@@ -139,7 +139,7 @@ unfoldable pub clone_range : State Traced → Command → List Traced
 clone_range state (Clone path offset clone_uuid clone_ctransid clone_path clone_offset clone_len) = elim state.part [
   | None ↦ []
   | Some part ↦ elim (cloned part.subvolume (clone_source state.store part (record { uuid = clone_uuid; ctransid = clone_ctransid }))
-      (bytes_eq clone_uuid part.key.uuid) path offset clone_path clone_offset clone_len) [
+      (bytes_eq clone_uuid part.key.uuid) (clone_values path offset clone_path clone_offset clone_len)) [
         | Err refusal ↦ []
         | Ok range ↦ range.cells
       ]

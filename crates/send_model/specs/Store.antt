@@ -9,7 +9,7 @@ use Rattle.send_model.specs.Path.{is_name}
 use Rattle.send_model.specs.Command.{Command, Subvol, Snapshot, MkFile, MkDir, MkNod, MkFifo, MkSock, Symlink, Rename, Link, Unlink, Rmdir, SetXattr, RemoveXattr, Write, Clone, Truncate, Chmod, Chown, Utimes, End, UpdateExtent, Fallocate, FileAttr}
 use Rattle.send_model.specs.Subvolume.{Subvolume, root_alone}
 use Rattle.send_model.specs.Edit.{edit}
-use Rattle.send_model.specs.Clone.{clone}
+use Rattle.send_model.specs.Clone.{clone, clone_values}
 
 -- What names a complete subvolume: the sender's uuid and transaction number.
 pub record Key : Type 0 where
@@ -157,7 +157,7 @@ clone_source store part key = if bytes_eq key.uuid part.key.uuid then Some part.
 unfoldable pub edit_part : {C : Type 0} → C → List C → Store C → Part C → Command → Result (Subvolume C) Refusal
 edit_part zero_cell put store part (Clone path offset clone_uuid clone_ctransid clone_path clone_offset clone_len) =
     clone zero_cell part.subvolume (clone_source store part (record { uuid = clone_uuid; ctransid = clone_ctransid }))
-    (bytes_eq clone_uuid part.key.uuid) path offset clone_path clone_offset clone_len
+    (bytes_eq clone_uuid part.key.uuid) (clone_values path offset clone_path clone_offset clone_len)
 edit_part zero_cell put store part (Subvol uuid ctransid path) = edit zero_cell put (Subvol uuid ctransid path) part.subvolume
 edit_part zero_cell put store part (Snapshot uuid ctransid path clone_uuid clone_ctransid) = edit zero_cell put (Snapshot uuid ctransid path clone_uuid clone_ctransid) part.subvolume
 edit_part zero_cell put store part (MkFile path) = edit zero_cell put (MkFile path) part.subvolume

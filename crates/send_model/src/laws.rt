@@ -4,7 +4,7 @@ ghost use Rattle.send_model.specs.Command.{Command};
 ghost use Rattle.send_model.specs.Reading.{Item, Reading, is_version};
 ghost use Rattle.send_model.specs.Subvolume.{Subvolume, IsLawful, root_alone};
 ghost use Rattle.send_model.specs.Edit.{edit};
-ghost use Rattle.send_model.specs.Clone.{clone};
+ghost use Rattle.send_model.specs.Clone.{CloneValues, clone};
 ghost use Rattle.send_model.specs.Store.{Key, Entry, Store, State};
 ghost use Rattle.send_model.specs.Provenance.{Traced};
 ghost use Rattle.send_model.specs.GuardLaws.{NoGuardsChangeNothing, AllowedIsAccepted};
@@ -104,10 +104,9 @@ pub fn edits_keep_subvolumes_lawful<C>()
     ensures start { IsLawful {C = C} root_alone }
     ensures edits { (zero_cell : C) (put : List C) (c : Command)
         → KeepsLawfulness (edit zero_cell put c) }
-    ensures clones { (zero_cell : C) (source : Option (Subvolume C)) (is_own : Bool) (path : List ℕ)
-        (offset : ℕ) (clone_path : List ℕ) (from len : ℕ)
-        → KeepsLawfulness
-        (λ part. clone zero_cell part source is_own path offset clone_path from len) }
+    ensures clones { (zero_cell : C) (source : Option (Subvolume C)) (is_own : Bool)
+        (values : CloneValues)
+        → KeepsLawfulness (λ part. clone zero_cell part source is_own values) }
 {}
 
 /// Whatever is received into a lawful store leaves a lawful one, wherever it ends; and over such a store the headline holds of all

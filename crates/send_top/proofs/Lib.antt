@@ -12,3 +12,4 @@ pub mod ReceiveAnswers
 pub mod NothingDone
 pub mod SentAnew
 pub mod TurnsRead
+mod NothingRead

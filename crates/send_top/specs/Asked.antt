@@ -5,7 +5,7 @@ use Rattle.send_model.specs.Guards.{GuardSpec}
 use Rattle.send_model.specs.Words as streams
 use Rattle.send_model.specs.Words.{new_guards}
 use Rattle.store_model.specs.Requests.{word_at}
-use Rattle.turn_model.specs.TurnAnswers.{InTurns, in_turns}
+use Rattle.turn_model.specs.TurnDues.{InTurns, in_turns}
 use Rattle.word_model.specs.AllRequests.{TurnFiles}
 use Rattle.send_top.specs.Requests.{before_store, guards_in, places_in, turns_in, streams_meant}
 use Rattle.send_top.specs.declared.asked.StreamsWords.{StreamsWords}

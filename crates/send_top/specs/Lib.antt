@@ -3,3 +3,4 @@ pub mod Asked
 pub mod AuditWords
 pub mod Answered
 pub mod Run
+pub mod FilesRead

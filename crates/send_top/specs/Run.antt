@@ -29,7 +29,7 @@ use Rattle.sx_base.specs.declared.outcome.Outcome.{Outcome}
 use Rattle.store_words.specs.Dropping.{LeftByDrop}
 use Rattle.store_words.specs.Ending.{Ways, init_ways, list_ways, show_ways, cat_ways, drop_ways, audit_ways, receive_ways, scrub_ways}
 use Rattle.store_words.specs.Receiving.{LeftByReceive}
-use Rattle.turn_model.specs.TurnAnswers.{in_turns}
+use Rattle.turn_model.specs.TurnDues.{in_turns}
 use Rattle.turn_sessions.specs.Leaving.{LeftByTurns}
 use Rattle.word_model.specs.NameWords.{files_in, names_in}
 use Rattle.send_top.specs.Requests.{Asks, names_asked, named_files, with_names, uses_store}

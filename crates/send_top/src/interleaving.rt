@@ -12,12 +12,14 @@ ghost use Rattle.word_model.specs.AllRequests.{TurnFiles, turn_files};
 ghost use Rattle.guard_rules.specs.AnyKind.{any_kept};
 ghost use Rattle.sx_base.specs.Calls.{IfAllTold, Wrote};
 ghost use Rattle.sx_base.specs.Causes.{Rose};
+ghost use Rattle.sx_base.specs.Later.{AskedOnly};
 ghost use Rattle.sx_base.specs.Crash.{LeavesOnly};
 ghost use Rattle.sx_base.specs.Disk.{IsImage};
 ghost use Rattle.store_words.specs.Ending.{receive_ways};
+ghost use Rattle.turn_sessions.specs.Asked.{AreReadInTurns};
 ghost use Rattle.turn_sessions.specs.Leaving.{LeftByTurns};
 ghost use Rattle.send_top.specs.Answered.{answer_of};
-ghost use Rattle.send_top.specs.Asked.{files_in_turn, schedule_of, turns_asked};
+ghost use Rattle.send_top.specs.Asked.{files_in_turn, turns_asked};
 ghost use Rattle.send_top.specs.Requests.{AreTurns, turns_in};
 ghost use Rattle.send_top.specs.Run.{AreSteady, IfAllRead, IfOfCompose, IsCaused, IsGivenFor};
 
@@ -45,6 +47,8 @@ pub(crate) fn interleave_answer<I: Inputs, O: Sink, D: Disk>(
     requires given { AreTurns (map string_bytes asked.now.words.now)
         asked.now.schedule asked.now.turns }
     ensures same { I.told inputs.new ≡ I.told inputs.old }
+    ensures files_read { AskedOnly I.Inputs inputs.old inputs.new
+        (AreReadInTurns (files_in_turn asked.now).files) }
     ensures caused { IsCaused (AreSteady (I.faults inputs.old) (I.faults inputs.new)
         (I.ends inputs.old) (I.ends inputs.new) (O.faults out.old) (O.faults out.new)
         × (D.faults disk.new ≡ D.faults disk.old))
@@ -57,8 +61,7 @@ pub(crate) fn interleave_answer<I: Inputs, O: Sink, D: Disk>(
     ensures allowed { IsGivenFor receive_ways ⊤ ⊥ ⊤ (answer_of result) }
     ensures answered { D.tells → IfAllRead (I.told inputs.old) (files_in_turn asked.now).files
         (λ bytes. Wrote (O.taken out.old) (O.taken out.new)
-        (λ written. AllByRecursion IsBytes bytes → TurnsAnswer (schedule_of asked.now) bytes
-        (new_guards (files_in_turn asked.now).guards) (files_in_turn asked.now).shares
+        (λ written. AllByRecursion IsBytes bytes → TurnsAnswer (turns_asked asked.now bytes)
         (D.seen disk.old) (answer_of result) written (D.seen disk.new))) }
     ensures any_moment { D.tells → IfAllTold (I.told inputs.old) (files_in_turn asked.now).files
         (λ bytes. AllByRecursion IsBytes bytes

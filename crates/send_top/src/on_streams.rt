@@ -13,11 +13,13 @@ ghost use Rattle.part_names.specs.Naming.{EndsOf, sources_named};
 ghost use Rattle.store_model.specs.Stored.{StandsFor};
 ghost use Rattle.sx_base.specs.Calls.{IfAllTold, FoundChanged, Wrote, SteadyIfDone};
 ghost use Rattle.sx_base.specs.Causes.{Rose, counts};
+ghost use Rattle.sx_base.specs.Later.{AskedOnly};
 ghost use Rattle.sx_base.specs.Crash.{LeavesOnly};
 ghost use Rattle.sx_base.specs.Disk.{IsImage};
 ghost use Rattle.sx_base.specs.declared.outcome.Outcome.TheVariants as ended;
 ghost use Rattle.sx_base.specs.declared.outcome.Verdict as sx;
 ghost use Rattle.send_top.specs.Answered.{answer_of};
+ghost use Rattle.send_top.specs.FilesRead.{StreamsRead};
 ghost use Rattle.send_top.specs.Requests.{AreWithin, HasGiven, named_files, streams_meant, streams_specs, streams_names, streams_part_names};
 ghost use Rattle.send_top.specs.Asked.{streams_of, words_of};
 ghost use Rattle.send_top.specs.Run.{AreSteady, EndCaused, IfAllRead, IfOfCompose, IfOfStore, IsCaused, IsChangedIn, IsComposedFor, IsExportedFor, IsFrontFor, MayGet, OfDisk, WroteOver, outside};
@@ -57,6 +59,8 @@ pub(crate) fn streams_answer<I: Inputs, O: Sink, D: Disk>(
     requires named { names_stand (streams_named_at (streams_of asked.now)) (words_of asked.now) ≡
         true }
     ensures same { I.told inputs.new ≡ I.told inputs.old }
+    ensures files_read { AskedOnly I.Inputs inputs.old inputs.new (StreamsRead
+        (I.told inputs.old) (streams_of asked.now) (words_of asked.now)) }
     ensures caused { IsCaused (AreSteady (I.faults inputs.old) (I.faults inputs.new)
         (I.ends inputs.old) (I.ends inputs.new) (O.faults out.old) (O.faults out.new)
         × (D.faults disk.new ≡ D.faults disk.old))
@@ -152,6 +156,8 @@ fn streams_over_store<I: Inputs, O: Sink, D: Disk>(
         (streams_specs (streams_of asked.now)) }
     requires given { HasGiven (streams_of asked.now) (words_of asked.now) given.now }
     ensures same { I.told inputs.new ≡ I.told inputs.old }
+    ensures files_read { AskedOnly I.Inputs inputs.old inputs.new (StreamsRead
+        (I.told inputs.old) (streams_of asked.now) (words_of asked.now)) }
     ensures caused { IsCaused (AreSteady (I.faults inputs.old) (I.faults inputs.new)
         (I.ends inputs.old) (I.ends inputs.new) (O.faults out.old) (O.faults out.new)
         × (D.faults disk.new ≡ D.faults disk.old))
@@ -241,6 +247,8 @@ fn streams_end<I: Inputs, O: Sink>(
         (streams_specs (streams_of asked.now)) }
     requires given { HasGiven (streams_of asked.now) (words_of asked.now) given.now }
     ensures same { I.told inputs.new ≡ I.told inputs.old }
+    ensures files_read { AskedOnly I.Inputs inputs.old inputs.new (StreamsRead
+        (I.told inputs.old) (streams_of asked.now) (words_of asked.now)) }
     ensures steady { SteadyIfDone (I.faults inputs.old) (I.faults inputs.new) result }
     ensures ends_steady { SteadyIfDone (I.ends inputs.old) (I.ends inputs.new) result }
     ensures out_steady { SteadyIfDone (O.faults out.old) (O.faults out.new) result }

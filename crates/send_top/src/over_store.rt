@@ -13,13 +13,15 @@ ghost use Rattle.word_model.specs.AllRequests.{OfStore, TakeTurns, TurnFiles, re
 ghost use Rattle.word_model.specs.AllAnswers.{Answers, ReadsFiles, ReadsOnly};
 ghost use Rattle.store_words.specs.Ending as ending;
 ghost use Rattle.store_words.specs.Receiving.{LeftByReceive};
-ghost use Rattle.turn_model.specs.TurnAnswers.{in_turns};
+ghost use Rattle.turn_model.specs.TurnDues.{in_turns};
 ghost use Rattle.turn_sessions.specs.Leaving.{LeftByTurns};
 ghost use Rattle.sx_base.specs.Calls.{IfAllTold, Wrote};
 ghost use Rattle.sx_base.specs.Causes.{Rose};
+ghost use Rattle.sx_base.specs.Later.{AskedOnly};
 ghost use Rattle.sx_base.specs.Crash.{LeavesOnly};
 ghost use Rattle.sx_base.specs.Disk.{IsImage, settled};
 ghost use Rattle.send_top.specs.Answered.{answer_of};
+ghost use Rattle.send_top.specs.FilesRead.{FilesRead};
 ghost use Rattle.send_top.specs.Requests.{IsOverWithin, StoreFits, names_asked, named_files, store_meant, with_names};
 ghost use Rattle.send_top.specs.Run.{AreSteady, AtAnyMoment, IfAllRead, IfBytes, IfMadeOrDropped, IfOfCompose, IsCaused, MayGet, Prints, SendsInPart};
 
@@ -50,6 +52,9 @@ pub(crate) fn store_answer<I: Inputs, O: Sink, D: Disk>(
     requires named { names_stand (request_named_at (store_meant (map string_bytes words.now) request))
         (map string_bytes words.now) ≡ true }
     ensures same { I.told inputs.new ≡ I.told inputs.old }
+    ensures files_read { AskedOnly I.Inputs inputs.old inputs.new (FilesRead
+        (I.told inputs.old) (store_meant (map string_bytes words.now) request)
+        (map string_bytes words.now)) }
     ensures caused { IsCaused (AreSteady (I.faults inputs.old) (I.faults inputs.new)
         (I.ends inputs.old) (I.ends inputs.new) (O.faults out.old) (O.faults out.new)
         × (D.faults disk.new ≡ D.faults disk.old))

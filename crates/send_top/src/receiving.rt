@@ -11,6 +11,8 @@ ghost use Rattle.word_model.specs.NameWords.{given_from, files_in};
 ghost use Rattle.guard_rules.specs.AnyKind.{any_kept};
 ghost use Rattle.sx_base.specs.Calls.{IfAllTold, Wrote};
 ghost use Rattle.sx_base.specs.Causes.{Rose};
+ghost use Rattle.sx_base.specs.Asks.{AreReadOnce};
+ghost use Rattle.sx_base.specs.Later.{AskedOnly};
 ghost use Rattle.sx_base.specs.Crash.{LeavesOnly};
 ghost use Rattle.sx_base.specs.Disk.{IsImage};
 ghost use Rattle.store_words.specs.Ending.{receive_ways};
@@ -46,6 +48,8 @@ pub(crate) fn receive_answer<I: Inputs, O: Sink, D: Disk>(
         (before_store (map string_bytes asked.now.words.now) asked.now.store) }
     requires named { is_some (given_from None (received_words asked.now)) ≡ true }
     ensures same { I.told inputs.new ≡ I.told inputs.old }
+    ensures files_read { AskedOnly I.Inputs inputs.old inputs.new
+        (AreReadOnce (files_in (received_words asked.now))) }
     ensures caused { IsCaused (AreSteady (I.faults inputs.old) (I.faults inputs.new)
         (I.ends inputs.old) (I.ends inputs.new) (O.faults out.old) (O.faults out.new)
         × (D.faults disk.new ≡ D.faults disk.old))

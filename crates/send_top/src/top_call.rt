@@ -8,9 +8,11 @@ ghost use Rattle.store_model.specs.Answers.{OfAnyWord};
 ghost use Rattle.word_model.specs.AllRequests as requests;
 ghost use Rattle.word_model.specs.AllAnswers.{ReadsFiles, ReadsOnly};
 ghost use Rattle.sx_base.specs.Causes.{Rose};
+ghost use Rattle.sx_base.specs.Later.{AskedOnly};
 ghost use Rattle.sx_base.specs.Crash.{LeavesOnly};
 ghost use Rattle.sx_base.specs.Disk.{settled};
 ghost use Rattle.send_top.specs.Answered.{IsGiven, answer_of};
+ghost use Rattle.send_top.specs.FilesRead.{FilesRead};
 ghost use Rattle.send_top.specs.Requests.{AskNothing, Asks, uses_store};
 ghost use Rattle.send_top.specs.Run.{Acknowledges, AcknowledgesInTurn, AreSteady, AtAnyMoment, IfMadeOrDropped, AskForStore, AskToCompose, Composes, ComposesFront, Exports, IfOfCompose, IfOfStore, IsAllowed, IsAnswered, IsCaused, IsChangedAt, IsStoreStatus, Prints, Sends, SendsInPart, outside};
 
@@ -40,6 +42,9 @@ use sx_base::{Disk, Inputs, Sink};
 /// are answered by the store, whether or not anything tells its bytes: 6 of all but `init`, 8 of `show`, `cat` and `drop`, 10 of `receive`
 /// and `drop`, 12 of `init`, 14 of `scrub`. 7, of too little memory, never comes of `init`, which asks nothing of `inputs` and `out`. The
 /// other words over a store that name no file ask nothing of `inputs`, and `drop` asks nothing of `out`.
+///
+/// Files are read once, from their fronts on and in their order, so a pipe serves; `interleave` reads each of its files once, in turns.
+/// `compose` reads its files twice, and ranges of them again.
 pub fn run<I: Inputs, O: Sink, N: Sink, D: Disk>(
     alloc: Global,
     words: &[String],
@@ -54,6 +59,10 @@ pub fn run<I: Inputs, O: Sink, N: Sink, D: Disk>(
     ensures untouched { result ≡ 2 →
         (inputs.new ≡ inputs.old) × (out.new ≡ out.old) × (disk.new ≡ disk.old) }
     ensures same { I.told inputs.new ≡ I.told inputs.old }
+    ensures files_read { (request : requests.Request)
+        → Asks (map string_bytes words.now) (map (λ g. kept g) guards.items) request
+        → AskedOnly I.Inputs inputs.old inputs.new
+        (FilesRead (I.told inputs.old) request (map string_bytes words.now)) }
     ensures read_whole { result ≡ 0 → I.faults inputs.new ≡ I.faults inputs.old }
     ensures ends_met { result ≡ 0 → I.ends inputs.new ≡ I.ends inputs.old }
     ensures written { result ≡ 0 → O.faults out.new ≡ O.faults out.old }
@@ -139,6 +148,10 @@ fn answer_to<I: Inputs, O: Sink, D: Disk>(
     ensures untouched { answer_of result ≡ OfAnyWord Usage →
         (inputs.new ≡ inputs.old) × (out.new ≡ out.old) × (disk.new ≡ disk.old) }
     ensures same { I.told inputs.new ≡ I.told inputs.old }
+    ensures files_read { (request : requests.Request)
+        → Asks (map string_bytes words.now) (map (λ g. kept g) guards.old) request
+        → AskedOnly I.Inputs inputs.old inputs.new
+        (FilesRead (I.told inputs.old) request (map string_bytes words.now)) }
     ensures caused { IsCaused (AreSteady (I.faults inputs.old) (I.faults inputs.new)
         (I.ends inputs.old) (I.ends inputs.new) (O.faults out.old) (O.faults out.new)
         × (D.faults disk.new ≡ D.faults disk.old))

@@ -12,7 +12,7 @@ use Rattle.send_model.specs.Path.{path_names}
 use Rattle.send_model.specs.Map.{Map, bytes_cmp, with_value}
 use Rattle.send_model.specs.Subvolume.{NodeKind, File, Directory, SymbolicLink, CharacterDevice, BlockDevice, Fifo, Socket, is_file_kind, passes_inode, Inode, Subvolume, new_inode, root_alone, inode_at, is_file, walk}
 use Rattle.send_model.specs.Edit.{greatest_end, written_at, overwritten, resized, fallocated, set_inode, change_inode, set_cells, change_contents, set_xattr, is_xattr_name, format_bits, device_kind, make_device, allocation_of, fallocate, edit}
-use Rattle.send_model.specs.Clone.{cloned, clone}
+use Rattle.send_model.specs.Clone.{cloned, clone, clone_values}
 use Rattle.sent_model.specs.SentLaws.{made, IsMade}
 use Rattle.send_model.proofs.Fuel.{bound, required, ok_same}
 use Rattle.send_model.proofs.Keeping.{all_filtered, all_keys_with, all_values_with, all_found, Has, changed, made_keeps, link_keeps, unlink_keeps, rmdir_keeps, rename_keeps, changed_at, xattr_removed_keeps}
@@ -154,10 +154,10 @@ module _ {C : Type 0} where
 
   -- So does a clone.
   pub clone_keeps_made : (zero_cell : C) (part source : Subvolume C) (is_own : Bool) (path : List ℕ) (offset : ℕ) (clone_path : List ℕ) (from len : ℕ) (t : Subvolume C)
-      → AreMade part → clone zero_cell part (Some source) is_own path offset clone_path from len ≡ Ok t → AreMade t
+      → AreMade part → clone zero_cell part (Some source) is_own (clone_values path offset clone_path from len) ≡ Ok t → AreMade t
   unfolding clone
   clone_keeps_made zero_cell part source is_own path offset clone_path from len t h e =
-      let a = bound (cloned part (Some source) is_own path offset clone_path from len) _ t e in
+      let a = bound (cloned part (Some source) is_own (clone_values path offset clone_path from len)) _ t e in
       let f = cloned_facts part source is_own path offset clone_path from len a.0 a.1 in
       let end = leb-true (offset + len) greatest_end f.fits in
       let long = f.length_is in

@@ -14,7 +14,7 @@ use Rattle.send_model.specs.Path.{path_names}
 use Rattle.send_model.specs.Map.{Map, IsMap, value_at, with_value}
 use Rattle.send_model.specs.Subvolume.{Inode, Subvolume, Spot, IsSound, root_alone, inode_at, is_directory, is_file, walk, spot, name_count, is_empty_directory}
 use Rattle.send_model.specs.Edit.{greatest_end, greatest_number, set_inode, change_inode, add_inode, take_name, move_name, remove_name, remove_inode, make, make_device, device_kind, at_spot, link, unlink, rmdir, lies_below, can_replace, rename_onto, rename, change_at, is_xattr_name, set_xattr, has_xattr, remove_xattr, change_contents, allocation_of, fallocate, edit}
-use Rattle.send_model.specs.Clone.{cloned, clone}
+use Rattle.send_model.specs.Clone.{cloned, clone, clone_values}
 use Rattle.sent_model.specs.SentLaws.{HasNumbers}
 use Rattle.send_model.proofs.Fuel.{bound, required, not_refused, tested, ok_same}
 use Rattle.send_model.proofs.MapLaws.{T_left, T_right, is_less}
@@ -205,10 +205,10 @@ module _ {C : Type 0} where
   edit_keeps_numbers zero_cell put c s t sound h e = subst (λ (u : Subvolume C). HasNumbers u) (ok_same e) h
 
   pub clone_keeps_numbers : (zero_cell : C) (part : Subvolume C) (source : Option (Subvolume C)) (is_own : Bool) (path : List ℕ) (offset : ℕ) (clone_path : List ℕ) (from len : ℕ) (t : Subvolume C)
-      → IsSound part → HasNumbers part → clone zero_cell part source is_own path offset clone_path from len ≡ Ok t → HasNumbers t
+      → IsSound part → HasNumbers part → clone zero_cell part source is_own (clone_values path offset clone_path from len) ≡ Ok t → HasNumbers t
   unfolding clone
   clone_keeps_numbers zero_cell part source is_own path offset clone_path from len t sound h e =
-      let a = bound (cloned part source is_own path offset clone_path from len) _ t e in
+      let a = bound (cloned part source is_own (clone_values path offset clone_path from len)) _ t e in
       numbers_by part t (subst (λ (u : Subvolume C). NoMore part u) (ok_same a.2) (changes a.0.ino _ part sound)) h
 
   pub root_alone_numbers : HasNumbers {C = C} root_alone

@@ -20,7 +20,7 @@ use Rattle.send_model.specs.Counts.{is_end}
 use Rattle.send_model.specs.Cells.{recelled, recelled_entry, recelled_store, recelled_state, recelled_step}
 use Rattle.sent_model.specs.Listing.{byte_of, held, held_cells, Listed, listed, listing, paths_of}
 use Rattle.sent_model.specs.Sent.{Stretch, stretches, stretch_commands, ends_in_hole, contents_commands, making, making_commands, flags_commands, setting_commands, inode_commands, listed_commands, sent_edits, sent, sent_version, sent_stream, edit_all}
-use Rattle.sent_model.specs.SentLaws.{MakesAgain, IsReceivedAs, IsNew, AreReceived, SentIsReceived, SentStreamIsReceived}
+use Rattle.sent_model.specs.SentLaws.{MakesAgain, named, IsReceivedAs, IsNew, AreReceived, SentIsReceived, SentStreamIsReceived}
 use Rattle.send_model.proofs.Fuel.{bound, ok_same}
 use Rattle.send_model.proofs.ElementLaws.{all_both, all_first}
 use Rattle.send_model.proofs.Streams.{IsInner, stream_read}
@@ -260,7 +260,7 @@ received_by name key s t edits items plain again is are = record {
   bytes = λ store new. over_bytes store new;
 }
   where
-    over_bytes : (store : Store ℕ) → IsNew name key store → IsReceivedAs 0 byte_cells name key (recelled byte_of s) store items
+    over_bytes : (store : Store ℕ) → IsNew name key store → IsReceivedAs 0 byte_cells (named name key (recelled byte_of s)) store items
     over_bytes store new =
         let u : Store Cell = recelled_store some_cell store in
         let new' : IsNew name key u = (has_name-cells some_cell name store ∙ new.0, has_uuid-cells some_cell key.uuid store ∙ new.1) in

@@ -9,7 +9,7 @@ use Rattle.send_model.specs.Spelling.{IsSpellable}
 use Rattle.send_model.specs.Map.{bytes_cmp}
 use Rattle.send_model.specs.Subvolume.{NodeKind, Inode, Subvolume, IsLawful, new_inode, root_alone, inode_at}
 use Rattle.send_model.specs.Edit.{written_at, overwritten, resized, fallocated, edit}
-use Rattle.send_model.specs.Clone.{cells_of, clone}
+use Rattle.send_model.specs.Clone.{cells_of, clone, clone_values}
 use Rattle.send_model.specs.Receive.{bytes_of}
 use Rattle.sent_model.specs.Listing.{byte_of, held}
 use Rattle.sent_model.specs.SentLaws.{IsTold, HasNumbers, IsKept, EditsKeepIt, KeptIsSendable}
@@ -180,7 +180,7 @@ source_cells s ino h = one (inode_at s ino) refl
     one (Some inode) e = (all_found nat_cmp (λ (i : Inode Cell). IsTold i) ino inode s.inodes h.inodes e).cells
 
 clone_told : (part source t : Subvolume Cell) (is_own : Bool) (path : List ℕ) (offset : ℕ) (clone_path : List ℕ) (from len : ℕ) → Told part → Told source
-    → clone None part (Some source) is_own path offset clone_path from len ≡ Ok t → Told t
+    → clone None part (Some source) is_own (clone_values path offset clone_path from len) ≡ Ok t → Told t
 clone_told part source t is_own path offset clone_path from len h g e =
     clone_keeps IsByteName IsTold None part (Some source) is_own path offset clone_path from len t (λ range made inode is.
     let f = cloned_facts part source is_own path offset clone_path from len range made in
@@ -203,7 +203,12 @@ edits_keep_it = record {
   edits = λ version c s t sp h e.
       kept_from t (edit_keeps_lawful None (held (bytes_of c)) c s t h.lawful e) (edit_keeps_made None (held (bytes_of c)) c s t (made_of s h) e)
       (edit_keeps_numbers None (held (bytes_of c)) c s t h.lawful.sound h.numbers e) (edit_told version c s t sp (told_of s h) e);
-  clones = λ part source t is_own path offset clone_path from len h g e.
+  clones = λ part source t is_own values h g e.
+      let path : List ℕ = values.path in
+      let offset : ℕ = values.offset in
+      let clone_path : List ℕ = values.clone_path in
+      let from : ℕ = values.from in
+      let len : ℕ = values.len in
       kept_from t (clone_keeps_lawful None (Some source) is_own path offset clone_path from len part t h.lawful e) (clone_keeps_made None part source is_own path offset clone_path from len t (made_of part h) e)
       (clone_keeps_numbers None part (Some source) is_own path offset clone_path from len t h.lawful.sound h.numbers e) (clone_told part source t is_own path offset clone_path from len (told_of part h) (told_of source g) e);
 }

@@ -12,7 +12,7 @@ use Rattle.send_model.specs.Spelling.{IsSpellable, canonical}
 use Rattle.send_model.specs.Path.{path_names}
 use Rattle.send_model.specs.Subvolume.{Subvolume}
 use Rattle.send_model.specs.Store.{Key, same_key, Head, head_of, Entry, Store, find, has_name, Part, State, Stepped, with_contents, completed, unfinished, begun, start_from, entered, step_head, clone_source, edit_part, edited, step_edit}
-use Rattle.send_model.specs.Clone.{cloned, clone}
+use Rattle.send_model.specs.Clone.{cloned, clone, clone_values}
 use Rattle.send_model.specs.Receive.{bytes_of, start_of}
 use Rattle.send_model.specs.Counts.{is_clone}
 use Rattle.store_model.specs.Stored.{Content, Mark, Body, Drop, Group, body_bytes, is_edit, IsEdit, IsContent, IsGroup, taken, marked, unfinished_at, started, resumed, edits_made, dropped, frames_at, made, body_at, made_all, first_gate}
@@ -153,10 +153,10 @@ source_kept store part key u h own e = one (bytes_eq key.uuid part.key.uuid) e
     one false q = find_kept store key u h q
 
 -- A clone without a source is refused.
-no_source : (part : Subvolume Cell) (own : Bool) (path : List ℕ) (offset : ℕ) (clone_path : List ℕ) (from len : ℕ) (t : Subvolume Cell) → clone None part None own path offset clone_path from len ≡ Ok t → ⊥
+no_source : (part : Subvolume Cell) (own : Bool) (path : List ℕ) (offset : ℕ) (clone_path : List ℕ) (from len : ℕ) (t : Subvolume Cell) → clone None part None own (clone_values path offset clone_path from len) ≡ Ok t → ⊥
 unfolding clone cloned
 no_source part own path offset clone_path from len t made =
-    let range = bound (cloned part None own path offset clone_path from len) _ t made in
+    let range = bound (cloned part None own (clone_values path offset clone_path from len)) _ t made in
     let a = required (is_some (path_names path)) BadPath _ range.0 range.1 in
     let b = required (is_some (path_names clone_path)) BadPath _ range.0 a.1 in
     let none : Err NoSource ≡ Ok range.0 = b.1 in cc
@@ -177,9 +177,9 @@ part_kept version store part (Clone path offset uuid ctransid clone_path from le
     key : Key
     key = record { uuid = uuid; ctransid = ctransid }
 
-    one : (o : Option (Subvolume Cell)) → clone_source store part key ≡ o → clone None part.subvolume o (bytes_eq uuid part.key.uuid) path offset clone_path from len ≡ Ok t → IsKept t
+    one : (o : Option (Subvolume Cell)) → clone_source store part key ≡ o → clone None part.subvolume o (bytes_eq uuid part.key.uuid) (clone_values path offset clone_path from len) ≡ Ok t → IsKept t
     one None is q = absurd (no_source part.subvolume (bytes_eq uuid part.key.uuid) path offset clone_path from len t q)
-    one (Some u) is q = edits_keep_it.clones part.subvolume u t (bytes_eq uuid part.key.uuid) path offset clone_path from len own (source_kept store part key u h own is) q
+    one (Some u) is q = edits_keep_it.clones part.subvolume u t (bytes_eq uuid part.key.uuid) (clone_values path offset clone_path from len) own (source_kept store part key u h own is) q
 part_kept version store part c said h own t made = by_plain (is_clone c) refl
   where
     by_plain : (b : Bool) → is_clone c ≡ b → IsKept t

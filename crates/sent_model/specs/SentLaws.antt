@@ -5,7 +5,7 @@ use Rattle.std.specs.Str.{bytes_eq}
 use Rattle.send_model.specs.Path.{is_name}
 use Rattle.send_model.specs.Subvolume.{NodeKind, File, Directory, SymbolicLink, CharacterDevice, BlockDevice, Fifo, Socket, is_file_kind, Inode, Subvolume, IsLawful, new_inode, new_directory, root, root_alone}
 use Rattle.send_model.specs.Edit.{greatest_end, greatest_number, is_xattr_name, edit}
-use Rattle.send_model.specs.Clone.{clone}
+use Rattle.send_model.specs.Clone.{CloneValues, clone}
 use Rattle.send_model.specs.Command.{Command}
 use Rattle.send_model.specs.Attribute.{Identifier, Moment, Bytes, FieldFits, IsBytes, UUID, ATIME, MTIME, PATH, PATH_LINK, XATTR_NAME, XATTR_DATA}
 use Rattle.send_model.specs.Spelling.{IsSpellable}
@@ -64,12 +64,21 @@ RestoredEditsAreTaken = (s : Subvolume (Option ℕ)) → IsSendable s → s.next
 
 -- ---- over stores
 
--- Items are received into a store as a new entry at its end, with the same listing as a given subvolume.
-pub record IsReceivedAs {C : Type 0} (zero_cell : C) (cells : Item → List C) (name : List ℕ) (key : Key) (s : Subvolume C) (store : Store C) (items : List Item) : Type 0 where
+-- A whole subvolume, with the name and the key that it is sent with.
+pub record Named (C : Type 0) : Type 0 where
+  pub name : List ℕ
+  pub key : Key
+  pub contents : Subvolume C
+
+abbrev pub named : {C : Type 0} → (name : List ℕ) (key : Key) → Subvolume C → Named C
+named name key s = record { name = name; key = key; contents = s }
+
+-- Items are received into a store as a new entry at its end, with the name, the key and the listing of a given subvolume.
+pub record IsReceivedAs {C : Type 0} (zero_cell : C) (cells : Item → List C) (whole : Named C) (store : Store C) (items : List Item) : Type 0 where
   pub after : Subvolume C
   pub run : run_items zero_cell cells (start_of store) items
-      ≡ record { state = start_of (store ++ record { name = name; key = key; parent = None; contents = Some after } ∷ []); refused = None }
-  pub same : listing after ≡ listing s
+      ≡ record { state = start_of (store ++ record { name = whole.name; key = whole.key; parent = None; contents = Some after } ∷ []); refused = None }
+  pub same : listing after ≡ listing whole.contents
 
 -- A store has neither the name nor the uuid.
 abbrev pub IsNew : {C : Type 0} → List ℕ → Key → Store C → Type 0
@@ -77,8 +86,8 @@ IsNew name key store = (has_name name store ≡ false) × (has_uuid key.uuid sto
 
 -- What is sent of a subvolume is accepted by every such store, over cells that are a byte or zero and over bytes.
 pub record AreReceived (name : List ℕ) (key : Key) (s : Subvolume (Option ℕ)) (items : List Item) : Type 0 where
-  pub cells : (store : Store (Option ℕ)) → IsNew name key store → IsReceivedAs None held_cells name key s store items
-  pub bytes : (store : Store ℕ) → IsNew name key store → IsReceivedAs 0 byte_cells name key (recelled byte_of s) store items
+  pub cells : (store : Store (Option ℕ)) → IsNew name key store → IsReceivedAs None held_cells (named name key s) store items
+  pub bytes : (store : Store ℕ) → IsNew name key store → IsReceivedAs 0 byte_cells (named name key (recelled byte_of s)) store items
 
 abbrev pub SentIsReceived : Type 0
 SentIsReceived = (name : List ℕ) (key : Key) (s : Subvolume (Option ℕ)) (items : List Item) → IsSendable s → is_name name ≡ true
@@ -159,8 +168,8 @@ pub record IsKept (s : Subvolume (Option ℕ)) : Type 0 where
 pub record EditsKeepIt : Type 0 where
   pub start : IsKept root_alone
   pub edits : (version : ℕ) (c : Command) (s t : Subvolume (Option ℕ)) → IsSpellable version c → IsKept s → edit None (held (bytes_of c)) c s ≡ Ok t → IsKept t
-  pub clones : (part source t : Subvolume (Option ℕ)) (is_own : Bool) (path : List ℕ) (offset : ℕ) (clone_path : List ℕ) (from len : ℕ) → IsKept part → IsKept source
-      → clone None part (Some source) is_own path offset clone_path from len ≡ Ok t → IsKept t
+  pub clones : (part source t : Subvolume (Option ℕ)) (is_own : Bool) (values : CloneValues) → IsKept part → IsKept source
+      → clone None part (Some source) is_own values ≡ Ok t → IsKept t
 
 -- All of it can be sent.
 abbrev pub KeptIsSendable : Type 0

@@ -8,9 +8,6 @@ use std::alloc::{AllocError, Global};
 use std::marker::Model;
 use std::rc::Rc;
 
-// How many entries a block has at most. Splitting and merging keep to it where there is memory, and no contract rests on it.
-pub(crate) const BLOCK_ENTRIES: usize = 128;
-
 // A run of entries. Its copies share them, and a change of what is shared copies them first.
 #[derive(Debug, Drop)]
 pub(crate) struct Block<K, V> {
@@ -51,7 +48,8 @@ fn moved<K: Key, V: Copied>(
         return Err(AllocError);
     };
     *high = entries.split_off(at)?;
-    let _ = high.reserve((BLOCK_ENTRIES + 1).saturating_sub(high.len()));
+    let room = K::most_entries().saturating_add(1);
+    let _ = high.reserve(room.saturating_sub(high.len()));
     Ok(Block { rc })
 }
 

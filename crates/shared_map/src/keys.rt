@@ -24,6 +24,10 @@ pub trait Key: Drop {
     fn copy_key(&self) -> Result<Self, AllocError>
         ensures { IfOk result (λ copy. copy ≡ self.now) };
 
+    /// How many entries a page of a map with such keys has at most. Splitting and merging keep to it where there is memory, and no
+    /// contract rests on it. A change moves the entries of a page, and a copy of a map takes memory for each page.
+    fn most_entries() -> usize;
+
     ghost total: { IsTotalOrder order };
 }
 
@@ -66,6 +70,10 @@ impl Key for u64 {
 
     fn copy_key(&self) -> Result<u64, AllocError> {
         Ok(*self)
+    }
+
+    fn most_entries() -> usize {
+        64
     }
 
     ghost total = { nat_cmp_total };

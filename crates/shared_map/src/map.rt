@@ -6,7 +6,6 @@ ghost use Rattle.shared_map.specs.Sought.{entry_after};
 ghost use Rattle.shared_map.specs.Edited.{IsEdited, PutsNew};
 ghost use Rattle.shared_map.specs.Pages.{joined, AreFilled, AreKept, IsFree, in_two, in_one};
 
-use crate::block::BLOCK_ENTRIES;
 use crate::entries::Entries;
 use crate::keys::{Copied, Edit, Key, Sought};
 use crate::page::Page;
@@ -231,7 +230,7 @@ fn shorten<K: Key, V: Copied>(pages: &mut Vec<Page<K, V>>, alloc: Global, at: us
     ensures filled { AreFilled pages.old.items → AreFilled pages.new.items }
 {
     let count = pages[at].entries().len();
-    if count > BLOCK_ENTRIES {
+    if count > 1 && count > K::most_entries() {
         let cut = if place == count - 1 { place } else { count / 2 };
         let _ = split(pages, alloc, at, cut);
     }
@@ -266,8 +265,9 @@ fn lengthen<K: Key, V: Copied>(pages: &mut Vec<Page<K, V>>, alloc: Global, at: u
     ensures filled { AreFilled pages.old.items → AreFilled pages.new.items }
 {
     if pages.len() - at > 1 {
-        let few = pages[at].entries().len() < BLOCK_ENTRIES / 4;
-        let next_few = pages[at + 1].entries().len() < BLOCK_ENTRIES / 4;
+        let most = K::most_entries() / 4;
+        let few = pages[at].entries().len() < most;
+        let next_few = pages[at + 1].entries().len() < most;
         if few && next_few {
             let _ = join(pages, alloc, at);
         }

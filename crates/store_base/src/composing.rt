@@ -14,10 +14,12 @@ ghost use Rattle.send_model.specs.Words.{Compose};
 ghost use Rattle.store_model.specs.Stored.{StandsFor};
 ghost use Rattle.store_model.specs.Requests.{OfStreams, reads_store, at_entry};
 ghost use Rattle.store_model.specs.Answers.{Answers};
+ghost use Rattle.sx_base.specs.Asks.{AreReadWithRanges, AreReadTwice};
 ghost use Rattle.sx_base.specs.Calls.{IfAllTold, Wrote};
 ghost use Rattle.sx_base.specs.Causes.{Rose};
 ghost use Rattle.sx_base.specs.Crash.{LeavesOnly};
 ghost use Rattle.sx_base.specs.Disk.{IsImage};
+ghost use Rattle.sx_base.specs.Later.{AskedOnly};
 ghost use Rattle.sx_base.specs.declared.outcome.Outcome.TheVariants.{Done, Refused};
 ghost use Rattle.sx_base.specs.declared.outcome.Verdict.{Verdict};
 ghost use Rattle.provenance.specs.Traces.{place_of};
@@ -64,6 +66,8 @@ pub fn compose_store<D: Disk, I: Inputs, O: Sink>(
 ) -> StoreEnd
     requires some { given.now.files.now ≢ [] }
     ensures same { I.told inputs.new ≡ I.told inputs.old }
+    ensures asked { AskedOnly I.Inputs inputs.old inputs.new
+        (AreReadTwice (I.told inputs.old) (map string_bytes given.now.files.now)) }
     ensures answered { D.tells
         → IfAllTold (I.told inputs.old) (map string_bytes given.now.files.now)
         (λ files. Wrote (O.taken out.old) (O.taken out.new)
@@ -119,6 +123,8 @@ fn compose_opened<D: Disk, I: Inputs, O: Sink>(
     requires size { HasSize (D.len disk.old) store.now }
     requires lawful { D.tells → IsLawfulStore (with_bytes (D.seen disk.old) store.now.core) }
     ensures same { I.told inputs.new ≡ I.told inputs.old }
+    ensures asked { AskedOnly I.Inputs inputs.old inputs.new
+        (AreReadTwice (I.told inputs.old) (map string_bytes given.now.files.now)) }
     ensures ends { D.tells → IfAllTold (I.told inputs.old) (map string_bytes given.now.files.now)
         (λ told. Wrote (O.taken out.old) (O.taken out.new)
         (EndsOver (beside (with_bytes (D.seen disk.old) store.now.core) given.now.names.now told)
@@ -195,6 +201,8 @@ fn compose_read<'a, D: Disk, I: Inputs, O: Sink>(
         ≡ bytes_in (D.seen disk.old) beside.indexes }
     requires sayable { D.tells → AllSayable (bytes_in (D.seen disk.old) beside.indexes) }
     ensures same { I.told inputs.new ≡ I.told inputs.old }
+    ensures asked { AskedOnly I.Inputs inputs.old inputs.new
+        (AreReadWithRanges (I.told inputs.old) (map string_bytes given.now.files.now)) }
     ensures ends { D.tells → IfAllTold (I.told inputs.old) (map string_bytes given.now.files.now)
         (λ told. Wrote (O.taken out.old) (O.taken out.new)
         (EndsOver (bytes_in (D.seen disk.old) beside.indexes) given.now.names.now told
@@ -245,6 +253,8 @@ fn compose_beside<K: Anchor<H>, H: Fetch, I: Inputs, O: Sink>(
         ≡ bytes_in K.image beside.indexes }
     requires sayable { H.tells → AllSayable (bytes_in K.image beside.indexes) }
     ensures same { I.told inputs.new ≡ I.told inputs.old }
+    ensures asked { AskedOnly I.Inputs inputs.old inputs.new
+        (AreReadWithRanges (I.told inputs.old) (map string_bytes given.now.files.now)) }
     ensures ends { H.tells → IfAllTold (I.told inputs.old) (map string_bytes given.now.files.now)
         (λ told. Wrote (O.taken out.old) (O.taken out.new)
         (EndsOver (bytes_in K.image beside.indexes) given.now.names.now told result.0)) }

@@ -15,7 +15,7 @@ use Rattle.send_model.specs.Map.{Map, bytes_cmp, with_value}
 use Rattle.send_model.specs.Subvolume.{NodeKind, Inode, Subvolume, Spot, epoch, new_inode, inode_at, is_directory, is_file, walk, spot, name_count, is_empty_directory, root_alone}
 use Rattle.send_model.specs.Edit.{greatest_end, allocation_of, fallocated, set_cells, change_inode, set_inode, add_inode, remove_name, remove_inode, take_name, move_name, at_spot, greatest_number, device_kind, make, make_device, link, unlink, rmdir, lies_below, can_replace, rename_onto, rename, change_at, is_xattr_name, set_xattr, has_xattr, remove_xattr, change_contents, fallocate, edit}
 use Rattle.send_model.specs.Exported.{IsMoment}
-use Rattle.send_model.specs.Clone.{cloned, clone}
+use Rattle.send_model.specs.Clone.{cloned, clone, clone_values}
 use Rattle.send_model.proofs.Fuel.{required, not_refused, tested, bound, ok_same}
 use Rattle.send_model.proofs.Keeping.{all_filtered, all_values_with, all_found}
 use Rattle.store_groups.specs.Said.{HasLength, IsSaid, AllSaid}
@@ -212,8 +212,8 @@ module _ {C : Type 0} where
 
   -- And what a clone makes.
   pub clone_said : (zero_cell : C) (part : Subvolume C) (source : Option (Subvolume C)) (is_own : Bool) (path : List ℕ) (offset : ℕ) (clone_path : List ℕ) (from len : ℕ) (t : Subvolume C)
-      → AllSaid part → clone zero_cell part source is_own path offset clone_path from len ≡ Ok t → AllSaid t
+      → AllSaid part → clone zero_cell part source is_own (clone_values path offset clone_path from len) ≡ Ok t → AllSaid t
   unfolding clone
   clone_said zero_cell part source is_own path offset clone_path from len t h e =
-      let a = bound (cloned part source is_own path offset clone_path from len) _ t e in
+      let a = bound (cloned part source is_own (clone_values path offset clone_path from len)) _ t e in
       subst (λ (u : Subvolume C). AllSaid u) (ok_same a.2) (changed a.0.ino _ part (cells_said _) h)

@@ -10,7 +10,7 @@ use Rattle.send_model.specs.Command.{Command, Subvol, Snapshot, Clone, End}
 use Rattle.send_model.specs.Path.{is_name, path_names}
 use Rattle.send_model.specs.Reading.{Item}
 use Rattle.send_model.specs.Subvolume.{Subvolume}
-use Rattle.send_model.specs.Clone.{clone, cloned}
+use Rattle.send_model.specs.Clone.{clone, cloned, clone_values}
 use Rattle.send_model.specs.Store.{Key, Head, head_of, Entry, Store, Part, State, Stepped, has_name, has_uuid, find, completed, unfinished, begun, start_from, entered, step_head, clone_source, edit_part, edited, step_edit, step}
 use Rattle.send_model.specs.Receive.{Run, then_run, run_by, run_items, start_of}
 use Rattle.send_model.specs.Counts.{is_end}
@@ -26,7 +26,7 @@ FindsAll old new = (key : Key) (s : Subvolume _) → find old key ≡ Some s →
 
 module _ {C : Type 0} where
   no_source : (zero_cell : C) (part s : Subvolume C) (own : Bool) (path : List ℕ) (offset : ℕ) (clone_path : List ℕ) (from len : ℕ)
-      → clone zero_cell part None own path offset clone_path from len ≡ Ok s → ⊥
+      → clone zero_cell part None own (clone_values path offset clone_path from len) ≡ Ok s → ⊥
   unfolding clone cloned
   no_source zero_cell part s own path offset clone_path from len h = one (is_some (path_names path)) (is_some (path_names clone_path)) _ h
     where
@@ -37,10 +37,10 @@ module _ {C : Type 0} where
 
   clone_again : (zero_cell : C) (part s : Subvolume C) (old new : Option (Subvolume C)) (own : Bool) (path : List ℕ) (offset : ℕ) (clone_path : List ℕ) (from len : ℕ)
       → ((t : Subvolume C) → old ≡ Some t → new ≡ Some t)
-      → clone zero_cell part old own path offset clone_path from len ≡ Ok s → clone zero_cell part new own path offset clone_path from len ≡ Ok s
+      → clone zero_cell part old own (clone_values path offset clone_path from len) ≡ Ok s → clone zero_cell part new own (clone_values path offset clone_path from len) ≡ Ok s
   clone_again zero_cell part s None new own path offset clone_path from len f h = absurd (no_source zero_cell part s own path offset clone_path from len h)
   clone_again zero_cell part s (Some t) new own path offset clone_path from len f h =
-      subst (λ (o : Option (Subvolume C)). clone zero_cell part o own path offset clone_path from len ≡ Ok s) (sym (f t refl)) h
+      subst (λ (o : Option (Subvolume C)). clone zero_cell part o own (clone_values path offset clone_path from len) ≡ Ok s) (sym (f t refl)) h
 
   source_again : (old new : Store C) (part : Part C) (key : Key) → FindsAll old new → (t : Subvolume C) → clone_source old part key ≡ Some t → clone_source new part key ≡ Some t
   source_again old new part key f t h = one (bytes_eq key.uuid part.key.uuid) h

@@ -11,10 +11,12 @@ ghost use Rattle.store_model.specs.Stored.{StandsFor};
 ghost use Rattle.store_model.specs.Requests.{OfStreams, reads_store, at_entry};
 ghost use Rattle.store_model.specs.Answers.{Answers};
 ghost use Rattle.export_model.specs.Promises.{IsExportedOf};
+ghost use Rattle.sx_base.specs.Asks.{AreReadOnce};
 ghost use Rattle.sx_base.specs.Calls.{IfAllTold, Wrote};
 ghost use Rattle.sx_base.specs.Causes.{Rose};
 ghost use Rattle.sx_base.specs.Crash.{LeavesOnly};
 ghost use Rattle.sx_base.specs.Disk.{IsImage};
+ghost use Rattle.sx_base.specs.Later.{AskedOnly};
 ghost use Rattle.sx_base.specs.declared.outcome.Outcome.TheVariants.{Done};
 ghost use Rattle.store_words.specs.Ending.{answer_of, audit_ways, EndCaused};
 ghost use Rattle.store_words.specs.declared.ends.StoreEnd.TheVariants.{Ends};
@@ -37,6 +39,8 @@ pub fn export_store<D: Disk, I: Inputs, O: Sink>(
 ) -> StoreEnd
     requires some { given.now.files.now ≢ [] }
     ensures same { I.told inputs.new ≡ I.told inputs.old }
+    ensures asked { AskedOnly I.Inputs inputs.old inputs.new
+        (AreReadOnce (map string_bytes given.now.files.now)) }
     ensures answered { D.tells
         → IfAllTold (I.told inputs.old) (map string_bytes given.now.files.now)
         (λ files. Wrote (O.taken out.old) (O.taken out.new)

@@ -1,7 +1,9 @@
 // Dumping a file.
 ghost use Rattle.std.specs.Prelude.{◌≡◌, ◌≤◌, [], ◌∷◌};
 ghost use Rattle.send_model.specs.Words.{Dump};
+ghost use Rattle.sx_base.specs.Asks.{IsReadOnce};
 ghost use Rattle.sx_base.specs.Calls.{Caused, IfAllTold, Wrote, Ends, SteadyIfDone};
+ghost use Rattle.sx_base.specs.Later.{AskedOnly};
 
 use crate::file_writing::write_file;
 use crate::lines::DumpLines;
@@ -18,6 +20,7 @@ pub fn dump<I: Inputs, O: Sink>(alloc: Global, inputs: &mut I, file: &str, out: 
     ensures out_later { O.faults out.old ≤ O.faults out.new }
     ensures steady { SteadyIfDone (I.faults inputs.old) (I.faults inputs.new) result }
     ensures ends_steady { SteadyIfDone (I.ends inputs.old) (I.ends inputs.new) result }
+    ensures asked { AskedOnly I.Inputs inputs.old inputs.new (IsReadOnce file.now) }
     ensures out_steady { SteadyIfDone (O.faults out.old) (O.faults out.new) result }
     ensures cause { Caused (I.faults inputs.old) (I.faults inputs.new)
         (O.faults out.old) (O.faults out.new) result }

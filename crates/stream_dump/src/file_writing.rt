@@ -2,8 +2,10 @@
 ghost use Rattle.std.specs.Prelude.{◌≡◌, ◌≤◌, [], ◌∷◌, true, Ok, Err, IfErr};
 ghost use Rattle.send_model.specs.Laws.{CanWrite};
 ghost use Rattle.send_model.specs.Words.{first_file};
+ghost use Rattle.sx_base.specs.Asks.{IsReadOnce};
 ghost use Rattle.sx_base.specs.Calls.{Caused, IfAllTold, Wrote, IsStop, SteadyIfDone};
 ghost use Rattle.sx_base.specs.Causes.{Steady};
+ghost use Rattle.sx_base.specs.Later.{AskedOnly};
 ghost use Rattle.send_commands.specs.Meaning.{meaning_of};
 ghost use Rattle.send_commands.specs.Writing.{IsWritable};
 ghost use Rattle.cmd_reader.specs.Next.{item_of};
@@ -34,6 +36,7 @@ pub fn write_file<F: ItemForm, I: Inputs, O: Sink>(
     ensures out_later { O.faults out.old ≤ O.faults out.new }
     ensures steady { SteadyIfDone (I.faults inputs.old) (I.faults inputs.new) result }
     ensures ends_steady { SteadyIfDone (I.ends inputs.old) (I.ends inputs.new) result }
+    ensures asked { AskedOnly I.Inputs inputs.old inputs.new (IsReadOnce file.now) }
     ensures out_steady { SteadyIfDone (O.faults out.old) (O.faults out.new) result }
     ensures cause { Caused (I.faults inputs.old) (I.faults inputs.new)
         (O.faults out.old) (O.faults out.new) result }

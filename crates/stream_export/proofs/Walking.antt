@@ -6,7 +6,7 @@ use Rattle.send_model.specs.Chain.{◌>>=◌, ◌>>◌, require, found}
 use Rattle.send_model.specs.Command.{Command, Write, Clone, Fallocate}
 use Rattle.send_model.specs.Subvolume.{Inode, Subvolume, inode_at, is_file, walk}
 use Rattle.send_model.specs.Edit.{edit, change_contents, fallocate, greatest_end, Allocation, allocation_of, fallocated, written_at, overwritten, change_inode, set_inode, set_cells}
-use Rattle.send_model.specs.Clone.{cloned, clone}
+use Rattle.send_model.specs.Clone.{cloned, clone, clone_values}
 use Rattle.send_model.specs.Store.{Store, Part, State, Stepped, step, step_edit, edit_part, edited, clone_source, key_of}
 use Rattle.send_model.specs.Opened.{Opened, written_path, opened_at}
 use Rattle.send_model.proofs.Fuel.{required, bound, ok_same}
@@ -45,7 +45,7 @@ module _ {C : Type 0} where
         let f = required (nat_le (offset + size) greatest_end) FileTooBig (Ok (change_inode a.0 (set_cells (change d.0)) part.subvolume)) next d.2 in
         changed_walk a.0 (change d.0) part.subvolume next path f.1
     edit_walk (Clone at offset clone_uuid clone_ctransid clone_path from len) to path h e =
-        let a = bound (cloned part.subvolume (clone_source store part (key_of clone_uuid clone_ctransid)) (Rattle.std.specs.Str.bytes_eq clone_uuid part.key.uuid) at offset clone_path from len)
+        let a = bound (cloned part.subvolume (clone_source store part (key_of clone_uuid clone_ctransid)) (Rattle.std.specs.Str.bytes_eq clone_uuid part.key.uuid) (clone_values at offset clone_path from len))
         (λ range. Ok (change_inode range.ino (set_cells (overwritten zero offset range.cells)) part.subvolume)) next e in
         changed_walk a.0.ino (overwritten zero offset a.0.cells) part.subvolume next path a.2
     edit_walk c to path h e = cc

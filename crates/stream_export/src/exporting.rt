@@ -8,7 +8,9 @@ ghost use Rattle.send_model.specs.Exported.{AreSmallBy, byte_step};
 ghost use Rattle.send_model.specs.Renamed.{renamed};
 ghost use Rattle.send_model.specs.Words.{Export};
 ghost use Rattle.sx_base.specs.declared.outcome.Outcome.TheVariants as ended;
+ghost use Rattle.sx_base.specs.Asks.{AreReadOnce};
 ghost use Rattle.sx_base.specs.Calls.{Caused, IfAllTold, Wrote, SteadyIfDone};
+ghost use Rattle.sx_base.specs.Later.{AskedOnly};
 ghost use Rattle.part_names.specs.Naming.{EndsOf, sources_named};
 ghost use Rattle.auditor.specs.Following.{HaveSameShape};
 
@@ -36,6 +38,8 @@ pub fn export<R: Origin, I: Inputs, O: Sink>(
     ensures same { I.told inputs.new ≡ I.told inputs.old }
     ensures steady { SteadyIfDone (I.faults inputs.old) (I.faults inputs.new) result }
     ensures ends_steady { SteadyIfDone (I.ends inputs.old) (I.ends inputs.new) result }
+    ensures asked { AskedOnly I.Inputs inputs.old inputs.new
+        (AreReadOnce (map string_bytes given.now.files.now)) }
     ensures out_steady { SteadyIfDone (O.faults out.old) (O.faults out.new) result }
     ensures later { I.faults inputs.old ≤ I.faults inputs.new }
     ensures out_later { O.faults out.old ≤ O.faults out.new }

@@ -6,7 +6,7 @@ use Rattle.send_model.specs.Chain.{◌>>=◌, ◌>>◌, require, refuse_if}
 use Rattle.send_model.specs.Path.{path_names}
 use Rattle.send_model.specs.Subvolume.{Subvolume, is_file, walk}
 use Rattle.send_model.specs.Edit.{greatest_end, overwritten, change_inode, set_cells}
-use Rattle.send_model.specs.Clone.{Cloned, clone, cloned, cells_of, is_aligned, overlap}
+use Rattle.send_model.specs.Clone.{Cloned, clone, cloned, cells_of, is_aligned, overlap, clone_values}
 use Rattle.send_model.proofs.Fuel.{required, bound, ok_same}
 use Rattle.inode_tree.proofs.Chains.{goes_on, stops, spares, refuses}
 use Rattle.subvol.specs.Files.{file_at, clone_files, check_range}
@@ -46,7 +46,7 @@ module _ {C : Type 0} (z : C) (part other : Subvolume C) (own : Bool) (path : Li
   abbrev pub then_clone : ℕ × ℕ → Result (Subvolume C) Refusal
   then_clone files = check_range offset from len (length (cells_of other files.1)) >> (refuse_if (own && (files.1 == files.0) && overlap offset from len) Overlap >> Ok (cloned_part files.0 files.1))
 
-  by_files : clone z part (Some other) own path offset clone_path from len ≡ (clone_files part path other clone_path >>= then_clone)
+  by_files : clone z part (Some other) own (clone_values path offset clone_path from len) ≡ (clone_files part path other clone_path >>= then_clone)
   unfolding clone cloned
   by_files =
       let h : Cloned C → Result (Subvolume C) Refusal = λ range. Ok (change_inode range.ino (set_cells (overwritten z offset range.cells)) part) in
@@ -65,20 +65,20 @@ module _ {C : Type 0} (z : C) (part other : Subvolume C) (own : Bool) (path : Li
       let f = bound (file_at other clone_path) _ files d.2 in
       subst (λ (x : ℕ × ℕ). (is_file part x.0 ≡ true) × (is_file other x.1 ≡ true)) (ok_same f.2) (is_file_at part path d.0 d.1, is_file_at other clone_path f.0 f.1)
 
-  pub clone_lost : (refusal : Refusal) → clone_files part path other clone_path ≡ Err refusal → clone z part (Some other) own path offset clone_path from len ≡ Err refusal
+  pub clone_lost : (refusal : Refusal) → clone_files part path other clone_path ≡ Err refusal → clone z part (Some other) own (clone_values path offset clone_path from len) ≡ Err refusal
   clone_lost refusal e = by_files ∙ stops (clone_files part path other clone_path) then_clone refusal e
 
   module _ (files : ℕ × ℕ) (there : clone_files part path other clone_path ≡ Ok files) where
-    pub clone_bad : (refusal : Refusal) → check_range offset from len (length (cells_of other files.1)) ≡ Err refusal → clone z part (Some other) own path offset clone_path from len ≡ Err refusal
+    pub clone_bad : (refusal : Refusal) → check_range offset from len (length (cells_of other files.1)) ≡ Err refusal → clone z part (Some other) own (clone_values path offset clone_path from len) ≡ Err refusal
     clone_bad refusal e = by_files ∙ (goes_on (clone_files part path other clone_path) then_clone files there ∙ failed (check_range offset from len (length (cells_of other files.1))) _ refusal e)
 
     module _ (good : check_range offset from len (length (cells_of other files.1)) ≡ Ok tt) where
-      pub clone_overlaps : (own && (files.1 == files.0) && overlap offset from len) ≡ true → clone z part (Some other) own path offset clone_path from len ≡ Err Overlap
+      pub clone_overlaps : (own && (files.1 == files.0) && overlap offset from len) ≡ true → clone z part (Some other) own (clone_values path offset clone_path from len) ≡ Err Overlap
       clone_overlaps e =
           by_files ∙ (goes_on (clone_files part path other clone_path) then_clone files there ∙ (passed (check_range offset from len (length (cells_of other files.1))) _ good
           ∙ refuses (own && (files.1 == files.0) && overlap offset from len) Overlap _ e))
 
-      pub clone_made : (own && (files.1 == files.0) && overlap offset from len) ≡ false → clone z part (Some other) own path offset clone_path from len ≡ Ok (cloned_part files.0 files.1)
+      pub clone_made : (own && (files.1 == files.0) && overlap offset from len) ≡ false → clone z part (Some other) own (clone_values path offset clone_path from len) ≡ Ok (cloned_part files.0 files.1)
       clone_made e =
           by_files ∙ (goes_on (clone_files part path other clone_path) then_clone files there ∙ (passed (check_range offset from len (length (cells_of other files.1))) _ good
           ∙ spares (own && (files.1 == files.0) && overlap offset from len) Overlap _ e))

@@ -37,8 +37,8 @@ impl<O: Origin> Subvol<O> {
     /// Unaligned, FileTooBig, Overlap; then nothing changes.
     pub fn clone_here(&mut self, path: &[u8], at: u64, range: &SourceRange<'_>) -> Result<(), Stop>
         ensures { MayChange result self.old self.new
-            (meant.clone None self.old (Some self.old) true path.now at range.now.path.now
-            range.now.from range.now.len) }
+            (meant.clone None self.old (Some self.old) true
+            (meant.clone_values path.now at range.now.path.now range.now.from range.now.len)) }
     {
         let (ino, source) = clone_files(&self.tree, path, &self.tree, range.path)?;
         let cells = contents_of(&self.tree, source);
@@ -67,8 +67,8 @@ impl<O: Origin> Subvol<O> {
         range: &SourceRange<'_>,
     ) -> Result<(), Stop>
         ensures { MayChange result self.old self.new
-            (meant.clone None self.old (Some source.now) false path.now at range.now.path.now
-            range.now.from range.now.len) }
+            (meant.clone None self.old (Some source.now) false
+            (meant.clone_values path.now at range.now.path.now range.now.from range.now.len)) }
     {
         let (ino, source_ino) = clone_files(&self.tree, path, &source.tree, range.path)?;
         let cells = contents_of(&source.tree, source_ino);

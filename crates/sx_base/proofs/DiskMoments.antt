@@ -1,6 +1,6 @@
 -- How a run of calls to a disk goes on.
 use Rattle.std.proofs.Common.{inl, inr, ⊎_elim, ℕ, ◌≤◌, Result, List, arith}
-use Rattle.sx_base.specs.Disk.{Pending, IsImage, Passes}
+use Rattle.sx_base.specs.Disk.{Pending, IsImage, Passes, members}
 use Rattle.sx_base.specs.Crash.{LeavesOnly}
 
 -- before the first call
@@ -14,7 +14,7 @@ begins disk only here = record {
 
 -- one call more, after which a crash leaves what has P
 pub goes_on : {D T E : Type 0} {tells : Type 0} {moment : D → ℕ} {left_since : D → ℕ → List ℕ → Type 0} {pending : D → Pending} {faults : D → ℕ} {old middle new : D} {result : Result T E} {P : List ℕ → Type 0}
-    → LeavesOnly moment left_since old middle P → Passes tells moment left_since pending faults middle new result → tells → ((image : List ℕ) → IsImage (pending new) image → P image) → LeavesOnly moment left_since old new P
+    → LeavesOnly moment left_since old middle P → Passes (members tells moment left_since pending faults) middle new result → tells → ((image : List ℕ) → IsImage (pending new) image → P image) → LeavesOnly moment left_since old new P
 goes_on so_far call tells here = record {
   later = omega (arith, so_far.later, call.clock.later);
   each = λ image left. ⊎_elim (so_far.each image) (here image) ((call.time tells).nothing_else _ image so_far.later left);

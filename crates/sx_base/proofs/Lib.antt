@@ -8,3 +8,5 @@ pub mod FilledBuffers
 pub mod NamedFiles
 pub mod KeptFronts
 pub mod Ended
+pub mod Asking
+pub mod AskExamples

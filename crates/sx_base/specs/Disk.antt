@@ -63,9 +63,21 @@ pub record Elapses (before : ℕ) (past since : ℕ → List ℕ → Type 0) (pe
   pub nothing_else : (t : ℕ) (image : List ℕ) → t ≤ before → since t image → past t image ⊎ IsImage pending image
   pub keeps : (t : ℕ) (image : List ℕ) → t ≤ before → past t image → since t image
 
+-- What a disk says of itself for all its calls: whether it tells what it contains, its clock, which images a crash since a moment may
+-- have left and which a crash now may leave, and how often it failed.
+pub record DiskMembers (D : Type 0) : Type 1 where
+  pub tells : Type 0
+  pub moment : D → ℕ
+  pub left_since : D → ℕ → List ℕ → Type 0
+  pub pending : D → Pending
+  pub faults : D → ℕ
+
+abbrev pub members : {D : Type 0} (tells : Type 0) (moment : D → ℕ) (left_since : D → ℕ → List ℕ → Type 0) (pending : D → Pending) (faults : D → ℕ) → DiskMembers D
+members tells moment left_since pending faults = record { tells = tells; moment = moment; left_since = left_since; pending = pending; faults = faults }
+
 -- What holds of every call to a disk, whatever it answers: the clock rose; where the disk tells, time went on; the count of
 -- faults did not fall, and a failure has its cause in it.
-pub record Passes {D T E : Type 0} (tells : Type 0) (moment : D → ℕ) (left_since : D → ℕ → List ℕ → Type 0) (pending : D → Pending) (faults : D → ℕ) (old new : D) (result : Result T E) : Type 0 where
-  pub clock : Rises (moment old) (moment new)
-  pub time : tells → Elapses (moment old) (left_since old) (left_since new) (pending new)
-  pub cause : HasCause (faults old) (faults new) result
+pub record Passes {D T E : Type 0} (disk : DiskMembers D) (old new : D) (result : Result T E) : Type 0 where
+  pub clock : Rises (disk.moment old) (disk.moment new)
+  pub time : disk.tells → Elapses (disk.moment old) (disk.left_since old) (disk.left_since new) (disk.pending new)
+  pub cause : HasCause (disk.faults old) (disk.faults new) result

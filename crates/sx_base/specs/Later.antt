@@ -1,6 +1,7 @@
 -- What calls leave of the objects outside that they read and write: no count falls, and where all was done that was asked, none has risen.
 -- This program's own.
-use Rattle.std.specs.Prelude.{◌≡◌, ℕ, ◌≤◌, Result}
+use Rattle.std.specs.Prelude.{◌≡◌, ℕ, ◌≤◌, List, ◌++◌, Result}
+use Rattle.sx_base.specs.Asks.{Ask, IsReadOn}
 use Rattle.sx_base.specs.Causes.{Steady}
 use Rattle.sx_base.specs.Crash.{LeavesOnly}
 use Rattle.sx_base.specs.Disk.{IsAsBefore, IsImage}
@@ -15,6 +16,14 @@ pub record InputsLater {I T E : Type 0} (inputs : reading.Ghosts I) (old new : I
   pub steady : Steady (inputs.faults old) (inputs.faults new) result
   pub ends_later : inputs.ends old ≤ inputs.ends new
   pub ends_steady : Steady (inputs.ends old) (inputs.ends new) result
+
+-- Between two moments inputs were asked nothing but calls of which this holds.
+abbrev pub AskedOnly : {I : Type 0} (inputs : reading.Ghosts I) (old new : I) (P : List Ask → Type 0) → Type 0
+AskedOnly inputs old new P = (before : List Ask) → inputs.asked old before → (asks : List Ask) × inputs.asked new (before ++ asks) × P asks
+
+-- They were asked to read a file on from one place to another, and for nothing else.
+abbrev pub ReadsOn : {I : Type 0} (inputs : reading.Ghosts I) (old new : I) (name : List ℕ) (from to : ℕ) → Type 0
+ReadsOn inputs old new name from to = AskedOnly inputs old new (λ asks. IsReadOn name from asks to)
 
 -- An output.
 pub record OutputLater {O T E : Type 0} (out : writing.Ghosts O) (old new : O) (result : Result T E) : Type 0 where

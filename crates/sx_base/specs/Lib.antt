@@ -9,4 +9,5 @@ pub mod Stored
 pub mod Disk
 pub mod Crash
 pub mod Calls
+pub mod Asks
 pub mod Later

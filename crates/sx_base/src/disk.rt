@@ -1,6 +1,6 @@
 // A disk that may lose what was not yet stable when power fails.
 ghost use Rattle.std.specs.Prelude.{◌≡◌, ◌⊎◌, ◌+◌, ◌^◌, ◌<◌, ◌≤◌, ℕ, List, length, max, take, IfOk, OnOk, OnErr};
-ghost use Rattle.sx_base.specs.Disk.{Pending, IsImage, IsAsBefore, IsReadAt, Passes, written, shortened, settled};
+ghost use Rattle.sx_base.specs.Disk.{Pending, IsImage, IsAsBefore, IsReadAt, Passes, members, written, shortened, settled};
 ghost use Rattle.sx_base.specs.Bytes.{put_at};
 ghost use Rattle.sx_base.specs.Causes.{Steady};
 
@@ -35,7 +35,8 @@ pub trait Disk {
         ensures size { IfOk result (λ size. size ≡ len self.old) }
         ensures len { len self.new ≡ len self.old }
         ensures same { tells → IsAsBefore seen pending self.old self.new }
-        ensures passes { Passes tells moment left_since pending faults self.old self.new result }
+        ensures passes { Passes (members tells moment left_since pending faults)
+            self.old self.new result }
         ensures steady { Steady (faults self.old) (faults self.new) result };
 
     /// Reads from place `at` into the buffer, and says how many bytes: at most as many as it has room for, and 0
@@ -47,7 +48,8 @@ pub trait Disk {
         ensures bytes { tells → IfOk result (IsReadAt (seen self.old) at buf.new) }
         ensures len { len self.new ≡ len self.old }
         ensures same { tells → IsAsBefore seen pending self.old self.new }
-        ensures passes { Passes tells moment left_since pending faults self.old self.new result }
+        ensures passes { Passes (members tells moment left_since pending faults)
+            self.old self.new result }
         ensures steady { Steady (faults self.old) (faults self.new) result };
 
     /// Puts the piece at place `at`, over what is there and past the end. A write that failed counts as written:
@@ -62,7 +64,8 @@ pub trait Disk {
             → OnOk result (seen self.new ≡ put_at at piece.now (seen self.old)) }
         ensures pending { tells
             → pending self.new ≡ written at (length piece.now) (pending self.old) }
-        ensures passes { Passes tells moment left_since pending faults self.old self.new result }
+        ensures passes { Passes (members tells moment left_since pending faults)
+            self.old self.new result }
         ensures steady { Steady (faults self.old) (faults self.new) result };
 
     /// Makes the disk shorter. A cut that failed counts as a size that was reached.
@@ -72,7 +75,8 @@ pub trait Disk {
         ensures len_err { OnErr result ((size ≤ len self.new) × (len self.new ≤ len self.old)) }
         ensures seen { tells → OnOk result (seen self.new ≡ take size (seen self.old)) }
         ensures pending { tells → pending self.new ≡ shortened size (pending self.old) }
-        ensures passes { Passes tells moment left_since pending faults self.old self.new result }
+        ensures passes { Passes (members tells moment left_since pending faults)
+            self.old self.new result }
         ensures steady { Steady (faults self.old) (faults self.new) result };
 
     /// Makes stable what was written: a crash then leaves what a read gives. A sync that failed changes nothing.
@@ -81,7 +85,8 @@ pub trait Disk {
         ensures seen { tells → seen self.new ≡ seen self.old }
         ensures pending { tells → OnOk result (pending self.new ≡ settled (seen self.old)) }
         ensures pending_err { tells → OnErr result (pending self.new ≡ pending self.old) }
-        ensures passes { Passes tells moment left_since pending faults self.old self.new result }
+        ensures passes { Passes (members tells moment left_since pending faults)
+            self.old self.new result }
         ensures steady { Steady (faults self.old) (faults self.new) result };
 
     /// The size is that of what a read gives.

@@ -1,5 +1,5 @@
 // Files in memory, of which chosen reads fail.
-ghost use Rattle.std.specs.Prelude.{◌≡◌, ℕ, ◌-◌, ◌≤◌, List, [], ◌∷◌, ◌++◌, length, min, true, is_err, if◌then◌else◌, Some, IfOk, OnOk, OnErr};
+ghost use Rattle.std.specs.Prelude.{◌≡◌, ⊤, ℕ, ◌-◌, ◌≤◌, List, [], ◌∷◌, ◌++◌, length, min, true, is_err, if◌then◌else◌, Some, IfOk, OnOk, OnErr};
 ghost use Rattle.sx_base.specs.Again.{LiesIn, FillsFrom, EndsKept, LostFor, MeetsEnd, no_end};
 ghost use Rattle.sx_base.specs.Causes.{Rose, HasCause, Steady, counts};
 ghost use Rattle.sx_base.specs.Memory.{next_count, is_listed};
@@ -98,6 +98,8 @@ impl Inputs for MemInputs {
     ghost ends = { λ _. 0 };
 
     ghost last_end = { λ _. no_end };
+
+    ghost asked = { λ _ _. ⊤ };
 
     fn read_at(&mut self, name: &str, at: u64, buf: &mut [u8]) -> Result<usize, Failed>
         ensures same { Some self.new.files ≡ Some self.old.files }

@@ -1,5 +1,5 @@
 // Files in memory that never fail.
-ghost use Rattle.std.specs.Prelude.{◌≡◌, ℕ, ◌-◌, ◌≤◌, List, [], ◌∷◌, ◌++◌, length, min, Some, Ok, IsOkAnd, IfOk, OnOk, OnErr};
+ghost use Rattle.std.specs.Prelude.{◌≡◌, ⊤, ℕ, ◌-◌, ◌≤◌, List, [], ◌∷◌, ◌++◌, length, min, Some, Ok, IsOkAnd, IfOk, OnOk, OnErr};
 ghost use Rattle.sx_base.specs.Again.{LiesIn, FillsFrom, EndsKept, LostFor, MeetsEnd, no_end};
 ghost use Rattle.sx_base.specs.Causes.{HasCause, Steady, counts};
 ghost use Rattle.sx_base.specs.Outside.{GivesAt, file_at};
@@ -57,6 +57,8 @@ impl Inputs for PlainInputs {
     ghost ends = { λ _. 0 };
 
     ghost last_end = { λ _. no_end };
+
+    ghost asked = { λ _ _. ⊤ };
 
     fn read_at(&mut self, name: &str, at: u64, buf: &mut [u8]) -> Result<usize, Failed>
         ensures same { self.new ≡ self.old }

@@ -14,7 +14,7 @@ use Rattle.send_model.proofs.CellClones.{all_steps-cells}
 use Rattle.store_model.specs.Dues.{Due}
 use Rattle.store_model.specs.Turns.{Receiving, Session, Event, Turn, part_of, receiving_after, completions, beginnings, turned, next_turn, session_turn, Turns, with_at, after_turn, one_turn, after_turns, to_the_end}
 use Rattle.turn_model.specs.TurnCells.{recelled_receiving, recelled_session, recelled_turn, recelled_turns}
-use Rattle.turn_model.specs.TurnDues.{is_long, is_empty, at_limit, fitting, gate_after, TurnsEnd, turn_events, turns_end}
+use Rattle.turn_model.specs.TurnDues.{is_long, is_empty, at_limit, fitting, gate_after, room_of, TurnsEnd, turn_events, turns_end}
 use Rattle.turn_model.proofs.Ends.{by_limit, end_next}
 
 module _ {A B : Type 0} (f : A → B) where
@@ -142,15 +142,15 @@ module _ {C D : Type 0} (f : C → D) (zero_cell : C) (cells : Item → List C) 
       one (Some s) = refl
 
   -- So the end that is due does not depend on them.
-  pub end_cells : (most : ℕ) (long : List Bool) (turns : List ℕ) (gate : ℕ) (w : Turns C) → turns_end (f zero_cell) mapped most long gate (recelled_turns f w) turns ≡ turns_end zero_cell cells most long gate w turns
+  pub end_cells : (most : ℕ) (long : List Bool) (turns : List ℕ) (gate : ℕ) (w : Turns C) → turns_end (f zero_cell) mapped (room_of most gate) long (recelled_turns f w) turns ≡ turns_end zero_cell cells (room_of most gate) long w turns
   unfolding turns_end
   end_cells most long [] gate w = refl
   end_cells most long (n ∷ turns) gate w =
       let v : Turns D = recelled_turns f w in
       let new : List Event = turn_events zero_cell cells w n in
-      let next : TurnsEnd = turns_end zero_cell cells most long (gate_after gate new) (one_turn zero_cell cells w n) turns in
+      let next : TurnsEnd = turns_end zero_cell cells (room_of most (gate_after gate new)) long (one_turn zero_cell cells w n) turns in
       end_next (f zero_cell) mapped most long gate v n turns
-      ∙ (λ i. by_limit (f zero_cell) mapped most long (limit_cells long w n i) (fitting most gate (events_cells w n i)).full gate v n (turns_end (f zero_cell) mapped most long (gate_after gate (events_cells w n i)) (turn_cells w n i) turns))
+      ∙ (λ i. by_limit (f zero_cell) mapped most long (limit_cells long w n i) (fitting most gate (events_cells w n i)).full gate v n (turns_end (f zero_cell) mapped (room_of most (gate_after gate (events_cells w n i))) long (turn_cells w n i) turns))
       ∙ ap (by_limit (f zero_cell) mapped most long (at_limit long w n) (fitting most gate new).full gate v n) (end_cells most long turns (gate_after gate new) (one_turn zero_cell cells w n))
       ∙ one (at_limit long w n) (fitting most gate new).full next
       ∙ sym (end_next zero_cell cells most long gate w n turns)

@@ -9,7 +9,7 @@ use Rattle.store_model.specs.Dues.{Due, Ends, LogFull, first_full}
 use Rattle.store_model.specs.Image.{reserve}
 use Rattle.store_model.specs.Turns.{Event, Session, session_turn, Turns, after_turn, one_turn, after_turns, interleaved, turns_of}
 use Rattle.store_model.proofs.TurnOrder.{turns_behind}
-use Rattle.turn_model.specs.TurnDues.{bytes_read, files_read, which_long, at_limit, event_pieces, gate_behind, gate_after, Fitting, fitting, TurnsEnd, turn_events, turns_end, interleave_end}
+use Rattle.turn_model.specs.TurnDues.{bytes_read, files_read, which_long, at_limit, event_pieces, gate_behind, gate_after, Fitting, fitting, room_of, TurnsEnd, turn_events, turns_end, interleave_end}
 use Rattle.turn_model.specs.TurnDueLaws.{EndIsFront, EndIsTaken, ShortAreRead}
 
 -- ---- room
@@ -95,14 +95,14 @@ module _ {C : Type 0} (zero_cell : C) (cells : Item → List C) where
     by_limit false (Some full) gate w n rest = record { due = full; events = w.events ++ (fitting most gate (turn_events zero_cell cells w n)).events }
     by_limit false None gate w n rest = rest
 
-    pub end_next : (gate : ℕ) (w : Turns C) (n : ℕ) (turns : List ℕ) → turns_end zero_cell cells most long gate w (n ∷ turns)
+    pub end_next : (gate : ℕ) (w : Turns C) (n : ℕ) (turns : List ℕ) → turns_end zero_cell cells (room_of most gate) long w (n ∷ turns)
         ≡ by_limit (at_limit long w n) (fitting most gate (turn_events zero_cell cells w n)).full gate w n
-        (turns_end zero_cell cells most long (gate_after gate (turn_events zero_cell cells w n)) (one_turn zero_cell cells w n) turns)
+        (turns_end zero_cell cells (room_of most (gate_after gate (turn_events zero_cell cells w n))) long (one_turn zero_cell cells w n) turns)
     unfolding turns_end
     end_next gate w n turns = one (at_limit long w n) (fitting most gate (turn_events zero_cell cells w n)).full
       where
         next : TurnsEnd
-        next = turns_end zero_cell cells most long (gate_after gate (turn_events zero_cell cells w n)) (one_turn zero_cell cells w n) turns
+        next = turns_end zero_cell cells (room_of most (gate_after gate (turn_events zero_cell cells w n))) long (one_turn zero_cell cells w n) turns
 
         one : (b : Bool) (o : Option Due) → (if b then record { due = Ends (TooLong (n + 1)); events = w.events } else elim o as (λ x. TurnsEnd) [
           | Some full ↦ record { due = full; events = w.events ++ (fitting most gate (turn_events zero_cell cells w n)).events }
@@ -114,25 +114,25 @@ module _ {C : Type 0} (zero_cell : C) (cells : Item → List C) where
 
     -- a turn that has room and comes to no limit
     pub end_goes : (gate : ℕ) (w : Turns C) (n : ℕ) (turns : List ℕ) → at_limit long w n ≡ false → (fitting most gate (turn_events zero_cell cells w n)).full ≡ None
-        → turns_end zero_cell cells most long gate w (n ∷ turns) ≡ turns_end zero_cell cells most long (gate_after gate (turn_events zero_cell cells w n)) (one_turn zero_cell cells w n) turns
-    end_goes gate w n turns no_limit room = end_next gate w n turns ∙ (λ i. by_limit (no_limit i) (room i) gate w n (turns_end zero_cell cells most long (gate_after gate (turn_events zero_cell cells w n)) (one_turn zero_cell cells w n) turns))
+        → turns_end zero_cell cells (room_of most gate) long w (n ∷ turns) ≡ turns_end zero_cell cells (room_of most (gate_after gate (turn_events zero_cell cells w n))) long (one_turn zero_cell cells w n) turns
+    end_goes gate w n turns no_limit room = end_next gate w n turns ∙ (λ i. by_limit (no_limit i) (room i) gate w n (turns_end zero_cell cells (room_of most (gate_after gate (turn_events zero_cell cells w n))) long (one_turn zero_cell cells w n) turns))
 
     -- one that has none
     pub end_full : (gate : ℕ) (w : Turns C) (n : ℕ) (turns : List ℕ) (due : Due) → at_limit long w n ≡ false → (fitting most gate (turn_events zero_cell cells w n)).full ≡ Some due
-        → turns_end zero_cell cells most long gate w (n ∷ turns) ≡ record { due = due; events = w.events ++ (fitting most gate (turn_events zero_cell cells w n)).events }
-    end_full gate w n turns due no_limit full = end_next gate w n turns ∙ (λ i. by_limit (no_limit i) (full i) gate w n (turns_end zero_cell cells most long (gate_after gate (turn_events zero_cell cells w n)) (one_turn zero_cell cells w n) turns))
+        → turns_end zero_cell cells (room_of most gate) long w (n ∷ turns) ≡ record { due = due; events = w.events ++ (fitting most gate (turn_events zero_cell cells w n)).events }
+    end_full gate w n turns due no_limit full = end_next gate w n turns ∙ (λ i. by_limit (no_limit i) (full i) gate w n (turns_end zero_cell cells (room_of most (gate_after gate (turn_events zero_cell cells w n))) long (one_turn zero_cell cells w n) turns))
 
     -- one that comes to a limit
-    pub end_long : (gate : ℕ) (w : Turns C) (n : ℕ) (turns : List ℕ) → at_limit long w n ≡ true → turns_end zero_cell cells most long gate w (n ∷ turns) ≡ record { due = Ends (TooLong (n + 1)); events = w.events }
+    pub end_long : (gate : ℕ) (w : Turns C) (n : ℕ) (turns : List ℕ) → at_limit long w n ≡ true → turns_end zero_cell cells (room_of most gate) long w (n ∷ turns) ≡ record { due = Ends (TooLong (n + 1)); events = w.events }
     end_long gate w n turns limit =
-        end_next gate w n turns ∙ ap (λ (b : Bool). by_limit b (fitting most gate (turn_events zero_cell cells w n)).full gate w n (turns_end zero_cell cells most long (gate_after gate (turn_events zero_cell cells w n)) (one_turn zero_cell cells w n) turns)) limit
+        end_next gate w n turns ∙ ap (λ (b : Bool). by_limit b (fitting most gate (turn_events zero_cell cells w n)).full gate w n (turns_end zero_cell cells (room_of most (gate_after gate (turn_events zero_cell cells w n))) long (one_turn zero_cell cells w n) turns)) limit
 
     -- ---- all turns
 
     abbrev IsFront : Turns C → TurnsEnd → Type 0
     IsFront end e = (more : List Event) × (end.events ≡ e.events ++ more)
 
-    pub end_front : (turns : List ℕ) (gate : ℕ) (w : Turns C) → IsFront (after_turns zero_cell cells w turns) (turns_end zero_cell cells most long gate w turns)
+    pub end_front : (turns : List ℕ) (gate : ℕ) (w : Turns C) → IsFront (after_turns zero_cell cells w turns) (turns_end zero_cell cells (room_of most gate) long w turns)
     unfolding turns_end after_turns
     end_front [] gate w = ([], sym (append-nil w.events))
     end_front (n ∷ turns) gate w =
@@ -145,8 +145,8 @@ module _ {C : Type 0} (zero_cell : C) (cells : Item → List C) where
         (one (at_limit long w n) (fitting most gate new).full (after_turns zero_cell cells next turns) (new ++ all.0) all.0 refl whole rest)
       where
         one : (b : Bool) (o : Option Due) (end : Turns C) (behind more : List Event) → behind ≡ turn_events zero_cell cells w n ++ more → end.events ≡ w.events ++ behind
-            → IsFront end (turns_end zero_cell cells most long (gate_after gate (turn_events zero_cell cells w n)) (one_turn zero_cell cells w n) turns)
-            → IsFront end (by_limit b o gate w n (turns_end zero_cell cells most long (gate_after gate (turn_events zero_cell cells w n)) (one_turn zero_cell cells w n) turns))
+            → IsFront end (turns_end zero_cell cells (room_of most (gate_after gate (turn_events zero_cell cells w n))) long (one_turn zero_cell cells w n) turns)
+            → IsFront end (by_limit b o gate w n (turns_end zero_cell cells (room_of most (gate_after gate (turn_events zero_cell cells w n))) long (one_turn zero_cell cells w n) turns))
         one true o end behind more e whole rest = (behind, whole)
         one false None end behind more e whole rest = rest
         one false (Some full) end behind more e whole rest =
@@ -157,7 +157,7 @@ module _ {C : Type 0} (zero_cell : C) (cells : Item → List C) where
     abbrev IsTaken : Turns C → TurnsEnd → Type 0
     IsTaken end e = ((e.due ≡ Ends (refused_due end.refused)) × (e.events ≡ end.events)) ⊎ (((file : ℕ) × (e.due ≡ Ends (TooLong file))) ⊎ IsFull most e.due)
 
-    pub end_taken : (turns : List ℕ) (gate : ℕ) (w : Turns C) → IsTaken (after_turns zero_cell cells w turns) (turns_end zero_cell cells most long gate w turns)
+    pub end_taken : (turns : List ℕ) (gate : ℕ) (w : Turns C) → IsTaken (after_turns zero_cell cells w turns) (turns_end zero_cell cells (room_of most gate) long w turns)
     unfolding turns_end after_turns
     end_taken [] gate w = inl (refl, refl)
     end_taken (n ∷ turns) gate w =
@@ -167,19 +167,19 @@ module _ {C : Type 0} (zero_cell : C) (cells : Item → List C) where
         (one (at_limit long w n) (fitting most gate new).full refl (end_taken turns (gate_after gate new) next))
       where
         one : (b : Bool) (o : Option Due) → (fitting most gate (turn_events zero_cell cells w n)).full ≡ o
-            → IsTaken (after_turns zero_cell cells (one_turn zero_cell cells w n) turns) (turns_end zero_cell cells most long (gate_after gate (turn_events zero_cell cells w n)) (one_turn zero_cell cells w n) turns)
-            → IsTaken (after_turns zero_cell cells (one_turn zero_cell cells w n) turns) (by_limit b o gate w n (turns_end zero_cell cells most long (gate_after gate (turn_events zero_cell cells w n)) (one_turn zero_cell cells w n) turns))
+            → IsTaken (after_turns zero_cell cells (one_turn zero_cell cells w n) turns) (turns_end zero_cell cells (room_of most (gate_after gate (turn_events zero_cell cells w n))) long (one_turn zero_cell cells w n) turns)
+            → IsTaken (after_turns zero_cell cells (one_turn zero_cell cells w n) turns) (by_limit b o gate w n (turns_end zero_cell cells (room_of most (gate_after gate (turn_events zero_cell cells w n))) long (one_turn zero_cell cells w n) turns))
         one true o e rest = inr (inl (n + 1, refl))
         one false None e rest = rest
         one false (Some full) e rest = inr (inr (full_fits most gate (turn_events zero_cell cells w n) full e))
 
 pub end_is_front : EndIsFront
 unfolding interleave_end turns_of interleaved
-end_is_front most gate store schedule files guards shares = end_front 0 _ most (which_long 1 files) _ gate _
+end_is_front room store turns = end_front 0 _ room.most (which_long 1 turns.files) _ room.gate _
 
 pub end_is_taken : EndIsTaken
 unfolding interleave_end turns_of interleaved
-end_is_taken most gate store schedule files guards shares = end_taken 0 _ most (which_long 1 files) _ gate _
+end_is_taken room store turns = end_taken 0 _ room.most (which_long 1 turns.files) _ room.gate _
 
 short_read : (number : ℕ) (file : List ℕ) → is_too_long number file ≡ false → bytes_read number file ≡ file
 short_read number file e = ap (λ (b : Bool). if b then take limit file else file) e

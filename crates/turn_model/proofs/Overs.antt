@@ -6,7 +6,7 @@ use Rattle.send_model.specs.Reading.{Item, Verdict}
 use Rattle.send_model.specs.Receive.{first_of}
 use Rattle.send_model.specs.Store.{Store}
 use Rattle.store_model.specs.Turns.{Session, Event, Turn, session_turn, Turns, with_at, next_turn, after_turn, one_turn, after_turns}
-use Rattle.turn_model.specs.TurnDues.{is_long, is_empty, at_limit, fitting, gate_after, turn_events, turns_end}
+use Rattle.turn_model.specs.TurnDues.{is_long, is_empty, at_limit, fitting, gate_after, room_of, turn_events, turns_end}
 use Rattle.turn_model.proofs.Ends.{end_goes}
 
 pub same_at : {A : Type 0} (xs : List A) (n : ℕ) (x : A) → slice_get xs n ≡ Some x → with_at n x xs ≡ xs
@@ -60,11 +60,11 @@ module _ {C : Type 0} (zero_cell : C) (cells : Item → List C) where
   over_rests (suc m) w n s turns at over = ap (λ (v : Turns C). after_turns zero_cell cells v (replicate m n ++ turns)) (over_stays w n s at over) ∙ over_rests m w n s turns at over
 
   pub over_ends : (most : ℕ) (long : List Bool) (m gate : ℕ) (w : Turns C) (n : ℕ) (s : Session C) (turns : List ℕ) → slice_get w.sessions n ≡ Some s → s.is_over ≡ true
-      → turns_end zero_cell cells most long gate w (replicate m n ++ turns) ≡ turns_end zero_cell cells most long gate w turns
+      → turns_end zero_cell cells (room_of most gate) long w (replicate m n ++ turns) ≡ turns_end zero_cell cells (room_of most gate) long w turns
   unfolding fitting
   over_ends most long zero gate w n s turns at over = refl
   over_ends most long (suc m) gate w n s turns at over =
       let none : turn_events zero_cell cells w n ≡ [] = events_at w n s at ∙ ap (λ (t : Turn C). t.events) (over_does w.store s over) in
       end_goes zero_cell cells most long gate w n (replicate m n ++ turns) (over_no_limit long w n s at over) (ap (λ (l : List Event). (fitting most gate l).full) none)
-      ∙ (λ i. turns_end zero_cell cells most long (gate_after gate (none i)) (over_stays w n s at over i) (replicate m n ++ turns))
+      ∙ (λ i. turns_end zero_cell cells (room_of most (gate_after gate (none i))) long (over_stays w n s at over i) (replicate m n ++ turns))
       ∙ over_ends most long m gate w n s turns at over

@@ -53,14 +53,14 @@ made_behind (g ∷ old) new start middle end gate h m =
 
 pub first_events_stand : FirstEventsStand
 unfolding turns_of interleaved
-first_events_stand before image store schedule files guards shares first more are stands all has =
-    let read : List (List ℕ) = files_read 1 files in
-    let sessions : List (Session ℕ) = sessions_of files guards shares in
-    let turns : List ℕ = all_turns schedule sessions in
+first_events_stand before image store turns first more are stands all has =
+    let read : List (List ℕ) = files_read 1 turns.files in
+    let sessions : List (Session ℕ) = sessions_of turns.files turns.guards turns.shares in
+    let places : List ℕ = all_turns turns.schedule sessions in
     let lawful = stands_lawful before store stands in
-    let state = lines_are_complete 0 byte_cells store sessions turns first more lawful.distinct (all_new 1 read guards shares) all in
+    let state = lines_are_complete 0 byte_cells store sessions places first more lawful.distinct (all_new 1 read turns.guards turns.shares) all in
     let order : AreOneByOne 0 byte_cells store first state.0 = subst (λ (l : List Event). AreOneByOne 0 byte_cells store l state.0) state.2 state.1.made in
-    let groups_are = groups_are_lawful stands.header.format store schedule read guards shares lawful.distinct (all_read_bytes 1 files are) in
+    let groups_are = groups_are_lawful stands.header.format store turns.schedule read turns.guards turns.shares lawful.distinct (all_read_bytes 1 turns.files are) in
     let first_are : AllByRecursion (IsGroup stands.header.format) (turn_groups first) = all_first (IsGroup stands.header.format) (turn_groups first) (turn_groups more)
     (subst (λ (l : List Group). AllByRecursion (IsGroup stands.header.format) l) (ap (λ (l : List Event). turn_groups l) all ∙ groups_joined first more) groups_are) in
     record {

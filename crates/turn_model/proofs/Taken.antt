@@ -11,7 +11,7 @@ use Rattle.store_model.specs.Dues.{Ends, LogFull}
 use Rattle.store_model.specs.Turns.{Event, lines_of, turn_groups}
 use Rattle.store_model.proofs.FilesInTurn.{files_are_in_turn}
 use Rattle.store_model.proofs.LawfulGroups.{stands_lawful}
-use Rattle.turn_model.specs.TurnDues.{files_read}
+use Rattle.turn_model.specs.TurnDues.{files_read, room_of}
 use Rattle.turn_model.specs.TurnAnswers.{taken_turns}
 use Rattle.turn_model.specs.TurnDueLaws.{EndsAreTaken}
 use Rattle.turn_model.proofs.Ends.{end_is_taken}
@@ -24,12 +24,12 @@ no_room : {a : files_due.Due} {place wanted most : ℕ} → Ends a ≡ LogFull p
 no_room q = cc
 
 pub ends_are_taken : EndsAreTaken
-ends_are_taken before written image schedule files guards shares due are short (store, stood, d) =
-    let turns = taken_turns schedule files guards shares store in
-    let order = files_are_in_turn store schedule (files_read 1 files) guards shares (stands_lawful before store stood).distinct (all_read_bytes 1 files are) in
-    elim (end_is_taken (limit_of d.stands.header) (length (front_of d.stands.header (map body_bytes d.stands.groups))) store schedule files guards shares) [
+ends_are_taken before written image turns due are short (store, stood, d) =
+    let taken = taken_turns turns store in
+    let order = files_are_in_turn store turns.schedule (files_read 1 turns.files) turns.guards turns.shares (stands_lawful before store stood).distinct (all_read_bytes 1 turns.files are) in
+    elim (end_is_taken (room_of (limit_of d.stands.header) (length (front_of d.stands.header (map body_bytes d.stands.groups)))) store turns) [
       | inl q ↦
-          let now : turns.store ≡ d.made.now =
+          let now : taken.store ≡ d.made.now =
           same_inside (sym (order.groups first_gate) ∙ ap (λ (l : List Event). made_all 0 as_bytes first_gate store (turn_groups l)) (sym q.1) ∙ d.made.order.groups as_bytes (λ place item. refl) first_gate) in
           record {
             store = store;

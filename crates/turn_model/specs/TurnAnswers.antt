@@ -2,7 +2,6 @@
 use Rattle.std.specs.Prelude.{◌≡◌, ℕ, List, [], ◌++◌, length, map}
 use Rattle.send_model.specs.Store.{Store}
 use Rattle.send_model.specs.Receive.{byte_cells}
-use Rattle.send_model.specs.Guards.{Guard}
 use Rattle.send_model.specs.Headline.{IsProperFrontOf}
 use Rattle.send_model.specs.Due.{DoneWhole, RefusedAt}
 use Rattle.send_model.specs.Due as files_due
@@ -15,27 +14,16 @@ use Rattle.store_model.specs.Requests.{ByImage}
 use Rattle.store_model.specs.Answers.{Answer, OfAnyWord, StoreFault, NotStore, Missing, LogFull, StoreThere, Damaged}
 use Rattle.store_model.specs.Turns.{Event, Turns, at_entry, lines_of, turn_groups, turns_of}
 use Rattle.store_model.specs.TurnLaws.{IsTurnState, AreOneByOne}
-use Rattle.turn_model.specs.TurnDues.{TurnsEnd, files_read, sessions_of, all_turns, interleave_end}
+use Rattle.turn_model.specs.TurnDues.{InTurns, files_read, sessions_of, room_of, TurnsEnd, all_turns, interleave_end}
 
--- Files that take turns: the places of the schedule, the bytes of each file, all guards in their order, and how many of them each session
--- has.
-pub record InTurns : Type 0 where
-  pub schedule : List ℕ
-  pub files : List (List ℕ)
-  pub guards : List Guard
-  pub shares : List ℕ
-
-abbrev pub in_turns : List ℕ → List (List ℕ) → List Guard → List ℕ → InTurns
-in_turns schedule files guards shares = record { schedule = schedule; files = files; guards = guards; shares = shares }
-
-module _ (schedule : List ℕ) (files : List (List ℕ)) (guards : List Guard) (shares : List ℕ) where
+module _ (turns : InTurns) where
   -- All turns, up to the limit of the files' lengths.
   abbrev pub taken_turns : Store ℕ → Turns ℕ
-  taken_turns store = turns_of store schedule (files_read 1 files) guards shares
+  taken_turns store = turns_of store turns.schedule (files_read 1 turns.files) turns.guards turns.shares
 
   -- The end that is due over an image that stands for a store.
   abbrev pub end_over : (before : List ℕ) (store : Store ℕ) → StandsFor before store → TurnsEnd
-  end_over before store stands = interleave_end (limit_of stands.header) (length (front_of stands.header (map body_bytes stands.groups))) store schedule files guards shares
+  end_over before store stands = interleave_end (room_of (limit_of stands.header) (length (front_of stands.header (map body_bytes stands.groups)))) store turns
 
   -- Behind the groups that were there stand those of some first events, and the image stands for the store that they make: it is one after
   -- some first turns, or after these and the completion of the next one; and the parts that completed are there as if they had been
@@ -45,7 +33,7 @@ module _ (schedule : List ℕ) (files : List (List ℕ)) (guards : List Guard) (
     pub groups : HasGroups stands.header (map body_bytes (stands.groups ++ turn_groups events)) image
     pub now : Store ℕ
     pub is : StandsFor image now
-    pub state : let sessions = sessions_of files guards shares in IsTurnState 0 byte_cells (at_entry store sessions) (all_turns schedule sessions) now
+    pub state : let sessions = sessions_of turns.files turns.guards turns.shares in IsTurnState 0 byte_cells (at_entry store sessions) (all_turns turns.schedule sessions) now
     pub order : AreOneByOne 0 byte_cells store events now
 
   -- The turns are on the way: some first events were done, and each part is complete of whose line something was written.

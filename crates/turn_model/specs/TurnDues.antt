@@ -12,6 +12,17 @@ use Rattle.send_model.specs.Due.{TooLong, refused_due}
 use Rattle.store_model.specs.Dues.{Due, Ends, first_full, end_behind, pieces_from, seal_len}
 use Rattle.store_model.specs.Turns.{Event, Begins, Completes, Session, session_turn, Turns, one_turn, at_entry, to_the_end, sessions_from}
 
+-- Files that take turns: the places of the schedule, the bytes of each file, all guards in their order, and how many of them each session
+-- has.
+pub record InTurns : Type 0 where
+  pub schedule : List ℕ
+  pub files : List (List ℕ)
+  pub guards : List Guard
+  pub shares : List ℕ
+
+abbrev pub in_turns : List ℕ → List (List ℕ) → List Guard → List ℕ → InTurns
+in_turns schedule files guards shares = record { schedule = schedule; files = files; guards = guards; shares = shares }
+
 -- ---- how far files are read
 
 -- The bytes of a file that are read: of one that is too long, those before the limit.
@@ -90,22 +101,30 @@ pub record TurnsEnd : Type 0 where
 abbrev pub turn_events : {C : Type 0} → C → (Item → List C) → Turns C → ℕ → List Event
 turn_events zero_cell cells w n = elim (slice_get w.sessions n) [ None ↦ [] | Some s ↦ (session_turn zero_cell cells w.store s).events ]
 
--- Turns in order, the next gate being at a place: the first one that comes to the limit of a file, or has no room, ends all of them. Else
--- the answer is the verdict on the session that was refused first, if one was.
-unfoldable pub turns_end : {C : Type 0} → C → (Item → List C) → ℕ → List Bool → ℕ → Turns C → List ℕ → TurnsEnd
-turns_end zero_cell cells most long gate w [] = record { due = Ends (refused_due w.refused); events = w.events }
-turns_end zero_cell cells most long gate w (n ∷ turns) =
+-- The room in the log of a store: the greatest size that it may have, and where its next gate stands.
+pub record Room : Type 0 where
+  pub most : ℕ
+  pub gate : ℕ
+
+abbrev pub room_of : (most gate : ℕ) → Room
+room_of most gate = record { most = most; gate = gate }
+
+-- Turns in order: the first one that comes to the limit of a file, or has no room, ends all of them. Else the answer is the verdict on the
+-- session that was refused first, if one was.
+unfoldable pub turns_end : {C : Type 0} → C → (Item → List C) → Room → List Bool → Turns C → List ℕ → TurnsEnd
+turns_end zero_cell cells room long w [] = record { due = Ends (refused_due w.refused); events = w.events }
+turns_end zero_cell cells room long w (n ∷ turns) =
     if at_limit long w n then record { due = Ends (TooLong (n + 1)); events = w.events }
-    else (let new : List Event = turn_events zero_cell cells w n in elim (fitting most gate new).full [
-      | Some full ↦ record { due = full; events = w.events ++ (fitting most gate new).events }
-      | None ↦ turns_end zero_cell cells most long (gate_after gate new) (one_turn zero_cell cells w n) turns
+    else (let new : List Event = turn_events zero_cell cells w n in elim (fitting room.most room.gate new).full [
+      | Some full ↦ record { due = full; events = w.events ++ (fitting room.most room.gate new).events }
+      | None ↦ turns_end zero_cell cells (room_of room.most (gate_after room.gate new)) long (one_turn zero_cell cells w n) turns
     ])
 
 -- All turns: the schedule, and then each session to its end.
 abbrev pub all_turns : {C : Type 0} → List ℕ → List (Session C) → List ℕ
 all_turns schedule sessions = schedule ++ to_the_end 0 sessions
 
--- Files that take turns into a store whose closed gate stands at a place.
-unfoldable pub interleave_end : ℕ → ℕ → Store ℕ → List ℕ → List (List ℕ) → List Guard → List ℕ → TurnsEnd
-interleave_end most gate store schedule files guards shares = let sessions : List (Session ℕ) = sessions_of files guards shares in
-    turns_end 0 byte_cells most (which_long 1 files) gate (at_entry store sessions) (all_turns schedule sessions)
+-- Files that take turns into a store with this room, whose gate is closed.
+unfoldable pub interleave_end : Room → Store ℕ → InTurns → TurnsEnd
+interleave_end room store turns = let sessions : List (Session ℕ) = sessions_of turns.files turns.guards turns.shares in
+    turns_end 0 byte_cells room (which_long 1 turns.files) (at_entry store sessions) (all_turns turns.schedule sessions)

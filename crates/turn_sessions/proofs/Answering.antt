@@ -21,7 +21,7 @@ use Rattle.store_model.specs.StateLaws.{LinesAreParts}
 use Rattle.store_model.specs.Dues as dues
 use Rattle.store_model.specs.Dues.{Due, Ends}
 use Rattle.store_model.specs.Turns.{Event, completed_parts, lines_of, turn_groups, turns_of}
-use Rattle.turn_model.specs.TurnDues.{TurnsEnd, files_read, interleave_end}
+use Rattle.turn_model.specs.TurnDues.{in_turns, files_read, room_of, TurnsEnd, interleave_end}
 use Rattle.turn_model.specs.TurnAnswers.{end_over, IsMadeBy, IsOnTurnWay, taken_lines, IsEndDue, TurnsBefore, TurnsAnswer}
 use Rattle.turn_model.proofs.Joining.{lines_joined}
 use Rattle.turn_model.proofs.Standing.{first_events_stand}
@@ -45,8 +45,7 @@ use Rattle.store_words.specs.Ending.{answer_of, end_by, end_received}
 use Rattle.store_words.proofs.StreamAnswers.{always_told, then_told}
 use Rattle.store_words.proofs.Opened.{by_store}
 use Rattle.store_words.proofs.ReceiveAnswers.{stands}
-use Rattle.turn_sessions.specs.Ends.{AreDone}
-use Rattle.turn_sessions.proofs.Unpacked.{LeftByTurns}
+use Rattle.turn_sessions.proofs.Unpacked.{AreDone, LeftByTurns}
 use Rattle.turn_sessions.proofs.Interleaved.{split_events}
 
 module _ (places : List ℕ) (files : List (List ℕ)) (all : List Guard) (shares : List ℕ) where
@@ -56,14 +55,14 @@ module _ (places : List ℕ) (files : List (List ℕ)) (all : List Guard) (share
   unfolding lines_of completed_parts
   no_lines = refl
 
-  no_groups : (seen : List ℕ) (store : Store ℕ) (stands : StandsFor seen store) → AllByRecursion IsBytes files → IsMadeBy places files all shares seen store [] seen
+  no_groups : (seen : List ℕ) (store : Store ℕ) (stands : StandsFor seen store) → AllByRecursion IsBytes files → IsMadeBy (in_turns places files all shares) seen store [] seen
   unfolding turn_groups
   no_groups seen store stands are =
-      first_events_stand seen seen store places files all shares [] (turns_of store places (files_read 1 files) all shares).events are stands refl
+      first_events_stand seen seen store (in_turns places files all shares) [] (turns_of store places (files_read 1 files) all shares).events are stands refl
       (subst (λ (l : List Group). HasGroups stands.header (map body_bytes l) seen) (sym (append-nil stands.groups)) stands.has)
 
   -- Nothing was written, and the image is as it was.
-  pub unmoved : (seen : List ℕ) → AllByRecursion IsBytes files → TurnsBefore places files all shares seen [] seen
+  pub unmoved : (seen : List ℕ) → AllByRecursion IsBytes files → TurnsBefore (in_turns places files all shares) seen [] seen
   unmoved seen are = (
     λ store stands. record {
       first = [];
@@ -77,7 +76,7 @@ module _ (places : List ℕ) (files : List (List ℕ)) (all : List Guard) (share
   )
 
   pub unopened : (seen : List ℕ) (cause : Type 0) (why : StoreStop) → AllByRecursion IsBytes files → IsNoRefusal why → IfLog {T = StoreState} (Err why) (IsOpenStop cause) → OpenSays seen (Err why)
-      → TurnsAnswer places files all shares seen (answer_of [] [] (end_by why)) [] seen
+      → TurnsAnswer (in_turns places files all shares) seen (answer_of [] [] (end_by why)) [] seen
   unopened seen cause (stop.Refused refusal) are kind stops says = absurd kind
   unopened seen cause stop.NoMemory are kind stops says = unmoved seen are
   unopened seen cause (stop.Log log.DiskFault) are kind stops says = unmoved seen are
@@ -99,37 +98,37 @@ module _ (places : List ℕ) (files : List (List ℕ)) (all : List Guard) (share
     Done_in why core written image = AreDone opened.log.limit opened.log.gate (with_bytes seen opened.core) places files all shares why core written (λ first. HasThese h.header (h.groups ++ first) image)
 
     module _ (why : Received) (core : Store (Option Place)) (written image : List ℕ) (d : Done_in why core written image) where
-      made_by : IsMadeBy places files all shares seen base d.first image
-      made_by = first_events_stand seen image base places files all shares d.first d.more are there d.all d.has
+      made_by : IsMadeBy (in_turns places files all shares) seen base d.first image
+      made_by = first_events_stand seen image base (in_turns places files all shares) d.first d.more are there d.all d.has
 
-      pub on_way : IsOnTurnWay places files all shares seen base written image
+      pub on_way : IsOnTurnWay (in_turns places files all shares) seen base written image
       on_way = record { first = d.first; more = d.more; all = d.all; made = made_by; unwritten = d.unwritten; lines = d.printed }
 
-      goes : TurnsBefore places files all shares seen written image
-      goes = by_store seen base (λ s. IsOnTurnWay places files all shares seen s written image) ((written ≡ []) × (image ≡ seen)) there on_way
+      goes : TurnsBefore (in_turns places files all shares) seen written image
+      goes = by_store seen base (λ s. IsOnTurnWay (in_turns places files all shares) seen s written image) ((written ≡ []) × (image ≡ seen)) there on_way
 
-      end_same : interleave_end opened.log.limit opened.log.gate base places files all shares ≡ end_over places files all shares seen base there
-      end_same = λ i. interleave_end (h.holds.rests.behind.limit i) (h.holds.rests.behind.place i) base places files all shares
+      end_same : interleave_end (room_of opened.log.limit opened.log.gate) base (in_turns places files all shares) ≡ end_over (in_turns places files all shares) seen base there
+      end_same = λ i. interleave_end (room_of (h.holds.rests.behind.limit i) (h.holds.rests.behind.place i)) base (in_turns places files all shares)
 
       -- The answer is due.
-      says : (due : Due) → ((interleave_end opened.log.limit opened.log.gate base places files all shares).due ≡ due) × (d.first ≡ (interleave_end opened.log.limit opened.log.gate base places files all shares).events) → d.unwritten ≡ []
-          → (store : Store ℕ) × StandsFor seen store × IsEndDue places files all shares seen store due written image
+      says : (due : Due) → ((interleave_end (room_of opened.log.limit opened.log.gate) base (in_turns places files all shares)).due ≡ due) × (d.first ≡ (interleave_end (room_of opened.log.limit opened.log.gate) base (in_turns places files all shares)).events) → d.unwritten ≡ []
+          → (store : Store ℕ) × StandsFor seen store × IsEndDue (in_turns places files all shares) seen store due written image
       says due is none =
-          let events : d.first ≡ (end_over places files all shares seen base there).events = is.1 ∙ ap (λ (e : TurnsEnd). e.events) end_same in (
+          let events : d.first ≡ (end_over (in_turns places files all shares) seen base there).events = is.1 ∙ ap (λ (e : TurnsEnd). e.events) end_same in (
             base,
             there,
             record {
               stands = there;
               is = sym (ap (λ (e : TurnsEnd). e.due) end_same) ∙ is.0;
               lines = sym (append-nil written) ∙ ap (λ (l : List ℕ). written ++ l) (sym none) ∙ sym d.printed ∙ ap lines_of events;
-              made = subst (λ (l : List Event). IsMadeBy places files all shares seen base l image) events made_by;
+              made = subst (λ (l : List Event). IsMadeBy (in_turns places files all shares) seen base l image) events made_by;
             },
           )
 
       -- Some of the lines are missing.
-      cut : 0 < length d.unwritten → IsProperFrontOf (taken_lines places files all shares base) written
+      cut : 0 < length d.unwritten → IsProperFrontOf (taken_lines (in_turns places files all shares) base) written
       cut some =
-          let whole : taken_lines places files all shares base ≡ written ++ (d.unwritten ++ lines_of d.more) =
+          let whole : taken_lines (in_turns places files all shares) base ≡ written ++ (d.unwritten ++ lines_of d.more) =
           ap lines_of d.all ∙ lines_joined d.first d.more ∙ ap (λ (l : List ℕ). l ++ lines_of d.more) d.printed ∙ append_assoc written d.unwritten (lines_of d.more) in
           record {
             count = length written;
@@ -137,7 +136,7 @@ module _ (places : List ℕ) (files : List (List ℕ)) (all : List Guard) (share
             written_is = sym (ap (take (length written)) whole ∙ take-append_seam written (d.unwritten ++ lines_of d.more));
           }
 
-    pub by_end : (why : Received) (core : Store (Option Place)) (written image : List ℕ) → Done_in why core written image → TurnsAnswer places files all shares seen (answer_of [] [] (end_received why)) written image
+    pub by_end : (why : Received) (core : Store (Option Place)) (written image : List ℕ) → Done_in why core written image → TurnsAnswer (in_turns places files all shares) seen (answer_of [] [] (end_received why)) written image
     by_end (how.Files ended.Done) core written image d = says (how.Files ended.Done) core written image d (Ends DoneWhole) d.answer.0 d.answer.1
     by_end (how.Files (ended.Refused verdict)) core written image d = says (how.Files (ended.Refused verdict)) core written image d (Ends (RefusedAt (verdict_meant verdict))) d.answer.0 d.answer.1
     by_end (how.Files (ended.InputTooLong file)) core written image d = says (how.Files (ended.InputTooLong file)) core written image d (Ends (TooLong file)) d.answer.0 d.answer.1
@@ -146,24 +145,24 @@ module _ (places : List ℕ) (files : List (List ℕ)) (all : List Guard) (share
     by_end (how.Files ended.NoMemory) core written image d = goes (how.Files ended.NoMemory) core written image d
     by_end how.StoreFault core written image d = goes how.StoreFault core written image d
     by_end (how.Files ended.OutputFault) core written image d =
-        by_store seen base (λ s. IsOnTurnWay places files all shares seen s written image × IsProperFrontOf (taken_lines places files all shares s) written) ⊥ there
+        by_store seen base (λ s. IsOnTurnWay (in_turns places files all shares) seen s written image × IsProperFrontOf (taken_lines (in_turns places files all shares) s) written) ⊥ there
         (on_way (how.Files ended.OutputFault) core written image d, cut (how.Files ended.OutputFault) core written image d d.answer)
     by_end (how.Files (ended.TooMuch sum)) core written image d = absurd d.answer
     by_end (how.Files (ended.InputChanged file place)) core written image d = absurd d.answer
 
     pub left_by : (early : Pending) (why : Received) (core : Store (Option Place)) (written image : List ℕ) → Done_in why core written image → LeftByTurns early seen places files all shares written image
-    left_by early why core written image d = inr (by_store seen base (λ s. IsOnTurnWay places files all shares seen s written image) ⊥ there (on_way why core written image d))
+    left_by early why core written image d = inr (by_store seen base (λ s. IsOnTurnWay (in_turns places files all shares) seen s written image) ⊥ there (on_way why core written image d))
 
     -- With nothing written.
     pub front_left : (early : Pending) (image : List ℕ) → HasFront h.header h.groups (turn_groups (turns_of base places (files_read 1 files) all shares).events) image → LeftByTurns early seen places files all shares [] image
     front_left early image f =
         let split = split_events (turns_of base places (files_read 1 files) all shares).events f.first f.more f.all in
         let has : HasGroups h.header (map body_bytes (h.groups ++ turn_groups split.0)) image = subst (λ (l : List Group). HasGroups h.header (map body_bytes (h.groups ++ l)) image) (sym split.3) f.has in
-        inr (by_store seen base (λ s. IsOnTurnWay places files all shares seen s [] image) ⊥ there (record {
+        inr (by_store seen base (λ s. IsOnTurnWay (in_turns places files all shares) seen s [] image) ⊥ there (record {
           first = split.0;
           more = split.1;
           all = split.2;
-          made = first_events_stand seen image base places files all shares split.0 split.1 are there split.2 has;
+          made = first_events_stand seen image base (in_turns places files all shares) split.0 split.1 are there split.2 has;
           unwritten = lines_of split.0;
           lines = refl;
         }))
@@ -172,7 +171,7 @@ module _ (places : List ℕ) (files : List (List ℕ)) (all : List Guard) (share
 
 module _ (places : List ℕ) (all : List Guard) (shares : List ℕ) where
   abbrev pub TurnsSaid : (seen left : List ℕ) → StoreEnd → List (List ℕ) → List ℕ → Type 0
-  TurnsSaid seen left end files written = AllByRecursion IsBytes files → TurnsAnswer places files all shares seen (answer_of [] [] end) written left
+  TurnsSaid seen left end files written = AllByRecursion IsBytes files → TurnsAnswer (in_turns places files all shares) seen (answer_of [] [] end) written left
 
   -- What is said of each image that a crash may leave then, and of each that it may leave meanwhile.
   abbrev pub TurnsLeave : (early pending : Pending) → List ℕ → List (List ℕ) → List ℕ → Type 0
@@ -189,8 +188,8 @@ module _ (places : List ℕ) (all : List Guard) (shares : List ℕ) where
       [],
       Appends-nil taken,
       (λ are.
-          subst (λ (l : List ℕ). TurnsAnswer places files all shares seen (answer_of [] [] end) [] l) (sym same)
-          (subst (λ (e : StoreEnd). TurnsAnswer places files all shares seen (answer_of [] [] e) [] seen) (sym is) (unopened places files all shares seen cause why are kind stops opened))),
+          subst (λ (l : List ℕ). TurnsAnswer (in_turns places files all shares) seen (answer_of [] [] end) [] l) (sym same)
+          (subst (λ (e : StoreEnd). TurnsAnswer (in_turns places files all shares) seen (answer_of [] [] e) [] seen) (sym is) (unopened places files all shares seen cause why are kind stops opened))),
     ))
 
     pub none_left : (early pending : Pending) (taken : Option (List ℕ)) → ((image : List ℕ) → IsImage pending image → IsImage early image)
@@ -237,7 +236,7 @@ module _ (places : List ℕ) (all : List Guard) (shares : List ℕ) where
       wrote.0,
       wrote.1,
       (λ are.
-          subst (λ (e : StoreEnd). TurnsAnswer places files all shares (seen first) (answer_of [] [] e) wrote.0 (seen last)) (sym same)
+          subst (λ (e : StoreEnd). TurnsAnswer (in_turns places files all shares) (seen first) (answer_of [] [] e) wrote.0 (seen last)) (sym same)
           (by_end places files all shares counts (seen first) (pending first) opened h are why after.core wrote.0 (seen last) (each_left why files wrote.0 wrote.2 (seen last) is_image))),
     )) turned
 

@@ -5,7 +5,7 @@ use Rattle.std.proofs.KnownBytes.{Appends-nil}
 use Rattle.std.proofs.Common.{inl, inr, refl, sym, ap, subst, ◌∙◌}
 use Rattle.std.proofs.lemmas.List.{map-append}
 use Rattle.sx_base.specs.Crash.{LeavesOnly}
-use Rattle.sx_base.specs.Disk.{Pending}
+use Rattle.sx_base.specs.declared.disk.Disk as keeping
 use Rattle.sx_base.specs.Refusals.{refusal_of}
 use Rattle.sx_base.proofs.DiskMoments.{weakens}
 use Rattle.sx_base.specs.declared.refusal.Refusal as code
@@ -40,8 +40,7 @@ use Rattle.receiver.specs.Disks.{HasFront}
 use Rattle.receiver.proofs.ClosedParts.{one_front, no_more}
 use Rattle.turn_sessions.specs.declared.part.OpenPart.{OpenPart}
 use Rattle.turn_sessions.specs.Standing.{Blank, IsPart}
-use Rattle.turn_sessions.specs.Doing.{HasDone, HasStopped}
-use Rattle.turn_sessions.specs.Turning.{ItemSays}
+use Rattle.turn_sessions.proofs.Unpacked.{HasDone, HasStopped, ItemSays}
 use Rattle.turn_sessions.proofs.Nothings.{OnlyNow, CountsNow, nothing_done, unsure_stopped}
 use Rattle.turn_sessions.proofs.Rooms.{head_pieces_are, head_gate, has_room, no_room}
 
@@ -80,7 +79,7 @@ first_part item head part current is key own version frames known line = record 
   frames = frames;
 }
 
-module _ {D : Type 0} (tells : Type 0) (moment : D → ℕ) (left_since : D → ℕ → List ℕ → Type 0) (seen : D → List ℕ) (pending : D → Pending) (old new : D) (was now : StoreState) (written : Option (List ℕ)) (item : Item) (head : Head) (is : head_of item.command ≡ Some head) where
+module _ {D : Type 0} (ghosts : keeping.Ghosts D) (old new : D) (was now : StoreState) (written : Option (List ℕ)) (item : Item) (head : Head) (is : head_of item.command ≡ Some head) where
   abbrev after : Stepped Blank
   after = entered (blank was.core) head (begun (blank was.core) head)
 
@@ -91,13 +90,13 @@ module _ {D : Type 0} (tells : Type 0) (moment : D → ℕ) (left_since : D → 
   pieces = head_pieces_are was.log.gate item
 
   abbrev Says : Option OpenPart → Result (Option code.Refusal) Received → Type 0
-  Says current result = ItemSays tells moment left_since seen pending old new was now written written item None (entered (blank was.core) head (begun (blank was.core) head))
+  Says current result = ItemSays ghosts old new was now written written item None (entered (blank was.core) head (begun (blank was.core) head))
       (beginnings item (entered (blank was.core) head (begun (blank was.core) head)).refusal) current result
 
   abbrev pub Marked : Type 0
-  Marked = tells → (header : Header) (groups : List Group) → Holds header groups was (seen old) (pending old) → LeavesOnly moment left_since old new (HasOneMore header groups (new_group (Mark item.command)))
+  Marked = ghosts.tells → (header : Header) (groups : List Group) → Holds header groups was (ghosts.seen old) (ghosts.pending old) → LeavesOnly ghosts.moment ghosts.left_since old new (HasOneMore header groups (new_group (Mark item.command)))
 
-  marks : (header : Header) (groups : List Group) → LeavesOnly moment left_since old new (HasOneMore header groups (new_group (Mark item.command))) → LeavesOnly moment left_since old new (HasFront header groups (turn_groups (Begins item ∷ [])))
+  marks : (header : Header) (groups : List Group) → LeavesOnly ghosts.moment ghosts.left_since old new (HasOneMore header groups (new_group (Mark item.command))) → LeavesOnly ghosts.moment ghosts.left_since old new (HasFront header groups (turn_groups (Begins item ∷ [])))
   unfolding turn_groups
   marks header groups run = weakens run (λ image has. one_front header groups (group_of_event (Begins item)) image has)
 
@@ -105,17 +104,17 @@ module _ {D : Type 0} (tells : Type 0) (moment : D → ℕ) (left_since : D → 
   pub begun_ok : (part : Part (Option Place)) (current : OpenPart) → IfSome (head_of item.command) (λ h. BeginsIn (Ok part) h was.core now.core)
       → current.part ≡ part → current.version ≡ item.version → current.frames ≡ [] → is_version item.version ≡ true → current.line ≡ complete_line (unfinished {S = Unit {0}} head)
       → fill.first_full was.log.limit asks ≡ None → now.log.gate ≡ fill.gate_behind was.log.gate (1 + length (canonical 1 item.command)) → now.log.limit ≡ was.log.limit
-      → (tells → (header : Header) (groups : List Group) → Holds header groups was (seen old) (pending old) → Holds header (groups ++ new_group (Mark item.command) ∷ []) now (seen new) (pending new)) → Marked
+      → (ghosts.tells → (header : Header) (groups : List Group) → Holds header groups was (ghosts.seen old) (ghosts.pending old) → Holds header (groups ++ new_group (Mark item.command) ∷ []) now (ghosts.seen new) (ghosts.pending new)) → Marked
       → Says (Some current) (Ok None)
   unfolding turn_groups
   begun_ok part current said own version frames known line fits gate limit holds marked =
       let b = of_head (λ h. BeginsIn (Ok part) h was.core now.core) (head_of item.command) head is said in
-      subst (λ (r : Result (Subvolume Blank) Refusal). ItemSays tells moment left_since seen pending old new was now written written item None (entered (blank was.core) head r) (beginnings item (entered (blank was.core) head r).refusal) (Some current) (Ok None))
+      subst (λ (r : Result (Subvolume Blank) Refusal). ItemSays ghosts old new was now written written item None (entered (blank was.core) head r) (beginnings item (entered (blank was.core) head r).refusal) (Some current) (Ok None))
       (sym (begun_blank was.core head (Ok part.subvolume) b.0)) (record {
         refused = refl;
         store = ap (λ (c : Store (Option Place)). blank c) b.2 ∙ map-append (recelled_entry (λ (c : Option Place). tt)) was.core (unfinished head ∷ []);
         part = first_part item head part current is b.1 own version frames known line;
-        done = subst (λ (l : List Event). HasDone tells moment left_since seen pending old new was now written written l) (sym (begins_event item head is)) (record {
+        done = subst (λ (l : List Event). HasDone ghosts old new was now written written l) (sym (begins_event item head is)) (record {
           wrote = subst (λ (l : List ℕ). Appends written written l) (sym (no_line item)) (Appends-nil written);
           room = has_room was.log.limit was.log.gate (Begins item) asks pieces fits;
           gate = gate ∙ sym (head_gate was.log.gate item);
@@ -125,51 +124,51 @@ module _ {D : Type 0} (tells : Type 0) (moment : D → ℕ) (left_since : D → 
       })
 
   -- It is refused.
-  pub begun_refused : (refusal : code.Refusal) → IfSome (head_of item.command) (λ h. BeginsIn {C = Option Place} (Err (stop.Refused refusal)) h was.core now.core) → now ≡ was → new ≡ old → OnlyNow tells moment left_since seen pending old
+  pub begun_refused : (refusal : code.Refusal) → IfSome (head_of item.command) (λ h. BeginsIn {C = Option Place} (Err (stop.Refused refusal)) h was.core now.core) → now ≡ was → new ≡ old → OnlyNow ghosts old
       → (current : Option OpenPart) → Says current (Ok (Some refusal))
   begun_refused refusal said same same_disk only current =
       let b = of_head (λ h. BeginsIn {C = Option Place} (Err (stop.Refused refusal)) h was.core now.core) (head_of item.command) head is said in
-      subst (λ (r : Result (Subvolume Blank) Refusal). ItemSays tells moment left_since seen pending old new was now written written item None (entered (blank was.core) head r) (beginnings item (entered (blank was.core) head r).refusal) current (Ok (Some refusal)))
+      subst (λ (r : Result (Subvolume Blank) Refusal). ItemSays ghosts old new was now written written item None (entered (blank was.core) head r) (beginnings item (entered (blank was.core) head r).refusal) current (Ok (Some refusal)))
       (sym (begun_blank was.core head (Err (refusal_of refusal)) b)) (record {
         refused = refl;
         store = ap (λ (s : StoreState). blank s.core) same;
         part = tt;
-        done = subst (λ (l : List Event). HasDone tells moment left_since seen pending old new was now written written l) (sym (no_event item (refusal_of refusal)))
-            (subst (λ (s : StoreState). HasDone tells moment left_since seen pending old new was s written written []) (sym same)
-            (subst (λ (d : D). HasDone tells moment left_since seen pending old d was was written written []) (sym same_disk) (nothing_done tells moment left_since seen pending old was written only)));
+        done = subst (λ (l : List Event). HasDone ghosts old new was now written written l) (sym (no_event item (refusal_of refusal)))
+            (subst (λ (s : StoreState). HasDone ghosts old new was s written written []) (sym same)
+            (subst (λ (d : D). HasDone ghosts old d was was written written []) (sym same_disk) (nothing_done ghosts old was written only)));
       })
 
   abbrev Leaves : Result (Subvolume Blank) Refusal → Type 0
-  Leaves r = tells → (header : Header) (groups : List Group) → Holds header groups was (seen old) (pending old) → LeavesOnly moment left_since old new (HasFront header groups (turn_groups (beginnings item (entered (blank was.core) head r).refusal)))
+  Leaves r = ghosts.tells → (header : Header) (groups : List Group) → Holds header groups was (ghosts.seen old) (ghosts.pending old) → LeavesOnly ghosts.moment ghosts.left_since old new (HasFront header groups (turn_groups (beginnings item (entered (blank was.core) head r).refusal)))
 
   -- There was no memory.
-  pub begun_without : Marked → (tells → (header : Header) (groups : List Group) → Holds header groups was (seen old) (pending old) → IfSome (head_of item.command) (λ h. IsErr (begun was.core h) → LeavesOnly moment left_since old new (HasThese header groups)))
-      → CountsNow tells moment left_since seen pending old new → (current : Option OpenPart) → Says current (Err (how.Files ended.NoMemory))
+  pub begun_without : Marked → (ghosts.tells → (header : Header) (groups : List Group) → Holds header groups was (ghosts.seen old) (ghosts.pending old) → IfSome (head_of item.command) (λ h. IsErr (begun was.core h) → LeavesOnly ghosts.moment ghosts.left_since old new (HasThese header groups)))
+      → CountsNow ghosts old new → (current : Option OpenPart) → Says current (Err (how.Files ended.NoMemory))
   unfolding turn_groups
   begun_without marked unmarked counts current =
-      unsure_stopped tells moment left_since seen pending old new was now written written (how.Files ended.NoMemory) (beginnings item after.refusal) tt (Appends-nil written) counts tt
-      (by_result (begun was.core head) refl (λ is_err is_told header groups h. of_head (λ x. IsErr (begun was.core x) → LeavesOnly moment left_since old new (HasThese header groups)) (head_of item.command) head is (unmarked is_told header groups h) is_err))
+      unsure_stopped ghosts old new was now written written (how.Files ended.NoMemory) (beginnings item after.refusal) tt (Appends-nil written) counts tt
+      (by_result (begun was.core head) refl (λ is_err is_told header groups h. of_head (λ x. IsErr (begun was.core x) → LeavesOnly ghosts.moment ghosts.left_since old new (HasThese header groups)) (head_of item.command) head is (unmarked is_told header groups h) is_err))
     where
       by_result : (r : Result (Subvolume (Option Place)) Refusal) → begun was.core head ≡ r
-          → (IsErr (begun was.core head) → (tells → (header : Header) (groups : List Group) → Holds header groups was (seen old) (pending old) → LeavesOnly moment left_since old new (HasThese header groups)))
+          → (IsErr (begun was.core head) → (ghosts.tells → (header : Header) (groups : List Group) → Holds header groups was (ghosts.seen old) (ghosts.pending old) → LeavesOnly ghosts.moment ghosts.left_since old new (HasThese header groups)))
           → Leaves (begun (blank was.core) head)
-      by_result (Ok s) e none = subst Leaves (sym (begun_blank was.core head (Ok s) e)) (λ is_told header groups h. subst (λ (l : List Event). LeavesOnly moment left_since old new (HasFront header groups (turn_groups l))) (sym (begins_event item head is)) (marks header groups (marked is_told header groups h)))
+      by_result (Ok s) e none = subst Leaves (sym (begun_blank was.core head (Ok s) e)) (λ is_told header groups h. subst (λ (l : List Event). LeavesOnly ghosts.moment ghosts.left_since old new (HasFront header groups (turn_groups l))) (sym (begins_event item head is)) (marks header groups (marked is_told header groups h)))
       by_result (Err refusal) e none =
           let f = none (subst (λ (r : Result (Subvolume (Option Place)) Refusal). IsErr r) (sym e) refl) in
-          subst Leaves (sym (begun_blank was.core head (Err refusal) e)) (λ is_told header groups h. subst (λ (l : List Event). LeavesOnly moment left_since old new (HasFront header groups (turn_groups l))) (sym (no_event item refusal)) (weakens (f is_told header groups h) (λ image has. no_more header groups image has)))
+          subst Leaves (sym (begun_blank was.core head (Err refusal) e)) (λ is_told header groups h. subst (λ (l : List Event). LeavesOnly ghosts.moment ghosts.left_since old new (HasFront header groups (turn_groups l))) (sym (no_event item refusal)) (weakens (f is_told header groups h) (λ image has. no_more header groups image has)))
 
   -- The journal stopped.
   pub begun_stopped : (cause : Type 0) (why : LogStop) → IfSome (head_of item.command) (λ h. BeginsIn {C = Option Place} (Err (stop.Log why)) h was.core now.core) → IsStopOf cause was.log.limit (fill.first_full was.log.limit asks) why → Marked
-      → (tells → (header : Header) (groups : List Group) → Holds header groups was (seen old) (pending old) → IfSome (fill.first_full was.log.limit asks) (λ _. LeavesOnly moment left_since old new (HasThese header groups)))
-      → CountsNow tells moment left_since seen pending old new → (current : Option OpenPart) → Says current (Err (ended_log why))
+      → (ghosts.tells → (header : Header) (groups : List Group) → Holds header groups was (ghosts.seen old) (ghosts.pending old) → IfSome (fill.first_full was.log.limit asks) (λ _. LeavesOnly ghosts.moment ghosts.left_since old new (HasThese header groups)))
+      → CountsNow ghosts old new → (current : Option OpenPart) → Says current (Err (ended_log why))
   unfolding turn_groups
   begun_stopped cause why said stops marked none counts current =
       let b = of_head (λ h. BeginsIn {C = Option Place} (Err (stop.Log why)) h was.core now.core) (head_of item.command) head is said in
-      subst (λ (r : Result (Subvolume Blank) Refusal). HasStopped tells moment left_since seen pending old new was now written written (ended_log why) (beginnings item (entered (blank was.core) head r).refusal))
+      subst (λ (r : Result (Subvolume Blank) Refusal). HasStopped ghosts old new was now written written (ended_log why) (beginnings item (entered (blank was.core) head r).refusal))
       (sym (begun_blank was.core head (Ok b.0) b.1))
-      (subst (λ (l : List Event). HasStopped tells moment left_since seen pending old new was now written written (ended_log why) l) (sym (begins_event item head is)) (by_stop why stops))
+      (subst (λ (l : List Event). HasStopped ghosts old new was now written written (ended_log why) l) (sym (begins_event item head is)) (by_stop why stops))
     where
-      all : tells → (header : Header) (groups : List Group) → Holds header groups was (seen old) (pending old) → LeavesOnly moment left_since old new (HasFront header groups (turn_groups (Begins item ∷ [])))
+      all : ghosts.tells → (header : Header) (groups : List Group) → Holds header groups was (ghosts.seen old) (ghosts.pending old) → LeavesOnly ghosts.moment ghosts.left_since old new (HasFront header groups (turn_groups (Begins item ∷ [])))
       all is_told header groups h = marks header groups (marked is_told header groups h)
 
       full_there : (o : Option Asked) (P : Type 0) (end wanted limit : ℕ) → IsStopOf cause was.log.limit o (log.LogFull end wanted limit) → IfSome o (λ _. P) → P
@@ -177,10 +176,10 @@ module _ {D : Type 0} (tells : Type 0) (moment : D → ℕ) (left_since : D → 
       full_there None P end wanted limit (inr f) p = absurd f
       full_there (Some a) P end wanted limit s p = p
 
-      by_stop : (w : LogStop) → IsStopOf cause was.log.limit (fill.first_full was.log.limit asks) w → HasStopped tells moment left_since seen pending old new was now written written (ended_log w) (Begins item ∷ [])
-      by_stop log.DiskFault s = unsure_stopped tells moment left_since seen pending old new was now written written how.StoreFault (Begins item ∷ []) tt (Appends-nil written) counts tt all
-      by_stop (log.NotStore group) s = unsure_stopped tells moment left_since seen pending old new was now written written how.StoreFault (Begins item ∷ []) tt (Appends-nil written) counts tt all
-      by_stop (log.StoreThere size) s = unsure_stopped tells moment left_since seen pending old new was now written written how.StoreFault (Begins item ∷ []) tt (Appends-nil written) counts tt all
+      by_stop : (w : LogStop) → IsStopOf cause was.log.limit (fill.first_full was.log.limit asks) w → HasStopped ghosts old new was now written written (ended_log w) (Begins item ∷ [])
+      by_stop log.DiskFault s = unsure_stopped ghosts old new was now written written how.StoreFault (Begins item ∷ []) tt (Appends-nil written) counts tt all
+      by_stop (log.NotStore group) s = unsure_stopped ghosts old new was now written written how.StoreFault (Begins item ∷ []) tt (Appends-nil written) counts tt all
+      by_stop (log.StoreThere size) s = unsure_stopped ghosts old new was now written written how.StoreFault (Begins item ∷ []) tt (Appends-nil written) counts tt all
       by_stop (log.LogFull end wanted limit) s =
-          unsure_stopped tells moment left_since seen pending old new was now written written (how.LogFull end wanted limit) (Begins item ∷ []) tt (Appends-nil written) counts (refl, no_room was.log.limit was.log.gate (Begins item) asks pieces cause end wanted limit s)
-          (λ is_told header groups h. weakens (full_there (fill.first_full was.log.limit asks) (LeavesOnly moment left_since old new (HasThese header groups)) end wanted limit s (none is_told header groups h)) (λ image has. no_more header groups image has))
+          unsure_stopped ghosts old new was now written written (how.LogFull end wanted limit) (Begins item ∷ []) tt (Appends-nil written) counts (refl, no_room was.log.limit was.log.gate (Begins item) asks pieces cause end wanted limit s)
+          (λ is_told header groups h. weakens (full_there (fill.first_full was.log.limit asks) (LeavesOnly ghosts.moment ghosts.left_since old new (HasThese header groups)) end wanted limit s (none is_told header groups h)) (λ image has. no_more header groups image has))

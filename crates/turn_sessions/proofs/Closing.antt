@@ -4,7 +4,7 @@ use Rattle.std.specs.Io.KnownBytes.{Appends}
 use Rattle.std.proofs.Common.{refl, sym, ap, subst, ◌∙◌, arith, append-nil, length-drop}
 use Rattle.std.proofs.lemmas.List.{take-append-drop}
 use Rattle.sx_base.specs.Crash.{LeavesOnly}
-use Rattle.sx_base.specs.Disk.{Pending}
+use Rattle.sx_base.specs.declared.disk.Disk as keeping
 use Rattle.sx_base.specs.Outside.{AppendsPart}
 use Rattle.sx_base.proofs.DiskMoments.{weakens}
 use Rattle.sx_base.specs.declared.outcome.Outcome.TheVariants as ended
@@ -33,8 +33,9 @@ use Rattle.receiver.proofs.BegunParts.{none_yet}
 use Rattle.turn_sessions.specs.declared.part.OpenPart.{OpenPart}
 use Rattle.turn_sessions.specs.Edits.{AreFrames, IsCompletedBy, body_asks, body_end, IfLogFull}
 use Rattle.turn_sessions.specs.Standing.{Blank, blank_put, edits_of, IsPart, AreParts, IsHeld}
-use Rattle.turn_sessions.specs.Doing.{stopped_as, HasDone, HasStopped}
-use Rattle.turn_sessions.specs.Turning.{closing, IsClosed, CloseSays}
+use Rattle.turn_sessions.specs.Doing.{stopped_as}
+use Rattle.turn_sessions.specs.Turning.{closing}
+use Rattle.turn_sessions.proofs.Unpacked.{HasDone, HasStopped, IsClosed, CloseSays}
 use Rattle.turn_sessions.proofs.Nothings.{OnlyNow, CountsNow, nothing_done, unsure_stopped}
 use Rattle.turn_sessions.proofs.Blanks.{runs_blank}
 use Rattle.turn_sessions.proofs.Rooms.{body_pieces, body_gate, has_room, no_room}
@@ -91,12 +92,12 @@ one_line : (t : Taken) → lines_of (Completes t ∷ []) ≡ part_line t
 unfolding lines_of completed_parts
 one_line t = append-nil (part_line t)
 
-module _ {D : Type 0} (tells : Type 0) (moment : D → ℕ) (left_since : D → ℕ → List ℕ → Type 0) (seen : D → List ℕ) (pending : D → Pending) where
-  pub none_closed : (disk : D) (store : StoreState) (out : Option (List ℕ)) (p : Option (Receiving Blank)) → OnlyNow tells moment left_since seen pending disk → p ≡ None
-      → CloseSays tells moment left_since seen pending disk disk store store out out p (Ok tt)
+module _ {D : Type 0} (ghosts : keeping.Ghosts D) where
+  pub none_closed : (disk : D) (store : StoreState) (out : Option (List ℕ)) (p : Option (Receiving Blank)) → OnlyNow ghosts disk → p ≡ None
+      → CloseSays ghosts disk disk store store out out p (Ok tt)
   unfolding completed
   none_closed disk store out p only none =
-      subst (λ (q : Option (Receiving Blank)). IsClosed tells moment left_since seen pending disk disk store store out out q) (sym none) (record { store = refl; done = nothing_done tells moment left_since seen pending disk store out only })
+      subst (λ (q : Option (Receiving Blank)). IsClosed ghosts disk disk store store out out q) (sym none) (record { store = refl; done = nothing_done ghosts disk store out only })
 
   module _ (old new : D) (was now : StoreState) (out next : Option (List ℕ)) (o : OpenPart) (uuid : List ℕ) (r : Receiving Blank) (is : IsPart r o) (own : uuid ≡ o.part.key.uuid) (held : IsHeld (blank was.core) r) where
     abbrev pub w : IsWritten r o was uuid
@@ -118,44 +119,44 @@ module _ {D : Type 0} (tells : Type 0) (moment : D → ℕ) (left_since : D → 
     pieces : event_pieces was.log.gate event ≡ map as_piece asks
     pieces = body_pieces was.log.gate r.taken ∙ ap (λ (l : List Asked). map as_piece l) asks_are
 
-    moments_are : (header : Header) (groups : List Group) → LeavesOnly moment left_since old new (HasOneMore header groups (new_group (Body uuid o.version (edits_of r)))) → LeavesOnly moment left_since old new (HasFront header groups (turn_groups (event ∷ [])))
+    moments_are : (header : Header) (groups : List Group) → LeavesOnly ghosts.moment ghosts.left_since old new (HasOneMore header groups (new_group (Body uuid o.version (edits_of r)))) → LeavesOnly ghosts.moment ghosts.left_since old new (HasFront header groups (turn_groups (event ∷ [])))
     unfolding turn_groups
     moments_are header groups run = weakens run (λ image has. one_front header groups (group_of_event event) image (subst (λ (g : Group). HasOneMore header groups g image) w.group_is has))
 
     abbrev pub Moments : Type 0
-    Moments = tells → (header : Header) (groups : List Group) → Holds header groups was (seen old) (pending old) → LeavesOnly moment left_since old new (HasOneMore header groups (new_group (Body uuid o.version (edits_of r))))
+    Moments = ghosts.tells → (header : Header) (groups : List Group) → Holds header groups was (ghosts.seen old) (ghosts.pending old) → LeavesOnly ghosts.moment ghosts.left_since old new (HasOneMore header groups (new_group (Body uuid o.version (edits_of r))))
 
     abbrev pub HoldsMore : Type 0
-    HoldsMore = tells → (header : Header) (groups : List Group) → Holds header groups was (seen old) (pending old) → Holds header (groups ++ new_group (Body uuid o.version (edits_of r)) ∷ []) now (seen new) (pending new)
+    HoldsMore = ghosts.tells → (header : Header) (groups : List Group) → Holds header groups was (ghosts.seen old) (ghosts.pending old) → Holds header (groups ++ new_group (Body uuid o.version (edits_of r)) ∷ []) now (ghosts.seen new) (ghosts.pending new)
 
     pub closed_core : (p : Option (Receiving Blank)) → p ≡ Some r → now.core ≡ w.new → blank now.core ≡ completed (record { store = blank was.core; part = part_of p })
     unfolding completed
     closed_core p own core = ap (λ (c : Store (Option Place)). blank c) core ∙ w.blank_is ∙ ap (λ (q : Option (Receiving Blank)). completed (record { store = blank was.core; part = part_of q })) (sym own)
 
     done_one : now.log.gate ≡ body_end o.version was.log.gate (edits_of r) → now.log.limit ≡ was.log.limit → fill.first_full was.log.limit asks ≡ None → HoldsMore → Moments → Appends out next o.line
-        → HasDone tells moment left_since seen pending old new was now out next (event ∷ [])
+        → HasDone ghosts old new was now out next (event ∷ [])
     done_one gate limit fits holds moments wrote = record {
       wrote = subst (λ (l : List ℕ). Appends out next l) (is.line ∙ sym (one_line r.taken)) wrote;
       room = has_room was.log.limit was.log.gate event asks pieces fits;
       gate = gate ∙ ap (λ (v : ℕ). body_end v was.log.gate (edits_of r)) (sym is.version) ∙ sym (body_gate was.log.gate r.taken);
       limit = limit;
       disk = λ is_told header groups h. (
-        subst (λ (l : List Group). Holds header l now (seen new) (pending new)) (groups_are groups) (holds is_told header groups h),
+        subst (λ (l : List Group). Holds header l now (ghosts.seen new) (ghosts.pending new)) (groups_are groups) (holds is_told header groups h),
         moments_are header groups (moments is_told header groups h),
       );
     }
 
     pub closed_ok : (p : Option (Receiving Blank)) → p ≡ Some r → now.core ≡ w.new → now.log.gate ≡ body_end o.version was.log.gate (edits_of r) → now.log.limit ≡ was.log.limit
-        → fill.first_full was.log.limit asks ≡ None → HoldsMore → Moments → Appends out next o.line → CloseSays tells moment left_since seen pending old new was now out next p (Ok tt)
+        → fill.first_full was.log.limit asks ≡ None → HoldsMore → Moments → Appends out next o.line → CloseSays ghosts old new was now out next p (Ok tt)
     closed_ok p own core gate limit fits holds moments wrote = record {
       store = closed_core p own core;
-      done = subst (λ (q : Option (Receiving Blank)). HasDone tells moment left_since seen pending old new was now out next (closing q)) (sym own) (done_one gate limit fits holds moments wrote);
+      done = subst (λ (q : Option (Receiving Blank)). HasDone ghosts old new was now out next (closing q)) (sym own) (done_one gate limit fits holds moments wrote);
     }
 
     -- The line could not be written, or not all of it.
-    pub closed_cut : (p : Option (Receiving Blank)) → p ≡ Some r → HoldsMore → Moments → AppendsPart out next o.line → CloseSays tells moment left_since seen pending old new was now out next p (Err (how.Files ended.OutputFault))
+    pub closed_cut : (p : Option (Receiving Blank)) → p ≡ Some r → HoldsMore → Moments → AppendsPart out next o.line → CloseSays ghosts old new was now out next p (Err (how.Files ended.OutputFault))
     closed_cut p own holds moments part =
-        subst (λ (q : Option (Receiving Blank)). HasStopped tells moment left_since seen pending old new was now out next (how.Files ended.OutputFault) (closing q)) (sym own) (record {
+        subst (λ (q : Option (Receiving Blank)). HasStopped ghosts old new was now out next (how.Files ended.OutputFault) (closing q)) (sym own) (record {
           done = event ∷ [];
           more = [];
           all = refl;
@@ -165,31 +166,31 @@ module _ {D : Type 0} (tells : Type 0) (moment : D → ℕ) (left_since : D → 
           wrote = part.2;
           reason = let some = part.1 in omega (arith, some, length-drop part.0 o.line);
           disk = λ is_told header groups h. (
-            subst (λ (l : List Group). Holds header l now (seen new) (pending new)) (groups_are groups) (holds is_told header groups h),
+            subst (λ (l : List Group). Holds header l now (ghosts.seen new) (ghosts.pending new)) (groups_are groups) (holds is_told header groups h),
             moments_are header groups (moments is_told header groups h),
           );
         })
 
     -- The group could not be written.
-    pub closed_stopped : (cause : Type 0) (p : Option (Receiving Blank)) (why : StoreStop) → p ≡ Some r → IsNoRefusal why → CountsNow tells moment left_since seen pending old new
+    pub closed_stopped : (cause : Type 0) (p : Option (Receiving Blank)) (why : StoreStop) → p ≡ Some r → IsNoRefusal why → CountsNow ghosts old new
         → IfLog {T = Unit {0}} (Err why) (IsStopOf cause was.log.limit (fill.first_full was.log.limit asks)) → Moments
-        → (tells → (header : Header) (groups : List Group) → Holds header groups was (seen old) (pending old) → IfLogFull {T = Unit {0}} (Err why) (LeavesOnly moment left_since old new (HasThese header groups)))
-        → Appends out next [] → CloseSays tells moment left_since seen pending old new was now out next p (Err (stopped_as why))
+        → (ghosts.tells → (header : Header) (groups : List Group) → Holds header groups was (ghosts.seen old) (ghosts.pending old) → IfLogFull {T = Unit {0}} (Err why) (LeavesOnly ghosts.moment ghosts.left_since old new (HasThese header groups)))
+        → Appends out next [] → CloseSays ghosts old new was now out next p (Err (stopped_as why))
     unfolding turn_groups
     closed_stopped cause p why own refuses counts stops moments none wrote =
-        subst (λ (q : Option (Receiving Blank)). HasStopped tells moment left_since seen pending old new was now out next (stopped_as why) (closing q)) (sym own) (by_stop why refuses stops none)
+        subst (λ (q : Option (Receiving Blank)). HasStopped ghosts old new was now out next (stopped_as why) (closing q)) (sym own) (by_stop why refuses stops none)
       where
-        all : tells → (header : Header) (groups : List Group) → Holds header groups was (seen old) (pending old) → LeavesOnly moment left_since old new (HasFront header groups (turn_groups (event ∷ [])))
+        all : ghosts.tells → (header : Header) (groups : List Group) → Holds header groups was (ghosts.seen old) (ghosts.pending old) → LeavesOnly ghosts.moment ghosts.left_since old new (HasFront header groups (turn_groups (event ∷ [])))
         all is_told header groups h = moments_are header groups (moments is_told header groups h)
 
         by_stop : (x : StoreStop) → IsNoRefusal x → IfLog {T = Unit {0}} (Err x) (IsStopOf cause was.log.limit (fill.first_full was.log.limit asks))
-            → (tells → (header : Header) (groups : List Group) → Holds header groups was (seen old) (pending old) → IfLogFull {T = Unit {0}} (Err x) (LeavesOnly moment left_since old new (HasThese header groups)))
-            → HasStopped tells moment left_since seen pending old new was now out next (stopped_as x) (event ∷ [])
+            → (ghosts.tells → (header : Header) (groups : List Group) → Holds header groups was (ghosts.seen old) (ghosts.pending old) → IfLogFull {T = Unit {0}} (Err x) (LeavesOnly ghosts.moment ghosts.left_since old new (HasThese header groups)))
+            → HasStopped ghosts old new was now out next (stopped_as x) (event ∷ [])
         by_stop (stop.Refused refusal) n s f = absurd n
-        by_stop stop.NoMemory n s f = unsure_stopped tells moment left_since seen pending old new was now out next (how.Files ended.NoMemory) (event ∷ []) tt wrote counts tt all
-        by_stop (stop.Log log.DiskFault) n s f = unsure_stopped tells moment left_since seen pending old new was now out next how.StoreFault (event ∷ []) tt wrote counts tt all
-        by_stop (stop.Log (log.NotStore group)) n s f = unsure_stopped tells moment left_since seen pending old new was now out next how.StoreFault (event ∷ []) tt wrote counts tt all
-        by_stop (stop.Log (log.StoreThere size)) n s f = unsure_stopped tells moment left_since seen pending old new was now out next how.StoreFault (event ∷ []) tt wrote counts tt all
+        by_stop stop.NoMemory n s f = unsure_stopped ghosts old new was now out next (how.Files ended.NoMemory) (event ∷ []) tt wrote counts tt all
+        by_stop (stop.Log log.DiskFault) n s f = unsure_stopped ghosts old new was now out next how.StoreFault (event ∷ []) tt wrote counts tt all
+        by_stop (stop.Log (log.NotStore group)) n s f = unsure_stopped ghosts old new was now out next how.StoreFault (event ∷ []) tt wrote counts tt all
+        by_stop (stop.Log (log.StoreThere size)) n s f = unsure_stopped ghosts old new was now out next how.StoreFault (event ∷ []) tt wrote counts tt all
         by_stop (stop.Log (log.LogFull end wanted limit)) n s f =
-            unsure_stopped tells moment left_since seen pending old new was now out next (how.LogFull end wanted limit) (event ∷ []) tt wrote counts (refl, no_room was.log.limit was.log.gate event asks pieces cause end wanted limit s)
+            unsure_stopped ghosts old new was now out next (how.LogFull end wanted limit) (event ∷ []) tt wrote counts (refl, no_room was.log.limit was.log.gate event asks pieces cause end wanted limit s)
             (λ is_told header groups h. weakens (f is_told header groups h) (λ image has. none_yet header groups [] image has))

@@ -4,7 +4,8 @@ use Rattle.std.specs.Io.KnownBytes.{Appends}
 use Rattle.std.proofs.KnownBytes.{Appends-trans}
 use Rattle.std.proofs.Common.{refl, sym, ap, subst, ◌∙◌, append_assoc}
 use Rattle.sx_base.specs.Crash.{LeavesOnly}
-use Rattle.sx_base.specs.Disk.{Pending, IsImage}
+use Rattle.sx_base.specs.Disk.{IsImage}
+use Rattle.sx_base.specs.declared.disk.Disk as keeping
 use Rattle.sx_base.proofs.DiskMoments.{joins, weakens}
 use Rattle.sx_base.specs.declared.outcome.Outcome.TheVariants as ended
 use Rattle.store_model.specs.Image.{Header}
@@ -21,7 +22,8 @@ use Rattle.receiver.specs.declared.outcome.Received.{Received}
 use Rattle.receiver.specs.declared.outcome.Received.TheVariants as how
 use Rattle.receiver.specs.Disks.{HasFront, EndLeaves}
 use Rattle.receiver.proofs.TakenItems.{front_first, front_behind}
-use Rattle.turn_sessions.specs.Doing.{reached, StopReason, HasDone, HasStopped}
+use Rattle.turn_sessions.specs.Doing.{reached, StopReason}
+use Rattle.turn_sessions.proofs.Unpacked.{HasDone, HasStopped}
 
 pub ends_map : (why : Received) {A B C D : Type 0} → (A → C) → (B → D) → EndLeaves why A B → EndLeaves why C D
 ends_map (how.Files ended.NoMemory) f g e = g e
@@ -47,9 +49,9 @@ reason_first (how.Files outcome) most gate a b done unwritten r = r
 reason_first how.StoreFault most gate a b done unwritten r = tt
 reason_first (how.LogFull end wanted limit) most gate a b done unwritten r = (r.0, fits_first most gate a b done (dues.LogFull end wanted limit) r.1)
 
-module _ {D : Type 0} (tells : Type 0) (moment : D → ℕ) (left_since : D → ℕ → List ℕ → Type 0) (seen : D → List ℕ) (pending : D → Pending) where
-  pub done_done : (old middle new : D) (was during now : StoreState) (out mid next : Option (List ℕ)) (a b : List Event) → HasDone tells moment left_since seen pending old middle was during out mid a
-      → HasDone tells moment left_since seen pending middle new during now mid next b → HasDone tells moment left_since seen pending old new was now out next (a ++ b)
+module _ {D : Type 0} (ghosts : keeping.Ghosts D) where
+  pub done_done : (old middle new : D) (was during now : StoreState) (out mid next : Option (List ℕ)) (a b : List Event) → HasDone ghosts old middle was during out mid a
+      → HasDone ghosts middle new during now mid next b → HasDone ghosts old new was now out next (a ++ b)
   done_done old middle new was during now out mid next a b x y = record {
     wrote = subst (λ (l : List ℕ). Appends out next l) (sym (lines_joined a b)) (Appends-trans out mid next (lines_of a) (lines_of b) x.wrote y.wrote);
     room = ap (λ (f : Fitting). f.full) (fits_behind was.log.limit was.log.gate a b x.room) ∙ (λ i. (fitting (sym x.limit i) (sym x.gate i) b).full) ∙ y.room;
@@ -59,14 +61,14 @@ module _ {D : Type 0} (tells : Type 0) (moment : D → ℕ) (left_since : D → 
         let first = x.disk is_told header groups holds in
         let second = y.disk is_told header (groups ++ turn_groups a) first.0 in
         let joined : turn_groups (a ++ b) ≡ turn_groups a ++ turn_groups b = groups_joined a b in (
-          subst (λ (l : List Group). Holds header l now (seen new) (pending new)) (append_assoc groups (turn_groups a) (turn_groups b) ∙ ap (λ (l : List Group). groups ++ l) (sym joined)) second.0,
-          subst (λ (l : List Group). LeavesOnly moment left_since old new (HasFront header groups l)) (sym joined)
+          subst (λ (l : List Group). Holds header l now (ghosts.seen new) (ghosts.pending new)) (append_assoc groups (turn_groups a) (turn_groups b) ∙ ap (λ (l : List Group). groups ++ l) (sym joined)) second.0,
+          subst (λ (l : List Group). LeavesOnly ghosts.moment ghosts.left_since old new (HasFront header groups l)) (sym joined)
               (joins (weakens first.1 (λ image f. front_first header groups (turn_groups a) (turn_groups b) image f)) (weakens second.1 (λ image f. front_behind header groups (turn_groups a) (turn_groups b) image f))),
         );
   }
 
-  pub done_stopped : (old middle new : D) (was during now : StoreState) (out mid next : Option (List ℕ)) (why : Received) (a b : List Event) → HasDone tells moment left_since seen pending old middle was during out mid a
-      → HasStopped tells moment left_since seen pending middle new during now mid next why b → HasStopped tells moment left_since seen pending old new was now out next why (a ++ b)
+  pub done_stopped : (old middle new : D) (was during now : StoreState) (out mid next : Option (List ℕ)) (why : Received) (a b : List Event) → HasDone ghosts old middle was during out mid a
+      → HasStopped ghosts middle new during now mid next why b → HasStopped ghosts old new was now out next why (a ++ b)
   done_stopped old middle new was during now out mid next why a b x y = record {
     done = a ++ y.done;
     more = y.more;
@@ -83,8 +85,8 @@ module _ {D : Type 0} (tells : Type 0) (moment : D → ℕ) (left_since : D → 
         let joined : turn_groups (a ++ b) ≡ turn_groups a ++ turn_groups b = groups_joined a b in
         let behind : (groups ++ turn_groups a) ++ turn_groups y.done ≡ groups ++ turn_groups (a ++ y.done) =
         append_assoc groups (turn_groups a) (turn_groups y.done) ∙ ap (λ (l : List Group). groups ++ l) (sym (groups_joined a y.done)) in (
-          subst (λ (l : List Group). EndLeaves why (Holds header l now (seen new) (pending new)) ((image : List ℕ) → IsImage (pending new) image → HasFront header l (turn_groups (reached why y.more)) image)) behind second.0,
-          subst (λ (l : List Group). LeavesOnly moment left_since old new (HasFront header groups l)) (sym joined)
+          subst (λ (l : List Group). EndLeaves why (Holds header l now (ghosts.seen new) (ghosts.pending new)) ((image : List ℕ) → IsImage (ghosts.pending new) image → HasFront header l (turn_groups (reached why y.more)) image)) behind second.0,
+          subst (λ (l : List Group). LeavesOnly ghosts.moment ghosts.left_since old new (HasFront header groups l)) (sym joined)
               (joins (weakens first.1 (λ image f. front_first header groups (turn_groups a) (turn_groups b) image f)) (weakens second.1 (λ image f. front_behind header groups (turn_groups a) (turn_groups b) image f))),
         );
   }
@@ -95,8 +97,8 @@ module _ {D : Type 0} (tells : Type 0) (moment : D → ℕ) (left_since : D → 
   reach_more (how.LogFull end wanted limit) header groups more b image f = f
 
   -- whatever events were to follow
-  pub stopped_first : (old new : D) (was now : StoreState) (out next : Option (List ℕ)) (why : Received) (a b : List Event) → HasStopped tells moment left_since seen pending old new was now out next why a
-      → HasStopped tells moment left_since seen pending old new was now out next why (a ++ b)
+  pub stopped_first : (old new : D) (was now : StoreState) (out next : Option (List ℕ)) (why : Received) (a b : List Event) → HasStopped ghosts old new was now out next why a
+      → HasStopped ghosts old new was now out next why (a ++ b)
   stopped_first old new was now out next why a b x = record {
     done = x.done;
     more = x.more ++ b;
@@ -109,16 +111,16 @@ module _ {D : Type 0} (tells : Type 0) (moment : D → ℕ) (left_since : D → 
     disk = λ is_told header groups holds.
         let first = x.disk is_told header groups holds in (
           ends_map why (λ h. h) (λ f image is. reach_more why header (groups ++ turn_groups x.done) x.more b image (f image is)) first.0,
-          subst (λ (l : List Group). LeavesOnly moment left_since old new (HasFront header groups l)) (sym (groups_joined a b)) (weakens first.1 (λ image f. front_first header groups (turn_groups a) (turn_groups b) image f)),
+          subst (λ (l : List Group). LeavesOnly ghosts.moment ghosts.left_since old new (HasFront header groups l)) (sym (groups_joined a b)) (weakens first.1 (λ image f. front_first header groups (turn_groups a) (turn_groups b) image f)),
         );
   }
 
   -- What was done then, and what is unwritten.
   abbrev pub Stops : (old new : D) (was now : StoreState) (out next : Option (List ℕ)) (why : Received) (events done : List Event) (unwritten : List ℕ) → Type 0
-  Stops old new was now out next why events done unwritten = (z : HasStopped tells moment left_since seen pending old new was now out next why events) × (z.done ≡ done) × (z.unwritten ≡ unwritten)
+  Stops old new was now out next why events done unwritten = (z : HasStopped ghosts old new was now out next why events) × (z.done ≡ done) × (z.unwritten ≡ unwritten)
 
-  pub done_stopped_is : (old middle new : D) (was during now : StoreState) (out mid next : Option (List ℕ)) (why : Received) (a b : List Event) (x : HasDone tells moment left_since seen pending old middle was during out mid a)
-      → (y : HasStopped tells moment left_since seen pending middle new during now mid next why b) → Stops old new was now out next why (a ++ b) (a ++ y.done) y.unwritten
+  pub done_stopped_is : (old middle new : D) (was during now : StoreState) (out mid next : Option (List ℕ)) (why : Received) (a b : List Event) (x : HasDone ghosts old middle was during out mid a)
+      → (y : HasStopped ghosts middle new during now mid next why b) → Stops old new was now out next why (a ++ b) (a ++ y.done) y.unwritten
   unfolding done_stopped
   done_stopped_is old middle new was during now out mid next why a b x y = (done_stopped old middle new was during now out mid next why a b x y, refl, refl)
 

@@ -2,7 +2,7 @@
 use Rattle.std.specs.Prelude.{◌≡◌, ℕ, zero, suc, ◌<◌, true, false, List, [], ◌∷◌, ◌++◌, length, replicate, Option, None, Some, slice_get}
 use Rattle.std.proofs.Common.{refl, sym, ap, subst, ◌∙◌, arith, append-nil}
 use Rattle.sx_base.specs.Calls.{IfAllTold, contents}
-use Rattle.sx_base.specs.Disk.{Pending}
+use Rattle.sx_base.specs.declared.disk.Disk as keeping
 use Rattle.sx_base.specs.declared.outcome.Verdict.{Verdict}
 use Rattle.send_model.specs.Guards.{Guard}
 use Rattle.store_model.specs.Turns as meant
@@ -13,7 +13,8 @@ use Rattle.store_journal.specs.Shown.{StoreState}
 use Rattle.turn_sessions.specs.declared.session.Session.{Session}
 use Rattle.turn_sessions.specs.Standing.{Blank, blank_cells, IsSession}
 use Rattle.turn_sessions.specs.Turning.{bytes_left}
-use Rattle.turn_sessions.specs.Going.{AreShorter, FewerLeft, IsGoing, HasFewer}
+use Rattle.turn_sessions.specs.Going.{AreShorter, FewerLeft, HasFewer}
+use Rattle.turn_sessions.proofs.Unpacked.{IsGoing}
 use Rattle.turn_sessions.proofs.GoingOn.{turn_less, turn_shorter}
 use Rattle.turn_sessions.proofs.Sessions.{session_at, shorter_with, shorter_at}
 use Rattle.turn_sessions.proofs.Turnings.{get_with}
@@ -69,10 +70,10 @@ some_at (x ∷ xs) (suc n) lt = some_at xs n (omega (arith, lt))
 abbrev pub Further : ℕ → Turns Blank → ℕ → (Turns Blank → ℕ → Type 0) → Type 0
 Further n w turns B = (v : Turns Blank) × (k : ℕ) × HasFewer v n k × (after_turns tt blank_cells v (replicate k n) ≡ after_turns tt blank_cells w (replicate turns n)) × B v k
 
-module _ {D : Type 0} (tells : Type 0) (moment : D → ℕ) (left_since : D → ℕ → List ℕ → Type 0) (seen : D → List ℕ) (pending : D → Pending)
+module _ {D : Type 0} (ghosts : keeping.Ghosts D)
     (start : D) (was : StoreState) (begun : Option (List ℕ)) {G : Type 0} (kept : G → List Guard) (end : TurnsEnd) (last : Turns Blank) where
   abbrev pub GoesAt : D → StoreState → Option (List ℕ) → Option Verdict → List (Session G) → List (List ℕ) → Turns Blank → List ℕ → Type 0
-  GoesAt disk store out refused sessions files w rest = IsGoing tells moment left_since seen pending start disk was store begun out kept (which_long 1 files) files w end last rest refused sessions
+  GoesAt disk store out refused sessions files w rest = IsGoing ghosts start disk was store begun out kept files w end last rest refused sessions
 
   module _ (disk : D) (store : StoreState) (out : Option (List ℕ)) (refused : Option Verdict) (sessions : List (Session G)) (n : ℕ) (session : Session G) (at : slice_get sessions n ≡ Some session) (rest : List ℕ) where
     -- the session of the definitions

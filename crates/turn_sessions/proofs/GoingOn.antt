@@ -7,7 +7,7 @@ use Rattle.std.proofs.lemmas.Option.{slice_get-map}
 use Rattle.sx_base.specs.Calls.{IfAllTold, contents}
 use Rattle.sx_base.specs.Outside.{file_at}
 use Rattle.cmd_reader.specs.Places.{IfTold}
-use Rattle.sx_base.specs.Disk.{Pending}
+use Rattle.sx_base.specs.declared.disk.Disk as keeping
 use Rattle.sx_base.specs.Refusals.{verdict_meant}
 use Rattle.sx_base.specs.declared.outcome.Outcome.TheVariants as ended
 use Rattle.sx_base.specs.declared.outcome.Verdict.{Verdict}
@@ -25,7 +25,7 @@ use Rattle.store_model.specs.Dues.{Due, Ends}
 use Rattle.store_model.specs.Turns as meant
 use Rattle.store_model.specs.Turns.{Event, Turn, Turns, after_turn, with_at, one_turn, after_turns, session_turn, lines_of, turn_groups, completed_parts}
 use Rattle.store_model.proofs.TurnOrder.{held_of, turn_kept}
-use Rattle.turn_model.specs.TurnDues.{bytes_read, which_long, is_long, is_empty, at_limit, Fitting, fitting, gate_after, TurnsEnd, turn_events, turns_end}
+use Rattle.turn_model.specs.TurnDues.{bytes_read, which_long, is_long, is_empty, at_limit, Fitting, fitting, gate_after, room_of, TurnsEnd, turn_events, turns_end}
 use Rattle.turn_model.proofs.Ends.{turn_adds, end_goes, end_full, end_long}
 use Rattle.turn_model.proofs.Overs.{turn_at, events_at, over_does, going_does}
 use Rattle.cmd_reader.specs.Left.{Reader, left}
@@ -37,10 +37,11 @@ use Rattle.receiver.specs.Answers.{IsEnd}
 use Rattle.receiver.specs.declared.outcome.Received.TheVariants as how
 use Rattle.turn_sessions.specs.declared.session.Session.{Session}
 use Rattle.turn_sessions.specs.Standing.{Blank, blank_cells, blank_put, IsSession, AreSessions, AreHeld}
-use Rattle.turn_sessions.specs.Doing.{HasDone, HasStopped, StopReason}
+use Rattle.turn_sessions.specs.Doing.{StopReason}
 use Rattle.turn_sessions.specs.Reading.{Next, Command, AtEnd, AtFault, AtLimit, Nothing, WasLeft, HasNext}
-use Rattle.turn_sessions.specs.Turning.{IsTurn, TakesTurn, ReadsNext, IsCommand, StopsAt, IfTooLong}
-use Rattle.turn_sessions.specs.Going.{AreReading, HasRead, HasLeft, HaveLeft, IsGoing, HasEnded, DueIs}
+use Rattle.turn_sessions.specs.Turning.{ReadsNext, IsCommand, StopsAt, IfTooLong}
+use Rattle.turn_sessions.specs.Going.{AreReading, HasRead, HasLeft, HaveLeft, DueIs}
+use Rattle.turn_sessions.proofs.Unpacked.{HasDone, HasStopped, IsTurn, TakesTurn, IsGoing, HasEnded}
 use Rattle.turn_sessions.proofs.Doings.{done_done, Stops, done_stopped_is, stopped_first_is}
 use Rattle.turn_sessions.proofs.OneTurn.{turn_is, look_turn}
 use Rattle.turn_sessions.proofs.Sessions.{session_at, sessions_with, reading_at, left_at, left_with}
@@ -245,10 +246,10 @@ stop_is_end (how.Files (ended.InputChanged file place)) next before s = absurd s
 stop_is_end how.StoreFault next before s = tt
 stop_is_end (how.LogFull end wanted most) next before s = tt
 
-module _ {D : Type 0} (tells : Type 0) (moment : D → ℕ) (left_since : D → ℕ → List ℕ → Type 0) (seen : D → List ℕ) (pending : D → Pending)
+module _ {D : Type 0} (ghosts : keeping.Ghosts D)
     (start old new : D) (store0 was now : StoreState) (begun out next_out : Option (List ℕ)) {G : Type 0} (kept : G → List Guard) (files : List (List ℕ)) (w : Turns Blank) (end : TurnsEnd) (last : Turns Blank) (n : ℕ) (rest : List ℕ) (refused : Option Verdict)
     (sessions : List (Session G)) (session after : Session G) (at : slice_get sessions n ≡ Some session)
-    (x : IsGoing tells moment left_since seen pending start old store0 was begun out kept (which_long 1 files) files w end last (n ∷ rest) refused sessions) (told : Option (List (List ℕ × List ℕ)))
+    (x : IsGoing ghosts start old store0 was begun out kept files w end last (n ∷ rest) refused sessions) (told : Option (List (List ℕ × List ℕ)))
     (file : List ℕ) (file_there : slice_get files n ≡ Some file) where
   a : (s : meant.Session Blank) × (slice_get w.sessions n ≡ Some s) × IsSession kept s session
   a = session_at kept w.sessions sessions n session x.taking.sessions_are at
@@ -304,14 +305,14 @@ module _ {D : Type 0} (tells : Type 0) (moment : D → ℕ) (left_since : D → 
       let g = over_does tt blank_cells (blank was.core) a.0 (a.2.over ∙ is_over) in
       absurd (no_both after.is_over (sym over ∙ ap (λ (y : Turn Blank). y.session.is_over) g ∙ a.2.over ∙ is_over) still)
 
-  pub going_on : (now_refused all_refused : Option Verdict) (takes : TakesTurn tells moment left_since seen pending old new was now out next_out kept told session after (Ok now_refused))
+  pub going_on : (now_refused all_refused : Option Verdict) (takes : TakesTurn ghosts old new was now out next_out kept told session after (Ok now_refused))
       → ((bytes : List ℕ) → take limit bytes ≡ take limit file → WasLeft session.reader after.reader takes.next bytes)
       → option_map verdict_meant all_refused ≡ first_of (option_map verdict_meant refused) (option_map verdict_meant now_refused)
-      → IsGoing tells moment left_since seen pending start new store0 now begun next_out kept (which_long 1 files) files (one_turn tt blank_cells w n) end last rest all_refused (slice_set sessions n after)
+      → IsGoing ghosts start new store0 now begun next_out kept files (one_turn tt blank_cells w n) end last rest all_refused (slice_set sessions n after)
   unfolding after_turns
   going_on now_refused all_refused takes tell firsts =
       let facts : session.is_over ≡ false → IsNextOf (1 + n) file a.0 session.reader after.reader takes.next = λ going. next_of (1 + n) file a.0 session.reader after.reader takes.next (left_here going) tell (ok_some takes.next session.is_over takes.reads going) in
-      let turn : IsTurn tells moment left_since seen pending old new was now out next_out kept t after now_refused = takes.says a.0 a.2 hold (λ g. (facts (sym a.2.over ∙ g)).has) in
+      let turn : IsTurn ghosts old new was now out next_out kept t after now_refused = takes.says a.0 a.2 hold (λ g. (facts (sym a.2.over ∙ g)).has) in
       let off = limit_off (λ going. (facts going).limited (ok_no_limit takes.next session.is_over takes.reads)) in
       let room : (fitting store0.log.limit was.log.gate (turn_events tt blank_cells w n)).full ≡ None = (λ i. (fitting (sym x.done.limit i) was.log.gate (events_here i)).full) ∙ turn.done.room in
       let gate : gate_after was.log.gate (turn_events tt blank_cells w n) ≡ now.log.gate = ap (gate_after was.log.gate) events_here ∙ sym turn.done.gate in
@@ -327,10 +328,10 @@ module _ {D : Type 0} (tells : Type 0) (moment : D → ℕ) (left_since : D → 
         refused_is = ap (λ (y : Turns Blank). y.refused) both ∙ (λ i. first_of (x.refused_is i) (turn.refused_is i)) ∙ sym firsts;
         have_left = subst (λ (l : List (meant.Session Blank)). HaveLeft 1 files l (slice_set sessions n after)) (sym (ap (λ (y : Turns Blank). y.sessions) both))
             (left_with 1 files w.sessions sessions n file t.session after x.have_left file_there (after_left takes.next takes.reads tell (λ going. (facts going).has) turn.session_is.over));
-        ends = x.ends ∙ end_goes tt blank_cells store0.log.limit (which_long 1 files) was.log.gate w n rest off room ∙ ap (λ (g : ℕ). turns_end tt blank_cells store0.log.limit (which_long 1 files) g (one_turn tt blank_cells w n) rest) gate;
+        ends = x.ends ∙ end_goes tt blank_cells store0.log.limit (which_long 1 files) was.log.gate w n rest off room ∙ ap (λ (g : ℕ). turns_end tt blank_cells (room_of store0.log.limit g) (which_long 1 files) (one_turn tt blank_cells w n) rest) gate;
         runs = x.runs;
-        done = subst (λ (l : List Event). HasDone tells moment left_since seen pending start new store0 now begun next_out l) (sym (ap (λ (y : Turns Blank). y.events) both))
-            (done_done tells moment left_since seen pending start old new store0 was now begun out next_out w.events t.events x.done turn.done);
+        done = subst (λ (l : List Event). HasDone ghosts start new store0 now begun next_out l) (sym (ap (λ (y : Turns Blank). y.events) both))
+            (done_done ghosts start old new store0 was now begun out next_out w.events t.events x.done turn.done);
       }
 
   -- ---- where all turns stop
@@ -342,15 +343,15 @@ module _ {D : Type 0} (tells : Type 0) (moment : D → ℕ) (left_since : D → 
   has_at AtLimit f going = tt
   has_at Nothing f going = tt
 
-  module _ (why : Received) (takes : TakesTurn tells moment left_since seen pending old new was now out next_out kept told session after (Err why)) (tell : (bytes : List ℕ) → take limit bytes ≡ take limit file → WasLeft session.reader after.reader takes.next bytes)
+  module _ (why : Received) (takes : TakesTurn ghosts old new was now out next_out kept told session after (Err why)) (tell : (bytes : List ℕ) → take limit bytes ≡ take limit file → WasLeft session.reader after.reader takes.next bytes)
       (number : session.file ≡ 1 + n) (still : IfTooLong why (now ≡ was)) where
     facts_at : session.is_over ≡ false → (takes.next ≡ Nothing → ⊥) → IsNextOf (1 + n) file a.0 session.reader after.reader takes.next
     facts_at going some = next_of (1 + n) file a.0 session.reader after.reader takes.next (left_here going) tell some
 
-    y : HasStopped tells moment left_since seen pending old new was now out next_out why t.events
+    y : HasStopped ghosts old new was now out next_out why t.events
     y = takes.says a.0 a.2 hold (λ g. has_at takes.next (λ going some. (facts_at going some).has) (sym a.2.over ∙ g))
 
-    due_at : (z : Received) → StopsAt z takes.next session → StopReason z was.log.limit was.log.gate t.events y.done y.unwritten → DueIs tells moment left_since seen pending start new store0 now begun next_out z end (w.events ++ y.done) y.unwritten
+    due_at : (z : Received) → StopsAt z takes.next session → StopReason z was.log.limit was.log.gate t.events y.done y.unwritten → DueIs z end (w.events ++ y.done) y.unwritten
     unfolding lines_of completed_parts
     due_at (how.Files (ended.InputTooLong f)) s r =
         let facts = facts_at s.2 (λ e. limit_some (sym s.0 ∙ e)) in
@@ -401,46 +402,46 @@ module _ {D : Type 0} (tells : Type 0) (moment : D → ℕ) (left_since : D → 
     made_at how.StoreFault s e = tt
     made_at (how.LogFull place wanted most) s e = tt
 
-    pub going_stopped : HasEnded tells moment left_since seen pending start new store0 now begun next_out why end last
+    pub going_stopped : HasEnded ghosts start new store0 now begun next_out why end last
     unfolding after_turns
     going_stopped =
         let more = adds rest (one_turn tt blank_cells w n) in
         let all : (w.events ++ t.events) ++ more.0 ≡ last.events = ap (λ (l : List Event). l ++ more.0) (sym (ap (λ (v : Turns Blank). v.events) (turned ∙ ap (after_turn w n) same_turn))) ∙ sym more.1 ∙ sym (ap (λ (v : Turns Blank). v.events) x.runs) in
-        let z = subst (λ (l : List Event). Stops tells moment left_since seen pending start new store0 now begun next_out why l (w.events ++ y.done) y.unwritten) all
-        (stopped_first_is tells moment left_since seen pending start new store0 now begun next_out why (w.events ++ t.events) more.0 (w.events ++ y.done) y.unwritten
-        (done_stopped_is tells moment left_since seen pending start old new store0 was now begun out next_out why w.events t.events x.done y)) in
+        let z = subst (λ (l : List Event). Stops ghosts start new store0 now begun next_out why l (w.events ++ y.done) y.unwritten) all
+        (stopped_first_is ghosts start new store0 now begun next_out why (w.events ++ t.events) more.0 (w.events ++ y.done) y.unwritten
+        (done_stopped_is ghosts start old new store0 was now begun out next_out why w.events t.events x.done y)) in
         record {
           stopped = z.0;
-          due = subst (λ (k : List Event). DueIs tells moment left_since seen pending start new store0 now begun next_out why end k z.0.unwritten) (sym z.1)
-              (subst (λ (u : List ℕ). DueIs tells moment left_since seen pending start new store0 now begun next_out why end (w.events ++ y.done) u) (sym z.2) (due_at why takes.reads y.reason));
+          due = subst (λ (k : List Event). DueIs why end k z.0.unwritten) (sym z.1)
+              (subst (λ (u : List ℕ). DueIs why end (w.events ++ y.done) u) (sym z.2) (due_at why takes.reads y.reason));
           made = subst (λ (k : List Event). IfTooLong why (made_all tt blank_put 0 (blank store0.core) (turn_groups k) ≡ Some (blank now.core))) (sym z.1) (made_at why takes.reads still);
         }
 
 -- ---- whether or not the inputs tell
 
-module _ {D : Type 0} (tells : Type 0) (moment : D → ℕ) (left_since : D → ℕ → List ℕ → Type 0) (seen : D → List ℕ) (pending : D → Pending)
+module _ {D : Type 0} (ghosts : keeping.Ghosts D)
     (start old new : D) (store0 was now : StoreState) (begun out next_out : Option (List ℕ)) {G : Type 0} (kept : G → List Guard) (w : Turns Blank) (end : TurnsEnd) (last : Turns Blank) (n : ℕ) (rest : List ℕ) (refused : Option Verdict)
     (sessions : List (Session G)) (session after : Session G) (at : slice_get sessions n ≡ Some session) (names : List (List ℕ)) where
   abbrev pub Before : List (List ℕ) → Type 0
-  Before files = IsGoing tells moment left_since seen pending start old store0 was begun out kept (which_long 1 files) files w end last (n ∷ rest) refused sessions
+  Before files = IsGoing ghosts start old store0 was begun out kept files w end last (n ∷ rest) refused sessions
 
   tell_at : (table : List (List ℕ × List ℕ)) (name : List ℕ) (next : Next) → session.reader.name ≡ name → IfTold (Some table) session.reader.name (WasLeft session.reader after.reader next)
       → (bytes : List ℕ) → take limit bytes ≡ take limit (file_at table name) → WasLeft session.reader after.reader next bytes
   tell_at table name next named told bytes e = told bytes (e ∙ ap (λ (l : List ℕ). take limit (file_at table l)) (sym named))
 
-  pub told_ok : (told : Option (List (List ℕ × List ℕ))) (now_refused all_refused : Option Verdict) → AreReading told 1 names sessions → TakesTurn tells moment left_since seen pending old new was now out next_out kept told session after (Ok now_refused)
+  pub told_ok : (told : Option (List (List ℕ × List ℕ))) (now_refused all_refused : Option Verdict) → AreReading told 1 names sessions → TakesTurn ghosts old new was now out next_out kept told session after (Ok now_refused)
       → option_map verdict_meant all_refused ≡ first_of (option_map verdict_meant refused) (option_map verdict_meant now_refused)
-      → IfAllTold told names (λ files. Before files → IsGoing tells moment left_since seen pending start new store0 now begun next_out kept (which_long 1 files) files (one_turn tt blank_cells w n) end last rest all_refused (slice_set sessions n after))
+      → IfAllTold told names (λ files. Before files → IsGoing ghosts start new store0 now begun next_out kept files (one_turn tt blank_cells w n) end last rest all_refused (slice_set sessions n after))
   told_ok None now_refused all_refused are takes firsts = tt
   told_ok (Some table) now_refused all_refused are takes firsts = λ x.
       let f = reading_at (Some table) 1 names sessions n session are at in
-      going_on tells moment left_since seen pending start old new store0 was now begun out next_out kept (contents table names) w end last n rest refused sessions session after at x (Some table) (file_at table f.name) (slice_get-map (file_at table) names n ∙ ap (option_map (file_at table)) f.there)
+      going_on ghosts start old new store0 was now begun out next_out kept (contents table names) w end last n rest refused sessions session after at x (Some table) (file_at table f.name) (slice_get-map (file_at table) names n ∙ ap (option_map (file_at table)) f.there)
       now_refused all_refused takes (tell_at table f.name takes.next f.reading.named takes.read) firsts
 
-  pub told_err : (told : Option (List (List ℕ × List ℕ))) (why : Received) → AreReading told 1 names sessions → TakesTurn tells moment left_since seen pending old new was now out next_out kept told session after (Err why) → IfTooLong why (now ≡ was)
-      → IfAllTold told names (λ files. Before files → HasEnded tells moment left_since seen pending start new store0 now begun next_out why end last)
+  pub told_err : (told : Option (List (List ℕ × List ℕ))) (why : Received) → AreReading told 1 names sessions → TakesTurn ghosts old new was now out next_out kept told session after (Err why) → IfTooLong why (now ≡ was)
+      → IfAllTold told names (λ files. Before files → HasEnded ghosts start new store0 now begun next_out why end last)
   told_err None why are takes still = tt
   told_err (Some table) why are takes still = λ x.
       let f = reading_at (Some table) 1 names sessions n session are at in
-      going_stopped tells moment left_since seen pending start old new store0 was now begun out next_out kept (contents table names) w end last n rest refused sessions session after at x (Some table) (file_at table f.name) (slice_get-map (file_at table) names n ∙ ap (option_map (file_at table)) f.there)
+      going_stopped ghosts start old new store0 was now begun out next_out kept (contents table names) w end last n rest refused sessions session after at x (Some table) (file_at table f.name) (slice_get-map (file_at table) names n ∙ ap (option_map (file_at table)) f.there)
       why takes (tell_at table f.name takes.next f.reading.named takes.read) f.reading.file still

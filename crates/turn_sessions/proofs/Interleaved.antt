@@ -4,7 +4,7 @@ use Rattle.std.specs.List.{AllByRecursion}
 use Rattle.std.specs.Option.{option_map}
 use Rattle.std.proofs.Common.{refl, sym, ap, subst, ◌∙◌, append-nil, append_assoc}
 use Rattle.std.proofs.lemmas.List.{length-map}
-use Rattle.sx_base.specs.Disk.{Pending}
+use Rattle.sx_base.specs.declared.disk.Disk as keeping
 use Rattle.sx_base.specs.Crash.{LeavesOnly}
 use Rattle.sx_base.specs.Calls.{IfAllTold, Wrote, contents}
 use Rattle.sx_base.specs.Outside.{file_at}
@@ -29,7 +29,7 @@ use Rattle.store_model.proofs.FilesInTurn.{all_new}
 use Rattle.store_model.proofs.TurnOrder.{entry_kept}
 use Rattle.store_model.proofs.TurnStates.{lines_are_complete}
 use Rattle.turn_model.specs.TurnCells.{recelled_receiving, recelled_session}
-use Rattle.turn_model.specs.TurnDues.{files_read, shared, which_long, sessions_of, all_turns, TurnsEnd, turns_end, interleave_end}
+use Rattle.turn_model.specs.TurnDues.{in_turns, files_read, shared, which_long, sessions_of, all_turns, room_of, TurnsEnd, turns_end, interleave_end}
 use Rattle.turn_model.proofs.Cells.{turns_cells, end_cells, ends_cells}
 use Rattle.turn_model.proofs.Joining.{lines_joined}
 use Rattle.turn_model.proofs.Standing.{groups_joined}
@@ -45,8 +45,9 @@ use Rattle.turn_sessions.specs.declared.session.Session.{Session}
 use Rattle.turn_sessions.specs.Standing.{Blank, blank_cells, blank_put}
 use Rattle.turn_sessions.specs.Doing.{reached, StopReason}
 use Rattle.turn_sessions.specs.Turning.{IfTooLong}
-use Rattle.turn_sessions.specs.Going.{AreNew, AreShorter, IsGoing, HasEnded, DueIs, GoingSays, AreTaking}
-use Rattle.turn_sessions.specs.Ends.{IfStands, end_of, AnswerIs, AreDone}
+use Rattle.turn_sessions.specs.Going.{AreNew, AreShorter, DueIs, AreTaking}
+use Rattle.turn_sessions.specs.Ends.{IfStands, end_of}
+use Rattle.turn_sessions.proofs.Unpacked.{IsGoing, HasEnded, GoingSays, AnswerIs, AreDone}
 use Rattle.turn_sessions.proofs.Nothings.{IsSpent, OnlyNow, nothing_done, nothing_stopped}
 use Rattle.turn_sessions.proofs.Opening.{as_short, same_count, are_sessions, have_left, plain, plain_sessions, plain_have_none}
 
@@ -126,11 +127,11 @@ module _ (base : Store ℕ) (places : List ℕ) (files : List (List ℕ)) (all :
       sym (ap (λ (w : Turns Blank). w.events) (turns_cells to_blank 0 byte_cells (all_turns places of_files) (at_entry base of_files)))
       ∙ ap (λ (l : List ℕ). (after_turns tt blank_cells first_turns l).events) (sym turns_same)
 
-  pub end_is : (most gate : ℕ) → interleave_end most gate base places files all shares ≡ turns_end tt blank_cells most (which_long 1 files) gate first_turns turns_left
+  pub end_is : (most gate : ℕ) → interleave_end (room_of most gate) base (in_turns places files all shares) ≡ turns_end tt blank_cells (room_of most gate) (which_long 1 files) first_turns turns_left
   unfolding interleave_end
   end_is most gate =
       sym (end_cells to_blank 0 byte_cells most (which_long 1 files) (all_turns places of_files) gate (at_entry base of_files))
-      ∙ ap (turns_end tt blank_cells most (which_long 1 files) gate first_turns) (sym turns_same)
+      ∙ ap (turns_end tt blank_cells (room_of most gate) (which_long 1 files) first_turns) (sym turns_same)
 
   module _ (most gate : ℕ) (distinct : IsStore base) where
     -- Some first events were done.
@@ -219,21 +220,21 @@ leaves_by (how.LogFull end wanted limit) f g l = g tt l
 
 -- ---- the ends
 
-module _ {D : Type 0} (tells : Type 0) (moment : D → ℕ) (left_since : D → ℕ → List ℕ → Type 0) (seen : D → List ℕ) (pending : D → Pending)
+module _ {D : Type 0} (ghosts : keeping.Ghosts D)
     (old new : D) (was now : StoreState) (old_out new_out : Option (List ℕ)) (base : Store ℕ) (places : List ℕ) (all : List Guard) (shares : List ℕ) (distinct : IsStore base) (shape : HaveSameShape was.core base) where
   -- The end that is due, and all turns.
   abbrev pub due_end : List (List ℕ) → TurnsEnd
-  due_end files = interleave_end was.log.limit was.log.gate base places files all shares
+  due_end files = interleave_end (room_of was.log.limit was.log.gate) base (in_turns places files all shares)
 
   abbrev pub DoneAs : List (List ℕ) → Received → List ℕ → (List Group → Type 0) → Type 0
   DoneAs files why written H = AreDone was.log.limit was.log.gate base places files all shares why now.core written H
 
   abbrev pub Says : List (List ℕ) → Received → List ℕ → Type 0
-  Says files why written = LeavesMore tells seen pending old new was now why (DoneAs files why written) × DoneAs files why written (λ groups. Unit {0})
+  Says files why written = LeavesMore ghosts.tells ghosts.seen ghosts.pending old new was now why (DoneAs files why written) × DoneAs files why written (λ groups. Unit {0})
 
   -- They stopped.
-  module _ (files : List (List ℕ)) (why : Received) (z : HasEnded tells moment left_since seen pending old new was now old_out new_out why (due_end files) (last_turns base places files all shares)) where
-    answer_at : (r : Received) → DueIs tells moment left_since seen pending old new was now old_out new_out r (due_end files) z.stopped.done z.stopped.unwritten → StopReason r was.log.limit was.log.gate (last_turns base places files all shares).events z.stopped.done z.stopped.unwritten
+  module _ (files : List (List ℕ)) (why : Received) (z : HasEnded ghosts old new was now old_out new_out why (due_end files) (last_turns base places files all shares)) where
+    answer_at : (r : Received) → DueIs r (due_end files) z.stopped.done z.stopped.unwritten → StopReason r was.log.limit was.log.gate (last_turns base places files all shares).events z.stopped.done z.stopped.unwritten
         → AnswerIs was.log.limit was.log.gate base places files all shares r z.stopped.done z.stopped.unwritten
     answer_at (how.Files (ended.InputTooLong file)) due reason = ((ap (λ (e : TurnsEnd). e.due) due.0, sym (ap (λ (e : TurnsEnd). e.events) due.0)), due.1)
     answer_at (how.LogFull end wanted limit) due reason = ((ap (λ (e : TurnsEnd). e.due) due.0, sym (ap (λ (e : TurnsEnd). e.events) due.0)), due.1)
@@ -249,7 +250,7 @@ module _ {D : Type 0} (tells : Type 0) (moment : D → ℕ) (left_since : D → 
     answer : AnswerIs was.log.limit was.log.gate base places files all shares why z.stopped.done z.stopped.unwritten
     answer = answer_at why z.due z.stopped.reason
 
-    stands_at : (r : Received) → DueIs tells moment left_since seen pending old new was now old_out new_out r (due_end files) z.stopped.done z.stopped.unwritten → IfTooLong r (made_all tt blank_put 0 (blank was.core) (turn_groups z.stopped.done) ≡ Some (blank now.core))
+    stands_at : (r : Received) → DueIs r (due_end files) z.stopped.done z.stopped.unwritten → IfTooLong r (made_all tt blank_put 0 (blank was.core) (turn_groups z.stopped.done) ≡ Some (blank now.core))
         → IfStands r (made_all tt blank_put 0 (blank base) (turn_groups z.stopped.done) ≡ Some (blank now.core))
     stands_at (how.Files (ended.InputTooLong file)) due made = ap (λ (s : Store Blank). made_all tt blank_put 0 s (turn_groups z.stopped.done)) (sym shape) ∙ made
     stands_at (how.Files ended.Done) due made = absurd due
@@ -272,7 +273,7 @@ module _ {D : Type 0} (tells : Type 0) (moment : D → ℕ) (left_since : D → 
       (
         (λ is_told header groups holds.
             leaves_by why
-            (λ h. end_done (λ first. Holds header (groups ++ first) now (seen new) (pending new)) h)
+            (λ h. end_done (λ first. Holds header (groups ++ first) now (ghosts.seen new) (ghosts.pending new)) h)
             (λ spent each image is.
             let f = each image is in
             further base places files all shares was.log.limit was.log.gate distinct why now.core z.stopped.lines (λ first. HasThese header (groups ++ first) image) z.stopped.done z.stopped.more z.stopped.unwritten f.first f.more spent z.stopped.all z.stopped.printed answer f.all
@@ -282,12 +283,12 @@ module _ {D : Type 0} (tells : Type 0) (moment : D → ℕ) (left_since : D → 
       ),
     )
 
-    pub ended_moments : tells → (header : Header) (groups : List Group) → Holds header groups was (seen old) (pending old) → LeavesOnly moment left_since old new (HasFront header groups (turn_groups (turns_of base places (files_read 1 files) all shares).events))
-    ended_moments is_told header groups holds = subst (λ (l : List Event). LeavesOnly moment left_since old new (HasFront header groups (turn_groups l))) (sym (all_are base places files all shares)) (z.stopped.disk is_told header groups holds).1
+    pub ended_moments : ghosts.tells → (header : Header) (groups : List Group) → Holds header groups was (ghosts.seen old) (ghosts.pending old) → LeavesOnly ghosts.moment ghosts.left_since old new (HasFront header groups (turn_groups (turns_of base places (files_read 1 files) all shares).events))
+    ended_moments is_told header groups holds = subst (λ (l : List Event). LeavesOnly ghosts.moment ghosts.left_since old new (HasFront header groups (turn_groups l))) (sym (all_are base places files all shares)) (z.stopped.disk is_told header groups holds).1
 
   -- All turns were taken.
   module _ {G : Type 0} (kept : G → List Guard) (files : List (List ℕ)) (w : Turns Blank) (refused : Option Verdict) (sessions : List (Session G))
-      (x : IsGoing tells moment left_since seen pending old new was now old_out new_out kept (which_long 1 files) files w (due_end files) (last_turns base places files all shares) [] refused sessions) where
+      (x : IsGoing ghosts old new was now old_out new_out kept files w (due_end files) (last_turns base places files all shares) [] refused sessions) where
     all_taken : (last_turns base places files all shares).events ≡ w.events ++ []
     unfolding after_turns
     all_taken = ap (λ (v : Turns Blank). v.events) x.runs ∙ sym (append-nil w.events)
@@ -321,28 +322,28 @@ module _ {D : Type 0} (tells : Type 0) (moment : D → ℕ) (left_since : D → 
       lines_of w.events,
       x.done.wrote,
       (
-        (λ is_told header groups holds. usable refused _ _ (all_done (λ first. Holds header (groups ++ first) now (seen new) (pending new)) (x.done.disk is_told header groups holds).0)),
+        (λ is_told header groups holds. usable refused _ _ (all_done (λ first. Holds header (groups ++ first) now (ghosts.seen new) (ghosts.pending new)) (x.done.disk is_told header groups holds).0)),
         all_done (λ groups. Unit {0}) tt,
       ),
     )
 
-    pub done_moments : tells → (header : Header) (groups : List Group) → Holds header groups was (seen old) (pending old) → LeavesOnly moment left_since old new (HasFront header groups (turn_groups (turns_of base places (files_read 1 files) all shares).events))
-    done_moments is_told header groups holds = subst (λ (l : List Event). LeavesOnly moment left_since old new (HasFront header groups (turn_groups l))) (sym (all_are base places files all shares ∙ all_taken ∙ append-nil w.events)) (x.done.disk is_told header groups holds).1
+    pub done_moments : ghosts.tells → (header : Header) (groups : List Group) → Holds header groups was (ghosts.seen old) (ghosts.pending old) → LeavesOnly ghosts.moment ghosts.left_since old new (HasFront header groups (turn_groups (turns_of base places (files_read 1 files) all shares).events))
+    done_moments is_told header groups holds = subst (λ (l : List Event). LeavesOnly ghosts.moment ghosts.left_since old new (HasFront header groups (turn_groups l))) (sym (all_are base places files all shares ∙ all_taken ∙ append-nil w.events)) (x.done.disk is_told header groups holds).1
 
 -- ---- the start
 
-module _ {D : Type 0} (tells : Type 0) (moment : D → ℕ) (left_since : D → ℕ → List ℕ → Type 0) (seen : D → List ℕ) (pending : D → Pending)
-    (disk : D) (store : StoreState) (out : Option (List ℕ)) (base : Store ℕ) (places : List ℕ) (all : List Guard) (shares : List ℕ) (distinct : IsStore base) (shape : HaveSameShape store.core base) (only : OnlyNow tells moment left_since seen pending disk) where
+module _ {D : Type 0} (ghosts : keeping.Ghosts D)
+    (disk : D) (store : StoreState) (out : Option (List ℕ)) (base : Store ℕ) (places : List ℕ) (all : List Guard) (shares : List ℕ) (distinct : IsStore base) (shape : HaveSameShape store.core base) (only : OnlyNow ghosts disk) where
   -- Nothing was done.
-  pub unbegun : (files : List (List ℕ)) → HasEnded tells moment left_since seen pending disk disk store store out out (how.Files ended.NoMemory) (interleave_end store.log.limit store.log.gate base places files all shares) (last_turns base places files all shares)
+  pub unbegun : (files : List (List ℕ)) → HasEnded ghosts disk disk store store out out (how.Files ended.NoMemory) (interleave_end (room_of store.log.limit store.log.gate) base (in_turns places files all shares)) (last_turns base places files all shares)
   unbegun files = record {
-    stopped = nothing_stopped tells moment left_since seen pending disk store store out (how.Files ended.NoMemory) (last_turns base places files all shares).events only (λ header groups h. h) tt;
+    stopped = nothing_stopped ghosts disk store store out (how.Files ended.NoMemory) (last_turns base places files all shares).events only (λ header groups h. h) tt;
     due = tt;
     made = tt;
   }
 
   pub begins : {G : Type 0} (kept : G → List Guard) (names files : List (List ℕ)) (guards : List G) (sessions : List (Session G)) → length files ≡ length names → AreNew 1 names guards sessions → map kept guards ≡ shared all shares
-      → IsGoing tells moment left_since seen pending disk disk store store out out kept (which_long 1 files) files (first_turns base places files all shares) (interleave_end store.log.limit store.log.gate base places files all shares) (last_turns base places files all shares) (turns_left base places files all shares) None sessions
+      → IsGoing ghosts disk disk store store out out kept files (first_turns base places files all shares) (interleave_end (room_of store.log.limit store.log.gate) base (in_turns places files all shares)) (last_turns base places files all shares) (turns_left base places files all shares) None sessions
   begins kept names files guards sessions long new own = record {
     taking = record {
       store_is = shape;
@@ -358,7 +359,7 @@ module _ {D : Type 0} (tells : Type 0) (moment : D → ℕ) (left_since : D → 
     have_left = have_left kept 1 names files guards sessions all shares long new own;
     ends = end_is base places files all shares store.log.limit store.log.gate;
     runs = refl;
-    done = nothing_done tells moment left_since seen pending disk store out only;
+    done = nothing_done ghosts disk store out only;
   }
 
 pub all_then : (told : Option (List (List ℕ × List ℕ))) (names : List (List ℕ)) (P Q : List (List ℕ) → Type 0) → ((files : List (List ℕ)) → P files → Q files) → IfAllTold told names P → IfAllTold told names Q
@@ -369,24 +370,24 @@ pub told_always : (told : Option (List (List ℕ × List ℕ))) (names : List (L
 told_always None names P f = tt
 told_always (Some table) names P f = f (contents table names)
 
-module _ {D : Type 0} (tells : Type 0) (moment : D → ℕ) (left_since : D → ℕ → List ℕ → Type 0) (seen : D → List ℕ) (pending : D → Pending)
-    (old new : D) (was now : StoreState) (old_out new_out : Option (List ℕ)) (base : Store ℕ) (places : List ℕ) (all : List Guard) (shares : List ℕ) (distinct : IsStore base) (shape : HaveSameShape was.core base) (only : OnlyNow tells moment left_since seen pending old)
+module _ {D : Type 0} (ghosts : keeping.Ghosts D)
+    (old new : D) (was now : StoreState) (old_out new_out : Option (List ℕ)) (base : Store ℕ) (places : List ℕ) (all : List Guard) (shares : List ℕ) (distinct : IsStore base) (shape : HaveSameShape was.core base) (only : OnlyNow ghosts old)
     {G : Type 0} (kept : G → List Guard) (guards : List G) (sessions after : List (Session G)) (names : List (List ℕ)) (fresh : AreNew 1 names guards sessions) (own : map kept guards ≡ shared all shares) (result : Result (Option Verdict) Received) where
   abbrev pub Ends_so : List (List ℕ) → Type 0
-  Ends_so files = GoingSays tells moment left_since seen pending old new was now old_out new_out kept (which_long 1 files) files
-      (after_turns tt blank_cells (after_turns tt blank_cells (first_turns base places files all shares) places) (to_the_end 0 (blank_sessions base places files all shares))) (interleave_end was.log.limit was.log.gate base places files all shares) (last_turns base places files all shares) [] after result
+  Ends_so files = GoingSays ghosts old new was now old_out new_out kept files
+      (after_turns tt blank_cells (after_turns tt blank_cells (first_turns base places files all shares) places) (to_the_end 0 (blank_sessions base places files all shares))) (interleave_end (room_of was.log.limit was.log.gate) base (in_turns places files all shares)) (last_turns base places files all shares) [] after result
 
   -- From the first turn on.
   pub told_ends : (told : Option (List (List ℕ × List ℕ)))
       → ((at_first : List (meant.Session Blank)) (w : Turns Blank) (end : TurnsEnd) (last : Turns Blank) → length at_first ≡ length sessions → AreShorter at_first w.sessions
-      → IfAllTold told names (λ files. IsGoing tells moment left_since seen pending old old was was old_out old_out kept (which_long 1 files) files w end last (places ++ to_the_end 0 at_first) None sessions
-      → GoingSays tells moment left_since seen pending old new was now old_out new_out kept (which_long 1 files) files (after_turns tt blank_cells (after_turns tt blank_cells w places) (to_the_end 0 at_first)) end last [] after result))
+      → IfAllTold told names (λ files. IsGoing ghosts old old was was old_out old_out kept files w end last (places ++ to_the_end 0 at_first) None sessions
+      → GoingSays ghosts old new was now old_out new_out kept files (after_turns tt blank_cells (after_turns tt blank_cells w places) (to_the_end 0 at_first)) end last [] after result))
       → IfAllTold told names Ends_so
   told_ends None run = tt
   told_ends (Some table) run =
       let files : List (List ℕ) = contents table names in
       let long : length files ≡ length names = length-map names (file_at table) in
       let at_first : List (meant.Session Blank) = blank_sessions base places files all shares in
-      run at_first (first_turns base places files all shares) (interleave_end was.log.limit was.log.gate base places files all shares) (last_turns base places files all shares)
+      run at_first (first_turns base places files all shares) (interleave_end (room_of was.log.limit was.log.gate) base (in_turns places files all shares)) (last_turns base places files all shares)
       (same_count kept at_first sessions (are_sessions kept 1 names files guards sessions all shares long fresh own)) (as_short at_first)
-      (begins tells moment left_since seen pending old was old_out base places all shares distinct shape only kept names files guards sessions long fresh own)
+      (begins ghosts old was old_out base places all shares distinct shape only kept names files guards sessions long fresh own)

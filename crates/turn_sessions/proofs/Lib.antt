@@ -12,6 +12,7 @@ pub mod Beginning
 pub mod Editing
 pub mod Taking
 pub mod OneTurn
+pub mod AsksInTurn
 pub mod Sessions
 pub mod Turnings
 pub mod GoingOn

@@ -3,7 +3,7 @@ use Rattle.std.specs.Prelude.{◌≡◌, ⊤, ℕ, Bool, true, false, List, [], 
 use Rattle.cmd_reader.specs.Places.{IfTold}
 use Rattle.std.specs.Option.{option_map}
 use Rattle.std.proofs.Common.{refl, sym, ap, subst, ◌∙◌}
-use Rattle.sx_base.specs.Disk.{Pending}
+use Rattle.sx_base.specs.declared.disk.Disk as keeping
 use Rattle.sx_base.specs.Refusals.{refusal_of, verdict_meant}
 use Rattle.sx_base.specs.declared.outcome.Verdict.{Verdict}
 use Rattle.sx_base.specs.declared.refusal.Refusal as code
@@ -27,10 +27,11 @@ use Rattle.turn_sessions.specs.declared.session.Session as code_session
 use Rattle.turn_sessions.specs.Standing.{Blank, blank_cells, AreParts, IsSession}
 use Rattle.turn_sessions.specs.Doing.{OutcomeReason, IsItemStop}
 use Rattle.turn_sessions.specs.Reading.{Next, Command, AtLimit}
-use Rattle.turn_sessions.specs.Turning.{step_at, LookSays, TurnSays, StopsAt, IfTooLong, ReadsAs, HasVersion, HasVersionOf}
+use Rattle.turn_sessions.specs.Turning.{step_at, StopsAt, IfTooLong, ReadsAs, HasVersion, HasVersionOf}
 use Rattle.send_model.specs.Command as model
 use Rattle.send_model.specs.Counts.{is_end}
 use Rattle.cmd_reader.specs.Left.{Reader}
+use Rattle.turn_sessions.proofs.Unpacked.{LookSays, TurnSays}
 use Rattle.turn_sessions.proofs.Nothings.{OnlyNow, nothing_done, nothing_stopped}
 
 -- The part of a session that is not over is the one that it has.
@@ -62,7 +63,7 @@ module _ (store : Store Blank) (s : Session Blank) (item : Item) (items : List I
       one None = refl
       one (Some refusal) = refl
 
-module _ {D : Type 0} (tells : Type 0) (moment : D → ℕ) (left_since : D → ℕ → List ℕ → Type 0) (seen : D → List ℕ) (pending : D → Pending)
+module _ {D : Type 0} (ghosts : keeping.Ghosts D)
     (old new : D) (was now : StoreState) (out next_out : Option (List ℕ)) {G : Type 0} (kept : G → List Guard) where
   module _ (s : Session Blank) (session after : code_session.Session G) (item : Item) (items : List Item) (is : s.items ≡ item ∷ items) (of : IsSession kept s session) (going : session.is_over ≡ false)
       (guards_are : kept after.guards ≡ looked (kept session.guards) item.command) where
@@ -79,17 +80,17 @@ module _ {D : Type 0} (tells : Type 0) (moment : D → ℕ) (left_since : D → 
     new_guards = ap (λ (g : List Guard). looked g item.command) of.guards ∙ sym guards_are
 
     abbrev Says : Turn Blank → Result (Option Verdict) Received → Type 0
-    Says t result = TurnSays tells moment left_since seen pending old new was now out next_out kept t after result
+    Says t result = TurnSays ghosts old new was now out next_out kept t after result
 
     by_turn : (o : Option Refusal) (result : Result (Option Verdict) Received) → guarded (kept session.guards) item.command ≡ o → Says (look_turn (blank was.core) s item items o) result → Says (session_turn tt blank_cells (blank was.core) s) result
     by_turn o result e says = subst (λ (t : Turn Blank). Says t result) (sym (turn_is (blank was.core) s item items is s_going ∙ ap (look_turn (blank was.core) s item items) (looks_are ∙ e))) says
 
     -- The command is taken.
-    pub turn_taken : after.is_over ≡ false → LookSays tells moment left_since seen pending old new was now out next_out item s.part (guarded (kept session.guards) item.command) after.current (Ok None)
+    pub turn_taken : after.is_over ≡ false → LookSays ghosts old new was now out next_out item s.part (guarded (kept session.guards) item.command) after.current (Ok None)
         → Says (session_turn tt blank_cells (blank was.core) s) (Ok None)
     turn_taken still says = one (guarded (kept session.guards) item.command) refl says
       where
-        one : (o : Option Refusal) → guarded (kept session.guards) item.command ≡ o → LookSays tells moment left_since seen pending old new was now out next_out item s.part o after.current (Ok None) → Says (session_turn tt blank_cells (blank was.core) s) (Ok None)
+        one : (o : Option Refusal) → guarded (kept session.guards) item.command ≡ o → LookSays ghosts old new was now out next_out item s.part o after.current (Ok None) → Says (session_turn tt blank_cells (blank was.core) s) (Ok None)
         one (Some refusal) e l = cc
         one None e d = by_turn None (Ok None) e (record {
           refused_is = ap (option_map (verdict_of item)) d.refused;
@@ -104,11 +105,11 @@ module _ {D : Type 0} (tells : Type 0) (moment : D → ℕ) (left_since : D → 
 
     -- It is refused.
     pub turn_refused : (refusal : code.Refusal) (verdict : Verdict) → after.is_over ≡ true → after.current ≡ None → verdict_meant verdict ≡ verdict_of item (refusal_of refusal)
-        → (current : Option OpenPart) → LookSays tells moment left_since seen pending old new was now out next_out item s.part (guarded (kept session.guards) item.command) current (Ok (Some refusal))
+        → (current : Option OpenPart) → LookSays ghosts old new was now out next_out item s.part (guarded (kept session.guards) item.command) current (Ok (Some refusal))
         → Says (session_turn tt blank_cells (blank was.core) s) (Ok (Some verdict))
     turn_refused refusal verdict over none v current says = one (guarded (kept session.guards) item.command) refl says
       where
-        one : (o : Option Refusal) → guarded (kept session.guards) item.command ≡ o → LookSays tells moment left_since seen pending old new was now out next_out item s.part o current (Ok (Some refusal))
+        one : (o : Option Refusal) → guarded (kept session.guards) item.command ≡ o → LookSays ghosts old new was now out next_out item s.part o current (Ok (Some refusal))
             → Says (session_turn tt blank_cells (blank was.core) s) (Ok (Some verdict))
         one (Some r) e l = by_turn (Some r) (Ok (Some verdict)) e (record {
           refused_is = ap (option_map (verdict_of item)) (sym l.0) ∙ ap (λ (x : reading.Verdict). Some x) (sym v);
@@ -128,24 +129,24 @@ module _ {D : Type 0} (tells : Type 0) (moment : D → ℕ) (left_since : D → 
         })
 
     -- All turns stop.
-    pub turn_stopped : (why : Received) (current : Option OpenPart) → LookSays tells moment left_since seen pending old new was now out next_out item s.part (guarded (kept session.guards) item.command) current (Err why)
+    pub turn_stopped : (why : Received) (current : Option OpenPart) → LookSays ghosts old new was now out next_out item s.part (guarded (kept session.guards) item.command) current (Err why)
         → Says (session_turn tt blank_cells (blank was.core) s) (Err why)
     turn_stopped why current says = one (guarded (kept session.guards) item.command) refl says
       where
-        one : (o : Option Refusal) → guarded (kept session.guards) item.command ≡ o → LookSays tells moment left_since seen pending old new was now out next_out item s.part o current (Err why) → Says (session_turn tt blank_cells (blank was.core) s) (Err why)
+        one : (o : Option Refusal) → guarded (kept session.guards) item.command ≡ o → LookSays ghosts old new was now out next_out item s.part o current (Err why) → Says (session_turn tt blank_cells (blank was.core) s) (Err why)
         one (Some refusal) e l = absurd l
         one None e d = by_turn None (Err why) e d
         -- ---- where no command is read
 
-module _ {D : Type 0} (tells : Type 0) (moment : D → ℕ) (left_since : D → ℕ → List ℕ → Type 0) (seen : D → List ℕ) (pending : D → Pending)
-    (disk : D) (store : StoreState) (out : Option (List ℕ)) {G : Type 0} (kept : G → List Guard) (only : OnlyNow tells moment left_since seen pending disk) (s : Session Blank) (session : code_session.Session G) (of : IsSession kept s session) where
+module _ {D : Type 0} (ghosts : keeping.Ghosts D)
+    (disk : D) (store : StoreState) (out : Option (List ℕ)) {G : Type 0} (kept : G → List Guard) (only : OnlyNow ghosts disk) (s : Session Blank) (session : code_session.Session G) (of : IsSession kept s session) where
   abbrev Ends : code_session.Session G → Result (Option Verdict) Received → Type 0
-  Ends after result = TurnSays tells moment left_since seen pending disk disk store store out out kept (session_turn tt blank_cells (blank store.core) s) after result
+  Ends after result = TurnSays ghosts disk disk store store out out kept (session_turn tt blank_cells (blank store.core) s) after result
 
   -- It is over already.
   pub turn_over : session.is_over ≡ true → Ends session (Ok None)
-  turn_over over = subst (λ (t : Turn Blank). TurnSays tells moment left_since seen pending disk disk store store out out kept t session (Ok None)) (sym (over_does tt blank_cells (blank store.core) s (of.over ∙ over)))
-      (record { refused_is = refl; store = refl; session_is = of; done = nothing_done tells moment left_since seen pending disk store out only })
+  turn_over over = subst (λ (t : Turn Blank). TurnSays ghosts disk disk store store out out kept t session (Ok None)) (sym (over_does tt blank_cells (blank store.core) s (of.over ∙ over)))
+      (record { refused_is = refl; store = refl; session_is = of; done = nothing_done ghosts disk store out only })
 
   no_items : s.items ≡ [] → session.is_over ≡ false → session_turn tt blank_cells (blank store.core) s ≡ record { store = blank store.core; session = record s { is_over = true }; refused = fault_of s.end; events = [] }
   no_items none going = going_does tt blank_cells (blank store.core) s (of.over ∙ going) ∙ ap (next_turn tt blank_cells (blank store.core) s) none
@@ -154,16 +155,16 @@ module _ {D : Type 0} (tells : Type 0) (moment : D → ℕ) (left_since : D → 
   pub turn_ended : (after : code_session.Session G) (refused : Option Verdict) → s.items ≡ [] → session.is_over ≡ false → kept after.guards ≡ kept session.guards → after.is_over ≡ true → after.current ≡ None
       → fault_of s.end ≡ option_map verdict_meant refused → Ends after (Ok refused)
   turn_ended after refused none going guards over current fault =
-      subst (λ (t : Turn Blank). TurnSays tells moment left_since seen pending disk disk store store out out kept t after (Ok refused)) (sym (no_items none going)) (record {
+      subst (λ (t : Turn Blank). TurnSays ghosts disk disk store store out out kept t after (Ok refused)) (sym (no_items none going)) (record {
         refused_is = fault;
         store = refl;
         session_is = record { guards = of.guards ∙ sym guards; over = sym over; part = subst (λ (c : Option OpenPart). AreParts None c) (sym current) tt };
-        done = nothing_done tells moment left_since seen pending disk store out only;
+        done = nothing_done ghosts disk store out only;
       })
 
   -- It could not be read.
   pub turn_unread : (after : code_session.Session G) (outcome : Outcome) → OutcomeReason outcome [] → Ends after (Err (how.Files outcome))
-  turn_unread after outcome reason = nothing_stopped tells moment left_since seen pending disk store store out (how.Files outcome) (session_turn tt blank_cells (blank store.core) s).events only (λ header groups h. h) reason
+  turn_unread after outcome reason = nothing_stopped ghosts disk store store out (how.Files outcome) (session_turn tt blank_cells (blank store.core) s).events only (λ header groups h. h) reason
 
 -- ---- what is told of a file
 

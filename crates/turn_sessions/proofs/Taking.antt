@@ -1,7 +1,7 @@
 -- One command: a head, END or an edit; and under guards.
 use Rattle.std.specs.Prelude.{◌≡◌, ℕ, Bool, true, false, ◌&&◌, ◌||◌, List, [], ◌∷◌, ◌++◌, Option, None, Some, Result, Ok, Err, IfErr, is_some, is_none, if◌then◌else◌}
 use Rattle.std.proofs.Common.{refl, sym, ap, subst, ◌∙◌, append-nil}
-use Rattle.sx_base.specs.Disk.{Pending}
+use Rattle.sx_base.specs.declared.disk.Disk as keeping
 use Rattle.sx_base.specs.Refusals.{refusal_of}
 use Rattle.sx_base.specs.declared.refusal.Refusal as code
 use Rattle.sx_base.specs.declared.outcome.Outcome.TheVariants as ended
@@ -20,8 +20,9 @@ use Rattle.receiver.specs.declared.outcome.Received.{Received}
 use Rattle.receiver.specs.declared.outcome.Received.TheVariants as how
 use Rattle.turn_sessions.specs.declared.part.OpenPart.{OpenPart}
 use Rattle.turn_sessions.specs.Standing.{Blank, blank_cells, AreParts}
-use Rattle.turn_sessions.specs.Doing.{HasDone, HasStopped, IsNoMemory}
-use Rattle.turn_sessions.specs.Turning.{closing, step_at, events_at, EditSays, ItemSays, CloseSays, LookSays, IfTaken}
+use Rattle.turn_sessions.specs.Doing.{IsNoMemory}
+use Rattle.turn_sessions.specs.Turning.{closing, step_at, events_at, EditSays, IfTaken}
+use Rattle.turn_sessions.proofs.Unpacked.{HasDone, HasStopped, ItemSays, CloseSays, LookSays}
 use Rattle.turn_sessions.proofs.Doings.{done_done, done_stopped, stopped_first}
 use Rattle.turn_sessions.proofs.Nothings.{OnlyNow, nothing_done, nothing_stopped}
 
@@ -42,7 +43,7 @@ is_end_of c e = cc
 no_head_begins : (item : Item) (o : Option Refusal) → head_of item.command ≡ None → beginnings item o ≡ []
 no_head_begins item o e = ap (λ (h : Option Head). if is_some h && is_none o then Begins item ∷ [] else []) e
 
-module _ {D : Type 0} (tells : Type 0) (moment : D → ℕ) (left_since : D → ℕ → List ℕ → Type 0) (seen : D → List ℕ) (pending : D → Pending) where
+module _ {D : Type 0} (ghosts : keeping.Ghosts D) where
   -- ---- END
 
   module _ (old new : D) (was now : StoreState) (out next : Option (List ℕ)) (item : Item) (p : Option (Receiving Blank)) (ends : is_end item.command ≡ true) where
@@ -59,18 +60,18 @@ module _ {D : Type 0} (tells : Type 0) (moment : D → ℕ) (left_since : D → 
         ∙ ap (λ (l : List Event). l ++ beginnings item None) (closes_events item.command p (subst (λ (c : Command). (is_some (head_of c) || is_end c) ≡ true) (sym command_is) refl))
         ∙ ap (λ (l : List Event). closing p ++ l) (no_head_begins item None (ap head_of command_is)) ∙ append-nil (closing p)
 
-    pub end_taken : (current : Option OpenPart) → current ≡ None → CloseSays tells moment left_since seen pending old new was now out next p (Ok tt)
-        → ItemSays tells moment left_since seen pending old new was now out next item p (step_at (blank was.core) item p) (events_at (blank was.core) item p) current (Ok None)
+    pub end_taken : (current : Option OpenPart) → current ≡ None → CloseSays ghosts old new was now out next p (Ok tt)
+        → ItemSays ghosts old new was now out next item p (step_at (blank was.core) item p) (events_at (blank was.core) item p) current (Ok None)
     end_taken current none c = record {
       refused = ap (λ (s : Stepped Blank). s.refusal) end_step;
       store = c.store ∙ sym (ap (λ (s : Stepped Blank). s.state.store) end_step);
       part = subst (λ (s : Stepped Blank). AreParts (receiving_after item p s.state.part) current) (sym end_step) (subst (λ (o : Option OpenPart). AreParts None o) (sym none) tt);
-      done = subst (λ (l : List Event). HasDone tells moment left_since seen pending old new was now out next l) (sym end_events) c.done;
+      done = subst (λ (l : List Event). HasDone ghosts old new was now out next l) (sym end_events) c.done;
     }
 
-    pub end_stopped : (current : Option OpenPart) (why : Received) → CloseSays tells moment left_since seen pending old new was now out next p (Err why)
-        → ItemSays tells moment left_since seen pending old new was now out next item p (step_at (blank was.core) item p) (events_at (blank was.core) item p) current (Err why)
-    end_stopped current why s = subst (λ (l : List Event). HasStopped tells moment left_since seen pending old new was now out next why l) (sym end_events) s
+    pub end_stopped : (current : Option OpenPart) (why : Received) → CloseSays ghosts old new was now out next p (Err why)
+        → ItemSays ghosts old new was now out next item p (step_at (blank was.core) item p) (events_at (blank was.core) item p) current (Err why)
+    end_stopped current why s = subst (λ (l : List Event). HasStopped ghosts old new was now out next why l) (sym end_events) s
 
   -- ---- a head
 
@@ -93,12 +94,12 @@ module _ {D : Type 0} (tells : Type 0) (moment : D → ℕ) (left_since : D → 
     after_same (Some r) None = refl
     after_same (Some r) (Some part) = ap (λ (t : Taken). Some (record { taken = t; part = part })) (sym (ap (λ (o : Option Head). if is_some o then record { head = item; edits = [] } else record { head = r.taken.head; edits = r.taken.edits ++ item ∷ [] }) is))
 
-    pub head_says : (current : Option OpenPart) (result : Result (Option code.Refusal) Received) → CloseSays tells moment left_since seen pending old middle was during out mid p (Ok tt)
-        → ItemSays tells moment left_since seen pending middle new during now mid next item None (entered (blank during.core) head (begun (blank during.core) head)) (beginnings item (entered (blank during.core) head (begun (blank during.core) head)).refusal) current result
-        → ItemSays tells moment left_since seen pending old new was now out next item p (step_at (blank was.core) item p) (events_at (blank was.core) item p) current result
+    pub head_says : (current : Option OpenPart) (result : Result (Option code.Refusal) Received) → CloseSays ghosts old middle was during out mid p (Ok tt)
+        → ItemSays ghosts middle new during now mid next item None (entered (blank during.core) head (begun (blank during.core) head)) (beginnings item (entered (blank during.core) head (begun (blank during.core) head)).refusal) current result
+        → ItemSays ghosts old new was now out next item p (step_at (blank was.core) item p) (events_at (blank was.core) item p) current result
     head_says current result closed says =
-        subst (λ (s : Stepped Blank). ItemSays tells moment left_since seen pending old new was now out next item p s (completions item.command p ++ beginnings item s.refusal) current result) (sym (head_then closed.store))
-        (subst (λ (l : List Event). ItemSays tells moment left_since seen pending old new was now out next item p later (l ++ beginnings item later.refusal) current result) (sym head_closes) (by_result result says))
+        subst (λ (s : Stepped Blank). ItemSays ghosts old new was now out next item p s (completions item.command p ++ beginnings item s.refusal) current result) (sym (head_then closed.store))
+        (subst (λ (l : List Event). ItemSays ghosts old new was now out next item p later (l ++ beginnings item later.refusal) current result) (sym head_closes) (by_result result says))
       where
         later : Stepped Blank
         later = entered (blank during.core) head (begun (blank during.core) head)
@@ -107,25 +108,25 @@ module _ {D : Type 0} (tells : Type 0) (moment : D → ℕ) (left_since : D → 
         taken None a = subst (λ (q : Option (Receiving Blank)). AreParts q current) (after_same p later.state.part) a
         taken (Some r) a = tt
 
-        by_result : (r : Result (Option code.Refusal) Received) → ItemSays tells moment left_since seen pending middle new during now mid next item None later (beginnings item later.refusal) current r
-            → ItemSays tells moment left_since seen pending old new was now out next item p later (closing p ++ beginnings item later.refusal) current r
+        by_result : (r : Result (Option code.Refusal) Received) → ItemSays ghosts middle new during now mid next item None later (beginnings item later.refusal) current r
+            → ItemSays ghosts old new was now out next item p later (closing p ++ beginnings item later.refusal) current r
         by_result (Ok refusal) d = record {
           refused = d.refused;
           store = d.store;
           part = taken refusal d.part;
-          done = done_done tells moment left_since seen pending old middle new was during now out mid next (closing p) (beginnings item later.refusal) closed.done d.done;
+          done = done_done ghosts old middle new was during now out mid next (closing p) (beginnings item later.refusal) closed.done d.done;
         }
-        by_result (Err why) s = done_stopped tells moment left_since seen pending old middle new was during now out mid next why (closing p) (beginnings item later.refusal) closed.done s
+        by_result (Err why) s = done_stopped ghosts old middle new was during now out mid next why (closing p) (beginnings item later.refusal) closed.done s
 
-    pub head_stopped : (current : Option OpenPart) (why : Received) → CloseSays tells moment left_since seen pending old new was now out next p (Err why)
-        → ItemSays tells moment left_since seen pending old new was now out next item p (step_at (blank was.core) item p) (events_at (blank was.core) item p) current (Err why)
+    pub head_stopped : (current : Option OpenPart) (why : Received) → CloseSays ghosts old new was now out next p (Err why)
+        → ItemSays ghosts old new was now out next item p (step_at (blank was.core) item p) (events_at (blank was.core) item p) current (Err why)
     head_stopped current why s =
-        subst (λ (l : List Event). HasStopped tells moment left_since seen pending old new was now out next why (l ++ beginnings item (step_at (blank was.core) item p).refusal)) (sym head_closes)
-        (stopped_first tells moment left_since seen pending old new was now out next why (closing p) (beginnings item (step_at (blank was.core) item p).refusal) s)
+        subst (λ (l : List Event). HasStopped ghosts old new was now out next why (l ++ beginnings item (step_at (blank was.core) item p).refusal)) (sym head_closes)
+        (stopped_first ghosts old new was now out next why (closing p) (beginnings item (step_at (blank was.core) item p).refusal) s)
 
   -- ---- an edit
 
-  module _ (disk : D) (store : StoreState) (out : Option (List ℕ)) (item : Item) (p : Option (Receiving Blank)) (head : head_of item.command ≡ None) (ends : is_end item.command ≡ false) (only : OnlyNow tells moment left_since seen pending disk) where
+  module _ (disk : D) (store : StoreState) (out : Option (List ℕ)) (item : Item) (p : Option (Receiving Blank)) (head : head_of item.command ≡ None) (ends : is_end item.command ≡ false) (only : OnlyNow ghosts disk) where
     edit_is : step_at (blank store.core) item p ≡ step_edit tt (blank_cells item) (record { store = blank store.core; part = part_of p }) item.command
     edit_is = edit_step tt (blank_cells item) (record { store = blank store.core; part = part_of p }) item.command head ends
 
@@ -150,25 +151,25 @@ module _ {D : Type 0} (tells : Type 0) (moment : D → ℕ) (left_since : D → 
         one (Some part) = two part (edit_part tt (blank_cells item) (blank store.core) part item.command)
 
     pub edit_says : (current : Option OpenPart) (result : Result (Option code.Refusal) Received) → EditSays item p (step_edit tt (blank_cells item) (record { store = blank store.core; part = part_of p }) item.command) current result
-        → IfErr result IsNoMemory → ItemSays tells moment left_since seen pending disk disk store store out out item p (step_at (blank store.core) item p) (events_at (blank store.core) item p) current result
+        → IfErr result IsNoMemory → ItemSays ghosts disk disk store store out out item p (step_at (blank store.core) item p) (events_at (blank store.core) item p) current result
     edit_says current (Ok refusal) e m =
-        subst (λ (l : List Event). ItemSays tells moment left_since seen pending disk disk store store out out item p (step_at (blank store.core) item p) l current (Ok refusal)) (sym edit_events)
-        (subst (λ (s : Stepped Blank). ItemSays tells moment left_since seen pending disk disk store store out out item p s [] current (Ok refusal)) (sym edit_is)
-        (record { refused = e.refused; store = sym store_kept; part = e.part; done = nothing_done tells moment left_since seen pending disk store out only }))
+        subst (λ (l : List Event). ItemSays ghosts disk disk store store out out item p (step_at (blank store.core) item p) l current (Ok refusal)) (sym edit_events)
+        (subst (λ (s : Stepped Blank). ItemSays ghosts disk disk store store out out item p s [] current (Ok refusal)) (sym edit_is)
+        (record { refused = e.refused; store = sym store_kept; part = e.part; done = nothing_done ghosts disk store out only }))
     edit_says current (Err why) e m =
-        subst (λ (w : Received). HasStopped tells moment left_since seen pending disk disk store store out out w (events_at (blank store.core) item p)) (sym m)
-        (nothing_stopped tells moment left_since seen pending disk store store out (how.Files ended.NoMemory) (events_at (blank store.core) item p) only (λ header groups h. h) tt)
+        subst (λ (w : Received). HasStopped ghosts disk disk store store out out w (events_at (blank store.core) item p)) (sym m)
+        (nothing_stopped ghosts disk store store out (how.Files ended.NoMemory) (events_at (blank store.core) item p) only (λ header groups h. h) tt)
 
 -- ---- under guards
 
-module _ {D : Type 0} (tells : Type 0) (moment : D → ℕ) (left_since : D → ℕ → List ℕ → Type 0) (seen : D → List ℕ) (pending : D → Pending) where
-  pub look_refused : (disk : D) (store : StoreState) (out : Option (List ℕ)) (item : Item) (p : Option (Receiving Blank)) (looks : Option Refusal) (refusal : code.Refusal) (current : Option OpenPart) → OnlyNow tells moment left_since seen pending disk
-      → looks ≡ Some (refusal_of refusal) → LookSays tells moment left_since seen pending disk disk store store out out item p looks current (Ok (Some refusal))
+module _ {D : Type 0} (ghosts : keeping.Ghosts D) where
+  pub look_refused : (disk : D) (store : StoreState) (out : Option (List ℕ)) (item : Item) (p : Option (Receiving Blank)) (looks : Option Refusal) (refusal : code.Refusal) (current : Option OpenPart) → OnlyNow ghosts disk
+      → looks ≡ Some (refusal_of refusal) → LookSays ghosts disk disk store store out out item p looks current (Ok (Some refusal))
   look_refused disk store out item p looks refusal current only e =
-      subst (λ (o : Option Refusal). LookSays tells moment left_since seen pending disk disk store store out out item p o current (Ok (Some refusal))) (sym e) (refl, refl, nothing_done tells moment left_since seen pending disk store out only)
+      subst (λ (o : Option Refusal). LookSays ghosts disk disk store store out out item p o current (Ok (Some refusal))) (sym e) (refl, refl, nothing_done ghosts disk store out only)
 
   pub look_allowed : (old new : D) (was now : StoreState) (out next : Option (List ℕ)) (item : Item) (p : Option (Receiving Blank)) (looks : Option Refusal) (current : Option OpenPart) (result : Result (Option code.Refusal) Received) → looks ≡ None
-      → ItemSays tells moment left_since seen pending old new was now out next item p (step_at (blank was.core) item p) (events_at (blank was.core) item p) current result
-      → LookSays tells moment left_since seen pending old new was now out next item p looks current result
+      → ItemSays ghosts old new was now out next item p (step_at (blank was.core) item p) (events_at (blank was.core) item p) current result
+      → LookSays ghosts old new was now out next item p looks current result
   look_allowed old new was now out next item p looks current result e says =
-      subst (λ (o : Option Refusal). LookSays tells moment left_since seen pending old new was now out next item p o current result) (sym e) says
+      subst (λ (o : Option Refusal). LookSays ghosts old new was now out next item p o current result) (sym e) says

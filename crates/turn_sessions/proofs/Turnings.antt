@@ -2,7 +2,7 @@
 use Rattle.std.specs.Prelude.{◌≡◌, ℕ, zero, suc, ◌<◌, ◌≤◌, false, List, [], ◌∷◌, length, get_or, Option, None, Some, Result, Ok, Err, OnOk, slice_get, slice_set}
 use Rattle.std.proofs.Common.{refl, sym, ap, subst, ◌∙◌}
 use Rattle.std.proofs.lemmas.Option.{slice_get-get_or}
-use Rattle.sx_base.specs.Disk.{Pending}
+use Rattle.sx_base.specs.declared.disk.Disk as keeping
 use Rattle.sx_base.specs.declared.outcome.Verdict.{Verdict}
 use Rattle.send_model.specs.Lengths.{limit}
 use Rattle.send_model.specs.Reading.{Whole, Faulty}
@@ -22,8 +22,9 @@ use Rattle.receiver.specs.declared.outcome.Received.{Received}
 use Rattle.turn_sessions.specs.declared.session.Session.{Session}
 use Rattle.turn_sessions.specs.Standing.{Blank, blank_put, blank_cells, IsSession, AreSessions, IsHeld, AreHeld}
 use Rattle.turn_sessions.specs.Reading.{Next, Command, AtEnd, AtFault, AtLimit, Nothing, HasNext}
-use Rattle.turn_sessions.specs.Turning.{HasVersion, bytes_left, IsTurn, TakesTurn}
+use Rattle.turn_sessions.specs.Turning.{HasVersion, bytes_left}
 use Rattle.turn_sessions.specs.Going.{AreReading, AreTaking, FewerLeft}
+use Rattle.turn_sessions.proofs.Unpacked.{IsTurn, TakesTurn}
 use Rattle.turn_sessions.proofs.Sessions.{session_at, sessions_with, reading_at, reading_with}
 
 pub there : {A : Type 0} (xs : List A) (n : ℕ) (d : A) → n < length xs → slice_get xs n ≡ Some (get_or xs n d)
@@ -101,10 +102,10 @@ with_with (z ∷ xs) (suc n) x y = ap (λ (l : List _). z ∷ l) (with_with xs n
 
 -- ---- after its turn
 
-module _ {D : Type 0} (tells : Type 0) (moment : D → ℕ) (left_since : D → ℕ → List ℕ → Type 0) (seen : D → List ℕ) (pending : D → Pending)
+module _ {D : Type 0} (ghosts : keeping.Ghosts D)
     (old new : D) (was now : StoreState) (out next_out : Option (List ℕ)) {G : Type 0} (kept : G → List Guard) (told : Option (List (List ℕ × List ℕ))) where
   pub taking_with : (sessions : List (Session G)) (n : ℕ) (session after : Session G) (result : Result (Option Verdict) Received) (w : Turns Blank) → slice_get sessions n ≡ Some session → AreTaking kept sessions (blank was.core) w
-      → TakesTurn tells moment left_since seen pending old new was now out next_out kept told session after result
+      → TakesTurn ghosts old new was now out next_out kept told session after result
       → OnOk result ((v : Turns Blank) × AreTaking kept (slice_set sessions n after) (blank now.core) v)
   taking_with sessions n session after (Err why) w at t takes = tt
   taking_with sessions n session after (Ok refused) w at t takes =
@@ -114,7 +115,7 @@ module _ {D : Type 0} (tells : Type 0) (moment : D → ℕ) (left_since : D → 
       let v : Turns Blank = record { store = w.store; sessions = with_at n x w.sessions; refused = w.refused; events = w.events } in
       let same : (m : ℕ) → held_at (with_at n x w.sessions) m ≡ held_at w.sessions m = same_held w.sessions n s x a.1 (next_held s takes.next) in
       let hold : AreHeld (blank was.core) (held_of x) = subst (λ (o : Option (Receiving Blank)). AreHeld (blank was.core) o) (sym (next_held s takes.next)) (session_held kept sessions n session at (blank was.core) w t s a.1) in
-      let is : IsTurn tells moment left_since seen pending old new was now out next_out kept (session_turn tt blank_cells (blank was.core) x) after refused = takes.says x (next_is kept s takes.next session a.2) hold (λ going. next_has s takes.next) in
+      let is : IsTurn ghosts old new was now out next_out kept (session_turn tt blank_cells (blank was.core) x) after refused = takes.says x (next_is kept s takes.next session a.2) hold (λ going. next_has s takes.next) in
       let good : Kept tt blank_cells t.base v = subst (λ (h : ℕ → Option (Receiving Blank)). (alone : Store Blank) × Stands tt blank_cells t.base w.store alone w.events h) (λ i m. sym (same m) i) t.kept_are in
       let turned = turn_at tt blank_cells v n x (get_with w.sessions n s x a.1) in (
         one_turn tt blank_cells v n,

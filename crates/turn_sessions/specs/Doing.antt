@@ -2,7 +2,8 @@
 use Rattle.std.specs.Prelude.{◌≡◌, ◌⊎◌, ⊤, ℕ, ◌<◌, false, List, [], ◌++◌, length, Option, None, Some, Result, Ok, Err}
 use Rattle.std.specs.Io.KnownBytes.{Appends}
 use Rattle.sx_base.specs.Crash.{LeavesOnly}
-use Rattle.sx_base.specs.Disk.{Pending, IsImage}
+use Rattle.sx_base.specs.Disk.{IsImage}
+use Rattle.sx_base.specs.declared.disk.Disk as keeping
 use Rattle.sx_base.specs.declared.outcome.Outcome.{Outcome}
 use Rattle.sx_base.specs.declared.outcome.Outcome.TheVariants as ended
 use Rattle.store_model.specs.Image.{Header}
@@ -89,20 +90,38 @@ StopReason (how.Files outcome) most gate events done unwritten = OutcomeReason o
 StopReason how.StoreFault most gate events done unwritten = ⊤
 StopReason (how.LogFull end wanted limit) most gate events done unwritten = (unwritten ≡ []) × (fitting most gate events ≡ record { events = done; full = Some (dues.LogFull end wanted limit) })
 
-module _ {D : Type 0} (tells : Type 0) (moment : D → ℕ) (left_since : D → ℕ → List ℕ → Type 0) (seen : D → List ℕ) (pending : D → Pending)
-    (old new : D) (was now : StoreState) (old_out new_out : Option (List ℕ)) where
+-- What turns work on: the disk, the store that is there, and what was written, where the output tells.
+pub record Work (D : Type 0) : Type 0 where
+  pub disk : D
+  pub store : StoreState
+  pub out : Option (List ℕ)
+
+abbrev pub work : {D : Type 0} → D → StoreState → Option (List ℕ) → Work D
+work disk store out = record { disk = disk; store = store; out = out }
+
+-- A run of calls: the members of the disk, and what they work on, before and after.
+pub record Run (D : Type 0) : Type 1 where
+  pub ghosts : keeping.Ghosts D
+  pub old : Work D
+  pub new : Work D
+
+abbrev pub run_of : {D : Type 0} → keeping.Ghosts D → (old new : Work D) → Run D
+run_of ghosts old new = record { ghosts = ghosts; old = old; new = new }
+
+module _ {D : Type 0} (run : Run D) where
   -- What holds of a disk that tells, which had these groups.
   abbrev pub OfGroups : (Header → List Group → Type 0) → Type 0
-  OfGroups P = tells → (header : Header) (groups : List Group) → Holds header groups was (seen old) (pending old) → P header groups
+  OfGroups P = run.ghosts.tells → (header : Header) (groups : List Group) → Holds header groups run.old.store (run.ghosts.seen run.old.disk) (run.ghosts.pending run.old.disk) → P header groups
 
   -- The events were done: their lines stand behind what was written before, and their groups behind those that there were; at each moment a
   -- crash left the first of these.
   pub record HasDone (events : List Event) : Type 0 where
-    pub wrote : Appends old_out new_out (lines_of events)
-    pub room : (fitting was.log.limit was.log.gate events).full ≡ None
-    pub gate : now.log.gate ≡ gate_after was.log.gate events
-    pub limit : now.log.limit ≡ was.log.limit
-    pub disk : OfGroups (λ header groups. Holds header (groups ++ turn_groups events) now (seen new) (pending new) × LeavesOnly moment left_since old new (HasFront header groups (turn_groups events)))
+    pub wrote : Appends run.old.out run.new.out (lines_of events)
+    pub room : (fitting run.old.store.log.limit run.old.store.log.gate events).full ≡ None
+    pub gate : run.new.store.log.gate ≡ gate_after run.old.store.log.gate events
+    pub limit : run.new.store.log.limit ≡ run.old.store.log.limit
+    pub disk : OfGroups (λ header groups. Holds header (groups ++ turn_groups events) run.new.store (run.ghosts.seen run.new.disk) (run.ghosts.pending run.new.disk)
+        × LeavesOnly run.ghosts.moment run.ghosts.left_since run.old.disk run.new.disk (HasFront header groups (turn_groups events)))
 
   -- They stopped in these events: the first ones are done, and their lines, or a front part of them, were written.
   pub record HasStopped (why : Received) (events : List Event) : Type 0 where
@@ -112,8 +131,8 @@ module _ {D : Type 0} (tells : Type 0) (moment : D → ℕ) (left_since : D → 
     pub lines : List ℕ
     pub unwritten : List ℕ
     pub printed : lines_of done ≡ lines ++ unwritten
-    pub wrote : Appends old_out new_out lines
-    pub reason : StopReason why was.log.limit was.log.gate events done unwritten
-    pub disk : OfGroups (λ header groups. EndLeaves why (Holds header (groups ++ turn_groups done) now (seen new) (pending new))
-        ((image : List ℕ) → IsImage (pending new) image → HasFront header (groups ++ turn_groups done) (turn_groups (reached why more)) image)
-        × LeavesOnly moment left_since old new (HasFront header groups (turn_groups events)))
+    pub wrote : Appends run.old.out run.new.out lines
+    pub reason : StopReason why run.old.store.log.limit run.old.store.log.gate events done unwritten
+    pub disk : OfGroups (λ header groups. EndLeaves why (Holds header (groups ++ turn_groups done) run.new.store (run.ghosts.seen run.new.disk) (run.ghosts.pending run.new.disk))
+        ((image : List ℕ) → IsImage (run.ghosts.pending run.new.disk) image → HasFront header (groups ++ turn_groups done) (turn_groups (reached why more)) image)
+        × LeavesOnly run.ghosts.moment run.ghosts.left_since run.old.disk run.new.disk (HasFront header groups (turn_groups events)))

@@ -3,14 +3,14 @@ use Rattle.std.specs.Prelude.{◌≡◌, ⊤, ℕ, ◌-◌, ◌<◌, ◌≤◌, 
 use Rattle.std.specs.List.{AllByRecursion}
 use Rattle.send_model.specs.Store.{Store}
 use Rattle.send_model.specs.Receive.{byte_cells}
-use Rattle.send_model.specs.Guards.{Guard}
 use Rattle.send_model.specs.Due.{DoneWhole, RefusedAt, TooLong}
 use Rattle.store_model.specs.Stored.{Group, as_bytes, made_all}
 use Rattle.store_model.specs.Dues as dues
 use Rattle.store_model.specs.Dues.{Due, Ends}
-use Rattle.store_model.specs.Turns.{Event, at_entry, lines_of, turn_groups, turns_of}
+use Rattle.store_model.specs.Turns.{Event, at_entry, lines_of, turn_groups}
 use Rattle.store_model.specs.TurnLaws.{IsTurnState, AreOneByOne}
-use Rattle.turn_model.specs.TurnDues.{files_read, sessions_of, all_turns, interleave_end}
+use Rattle.turn_model.specs.TurnDues.{InTurns, sessions_of, Room, room_of, all_turns, interleave_end}
+use Rattle.turn_model.specs.TurnAnswers.{taken_turns}
 use Rattle.auditor.specs.Following.{HaveSameShape}
 use Rattle.sx_base.specs.Refusals.{verdict_meant}
 use Rattle.sx_base.specs.declared.outcome.Outcome.{Outcome}
@@ -48,17 +48,26 @@ IfStands (how.Files outcome) P = OutcomeLeaves outcome P
 IfStands how.StoreFault P = ⊤
 IfStands (how.LogFull end wanted limit) P = ⊤
 
-module _ (most gate : ℕ) (base : Store ℕ) (schedule : List ℕ) (files : List (List ℕ)) (guards : List Guard) (shares : List ℕ) where
+-- What turns are to do: the room in the store, the subvolumes that there are, and the files that take turns.
+pub record ToTake : Type 0 where
+  pub room : Room
+  pub base : Store ℕ
+  pub turns : InTurns
+
+abbrev pub to_take : (most gate : ℕ) → Store ℕ → InTurns → ToTake
+to_take most gate base turns = record { room = room_of most gate; base = base; turns = turns }
+
+module _ (task : ToTake) where
   -- All that the turns do, and what they do until the answer that is due.
   abbrev pub all_events : List Event
-  all_events = (turns_of base schedule (files_read 1 files) guards shares).events
+  all_events = (taken_turns task.turns task.base).events
 
   abbrev pub due_events : List Event
-  due_events = (interleave_end most gate base schedule files guards shares).events
+  due_events = (interleave_end task.room task.base task.turns).events
 
   -- The answer is due.
   abbrev pub IsDue : Due → List Event → Type 0
-  IsDue due first = ((interleave_end most gate base schedule files guards shares).due ≡ due) × (first ≡ due_events)
+  IsDue due first = ((interleave_end task.room task.base task.turns).due ≡ due) × (first ≡ due_events)
 
   abbrev pub OutcomeIs : Outcome → List Event → (unwritten : List ℕ) → Type 0
   OutcomeIs ended.Done first unwritten = IsDue (Ends DoneWhole) first × (unwritten ≡ [])
@@ -85,9 +94,9 @@ module _ (most gate : ℕ) (base : Store ℕ) (schedule : List ℕ) (files : Lis
     pub all : all_events ≡ first ++ more
     pub has : H (turn_groups first)
     pub now : Store ℕ
-    pub made : (place : ℕ) → made_all 0 as_bytes place base (turn_groups first) ≡ Some now
-    pub state : IsTurnState 0 byte_cells (at_entry base (sessions_of files guards shares)) (all_turns schedule (sessions_of files guards shares)) now
-    pub order : AreOneByOne 0 byte_cells base first now
+    pub made : (place : ℕ) → made_all 0 as_bytes place task.base (turn_groups first) ≡ Some now
+    pub state : let sessions = sessions_of task.turns.files task.turns.guards task.turns.shares in IsTurnState 0 byte_cells (at_entry task.base sessions) (all_turns task.turns.schedule sessions) now
+    pub order : AreOneByOne 0 byte_cells task.base first now
     pub unwritten : List ℕ
     pub printed : lines_of first ≡ written ++ unwritten
     pub answer : AnswerIs why first unwritten

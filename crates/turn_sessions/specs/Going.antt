@@ -1,5 +1,5 @@
 -- Sessions that take turns, by the turns of the definitions. This program's own.
-use Rattle.std.specs.Prelude.{◌≡◌, ⊤, ℕ, ◌+◌, ◌<◌, ◌≤◌, Bool, false, List, [], ◌∷◌, ◌++◌, length, take, Option, None, Some, Result, Ok, Err}
+use Rattle.std.specs.Prelude.{◌≡◌, ⊤, ℕ, ◌+◌, ◌<◌, ◌≤◌, false, List, [], ◌∷◌, ◌++◌, length, take, Option, None, Some, Result, Ok, Err}
 use Rattle.std.specs.Option.{option_map}
 use Rattle.std.specs.List.{slice_get}
 use Rattle.send_model.specs.Lengths.{limit}
@@ -7,7 +7,6 @@ use Rattle.send_model.specs.Reading.{Item, reads}
 use Rattle.send_model.specs.Store.{Store}
 use Rattle.send_model.specs.Guards.{Guard}
 use Rattle.send_model.specs.Due as files_due
-use Rattle.sx_base.specs.Disk.{Pending}
 use Rattle.sx_base.specs.Refusals.{verdict_meant}
 use Rattle.sx_base.specs.declared.outcome.Outcome.TheVariants as ended
 use Rattle.sx_base.specs.declared.outcome.Verdict.{Verdict}
@@ -20,13 +19,12 @@ use Rattle.store_model.specs.Dues.{Due, Ends}
 use Rattle.store_model.specs.Turns as meant
 use Rattle.store_model.specs.Turns.{Event, Turns, after_turns, lines_of, turn_groups}
 use Rattle.store_model.proofs.TurnOrder.{Kept}
-use Rattle.turn_model.specs.TurnDues.{bytes_read, TurnsEnd, turns_end}
-use Rattle.store_journal.specs.Shown.{StoreState}
+use Rattle.turn_model.specs.TurnDues.{bytes_read, which_long, room_of, TurnsEnd, turns_end}
 use Rattle.receiver.specs.declared.outcome.Received.{Received}
 use Rattle.receiver.specs.declared.outcome.Received.TheVariants as how
 use Rattle.turn_sessions.specs.declared.session.Session.{Session}
 use Rattle.turn_sessions.specs.Standing.{Blank, blank_cells, blank_put, AreSessions}
-use Rattle.turn_sessions.specs.Doing.{HasDone, HasStopped}
+use Rattle.turn_sessions.specs.Doing.{Run, HasDone, HasStopped}
 use Rattle.turn_sessions.specs.Turning.{HasVersion, IfTooLong, bytes_left}
 
 -- ---- whether or not the inputs tell
@@ -110,38 +108,49 @@ abbrev pub FewerLeft : {G : Type 0} → ℕ → List (Session G) → List (Sessi
 FewerLeft place old new = (session : Session _) → slice_get old place ≡ Some session → session.is_over ≡ false
     → (after : Session _) × (slice_get new place ≡ Some after) × (bytes_left after < bytes_left session)
 
-module _ {D : Type 0} (tells : Type 0) (moment : D → ℕ) (left_since : D → ℕ → List ℕ → Type 0) (seen : D → List ℕ) (pending : D → Pending)
-    (old new : D) (was now : StoreState) (old_out new_out : Option (List ℕ)) where
-  -- Some turns were taken, which led to `w`, from a store with the subvolumes that there were at first. `end` is what is due to all of
-  -- them, `last` what they leave, and these are still to be taken.
-  pub record IsGoing {G : Type 0} (kept : G → List Guard) (long : List Bool) (files : List (List ℕ)) (w : Turns Blank) (end : TurnsEnd) (last : Turns Blank) (rest : List ℕ) (refused : Option Verdict) (sessions : List (Session G)) : Type 0 where
-    pub taking : AreTaking kept sessions (blank now.core) w
-    pub from : taking.base ≡ blank was.core
-    pub refused_is : w.refused ≡ option_map verdict_meant refused
-    pub have_left : HaveLeft 1 files w.sessions sessions
-    pub ends : end ≡ turns_end tt blank_cells was.log.limit long now.log.gate w rest
-    pub runs : last ≡ after_turns tt blank_cells w rest
-    pub done : HasDone tells moment left_since seen pending old new was now old_out new_out w.events
+-- Where turns stopped with an answer that is due, that is what is due.
+abbrev pub DueIs : Received → TurnsEnd → (done : List Event) → (unwritten : List ℕ) → Type 0
+DueIs (how.Files (ended.InputTooLong file)) end done unwritten = (end ≡ record { due = Ends (files_due.TooLong file); events = done }) × (unwritten ≡ [])
+DueIs (how.LogFull place wanted most) end done unwritten = (end ≡ record { due = dues.LogFull place wanted most; events = done }) × (unwritten ≡ [])
+DueIs (how.Files ended.InputFault) end done unwritten = ⊤
+DueIs (how.Files ended.OutputFault) end done unwritten = ⊤
+DueIs (how.Files ended.NoMemory) end done unwritten = ⊤
+DueIs (how.Files ended.Done) end done unwritten = ⊥
+DueIs (how.Files (ended.Refused verdict)) end done unwritten = ⊥
+DueIs (how.Files (ended.TooMuch sum)) end done unwritten = ⊥
+DueIs (how.Files (ended.InputChanged file place)) end done unwritten = ⊥
+DueIs how.StoreFault end done unwritten = ⊤
 
-  -- They stopped, in the first of the events of all turns; where the answer is one that is due, that is what is due.
-  abbrev pub DueIs : Received → TurnsEnd → (done : List Event) → (unwritten : List ℕ) → Type 0
-  DueIs (how.Files (ended.InputTooLong file)) end done unwritten = (end ≡ record { due = Ends (files_due.TooLong file); events = done }) × (unwritten ≡ [])
-  DueIs (how.LogFull place wanted most) end done unwritten = (end ≡ record { due = dues.LogFull place wanted most; events = done }) × (unwritten ≡ [])
-  DueIs (how.Files ended.InputFault) end done unwritten = ⊤
-  DueIs (how.Files ended.OutputFault) end done unwritten = ⊤
-  DueIs (how.Files ended.NoMemory) end done unwritten = ⊤
-  DueIs (how.Files ended.Done) end done unwritten = ⊥
-  DueIs (how.Files (ended.Refused verdict)) end done unwritten = ⊥
-  DueIs (how.Files (ended.TooMuch sum)) end done unwritten = ⊥
-  DueIs (how.Files (ended.InputChanged file place)) end done unwritten = ⊥
-  DueIs how.StoreFault end done unwritten = ⊤
+-- Turns on their way: the files, what the turns so far led to, and those that are still to be taken; and the end that is due to all of
+-- them, with what they leave.
+pub record Course : Type 0 where
+  pub files : List (List ℕ)
+  pub taken : Turns Blank
+  pub rest : List ℕ
+  pub end : TurnsEnd
+  pub last : Turns Blank
 
-  -- At a limit the store has what the events made of it, but for what cells carry.
+abbrev pub course_of : List (List ℕ) → (taken : Turns Blank) → (rest : List ℕ) → TurnsEnd → (last : Turns Blank) → Course
+course_of files taken rest end last = record { files = files; taken = taken; rest = rest; end = end; last = last }
+
+module _ {D : Type 0} (run : Run D) where
+  -- Some turns were taken, from a store with the subvolumes that there were at first. The verdict is that of the session that was refused
+  -- first, if one was.
+  pub record IsGoing {G : Type 0} (kept : G → List Guard) (course : Course) (refused : Option Verdict) (sessions : List (Session G)) : Type 0 where
+    pub taking : AreTaking kept sessions (blank run.new.store.core) course.taken
+    pub from : taking.base ≡ blank run.old.store.core
+    pub refused_is : course.taken.refused ≡ option_map verdict_meant refused
+    pub have_left : HaveLeft 1 course.files course.taken.sessions sessions
+    pub ends : course.end ≡ turns_end tt blank_cells (room_of run.old.store.log.limit run.new.store.log.gate) (which_long 1 course.files) course.taken course.rest
+    pub runs : course.last ≡ after_turns tt blank_cells course.taken course.rest
+    pub done : HasDone run course.taken.events
+
+  -- They stopped, in the first of the events of all turns. At a limit the store has what these made of it, but for what cells carry.
   pub record HasEnded (why : Received) (end : TurnsEnd) (last : Turns Blank) : Type 0 where
-    pub stopped : HasStopped tells moment left_since seen pending old new was now old_out new_out why last.events
+    pub stopped : HasStopped run why last.events
     pub due : DueIs why end stopped.done stopped.unwritten
-    pub made : IfTooLong why (made_all tt blank_put 0 (blank was.core) (turn_groups stopped.done) ≡ Some (blank now.core))
+    pub made : IfTooLong why (made_all tt blank_put 0 (blank run.old.store.core) (turn_groups stopped.done) ≡ Some (blank run.new.store.core))
 
-  abbrev pub GoingSays : {G : Type 0} → (kept : G → List Guard) → (long : List Bool) → (files : List (List ℕ)) → (w : Turns Blank) → (end : TurnsEnd) → (last : Turns Blank) → (rest : List ℕ) → List (Session G) → Result (Option Verdict) Received → Type 0
-  GoingSays kept long files w end last rest sessions (Ok refused) = IsGoing kept long files w end last rest refused sessions
-  GoingSays kept long files w end last rest sessions (Err why) = HasEnded why end last
+  abbrev pub GoingSays : {G : Type 0} → (G → List Guard) → Course → List (Session G) → Result (Option Verdict) Received → Type 0
+  GoingSays kept course sessions (Ok refused) = IsGoing kept course refused sessions
+  GoingSays kept course sessions (Err why) = HasEnded why course.end course.last

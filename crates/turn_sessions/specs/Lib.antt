@@ -7,3 +7,4 @@ pub mod Turning
 pub mod Going
 pub mod Ends
 pub mod Leaving
+pub mod Asked

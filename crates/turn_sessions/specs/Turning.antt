@@ -6,7 +6,6 @@ use Rattle.send_model.specs.Reading.{Item, CommandDue}
 use Rattle.send_model.specs.Refusal.{Refusal as model_refusal}
 use Rattle.send_model.specs.Store.{Store, Stepped, completed, step}
 use Rattle.send_model.specs.Guards.{Guard}
-use Rattle.sx_base.specs.Disk.{Pending}
 use Rattle.sx_base.specs.Refusals.{refusal_of, verdict_meant}
 use Rattle.sx_base.specs.declared.outcome.Outcome.{Outcome}
 use Rattle.sx_base.specs.declared.outcome.Outcome.TheVariants as ended
@@ -18,13 +17,12 @@ use Rattle.auditor.specs.Following.{blank}
 use Rattle.store_model.specs.Turns as meant
 use Rattle.store_model.specs.Turns.{Event, Completes, Receiving, Turn, part_of, receiving_after, completions, beginnings, session_turn}
 use Rattle.store_model.proofs.TurnOrder.{held_of}
-use Rattle.store_journal.specs.Shown.{StoreState}
 use Rattle.receiver.specs.declared.outcome.Received.{Received}
 use Rattle.receiver.specs.declared.outcome.Received.TheVariants as how
 use Rattle.turn_sessions.specs.declared.part.OpenPart.{OpenPart}
 use Rattle.turn_sessions.specs.declared.session.Session.{Session}
 use Rattle.turn_sessions.specs.Standing.{Blank, blank_cells, AreParts, AreHeld, IsSession}
-use Rattle.turn_sessions.specs.Doing.{HasDone, HasStopped}
+use Rattle.turn_sessions.specs.Doing.{Run, HasDone, HasStopped}
 use Rattle.turn_sessions.specs.Reading.{Next, Command, AtEnd, AtFault, AtLimit, Nothing, WasLeft, HasNext}
 
 -- The event of a part that is complete, if there is one.
@@ -121,49 +119,62 @@ abbrev pub ReadsAs : {G : Type 0} → Result (Option Verdict) Received → Next 
 ReadsAs (Ok refused) next before = ReadsNext next before.is_over
 ReadsAs (Err why) next before = StopsAt why next before
 
-module _ {D : Type 0} (tells : Type 0) (moment : D → ℕ) (left_since : D → ℕ → List ℕ → Type 0) (seen : D → List ℕ) (pending : D → Pending)
-    (old new : D) (was now : StoreState) (old_out new_out : Option (List ℕ)) where
-  -- A command is taken or refused as a step says, with these events.
-  pub record IsDone (item : Item) (old_part : Option (Receiving Blank)) (after : Stepped Blank) (events : List Event) (current : Option OpenPart) (refusal : Option Refusal) : Type 0 where
-    pub refused : after.refusal ≡ option_map refusal_of refusal
-    pub store : blank now.core ≡ after.state.store
-    pub part : IfTaken refusal (AreParts (receiving_after item old_part after.state.part) current)
-    pub done : HasDone tells moment left_since seen pending old new was now old_out new_out events
+-- What is to be done with a command: its item, the part that was open, what its step leaves, and its events.
+pub record ToDo : Type 0 where
+  pub item : Item
+  pub part : Option (Receiving Blank)
+  pub after : Stepped Blank
+  pub events : List Event
 
-  abbrev pub ItemSays : Item → Option (Receiving Blank) → Stepped Blank → List Event → Option OpenPart → Result (Option Refusal) Received → Type 0
-  ItemSays item old_part after events current (Ok refusal) = IsDone item old_part after events current refusal
-  ItemSays item old_part after events current (Err why) = HasStopped tells moment left_since seen pending old new was now old_out new_out why events
+abbrev pub to_do : Item → Option (Receiving Blank) → Stepped Blank → List Event → ToDo
+to_do item part after events = record { item = item; part = part; after = after; events = events }
+
+-- What the step of an item is to do.
+abbrev pub step_to_do : Store Blank → Item → Option (Receiving Blank) → ToDo
+step_to_do store item p = to_do item p (step_at store item p) (events_at store item p)
+
+module _ {D : Type 0} (run : Run D) where
+  -- A command is taken or refused as a step says, with these events.
+  pub record IsDone (task : ToDo) (current : Option OpenPart) (refusal : Option Refusal) : Type 0 where
+    pub refused : task.after.refusal ≡ option_map refusal_of refusal
+    pub store : blank run.new.store.core ≡ task.after.state.store
+    pub part : IfTaken refusal (AreParts (receiving_after task.item task.part task.after.state.part) current)
+    pub done : HasDone run task.events
+
+  abbrev pub ItemSays : ToDo → Option OpenPart → Result (Option Refusal) Received → Type 0
+  ItemSays task current (Ok refusal) = IsDone task current refusal
+  ItemSays task current (Err why) = HasStopped run why task.events
 
   -- A part that was open is complete.
   pub record IsClosed (p : Option (Receiving Blank)) : Type 0 where
-    pub store : blank now.core ≡ completed (record { store = blank was.core; part = part_of p })
-    pub done : HasDone tells moment left_since seen pending old new was now old_out new_out (closing p)
+    pub store : blank run.new.store.core ≡ completed (record { store = blank run.old.store.core; part = part_of p })
+    pub done : HasDone run (closing p)
 
   abbrev pub CloseSays : Option (Receiving Blank) → Result (Unit {0}) Received → Type 0
   CloseSays p (Ok u) = IsClosed p
-  CloseSays p (Err why) = HasStopped tells moment left_since seen pending old new was now old_out new_out why (closing p)
+  CloseSays p (Err why) = HasStopped run why (closing p)
 
   -- A command is refused by a guard, and nothing is done; or it does what its step says.
   abbrev pub LookSays : Item → Option (Receiving Blank) → Option model_refusal → Option OpenPart → Result (Option Refusal) Received → Type 0
-  LookSays item p (Some refusal) current (Ok answer) = (option_map refusal_of answer ≡ Some refusal) × (blank now.core ≡ blank was.core) × HasDone tells moment left_since seen pending old new was now old_out new_out []
+  LookSays item p (Some refusal) current (Ok answer) = (option_map refusal_of answer ≡ Some refusal) × (blank run.new.store.core ≡ blank run.old.store.core) × HasDone run []
   LookSays item p (Some refusal) current (Err why) = ⊥
-  LookSays item p None current result = ItemSays item p (step_at (blank was.core) item p) (events_at (blank was.core) item p) current result
+  LookSays item p None current result = ItemSays (step_to_do (blank run.old.store.core) item p) current result
 
   -- A turn is that of the definitions.
   pub record IsTurn {G : Type 0} (kept : G → List Guard) (t : Turn Blank) (session : Session G) (refused : Option Verdict) : Type 0 where
     pub refused_is : t.refused ≡ option_map verdict_meant refused
-    pub store : blank now.core ≡ t.store
+    pub store : blank run.new.store.core ≡ t.store
     pub session_is : IsSession kept t.session session
-    pub done : HasDone tells moment left_since seen pending old new was now old_out new_out t.events
+    pub done : HasDone run t.events
 
   abbrev pub TurnSays : {G : Type 0} → (G → List Guard) → Turn Blank → Session G → Result (Option Verdict) Received → Type 0
   TurnSays kept t session (Ok refused) = IsTurn kept t session refused
-  TurnSays kept t session (Err why) = HasStopped tells moment left_since seen pending old new was now old_out new_out why t.events
+  TurnSays kept t session (Err why) = HasStopped run why t.events
 
   -- What is read next of the session's file, and what the turn of each session that has this to read does.
   pub record TakesTurn {G : Type 0} (kept : G → List Guard) (told : Option (List (List ℕ × List ℕ))) (before after : Session G) (result : Result (Option Verdict) Received) : Type 0 where
     pub next : Next
     pub read : IfTold told before.reader.name (WasLeft before.reader after.reader next)
     pub reads : ReadsAs result next before
-    pub says : (s : meant.Session Blank) → IsSession kept s before → AreHeld (blank was.core) (held_of s) → (s.is_over ≡ false → HasNext s next)
-        → TurnSays kept (session_turn tt blank_cells (blank was.core) s) after result
+    pub says : (s : meant.Session Blank) → IsSession kept s before → AreHeld (blank run.old.store.core) (held_of s) → (s.is_over ≡ false → HasNext s next)
+        → TurnSays kept (session_turn tt blank_cells (blank run.old.store.core) s) after result

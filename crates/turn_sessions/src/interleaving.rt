@@ -3,20 +3,22 @@ ghost use Rattle.std.specs.Prelude.{◌≡◌, ◌≤◌, ℕ, List, length, map
 ghost use Rattle.std.specs.String.{string_bytes};
 ghost use Rattle.sx_base.specs.Calls.{IfAllTold, Wrote};
 ghost use Rattle.sx_base.specs.Crash.{LeavesOnly};
+ghost use Rattle.sx_base.specs.Later.{AskedOnly};
 ghost use Rattle.send_model.specs.Guards as model_guards;
 ghost use Rattle.send_model.specs.Store as model_store;
 ghost use Rattle.store_model.specs.Image.{Header};
 ghost use Rattle.store_model.specs.Stored.{Group};
 ghost use Rattle.store_model.specs.Turns.{turns_of, turn_groups};
-ghost use Rattle.turn_model.specs.TurnDues.{files_read, shared};
+ghost use Rattle.turn_model.specs.TurnDues.{in_turns, files_read, shared};
 ghost use Rattle.auditor.specs.Following.{HaveSameShape};
 ghost use Rattle.store_journal.specs.Shown.{IsIdle};
 ghost use Rattle.store_journal.specs.Holding.{Holds};
 ghost use Rattle.receiver.specs.Answers.{fault_counts, Caused};
 ghost use Rattle.receiver.specs.Disks.{shown, HasFront};
 ghost use Rattle.receiver.specs.ReceiveEnds.{LeavesMore, SteadyIfReceived};
+ghost use Rattle.turn_sessions.specs.Asked.{AreReadInTurns};
 ghost use Rattle.turn_sessions.specs.Doing.{IdleAt};
-ghost use Rattle.turn_sessions.specs.Ends.{ArePlaces, places_of, end_of, AreDone};
+ghost use Rattle.turn_sessions.specs.Ends.{ArePlaces, places_of, end_of, to_take, AreDone};
 
 use crate::task::Task;
 use crate::turning::{new_sessions, take_turns};
@@ -41,6 +43,8 @@ pub fn interleave<I: Inputs, O: Sink, D: Disk, G: Guarding + Drop>(
     requires schedule { ArePlaces (length task.now.files.now) task.now.schedule.now }
     requires guards { length guards.items ≡ length task.now.files.now }
     ensures same { I.told inputs.new ≡ I.told inputs.old }
+    ensures asked { AskedOnly I.Inputs inputs.old inputs.new
+        (AreReadInTurns (map string_bytes task.now.files.now)) }
     ensures limit { store.new.log.limit ≡ store.old.log.limit }
     ensures idle { IdleAt result (D.len disk.new) store.new }
     ensures interleaved { (base : model_store.Store ℕ) → HaveSameShape store.old.core base →
@@ -49,10 +53,11 @@ pub fn interleave<I: Inputs, O: Sink, D: Disk, G: Guarding + Drop>(
         IfAllTold (I.told inputs.old) (map string_bytes task.now.files.now)
         (λ files. Wrote (O.taken out.old) (O.taken out.new) (λ written.
         LeavesMore D.tells (shown D.Disk disk.old store.old) (shown D.Disk disk.new store.new)
-        result (AreDone store.old.log.limit store.old.log.gate base
-        (places_of task.now.schedule.now) files all shares result store.new.core written)
-        × AreDone store.old.log.limit store.old.log.gate base
-        (places_of task.now.schedule.now) files all shares result store.new.core written
+        result (AreDone (to_take store.old.log.limit store.old.log.gate base
+        (in_turns (places_of task.now.schedule.now) files all shares)) result store.new.core
+        written)
+        × AreDone (to_take store.old.log.limit store.old.log.gate base
+        (in_turns (places_of task.now.schedule.now) files all shares)) result store.new.core written
         (λ groups. Unit {0}))) }
     ensures any_moment { D.tells → (header : Header) (groups : List Group) →
         Holds header groups store.old (D.seen disk.old) (D.pending disk.old) →

@@ -15,8 +15,8 @@ ghost use Rattle.cmd_reader.specs.Next.{item_of};
 ghost use Rattle.store_journal.specs.Shown.{IsIdle};
 ghost use Rattle.receiver.specs.Answers.{fault_counts};
 ghost use Rattle.turn_sessions.specs.Standing.{Blank, blank_cells, AreParts, AreHeld};
-ghost use Rattle.turn_sessions.specs.Doing.{ErrCaused, IdleSays, IsItemStop};
-ghost use Rattle.turn_sessions.specs.Turning.{HasVersionOf, IfOkNone, ItemSays, LookSays, events_at, step_at};
+ghost use Rattle.turn_sessions.specs.Doing.{ErrCaused, IdleSays, IsItemStop, run_of, work};
+ghost use Rattle.turn_sessions.specs.Turning.{HasVersionOf, IfOkNone, ItemSays, LookSays, step_to_do};
 
 use crate::part::OpenPart;
 use crate::parting::{begin, close, edit};
@@ -55,8 +55,8 @@ pub(crate) fn take_item<D: Disk, O: Sink, G: Guarding + Drop>(
         ≡ looked (G.kept guards.old) (meaning_of read.now.item.now.command) }
     ensures taken { (p : Option (Receiving Blank)) → AreParts p current.old →
         AreHeld (blank store.old.core) p →
-        LookSays D.tells D.moment D.left_since D.seen D.pending disk.old disk.new
-        store.old store.new (O.taken out.old) (O.taken out.new)
+        LookSays (run_of D.Disk (work disk.old store.old (O.taken out.old))
+        (work disk.new store.new (O.taken out.new)))
         (item_of read.now.file read.now.item.now) p
         (guarded (G.kept guards.old) (meaning_of read.now.item.now.command)) current.new result }
     ensures closed { is_end (meaning_of read.now.item.now.command) ≡ true →
@@ -94,12 +94,9 @@ fn do_item<D: Disk, O: Sink>(
     requires same { HasVersionOf read.now.item.now.version current.old }
     ensures done { (p : Option (Receiving Blank)) → AreParts p current.old →
         AreHeld (blank store.old.core) p →
-        ItemSays D.tells D.moment D.left_since D.seen D.pending disk.old disk.new
-        store.old store.new (O.taken out.old) (O.taken out.new)
-        (item_of read.now.file read.now.item.now) p
-        (step_at (blank store.old.core) (item_of read.now.file read.now.item.now) p)
-        (events_at (blank store.old.core) (item_of read.now.file read.now.item.now) p) current.new
-        result }
+        ItemSays (run_of D.Disk (work disk.old store.old (O.taken out.old))
+        (work disk.new store.new (O.taken out.new))) (step_to_do (blank store.old.core)
+        (item_of read.now.file read.now.item.now) p) current.new result }
     ensures closed { is_end (meaning_of read.now.item.now.command) ≡ true →
         IfOkNone result (current.new ≡ None) }
     ensures version { OnOk result (HasVersionOf read.now.item.now.version current.new) }
@@ -142,12 +139,9 @@ fn enter<D: Disk, O: Sink>(
     requires version { is_version read.now.item.now.version ≡ true }
     ensures done { (p : Option (Receiving Blank)) → AreParts p current.old →
         AreHeld (blank store.old.core) p →
-        ItemSays D.tells D.moment D.left_since D.seen D.pending disk.old disk.new
-        store.old store.new (O.taken out.old) (O.taken out.new)
-        (item_of read.now.file read.now.item.now) p
-        (step_at (blank store.old.core) (item_of read.now.file read.now.item.now) p)
-        (events_at (blank store.old.core) (item_of read.now.file read.now.item.now) p) current.new
-        result }
+        ItemSays (run_of D.Disk (work disk.old store.old (O.taken out.old))
+        (work disk.new store.new (O.taken out.new))) (step_to_do (blank store.old.core)
+        (item_of read.now.file read.now.item.now) p) current.new result }
     ensures version { OnOk result (HasVersionOf read.now.item.now.version current.new) }
     ensures limit { store.new.log.limit ≡ store.old.log.limit }
     ensures idle { IdleSays result (D.len disk.new) store.new }

@@ -24,8 +24,8 @@ ghost use Rattle.store_journal.specs.Holding.{new_group, HasThese, HasOneMore, H
 ghost use Rattle.receiver.specs.Answers.{fault_counts, ended_log, IsUsualLog};
 ghost use Rattle.turn_sessions.specs.Edits.{AreFrames, IsCompletedBy, body_asks, body_end, IfStopped, IfLogFull};
 ghost use Rattle.turn_sessions.specs.Standing.{Blank, blank_cells, AreParts, AreHeld};
-ghost use Rattle.turn_sessions.specs.Doing.{ErrCaused, IdleSays, IsNoMemory, IsItemStop, stopped_as};
-ghost use Rattle.turn_sessions.specs.Turning.{CloseSays, ItemSays, EditSays, HasVersionOf};
+ghost use Rattle.turn_sessions.specs.Doing.{ErrCaused, IdleSays, IsNoMemory, IsItemStop, run_of, stopped_as, work};
+ghost use Rattle.turn_sessions.specs.Turning.{CloseSays, ItemSays, EditSays, HasVersionOf, to_do};
 
 use crate::frames::write_frames;
 use crate::part::{OpenPart, line_of};
@@ -147,8 +147,8 @@ pub(crate) fn close<D: Disk, O: Sink>(
     ensures none { current.new ≡ None }
     ensures closed { (p : Option (Receiving Blank)) → AreParts p current.old →
         AreHeld (blank store.old.core) p →
-        CloseSays D.tells D.moment D.left_since D.seen D.pending disk.old disk.new
-        store.old store.new (O.taken out.old) (O.taken out.new) p result }
+        CloseSays (run_of D.Disk (work disk.old store.old (O.taken out.old))
+        (work disk.new store.new (O.taken out.new))) p result }
     ensures limit { store.new.log.limit ≡ store.old.log.limit }
     ensures idle { IdleSays result (D.len disk.new) store.new }
     ensures stops { IfErr result IsItemStop }
@@ -199,13 +199,12 @@ pub(crate) fn begin<D: Disk>(
         (meaning_of read.now.item.now.command) }
     requires version { is_version read.now.item.now.version ≡ true }
     ensures begun { (written : Option (List ℕ)) →
-        ItemSays D.tells D.moment D.left_since D.seen D.pending disk.old disk.new
-        store.old store.new written written (item_of read.now.file read.now.item.now) None
-        (entered (blank store.old.core) (head_meant head.now)
-        (begun (blank store.old.core) (head_meant head.now)))
-        (beginnings (item_of read.now.file read.now.item.now)
-        (entered (blank store.old.core) (head_meant head.now)
-        (begun (blank store.old.core) (head_meant head.now))).refusal) current.new result }
+        ItemSays (run_of D.Disk (work disk.old store.old written) (work disk.new store.new written))
+        (to_do (item_of read.now.file read.now.item.now) None (entered (blank store.old.core)
+        (head_meant head.now) (begun (blank store.old.core) (head_meant head.now))) (beginnings
+        (item_of read.now.file read.now.item.now) (entered (blank store.old.core)
+        (head_meant head.now) (begun (blank store.old.core) (head_meant head.now))).refusal))
+        current.new result }
     ensures version { OnOk result (HasVersionOf read.now.item.now.version current.new) }
     ensures limit { store.new.log.limit ≡ store.old.log.limit }
     ensures idle { IdleSays result (D.len disk.new) store.new }

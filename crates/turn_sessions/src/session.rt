@@ -2,7 +2,7 @@
 ghost use Rattle.std.specs.Prelude.{◌≡◌, ◌≤◌, ◌<◌, ℕ, List, ◌∷◌, Option, None, Some, Ok, false, true, IfOk, IfErr, OnOk};
 ghost use Rattle.std.specs.Option.{option_map};
 ghost use Rattle.sx_base.specs.Causes.{Steady};
-ghost use Rattle.sx_base.specs.Later.{InputsLater, OutputLater};
+ghost use Rattle.sx_base.specs.Later.{InputsLater, OutputLater, ReadsOn};
 ghost use Rattle.sx_base.specs.Refusals.{refusal_of, verdict_meant};
 ghost use Rattle.send_model.specs.Counts.{is_end};
 ghost use Rattle.send_model.specs.Lengths.{limit};
@@ -15,12 +15,12 @@ ghost use Rattle.store_model.proofs.TurnOrder.{held_of};
 ghost use Rattle.auditor.specs.Following.{blank};
 ghost use Rattle.send_commands.specs.Meaning.{meaning_of};
 ghost use Rattle.cmd_reader.specs.Places.{IfTold};
-ghost use Rattle.cmd_reader.specs.Left.{at_start, HasAhead};
+ghost use Rattle.cmd_reader.specs.Left.{at_start, HasAhead, read_to};
 ghost use Rattle.cmd_reader.specs.Next.{item_of};
 ghost use Rattle.store_journal.specs.Shown.{IsIdle};
 ghost use Rattle.receiver.specs.Answers.{fault_counts};
 ghost use Rattle.turn_sessions.specs.Standing.{Blank, blank_cells, AreHeld, IsSession};
-ghost use Rattle.turn_sessions.specs.Doing.{ErrCaused, IdleSays};
+ghost use Rattle.turn_sessions.specs.Doing.{ErrCaused, IdleSays, run_of, work};
 ghost use Rattle.turn_sessions.specs.Reading.{Command};
 ghost use Rattle.turn_sessions.specs.Turning.{HasVersion, HasVersionOf, IfTooLong, bytes_left, StopsAt, TakesTurn, TurnSays};
 
@@ -97,6 +97,8 @@ pub(crate) fn take_turn<I: Inputs, O: Sink, D: Disk, G: Guarding + Drop>(
     requires held { (s : meant.Session Blank) × IsSession G.kept s session.old
         × AreHeld (blank store.old.core) (held_of s) }
     ensures inputs { InputsLater I.Inputs inputs.old inputs.new result }
+    ensures asked { ReadsOn I.Inputs inputs.old inputs.new session.old.reader.name
+        (read_to session.old.reader) (read_to session.new.reader) }
     ensures file { session.new.file ≡ session.old.file }
     ensures reader_file { session.new.reader.file ≡ session.old.reader.file }
     ensures reader_name { session.new.reader.name ≡ session.old.reader.name }
@@ -107,8 +109,8 @@ pub(crate) fn take_turn<I: Inputs, O: Sink, D: Disk, G: Guarding + Drop>(
         session.new.reader.offset ≤ limit) }
     ensures fewer { session.old.is_over ≡ false →
         OnOk result (bytes_left session.new < bytes_left session.old) }
-    ensures turned { TakesTurn D.tells D.moment D.left_since D.seen D.pending disk.old disk.new
-        store.old store.new (O.taken out.old) (O.taken out.new) G.kept (I.told inputs.old)
+    ensures turned { TakesTurn (run_of D.Disk (work disk.old store.old (O.taken out.old))
+        (work disk.new store.new (O.taken out.new))) G.kept (I.told inputs.old)
         session.old session.new result }
 
     // At the limit of a file the store is as it was.
@@ -170,8 +172,8 @@ fn do_turn<O: Sink, D: Disk, G: Guarding + Drop>(
     ensures turned { (s : meant.Session Blank) → IsSession G.kept s session.old →
         AreHeld (blank store.old.core) (held_of s) → (items : List _) →
         s.items ≡ item_of session.old.file item.now ∷ items →
-        TurnSays D.tells D.moment D.left_since D.seen D.pending disk.old disk.new
-        store.old store.new (O.taken out.old) (O.taken out.new) G.kept
+        TurnSays (run_of D.Disk (work disk.old store.old (O.taken out.old))
+        (work disk.new store.new (O.taken out.new))) G.kept
         (session_turn tt blank_cells (blank store.old.core) s) session.new result }
     ensures stops { IfErr result (λ why. StopsAt why
         (Command (item_of session.old.file item.now)) session.old) }

@@ -2,21 +2,23 @@
 ghost use Rattle.std.specs.Prelude.{◌≡◌, ◌≤◌, ◌<◌, ◌++◌, ℕ, List, [], ◌∷◌, Option, None, map, length, replicate, IfErr, IfOk, OnOk};
 ghost use Rattle.std.specs.Option.{option_map};
 ghost use Rattle.std.specs.String.{string_bytes};
+ghost use Rattle.sx_base.specs.Asks.{AreReadInTurn};
 ghost use Rattle.sx_base.specs.Calls.{IfAllTold};
 ghost use Rattle.sx_base.specs.Causes.{Steady};
-ghost use Rattle.sx_base.specs.Later.{InputsLater, OutputLater};
+ghost use Rattle.sx_base.specs.Later.{AskedOnly, InputsLater, OutputLater};
 ghost use Rattle.sx_base.specs.Refusals.{verdict_meant};
 ghost use Rattle.send_model.specs.Receive.{first_of};
 ghost use Rattle.store_model.specs.Turns as meant;
 ghost use Rattle.store_model.specs.Turns.{Turns, after_turns, one_turn, to_the_end};
-ghost use Rattle.turn_model.specs.TurnDues.{which_long, TurnsEnd};
+ghost use Rattle.turn_model.specs.TurnDues.{TurnsEnd};
 ghost use Rattle.auditor.specs.Following.{blank};
 ghost use Rattle.store_journal.specs.Shown.{StoreState, IsIdle};
 ghost use Rattle.receiver.specs.Answers.{fault_counts, IsEnd};
 ghost use Rattle.turn_sessions.specs.Standing.{Blank, blank_cells};
-ghost use Rattle.turn_sessions.specs.Doing.{ErrCaused, IdleSays};
+ghost use Rattle.turn_sessions.specs.Doing.{ErrCaused, IdleSays, run_of, work};
 ghost use Rattle.turn_sessions.specs.Ends.{ArePlaces, places_of};
-ghost use Rattle.turn_sessions.specs.Going.{AreNew, AreReading, AreShorter, AreTaking, IsGoing, GoingSays, FewerLeft, HasFewer};
+ghost use Rattle.turn_sessions.specs.Asked.{read_by};
+ghost use Rattle.turn_sessions.specs.Going.{AreNew, AreReading, AreShorter, AreTaking, IsGoing, GoingSays, course_of, FewerLeft, HasFewer};
 
 use crate::session::{Session, new_session, take_turn};
 use crate::task::{Task, Turn, Turned};
@@ -74,6 +76,8 @@ fn turn_at<I: Inputs, O: Sink, D: Disk, G: Guarding + Drop>(
         × AreReading (I.told inputs.old) 1 names sessions.old }
     requires taking { (w : Turns Blank) × AreTaking G.kept sessions.old (blank store.old.core) w }
     ensures inputs { InputsLater I.Inputs inputs.old inputs.new result }
+    ensures asked { AskedOnly I.Inputs inputs.old inputs.new
+        (λ asks. AreReadInTurn (read_by sessions.old) asks (read_by sessions.new)) }
     ensures count { length sessions.new ≡ length sessions.old }
     ensures reading { (names : List (List ℕ)) →
         AreReading (I.told inputs.old) 1 names sessions.old →
@@ -85,12 +89,12 @@ fn turn_at<I: Inputs, O: Sink, D: Disk, G: Guarding + Drop>(
         (names : List (List ℕ)) (w : Turns Blank) (end : TurnsEnd) (last : Turns Blank)
         (rest : List ℕ) →
         AreReading (I.told inputs.old) 1 names sessions.old → IfAllTold (I.told inputs.old) names
-        (λ files. IsGoing D.tells D.moment D.left_since D.seen D.pending start disk.old
-        was store.old begun (O.taken out.old) G.kept (which_long 1 files) files w end last
-        (turn.now.place ∷ rest) turn.now.refused sessions.old →
-        GoingSays D.tells D.moment D.left_since D.seen D.pending start disk.new
-        was store.new begun (O.taken out.new) G.kept (which_long 1 files) files
-        (one_turn tt blank_cells w turn.now.place) end last rest sessions.new result) }
+        (λ files. IsGoing (run_of D.Disk (work start was begun)
+        (work disk.old store.old (O.taken out.old))) G.kept
+        (course_of files w (turn.now.place ∷ rest) end last) turn.now.refused sessions.old →
+        GoingSays (run_of D.Disk (work start was begun) (work disk.new store.new (O.taken out.new)))
+        G.kept (course_of files (one_turn tt blank_cells w turn.now.place) rest end last)
+        sessions.new result) }
     ensures limit { store.new.log.limit ≡ store.old.log.limit }
     ensures idle { IdleSays result (D.len disk.new) store.new }
     ensures stops { IfErr result IsEnd }
@@ -129,6 +133,8 @@ fn take_scheduled<I: Inputs, O: Sink, D: Disk, G: Guarding + Drop>(
         × AreReading (I.told inputs.old) 1 names sessions.old }
     requires taking { (w : Turns Blank) × AreTaking G.kept sessions.old (blank store.old.core) w }
     ensures inputs { InputsLater I.Inputs inputs.old inputs.new result }
+    ensures asked { AskedOnly I.Inputs inputs.old inputs.new
+        (λ asks. AreReadInTurn (read_by sessions.old) asks (read_by sessions.new)) }
     ensures count { length sessions.new ≡ length sessions.old }
     ensures reading { (names : List (List ℕ)) →
         AreReading (I.told inputs.old) 1 names sessions.old →
@@ -139,13 +145,12 @@ fn take_scheduled<I: Inputs, O: Sink, D: Disk, G: Guarding + Drop>(
         (names : List (List ℕ)) (w : Turns Blank) (end : TurnsEnd) (last : Turns Blank)
         (rest : List ℕ) →
         AreReading (I.told inputs.old) 1 names sessions.old → IfAllTold (I.told inputs.old) names
-        (λ files. IsGoing D.tells D.moment D.left_since D.seen D.pending start disk.old
-        was store.old begun (O.taken out.old) G.kept (which_long 1 files) files w end last
-        (places_of task.now.schedule.now ++ rest) None sessions.old →
-        GoingSays D.tells D.moment D.left_since D.seen D.pending start disk.new
-        was store.new begun (O.taken out.new) G.kept (which_long 1 files) files
-        (after_turns tt blank_cells w (places_of task.now.schedule.now)) end last rest sessions.new
-        result) }
+        (λ files. IsGoing (run_of D.Disk (work start was begun)
+        (work disk.old store.old (O.taken out.old))) G.kept (course_of files w
+        (places_of task.now.schedule.now ++ rest) end last) None sessions.old →
+        GoingSays (run_of D.Disk (work start was begun) (work disk.new store.new (O.taken out.new)))
+        G.kept (course_of files (after_turns tt blank_cells w (places_of task.now.schedule.now))
+        rest end last) sessions.new result) }
     ensures limit { store.new.log.limit ≡ store.old.log.limit }
     ensures idle { IdleSays result (D.len disk.new) store.new }
     ensures stops { IfErr result IsEnd }
@@ -187,6 +192,8 @@ pub(crate) fn take_turns<I: Inputs, O: Sink, D: Disk, G: Guarding + Drop>(
         × AreReading (I.told inputs.old) 1 names sessions.old }
     requires taking { (w : Turns Blank) × AreTaking G.kept sessions.old (blank store.old.core) w }
     ensures inputs { InputsLater I.Inputs inputs.old inputs.new result }
+    ensures asked { AskedOnly I.Inputs inputs.old inputs.new
+        (λ asks. AreReadInTurn (read_by sessions.old) asks (read_by sessions.new)) }
     ensures count { length sessions.new ≡ length sessions.old }
     ensures reading { (names : List (List ℕ)) →
         AreReading (I.told inputs.old) 1 names sessions.old →
@@ -198,13 +205,13 @@ pub(crate) fn take_turns<I: Inputs, O: Sink, D: Disk, G: Guarding + Drop>(
         (end : TurnsEnd) (last : Turns Blank) →
         length at_first ≡ length sessions.old → AreShorter at_first w.sessions →
         AreReading (I.told inputs.old) 1 names sessions.old → IfAllTold (I.told inputs.old) names
-        (λ files. IsGoing D.tells D.moment D.left_since D.seen D.pending start disk.old
-        was store.old begun (O.taken out.old) G.kept (which_long 1 files) files w end last
-        (places_of task.now.schedule.now ++ to_the_end 0 at_first) None sessions.old →
-        GoingSays D.tells D.moment D.left_since D.seen D.pending start disk.new
-        was store.new begun (O.taken out.new) G.kept (which_long 1 files) files
-        (after_turns tt blank_cells (after_turns tt blank_cells w (places_of task.now.schedule.now))
-        (to_the_end 0 at_first)) end last [] sessions.new result) }
+        (λ files. IsGoing (run_of D.Disk (work start was begun)
+        (work disk.old store.old (O.taken out.old))) G.kept (course_of files w
+        (places_of task.now.schedule.now ++ to_the_end 0 at_first) end last) None sessions.old →
+        GoingSays (run_of D.Disk (work start was begun) (work disk.new store.new (O.taken out.new)))
+        G.kept (course_of files (after_turns tt blank_cells
+        (after_turns tt blank_cells w (places_of task.now.schedule.now)) (to_the_end 0 at_first)) []
+        end last) sessions.new result) }
     ensures limit { store.new.log.limit ≡ store.old.log.limit }
     ensures idle { IdleSays result (D.len disk.new) store.new }
     ensures stops { IfErr result IsEnd }
@@ -241,6 +248,8 @@ fn take_rest<I: Inputs, O: Sink, D: Disk, G: Guarding + Drop>(
         × AreReading (I.told inputs.old) 1 names sessions.old }
     requires taking { (w : Turns Blank) × AreTaking G.kept sessions.old (blank store.old.core) w }
     ensures inputs { InputsLater I.Inputs inputs.old inputs.new result }
+    ensures asked { AskedOnly I.Inputs inputs.old inputs.new
+        (λ asks. AreReadInTurn (read_by sessions.old) asks (read_by sessions.new)) }
     ensures count { length sessions.new ≡ length sessions.old }
     ensures reading { (names : List (List ℕ)) →
         AreReading (I.told inputs.old) 1 names sessions.old →
@@ -252,13 +261,12 @@ fn take_rest<I: Inputs, O: Sink, D: Disk, G: Guarding + Drop>(
         (end : TurnsEnd) (last : Turns Blank) →
         length at_first ≡ length sessions.old → AreShorter at_first w.sessions →
         AreReading (I.told inputs.old) 1 names sessions.old → IfAllTold (I.told inputs.old) names
-        (λ files. IsGoing D.tells D.moment D.left_since D.seen D.pending start disk.old
-        was store.old begun (O.taken out.old) G.kept (which_long 1 files) files w end last
-        (to_the_end 0 at_first) turned.now.refused sessions.old →
-        GoingSays D.tells D.moment D.left_since D.seen D.pending start disk.new
-        was store.new begun (O.taken out.new) G.kept (which_long 1 files) files
-        (after_turns tt blank_cells w (to_the_end 0 at_first)) end last [] sessions.new
-        result) }
+        (λ files. IsGoing (run_of D.Disk (work start was begun)
+        (work disk.old store.old (O.taken out.old))) G.kept
+        (course_of files w (to_the_end 0 at_first) end last) turned.now.refused sessions.old →
+        GoingSays (run_of D.Disk (work start was begun) (work disk.new store.new (O.taken out.new)))
+        G.kept (course_of files (after_turns tt blank_cells w (to_the_end 0 at_first)) [] end last)
+        sessions.new result) }
     ensures limit { store.new.log.limit ≡ store.old.log.limit }
     ensures idle { IdleSays result (D.len disk.new) store.new }
     ensures stops { IfErr result IsEnd }
@@ -299,6 +307,8 @@ fn finish<I: Inputs, O: Sink, D: Disk, G: Guarding + Drop>(
         × AreReading (I.told inputs.old) 1 names sessions.old }
     requires taking { (w : Turns Blank) × AreTaking G.kept sessions.old (blank store.old.core) w }
     ensures inputs { InputsLater I.Inputs inputs.old inputs.new result }
+    ensures asked { AskedOnly I.Inputs inputs.old inputs.new
+        (λ asks. AreReadInTurn (read_by sessions.old) asks (read_by sessions.new)) }
     ensures count { length sessions.new ≡ length sessions.old }
     ensures reading { (names : List (List ℕ)) →
         AreReading (I.told inputs.old) 1 names sessions.old →
@@ -309,13 +319,12 @@ fn finish<I: Inputs, O: Sink, D: Disk, G: Guarding + Drop>(
         (names : List (List ℕ)) (w : Turns Blank) (end : TurnsEnd) (last : Turns Blank)
         (rest : List ℕ) (turns : ℕ) → HasFewer w turn.now.place turns →
         AreReading (I.told inputs.old) 1 names sessions.old → IfAllTold (I.told inputs.old) names
-        (λ files. IsGoing D.tells D.moment D.left_since D.seen D.pending start disk.old
-        was store.old begun (O.taken out.old) G.kept (which_long 1 files) files w end last
-        (replicate turns turn.now.place ++ rest) turn.now.refused sessions.old →
-        GoingSays D.tells D.moment D.left_since D.seen D.pending start disk.new
-        was store.new begun (O.taken out.new) G.kept (which_long 1 files) files
-        (after_turns tt blank_cells w (replicate turns turn.now.place)) end last rest sessions.new
-        result) }
+        (λ files. IsGoing (run_of D.Disk (work start was begun)
+        (work disk.old store.old (O.taken out.old))) G.kept (course_of files w
+        (replicate turns turn.now.place ++ rest) end last) turn.now.refused sessions.old →
+        GoingSays (run_of D.Disk (work start was begun) (work disk.new store.new (O.taken out.new)))
+        G.kept (course_of files (after_turns tt blank_cells w (replicate turns turn.now.place)) rest
+        end last) sessions.new result) }
     ensures limit { store.new.log.limit ≡ store.old.log.limit }
     ensures idle { IdleSays result (D.len disk.new) store.new }
     ensures stops { IfErr result IsEnd }

@@ -12,6 +12,7 @@ use Rattle.sent_model.specs.Sent.{sent_stream}
 use Rattle.sent_model.specs.Restored.{restored_stream}
 use Rattle.sent_model.specs.HeldStores.{SendAnswers}
 use Rattle.sent_model.specs.Promises.{IsReceivedAnew}
+use Rattle.turn_model.specs.TurnDues.{in_turns}
 use Rattle.turn_model.specs.TurnAnswers.{TurnsAnswer}
 use Rattle.word_model.specs.AllRequests.{Request, OfStore, SendEntry, RestoreEntry, TakeTurns, name_at}
 
@@ -36,7 +37,7 @@ Answers (OfStore request) met answer written left = StoredAnswers request met an
 Answers (SendEntry store name) met answer written left = SendAnswers sent_stream met.image (name_at met.words name) answer written left
 Answers (RestoreEntry store name) met answer written left = SendAnswers restored_stream met.image (name_at met.words name) answer written left
 Answers (TakeTurns store schedule turns) met answer written left =
-    TurnsAnswer schedule met.files.bytes (new_guards turns.guards) turns.shares met.image answer written left
+    TurnsAnswer (in_turns schedule met.files.bytes (new_guards turns.guards) turns.shares) met.image answer written left
 
 -- The words that read files, and those of which no answer changes the image.
 abbrev pub ReadsFiles : Request → Type 0

@@ -1,5 +1,5 @@
 // What no clause says: that a long run shows on a terminal how far it is, and what its lines look like.
-ghost use Rattle.std.specs.Prelude.{None};
+ghost use Rattle.std.specs.Prelude.{⊤, None};
 ghost use Rattle.sx_base.specs.Again.{no_end};
 
 use disk_model::MemDisk;
@@ -42,6 +42,8 @@ impl Inputs for Silent {
     ghost ends = { λ _. 0 };
 
     ghost last_end = { λ _. no_end };
+
+    ghost asked = { λ _ _. ⊤ };
 
     fn read_at(&mut self, _name: &str, at: u64, buf: &mut [u8]) -> Result<usize, Failed> {
         let left = FILE.saturating_sub(at) as usize;

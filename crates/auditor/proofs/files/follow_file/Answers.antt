@@ -1,6 +1,8 @@
 use Rattle.std.proofs.Common.{refl, ap, ◌∙◌, arith}
 use Rattle.std.specs.Option.{option_copied}
 use Rattle.cmd_reader.specs.Left.{Reader}
+use Rattle.sx_base.proofs.Asking.{asked_nothing, asked_so, read_none}
+use Rattle.cmd_reader.proofs.Asked.{reads_start, reads_then}
 use Rattle.cmd_reader.proofs.Aheads.{start_ahead, next_ahead}
 use Rattle.auditor.proofs.Short.{item_short, item_moves}
 use Rattle.auditor.proofs.OneFile.{item_cause, stands_at_start, stands_after, file_unopened, file_ends, item_ends, file_stops}
@@ -16,6 +18,7 @@ loop-reader-init g c =
       same = refl;
       steady = refl;
       ends_steady = refl;
+      asked = reads_start g.I.Inputs c.args.inputs.now c.args.file.now.number c.args.file.now.name.now c.in-Ok.reader fresh;
       file = ap (λ (r : Reader). r.file) fresh;
       name = ap (λ (r : Reader). r.name) fresh;
       number = omega (arith, ap (λ (r : Reader). r.number) fresh, c.none-counts.ensures.commands);
@@ -50,6 +53,7 @@ loop-reader-preserved g c =
       same = e.same ∙ i.same;
       steady = e.steady ∙ i.steady;
       ends_steady = e.ends_steady ∙ i.ends_steady;
+      asked = reads_then g.I.Inputs _ _ _ _ _ _ _ _ _ i.name refl i.asked c.next.ensures.asked;
       file = e.file ∙ i.file;
       name = e.name ∙ i.name;
       number = omega (arith, m.next_number, i.number, c.with-counts.ensures.commands);
@@ -69,3 +73,15 @@ returns-in-Err-clause-followed g c =
 pub returns-in-Err-follow_named-clause-cause : goal.returns-in-Err-follow_named-clause-cause
 returns-in-Err-follow_named-clause-cause g c =
     item_cause _ _ _ c.follow_named.result c.in-Err-follow_named.outcome _ _ c.in-Err-follow_named.is c.follow_named.ensures.followed
+
+pub returns-in_default-clause-asked : goal.returns-in_default-clause-asked
+returns-in_default-clause-asked g c = asked_nothing g.I.Inputs c.args.inputs.now (0, read_none c.args.file.now.name.now 0)
+
+pub returns-in-Err-follow_named-clause-asked : goal.returns-in-Err-follow_named-clause-asked
+returns-in-Err-follow_named-clause-asked g c = asked_so g.I.Inputs (λ asks on. (_, on)) (reads_then g.I.Inputs _ _ _ _ _ _ _ _ _ c.loop-reader.invariant.name refl c.loop-reader.invariant.asked c.next.ensures.asked)
+
+pub returns-in-Ok-None-clause-asked : goal.returns-in-Ok-None-clause-asked
+returns-in-Ok-None-clause-asked g c = asked_so g.I.Inputs (λ asks on. (_, on)) (reads_then g.I.Inputs _ _ _ _ _ _ _ _ _ c.loop-reader.invariant.name refl c.loop-reader.invariant.asked c.next.ensures.asked)
+
+pub returns-in-Err-clause-asked : goal.returns-in-Err-clause-asked
+returns-in-Err-clause-asked g c = asked_so g.I.Inputs (λ asks on. (_, on)) (reads_then g.I.Inputs _ _ _ _ _ _ _ _ _ c.loop-reader.invariant.name refl c.loop-reader.invariant.asked c.next.ensures.asked)

@@ -1,18 +1,21 @@
 use Rattle.std.proofs.Common.{◌≡◌, ◌≤◌, ◌-◌, ◌+◌, map}
 use Rattle.std.specs.Option.{option_copied}
 use Rattle.send_model.specs.Lengths.{limit}
+use Rattle.sx_base.specs.Later.{ReadsOn}
 use Rattle.cmd_reader.specs.Places.{IfTold}
-use Rattle.cmd_reader.specs.Left.{HasAhead}
+use Rattle.cmd_reader.specs.Left.{HasAhead, read_to}
 use Rattle.auditor.specs.Following.{beside}
 use Rattle.auditor.proofs.OneFile.{Stands}
 use Rattle.auditor.proofs.files.follow_file.Given as goal
 
--- The commands that were read were accepted and counted; the inputs tell the same files, and no count rose.
+-- The commands that were read were accepted and counted; the inputs tell the same files, no count rose,
+-- and they were asked for nothing but this file, once as far as it was read.
 abbrev pub invariant-loop-reader : goal.invariant-loop-reader
 invariant-loop-reader g l = record {
   same : g.I.Inputs.told l.inputs ≡ g.I.Inputs.told l.fn.inputs;
   steady : g.I.Inputs.faults l.inputs ≡ g.I.Inputs.faults l.fn.inputs;
   ends_steady : g.I.Inputs.ends l.inputs ≡ g.I.Inputs.ends l.fn.inputs;
+  asked : ReadsOn g.I.Inputs l.fn.inputs l.inputs l.fn.file.name.now 0 (read_to l.reader);
   file : l.reader.file ≡ l.fn.file.number;
   name : l.reader.name ≡ l.fn.file.name.now;
   number : l.reader.number ≡ l.counts.commands + 1;

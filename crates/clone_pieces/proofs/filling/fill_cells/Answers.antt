@@ -1,4 +1,4 @@
-use Rattle.std.proofs.Common.{◌+◌, ◌-◌, ◌<◌, ◌≤◌, ◌^◌, map, length, sym, ◌∙◌, arith, rules}
+use Rattle.std.proofs.Common.{◌+◌, ◌-◌, ◌<◌, ◌≤◌, ◌^◌, map, length, refl, sym, ◌∙◌, arith, rules}
 use Rattle.std.specs.String.{string_bytes}
 use Rattle.extent_map.specs.Cells.{cells_between}
 use Rattle.extent_map.proofs.CellLists.{length-between}
@@ -6,12 +6,31 @@ use Rattle.extent_map.proofs.PieceByPiece.{next_within, left_after, filled_all, 
 use Rattle.provenance.specs.Traces.{advanced_by}
 use Rattle.clone_pieces.proofs.Told.{all_map}
 use Rattle.clone_pieces.proofs.Lengths.{long_then}
+use Rattle.sx_base.proofs.Asking.{asked_nothing}
+use Rattle.clone_pieces.proofs.Asked.{again_more}
 use Rattle.clone_pieces.proofs.Fills.{FilledTo, turn_had, turn_there, turn_filled}
 use Rattle.clone_pieces.specs.Filling.{byte_in, FillEnd}
 use Rattle.std.specs.Prelude.{Ok}
 use Rattle.clone_pieces.proofs.filling.fill_cells.Given.{Over}
 use Rattle.clone_pieces.proofs.filling.fill_cells.Goals.{In-Some}
 use Rattle.clone_pieces.proofs.filling.fill_cells.Goals as goal
+
+pub loop-origin-init : goal.loop-origin-init
+loop-origin-init g c = record {
+  can = search rules;
+  finite = search rules;
+  size = search rules;
+  within = omega arith;
+  left = search rules;
+  same = refl;
+  asked = asked_nothing g.I.Inputs c.args.inputs.now tt;
+  sizes = λ key ino. refl;
+  held = λ tells. refl;
+  steady = refl;
+  ends_steady = refl;
+  bytes_steady = refl;
+  filled = λ tells. search rules;
+}
 
 -- The piece ends within the buffer.
 fits : (g : Over) (c : In-Some g) → c.loop-origin.have + c.in-Some.len ≤ length c.args.buf.now
@@ -63,6 +82,7 @@ loop-origin-preserved g c =
       within = r;
       left = left_after advanced_by whole c.loop-origin.have c.in-Some.len c.in-Some.origin c.next.new.self (i.left ∙ s.2);
       same = e.inputs.same ∙ i.same;
+      asked = again_more g.I.Inputs (map string_bytes c.args.files.now) c.args.inputs.now c.loop-origin.inputs c.fill_piece.new.inputs i.same i.asked e.asked;
       sizes = long_then _ _ _ e.bytes.sizes i.sizes;
       held = λ tells. e.bytes.held tells ∙ i.held tells;
       steady = e.inputs.steady ∙ i.steady;
@@ -81,3 +101,8 @@ returns-clause-filled g c tells =
     let held = g.B.OutsideBytes.held c.args.bytes.now in
     all_map (g.I.Inputs.told c.args.inputs.now) (map string_bytes c.args.files.now) (FilledTo held whole c.loop-origin.have c.loop-origin.buf) (FillEnd held whole c.loop-origin.buf (Ok tt))
     (λ files filled. filled_all (byte_in held files) whole c.loop-origin.have c.loop-origin.buf (i.left ∙ c.in-None.ensures.steps.0) (i.size ∙ sym l) filled) (i.filled tells)
+
+pub returns-in-Err-clause-asked : goal.returns-in-Err-clause-asked
+returns-in-Err-clause-asked g c =
+    let i = c.loop-origin.invariant in
+    again_more g.I.Inputs (map string_bytes c.args.files.now) c.args.inputs.now c.loop-origin.inputs c.fill_piece.new.inputs i.same i.asked c.in-Err.ensures.asked

@@ -4,14 +4,16 @@ use Rattle.sx_base.specs.Calls.{IfAllTold}
 use Rattle.extent_map.specs.Cells.{cells_between}
 use Rattle.clone_pieces.specs.Origins.{AreAsLong}
 use Rattle.clone_pieces.specs.Filling.{byte_in}
+use Rattle.clone_pieces.proofs.Asked.{AskedAgain}
 use Rattle.clone_pieces.proofs.Chunks.{Written}
 use Rattle.clone_pieces.proofs.literal.write_cells.Given as goal
 
--- The bytes of the first cells have gone out as commands, and no count rose.
+-- The bytes of the first cells have gone out as commands, only ranges were asked for, and no count rose.
 abbrev pub invariant-loop-done : goal.invariant-loop-done
 invariant-loop-done g l = record {
   within : l.done ≤ l.range.len;
   same : g.I.Inputs.told l.inputs ≡ g.I.Inputs.told l.fn.inputs;
+  asked : AskedAgain g.I.Inputs (map string_bytes l.fn.sources.files.now) l.fn.inputs l.inputs;
   sizes : AreAsLong (g.B.OutsideBytes.held l.bytes) (g.B.OutsideBytes.held l.fn.bytes);
   held : g.B.OutsideBytes.tells → g.B.OutsideBytes.held l.bytes ≡ g.B.OutsideBytes.held l.fn.bytes;
   steady : g.I.Inputs.faults l.inputs ≡ g.I.Inputs.faults l.fn.inputs;

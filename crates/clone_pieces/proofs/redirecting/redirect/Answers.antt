@@ -8,6 +8,8 @@ use Rattle.provenance.specs.Traces.{place_in}
 use Rattle.provenance.specs.Plans.{planned}
 use Rattle.provenance.specs.Cuts.{Cut}
 use Rattle.clone_pieces.specs.Cutting.{cut_len, IsNamed}
+use Rattle.sx_base.proofs.Asking.{asked_nothing}
+use Rattle.clone_pieces.proofs.Asked.{again_more}
 use Rattle.clone_pieces.proofs.Lengths.{long_then}
 use Rattle.clone_pieces.proofs.Rows.{CutRow, cuts_row, cuts_named, row_next, row_fits, row_stands}
 use Rattle.clone_pieces.proofs.Redirects.{plan_had, plan_there, Stands, stands_start, stands_more, stands_stop, stands_end}
@@ -35,6 +37,7 @@ loop-plan-init g c =
       row = subst (λ (cs : List Cut). CutRow c.args.range.now.from 0 cs c.args.range.now.len) (sym is) (subst (λ (n : ℕ). CutRow c.args.range.now.from 0 cuts n) long (cuts_row base E right c.args.range.now.from cells cuts said.pieces));
       named = subst (λ (cs : List Cut). AllByRecursion (IsNamed E) cs) (sym (is ∙ said.cuts)) (cuts_named E c.args.range.now.from (map place_in cells));
       same = refl;
+      asked = asked_nothing g.I.Inputs c.args.inputs.now tt;
       sizes = λ key ino. refl;
       held = λ tells. refl;
       steady = refl;
@@ -99,6 +102,7 @@ loop-plan-preserved g c =
       row = subst (λ (n : ℕ). CutRow c.args.range.now.from (c.loop-plan.done + n) c.next.new.self c.args.range.now.len) long (row_next c.args.range.now.from c.loop-plan.done c.args.range.now.len (planned c.in-Some.plan) c.next.new.self row);
       named = (subst (λ (cs : List Cut). AllByRecursion (IsNamed E) cs) step i.named).1;
       same = e.inputs.same ∙ i.same;
+      asked = again_more g.I.Inputs names c.args.inputs.now c.loop-plan.inputs c.write_piece.new.inputs i.same i.asked e.asked;
       sizes = long_then _ _ _ e.bytes.sizes i.sizes;
       held = λ tells. e.bytes.held tells ∙ i.held tells;
       steady = e.inputs.steady ∙ i.steady;
@@ -121,3 +125,8 @@ pub returns-clause-redirected : goal.returns-clause-redirected
 returns-clause-redirected g c tells =
     stands_end (g.I.Inputs.told c.args.inputs.now) (map string_bytes c.args.sources.now.files.now) (g.E.Known.base c.args.sources.now.known.now) (g.B.OutsideBytes.held c.args.bytes.now) c.args.range.now.contents.now c.args.range.now.from c.args.range.now.len c.args.range.now.to.version c.args.range.now.to.path.now c.args.range.now.to.offset
     c.loop-plan.done c.loop-plan.plan-iterator c.in-None.ensures.steps.0 (g.O.Sink.taken c.args.out.now) (g.O.Sink.taken c.loop-plan.out) c.args.pending.now c.loop-plan.pending (c.loop-plan.invariant.stands tells)
+
+pub returns-in-Err-clause-asked : goal.returns-in-Err-clause-asked
+returns-in-Err-clause-asked g c =
+    let i = c.loop-plan.invariant in
+    again_more g.I.Inputs (map string_bytes c.args.sources.now.files.now) c.args.inputs.now c.loop-plan.inputs c.write_piece.new.inputs i.same i.asked c.in-Err.ensures.asked

@@ -7,11 +7,12 @@ use Rattle.clone_pieces.specs.Origins.{AreAsLong}
 use Rattle.clone_pieces.specs.Filling.{byte_in}
 use Rattle.clone_pieces.specs.Cutting.{IsNamed}
 use Rattle.clone_pieces.specs.Redirecting.{seen_cells, pieces_spelled}
+use Rattle.clone_pieces.proofs.Asked.{AskedAgain}
 use Rattle.clone_pieces.proofs.Rows.{CutRow}
 use Rattle.clone_pieces.proofs.Redirects.{Redirected}
 use Rattle.clone_pieces.proofs.redirecting.redirect.Given as goal
 
--- What stands for the first pieces has gone out, the others stand one behind the other, and no count rose.
+-- What stands for the first pieces has gone out, the others stand one behind the other, only ranges were asked for, and no count rose.
 abbrev pub invariant-loop-plan : goal.invariant-loop-plan
 invariant-loop-plan g l = record {
   can : (goal.iterator-loop-plan g).can_next l.plan-iterator;
@@ -19,6 +20,7 @@ invariant-loop-plan g l = record {
   row : CutRow l.range.from l.done l.plan-iterator l.range.len;
   named : AllByRecursion (IsNamed (g.E.Ends.ends l.sources.known.now)) l.plan-iterator;
   same : g.I.Inputs.told l.inputs ≡ g.I.Inputs.told l.fn.inputs;
+  asked : AskedAgain g.I.Inputs (map string_bytes l.fn.sources.files.now) l.fn.inputs l.inputs;
   sizes : AreAsLong (g.B.OutsideBytes.held l.bytes) (g.B.OutsideBytes.held l.fn.bytes);
   held : g.B.OutsideBytes.tells → g.B.OutsideBytes.held l.bytes ≡ g.B.OutsideBytes.held l.fn.bytes;
   steady : g.I.Inputs.faults l.inputs ≡ g.I.Inputs.faults l.fn.inputs;

@@ -3,6 +3,7 @@ use Rattle.std.specs.String.{string_bytes}
 use Rattle.std.proofs.Common.{ℕ, subst}
 use Rattle.sx_base.specs.Calls.{SteadyIfDone}
 use Rattle.sx_base.proofs.Ended.{stopped_steady}
+use Rattle.composer.proofs.Asked.{heads_alone, heads_and_all}
 use Rattle.composer.proofs.FilesWriting.{survey_stopped}
 use Rattle.composer.proofs.Starting.{nothing_traced, nothing_sized, nothing_held, nothing_sayable}
 use Rattle.composer.proofs.whole.compose.Goals as goal
@@ -36,3 +37,10 @@ returns-clause-steady g c = subst (λ (n : ℕ). SteadyIfDone n (g.I.Inputs.faul
 
 pub returns-clause-ends_steady : goal.returns-clause-ends_steady
 returns-clause-ends_steady g c = subst (λ (n : ℕ). SteadyIfDone n (g.I.Inputs.ends c.compose_over.new.inputs) c.compose_over.result) c.in-Ok.ensures.ends_steady c.compose_over.ensures.ends_steady
+
+pub returns-in-Err-clause-asked : goal.returns-in-Err-clause-asked
+returns-in-Err-clause-asked g c = heads_alone g.I.Inputs (map string_bytes c.args.files.now) c.args.inputs.now c.survey.new.inputs c.in-Err.ensures.asked
+
+pub returns-clause-asked : goal.returns-clause-asked
+returns-clause-asked g c =
+    heads_and_all g.I.Inputs (map string_bytes c.args.files.now) c.args.inputs.now c.survey.new.inputs c.compose_over.new.inputs c.in-Ok.ensures.same c.in-Ok.ensures.asked c.compose_over.ensures.asked

@@ -15,6 +15,7 @@ use Rattle.clone_pieces.proofs.Lengths.{long_then}
 use Rattle.clone_pieces.proofs.Told as all
 use Rattle.clone_pieces.proofs.Told.{name_at, count_names}
 use Rattle.composer.proofs.NamedItem.{item_fits, same_version, still_within, still_said, still_spelled, named_for}
+use Rattle.composer.proofs.Asked.{file_none, file_read, file_again, file_all, file_unread}
 use Rattle.composer.proofs.FileWriting.{EndsAlike, in_files_at_start, in_files_after, cells_in_files, stands_at_start, alike_at_start, alike_after, next_of_all, data_there, stands_after, file_unopened, file_unnamed, file_ends, file_stops, file_above, item_stops}
 use Rattle.composer.proofs.whole.write_file.Goals as goal
 
@@ -27,6 +28,7 @@ loop-reader-init g c =
     let fresh = c.in-Ok.ensures.start in
     record {
       same = refl;
+      asked = file_none g.I.Inputs (map string_bytes c.args.task.now.files.now) c.args.turn.number (c.args.turn.number + 1) c.as_str.result.now c.in-Ok.reader c.args.inputs.now fresh;
       sizes = λ key ino. refl;
       held = λ tells. refl;
       steady = refl;
@@ -115,6 +117,8 @@ loop-reader-preserved g c =
     let next = next_of_all (g.I.Inputs.told c.args.inputs.now) _ (map string_bytes c.args.task.now.files.now) c.args.turn.number c.loop-reader.reader c.next.new.self 0 0 c.in-Ok-Some.field-0 c.in-Ok-Some.item c.in-Ok-Some.field-0-is i.same (count_names c.args.task.now.files.now c.args.turn.number c.requires.numbered) i.name e.read in
     record {
       same = t.inputs.same ∙ e.same ∙ i.same;
+      asked = file_again g.I.Inputs (map string_bytes c.args.task.now.files.now) c.args.turn.number c.next.new.self c.args.inputs.now c.next.new.inputs c.take-taken.new.inputs (e.same ∙ i.same)
+          (file_read g.I.Inputs (map string_bytes c.args.task.now.files.now) c.args.turn.number c.loop-reader.reader c.next.new.self c.args.inputs.now c.loop-reader.inputs c.next.new.inputs i.name i.asked c.in-Ok-Some.ensures.asked) t.asked;
       sizes = long_then _ _ _ t.bytes.sizes i.sizes;
       held = λ tells. t.bytes.held tells ∙ i.held tells;
       steady = t.inputs.steady ∙ e.steady ∙ i.steady;
@@ -138,3 +142,37 @@ returns-in-Err-clause-wrote g c tells =
     let i = c.loop-reader.invariant in
     file_stops _ _ (map string_bytes c.args.task.now.files.now) (plan_with (g.E.Known.base c.args.task.now.known.now) c.args.task.now.survey.now) c.args.turn.number (c.args.turn.number + 1) (name_for c.args.task.now.names.now (c.args.turn.number + 1)) c.args.composer.now _ c.loop-reader.reader c.next.new.self c.loop-reader.composer _ _ c.args.turn.before c.loop-reader.place _ _ _ _ c.in-Err.stop c.outcome_of.result c.stopped-in-Err.result
     i.same (count_names c.args.task.now.files.now c.args.turn.number c.requires.numbered) i.name c.in-Err.ensures.read c.outcome_of.ensures.outcome c.stopped-in-Err.ensures.stopped i.alike (i.stands tells)
+
+pub returns-in_default-clause-asked : goal.returns-in_default-clause-asked
+returns-in_default-clause-asked g c = file_unread g.I.Inputs (map string_bytes c.args.task.now.files.now) c.args.turn.number c.args.inputs.now
+
+pub returns-in-Ok-None-clause-asked : goal.returns-in-Ok-None-clause-asked
+returns-in-Ok-None-clause-asked g c =
+    let i = c.loop-reader.invariant in
+    file_all g.I.Inputs (map string_bytes c.args.task.now.files.now) c.args.turn.number c.next.new.self c.args.inputs.now c.next.new.inputs
+    (file_read g.I.Inputs (map string_bytes c.args.task.now.files.now) c.args.turn.number c.loop-reader.reader c.next.new.self c.args.inputs.now c.loop-reader.inputs c.next.new.inputs i.name i.asked c.in-Ok-None.ensures.asked)
+
+pub returns-in_default-rename-clause-asked : goal.returns-in_default-rename-clause-asked
+returns-in_default-rename-clause-asked g c =
+    let i = c.loop-reader.invariant in
+    file_all g.I.Inputs (map string_bytes c.args.task.now.files.now) c.args.turn.number c.next.new.self c.args.inputs.now c.next.new.inputs
+    (file_read g.I.Inputs (map string_bytes c.args.task.now.files.now) c.args.turn.number c.loop-reader.reader c.next.new.self c.args.inputs.now c.loop-reader.inputs c.next.new.inputs i.name i.asked c.in-Ok-Some.ensures.asked)
+
+pub returns-then-item-version-clause-asked : goal.returns-then-item-version-clause-asked
+returns-then-item-version-clause-asked g c =
+    let i = c.loop-reader.invariant in
+    file_all g.I.Inputs (map string_bytes c.args.task.now.files.now) c.args.turn.number c.next.new.self c.args.inputs.now c.next.new.inputs
+    (file_read g.I.Inputs (map string_bytes c.args.task.now.files.now) c.args.turn.number c.loop-reader.reader c.next.new.self c.args.inputs.now c.loop-reader.inputs c.next.new.inputs i.name i.asked c.in-Ok-Some.ensures.asked)
+
+pub returns-in-Err-clause-asked : goal.returns-in-Err-clause-asked
+returns-in-Err-clause-asked g c =
+    let i = c.loop-reader.invariant in
+    file_all g.I.Inputs (map string_bytes c.args.task.now.files.now) c.args.turn.number c.next.new.self c.args.inputs.now c.next.new.inputs
+    (file_read g.I.Inputs (map string_bytes c.args.task.now.files.now) c.args.turn.number c.loop-reader.reader c.next.new.self c.args.inputs.now c.loop-reader.inputs c.next.new.inputs i.name i.asked c.in-Err.ensures.asked)
+
+pub returns-in-Err-taken-clause-asked : goal.returns-in-Err-taken-clause-asked
+returns-in-Err-taken-clause-asked g c =
+    let i = c.loop-reader.invariant in
+    file_all g.I.Inputs (map string_bytes c.args.task.now.files.now) c.args.turn.number c.next.new.self c.args.inputs.now c.take-taken.new.inputs
+    (file_again g.I.Inputs (map string_bytes c.args.task.now.files.now) c.args.turn.number c.next.new.self c.args.inputs.now c.next.new.inputs c.take-taken.new.inputs (c.in-Ok-Some.ensures.same ∙ i.same)
+    (file_read g.I.Inputs (map string_bytes c.args.task.now.files.now) c.args.turn.number c.loop-reader.reader c.next.new.self c.args.inputs.now c.loop-reader.inputs c.next.new.inputs i.name i.asked c.in-Ok-Some.ensures.asked) c.in-Err-taken.ensures.asked)

@@ -9,13 +9,16 @@ use Rattle.cmd_reader.specs.Left.{HasAhead}
 use Rattle.clone_pieces.specs.Origins.{IsHad, AreAsLong}
 use Rattle.send_model.specs.Cells.{AllCells}
 use Rattle.composer.specs.Files.{plan_with}
+use Rattle.composer.proofs.Asked.{FileAsked}
 use Rattle.composer.proofs.FileWriting.{EndsAlike, InFiles, Stands}
 use Rattle.composer.proofs.whole.write_file.Given as goal
 
--- The items that were read were taken, the inputs tell the same files, what is held of the base is the same, and no count rose.
+-- The items that were read were taken, the inputs tell the same files and were asked for this one, and for ranges again; what is held of the base is the same, and no
+-- count rose.
 abbrev pub invariant-loop-reader : goal.invariant-loop-reader
 invariant-loop-reader g l = record {
   same : g.I.Inputs.told l.inputs ≡ g.I.Inputs.told l.fn.inputs;
+  asked : FileAsked g.I.Inputs (map string_bytes l.fn.task.files.now) l.fn.turn.number l.reader l.fn.inputs l.inputs;
   sizes : AreAsLong (g.B.OutsideBytes.held l.bytes) (g.B.OutsideBytes.held l.fn.bytes);
   held : g.B.OutsideBytes.tells → g.B.OutsideBytes.held l.bytes ≡ g.B.OutsideBytes.held l.fn.bytes;
   steady : g.I.Inputs.faults l.inputs ≡ g.I.Inputs.faults l.fn.inputs;

@@ -1,11 +1,12 @@
 use Rattle.std.specs.Prelude.{map}
 use Rattle.std.specs.String.{string_bytes}
-use Rattle.std.proofs.Common.{refl, sym, ◌∙◌, arith}
+use Rattle.std.proofs.Common.{refl, sym, ◌+◌, ◌∙◌, arith}
 use Rattle.clone_pieces.specs.Origins.{IsInInput}
 use Rattle.send_model.specs.Cells.{AllCells}
 use Rattle.composer.specs.Files.{plan_with}
 use Rattle.clone_pieces.proofs.Lengths.{long_then}
-use Rattle.clone_pieces.proofs.Told.{told_moved}
+use Rattle.clone_pieces.proofs.Told.{told_moved, count_names}
+use Rattle.composer.proofs.Asked.{files_none, files_more, files_all}
 use Rattle.composer.proofs.FilesWriting.{files_start, files_after, begun, files_stopped, files_empty, files_ended}
 use Rattle.composer.proofs.HandedOn.{answer_is, end_caused, end_unchanged, end_at_last, handed_stops}
 use Rattle.composer.proofs.whole.write_files.Goals as goal
@@ -14,6 +15,7 @@ pub loop-file-init : goal.loop-file-init
 loop-file-init g c = record {
   within = omega (arith);
   same = refl;
+  asked = files_none g.I.Inputs (map string_bytes c.args.task.now.files.now) c.args.inputs.now;
   sizes = λ key ino. refl;
   held = λ tells. refl;
   steady = refl;
@@ -44,6 +46,7 @@ loop-file-preserved g c =
     record {
       within = omega (arith, c.loop-file-test.true);
       same = e.inputs.same ∙ i.same;
+      asked = files_more g.I.Inputs (map string_bytes c.args.task.now.files.now) c.loop-file.file c.args.inputs.now c.loop-file.inputs c.write_file.new.inputs (count_names c.args.task.now.files.now c.loop-file.file c.loop-file-test.true) i.same i.asked e.asked;
       sizes = long_then _ _ _ e.bytes.sizes i.sizes;
       held = λ tells. e.bytes.held tells ∙ i.held tells;
       steady = e.inputs.steady ∙ i.steady;
@@ -80,3 +83,15 @@ returns-clause-stops g c = handed_stops c.end.result c.map_err.result (answer_is
 pub returns-clause-last : goal.returns-clause-last
 returns-clause-last g c =
     end_at_last c.end.result c.map_err.result c.loop-file.composer c.end.new.self c.args.task.now.survey.now.last (answer_is c.end.result c.map_err.result c.map_err.ensures.cases) c.end.ensures.all_out (sym c.is_at_last-at_last.ensures.last ∙ c.if-not-at_last.false)
+
+pub returns-in-Err-clause-asked : goal.returns-in-Err-clause-asked
+returns-in-Err-clause-asked g c =
+    let i = c.loop-file.invariant in
+    files_all g.I.Inputs (map string_bytes c.args.task.now.files.now) (c.loop-file.file + 1) c.args.inputs.now c.write_file.new.inputs
+    (files_more g.I.Inputs (map string_bytes c.args.task.now.files.now) c.loop-file.file c.args.inputs.now c.loop-file.inputs c.write_file.new.inputs (count_names c.args.task.now.files.now c.loop-file.file c.loop-file-test.true) i.same i.asked c.in-Err.ensures.asked)
+
+pub returns-then-not-at_last-clause-asked : goal.returns-then-not-at_last-clause-asked
+returns-then-not-at_last-clause-asked g c = files_all g.I.Inputs (map string_bytes c.args.task.now.files.now) c.loop-file.file c.args.inputs.now c.loop-file.inputs c.loop-file.invariant.asked
+
+pub returns-clause-asked : goal.returns-clause-asked
+returns-clause-asked g c = files_all g.I.Inputs (map string_bytes c.args.task.now.files.now) c.loop-file.file c.args.inputs.now c.loop-file.inputs c.loop-file.invariant.asked

@@ -5,14 +5,17 @@ use Rattle.sx_base.specs.Calls.{IfAllTold}
 use Rattle.clone_pieces.specs.Origins.{IsHad, IsInInput, AreAsLong}
 use Rattle.send_model.specs.Cells.{AllCells}
 use Rattle.composer.specs.Files.{plan_with}
+use Rattle.composer.proofs.Asked.{FilesAsked}
 use Rattle.composer.proofs.FilesWriting.{FilesStand}
 use Rattle.composer.proofs.whole.write_files.Given as goal
 
--- The items of the files so far were taken, the inputs tell the same files, what is held of the base is the same, and no count rose.
+-- The items of the files so far were taken, the inputs tell the same files and were asked for these, and for ranges again; what is held of the base is the same, and no
+-- count rose.
 abbrev pub invariant-loop-file : goal.invariant-loop-file
 invariant-loop-file g l = record {
   within : l.file ≤ length l.fn.task.files.now;
   same : g.I.Inputs.told l.inputs ≡ g.I.Inputs.told l.fn.inputs;
+  asked : FilesAsked g.I.Inputs (map string_bytes l.fn.task.files.now) l.file l.fn.inputs l.inputs;
   sizes : AreAsLong (g.B.OutsideBytes.held l.bytes) (g.B.OutsideBytes.held l.fn.bytes);
   held : g.B.OutsideBytes.tells → g.B.OutsideBytes.held l.bytes ≡ g.B.OutsideBytes.held l.fn.bytes;
   steady : g.I.Inputs.faults l.inputs ≡ g.I.Inputs.faults l.fn.inputs;

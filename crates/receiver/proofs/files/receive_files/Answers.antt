@@ -2,6 +2,8 @@ use Rattle.std.specs.Prelude.{ℕ, None, map, ◌+◌}
 use Rattle.std.specs.Option.{option_copied}
 use Rattle.std.specs.String.{string_bytes}
 use Rattle.std.proofs.Common.{refl, sym, ap, subst, ◌∙◌, arith}
+use Rattle.sx_base.proofs.Asking.{asked_nothing, asked_so, once_none, once_front}
+use Rattle.cmd_reader.proofs.Asked.{file_once}
 use Rattle.cmd_reader.specs.Places.{IfTold}
 use Rattle.receiver.specs.Disks.{work, RunsOn, LeavesOn, StopsOn}
 use Rattle.receiver.proofs.Unpacked.{FileEnds}
@@ -15,6 +17,7 @@ loop-file-init g c = record {
   same = refl;
   steady = refl;
   ends_steady = refl;
+  asked = asked_nothing g.I.Inputs c.args.inputs.now (once_none _);
   out_steady = refl;
   disk_steady = refl;
   most = refl;
@@ -32,10 +35,11 @@ loop-file-preserved g c =
     let f = c.receive_file.new in
     record {
       within = omega (arith, c.loop-file-test.true);
-      same = e.same ∙ i.same;
-      steady = e.steady ∙ i.steady;
-      ends_steady = e.ends_steady ∙ i.ends_steady;
-      out_steady = e.out_steady ∙ i.out_steady;
+      same = e.inputs.same ∙ i.same;
+      steady = e.inputs.steady ∙ i.steady;
+      ends_steady = e.inputs.ends_steady ∙ i.ends_steady;
+      asked = file_once g.I.Inputs _ _ _ c.args.given.now.files.now c.loop-file.file c.index-given-file.result c.as_str-name.result.now c.loop-file-test.true c.index-given-file.is (c.as_str-name.ensures.value ∙ ap string_bytes (sym c.index-given-file.is)) i.asked c.receive_file.ensures.asked;
+      out_steady = e.out.steady ∙ i.out_steady;
       disk_steady = e.disk_steady ∙ i.disk_steady;
       most = e.limit ∙ i.most;
       idle = e.ready;
@@ -84,3 +88,9 @@ returns-clause-received g c base spot at on none =
     (LeavesOn g.D.Disk (work c.args.disk.now c.args.store.now None) c.loop-file.disk None)
     (StopsOn g.D.Disk (work c.args.disk.now c.args.store.now None) (work c.loop-file.disk c.loop-file.store None))
     c.loop-file-test.false (c.loop-file.invariant.stand base spot at on none)
+
+pub returns-in-Err-clause-asked : goal.returns-in-Err-clause-asked
+returns-in-Err-clause-asked g c = asked_so g.I.Inputs (λ asks once. once_front _ (c.loop-file.file + 1) asks once) (file_once g.I.Inputs _ _ _ c.args.given.now.files.now c.loop-file.file c.index-given-file.result c.as_str-name.result.now c.loop-file-test.true c.index-given-file.is (c.as_str-name.ensures.value ∙ ap string_bytes (sym c.index-given-file.is)) c.loop-file.invariant.asked c.receive_file.ensures.asked)
+
+pub returns-clause-asked : goal.returns-clause-asked
+returns-clause-asked g c = asked_so g.I.Inputs (λ asks once. once_front _ c.loop-file.file asks once) c.loop-file.invariant.asked

@@ -1,7 +1,9 @@
 use Rattle.std.specs.Prelude.{ℕ, None, map}
 use Rattle.std.specs.String.{string_bytes}
-use Rattle.std.proofs.Common.{◌≡◌, ◌≤◌, ◌-◌, length}
+use Rattle.std.proofs.Common.{◌≡◌, ◌≤◌, ◌-◌, length, take}
+use Rattle.sx_base.specs.Asks.{AreReadOnce}
 use Rattle.sx_base.specs.Calls.{IfAllTold}
+use Rattle.sx_base.specs.Later.{AskedOnly}
 use Rattle.send_model.specs.Store.{Store}
 use Rattle.store_model.proofs.PassedStates.{IsOn}
 use Rattle.store_journal.specs.Shown.{IsIdle}
@@ -10,13 +12,15 @@ use Rattle.receiver.specs.Running.{Spot, IsAt}
 use Rattle.receiver.proofs.AllTheFiles.{AllStand}
 use Rattle.receiver.proofs.files.receive_files.Given as goal
 
--- The commands of the files so far were taken; the inputs tell the same files, and no count rose.
+-- The commands of the files so far were taken; the inputs tell the same files, no count rose,
+-- and they were asked for these files, once each in their order.
 abbrev pub invariant-loop-file : goal.invariant-loop-file
 invariant-loop-file g l = record {
   within : l.file ≤ length l.fn.given.files.now;
   same : g.I.Inputs.told l.inputs ≡ g.I.Inputs.told l.fn.inputs;
   steady : g.I.Inputs.faults l.inputs ≡ g.I.Inputs.faults l.fn.inputs;
   ends_steady : g.I.Inputs.ends l.inputs ≡ g.I.Inputs.ends l.fn.inputs;
+  asked : AskedOnly g.I.Inputs l.fn.inputs l.inputs (AreReadOnce (take l.file (map string_bytes l.fn.given.files.now)));
   out_steady : g.O.Sink.faults l.out ≡ g.O.Sink.faults l.fn.out;
   disk_steady : g.D.Disk.faults l.disk ≡ g.D.Disk.faults l.fn.disk;
   most : l.store.log.limit ≡ l.fn.store.log.limit;

@@ -7,6 +7,8 @@ use Rattle.send_commands.specs.Meaning.{meaning_of}
 use Rattle.cmd_reader.specs.Left.{Reader}
 use Rattle.cmd_reader.specs.Next.{item_of}
 use Rattle.cmd_reader.specs.declared.item.ReadStop.TheVariants as stop
+use Rattle.sx_base.proofs.Asking.{asked_nothing, asked_so, read_none}
+use Rattle.cmd_reader.proofs.Asked.{reads_start, reads_then}
 use Rattle.cmd_reader.proofs.Aheads.{start_ahead, next_ahead}
 use Rattle.auditor.specs.Following.{beside, follow}
 use Rattle.auditor.proofs.Short.{item_moves}
@@ -39,6 +41,7 @@ loop-ended-init g c =
       same = refl;
       steady = refl;
       ends_steady = refl;
+      asked = reads_start g.I.Inputs c.args.inputs.now c.args.file.now.number c.args.file.now.name.now c.in-Ok.reader fresh;
       out_steady = refl;
       disk_steady = refl;
       most = refl;
@@ -78,6 +81,7 @@ loop-ended-preserved g c =
       same = e.same ∙ i.same;
       steady = e.steady ∙ i.steady;
       ends_steady = e.ends_steady ∙ i.ends_steady;
+      asked = reads_then g.I.Inputs _ _ _ _ _ _ _ _ _ i.name refl i.asked c.next.ensures.asked;
       out_steady = r.out_steady ∙ i.out_steady;
       disk_steady = r.steady ∙ i.disk_steady;
       most = r.limit ∙ i.most;
@@ -174,3 +178,18 @@ receive_item-received-requires-clause-version g c =
     let m = item_moves c.in-Ok-Some.field-0 c.in-Ok-Some.item _ _ c.in-Ok-Some.field-0-is c.in-Ok-Some.ensures.fits in
     let given = c.in-Ok-rename.ensures in
     (given_fits (option_copied c.args.file.now.new_name) c.args.file.now.number c.loop-ended.reader c.next.new.self c.in-Ok-Some.item c.in-Ok-rename.item m (given.named c.args.file.now.number) given.can_write).version
+
+pub returns-in_default-clause-asked : goal.returns-in_default-clause-asked
+returns-in_default-clause-asked g c = asked_nothing g.I.Inputs c.args.inputs.now (0, read_none c.args.file.now.name.now 0)
+
+pub returns-in-Ok-None-clause-asked : goal.returns-in-Ok-None-clause-asked
+returns-in-Ok-None-clause-asked g c = asked_so g.I.Inputs (λ asks on. (_, on)) (reads_then g.I.Inputs _ _ _ _ _ _ _ _ _ c.loop-ended.invariant.name refl c.loop-ended.invariant.asked c.next.ensures.asked)
+
+pub returns-in-Err-received-clause-asked : goal.returns-in-Err-received-clause-asked
+returns-in-Err-received-clause-asked g c = asked_so g.I.Inputs (λ asks on. (_, on)) (reads_then g.I.Inputs _ _ _ _ _ _ _ _ _ c.loop-ended.invariant.name refl c.loop-ended.invariant.asked c.next.ensures.asked)
+
+pub returns-in-Err-clause-asked : goal.returns-in-Err-clause-asked
+returns-in-Err-clause-asked g c = asked_so g.I.Inputs (λ asks on. (_, on)) (reads_then g.I.Inputs _ _ _ _ _ _ _ _ _ c.loop-ended.invariant.name refl c.loop-ended.invariant.asked c.next.ensures.asked)
+
+pub returns-in_default-rename-clause-asked : goal.returns-in_default-rename-clause-asked
+returns-in_default-rename-clause-asked g c = asked_so g.I.Inputs (λ asks on. (_, on)) (reads_then g.I.Inputs _ _ _ _ _ _ _ _ _ c.loop-ended.invariant.name refl c.loop-ended.invariant.asked c.next.ensures.asked)

@@ -5,20 +5,23 @@ use Rattle.send_model.specs.Reading.{HeaderDue}
 use Rattle.send_model.specs.Store.{Store}
 use Rattle.send_model.specs.Lengths.{limit}
 use Rattle.store_model.proofs.PassedStates.{IsOn}
+use Rattle.sx_base.specs.Later.{ReadsOn}
 use Rattle.cmd_reader.specs.Places.{IfTold}
-use Rattle.cmd_reader.specs.Left.{HasAhead}
+use Rattle.cmd_reader.specs.Left.{HasAhead, read_to}
 use Rattle.receiver.specs.Standing.{IsReady}
 use Rattle.receiver.specs.Disks.{work, RunsOn}
 use Rattle.receiver.specs.Running.{Spot, IsAt}
 use Rattle.receiver.proofs.FileSteps.{Stands}
 use Rattle.receiver.proofs.files.receive_items.Given as goal
 
--- The commands that were read were taken; the inputs tell the same files, and no count rose.
+-- The commands that were read were taken; the inputs tell the same files, no count rose,
+-- and they were asked for nothing but this file, once as far as it was read.
 abbrev pub invariant-loop-ended : goal.invariant-loop-ended
 invariant-loop-ended g l = record {
   same : g.I.Inputs.told l.inputs ≡ g.I.Inputs.told l.fn.inputs;
   steady : g.I.Inputs.faults l.inputs ≡ g.I.Inputs.faults l.fn.inputs;
   ends_steady : g.I.Inputs.ends l.inputs ≡ g.I.Inputs.ends l.fn.inputs;
+  asked : ReadsOn g.I.Inputs l.fn.inputs l.inputs l.fn.file.name.now 0 (read_to l.reader);
   out_steady : g.O.Sink.faults l.out ≡ g.O.Sink.faults l.fn.out;
   disk_steady : g.D.Disk.faults l.disk ≡ g.D.Disk.faults l.fn.disk;
   most : l.store.log.limit ≡ l.fn.store.log.limit;

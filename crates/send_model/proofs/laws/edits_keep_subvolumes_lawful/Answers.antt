@@ -8,4 +8,4 @@ pub returns-clause-edits : goal.returns-clause-edits
 returns-clause-edits c s = edit_keeps_lawful
 
 pub returns-clause-clones : goal.returns-clause-clones
-returns-clause-clones c s = clone_keeps_lawful
+returns-clause-clones c s = λ zero_cell source is_own values. clone_keeps_lawful zero_cell source is_own values.path values.offset values.clone_path values.from values.len

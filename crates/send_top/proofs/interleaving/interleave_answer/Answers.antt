@@ -9,7 +9,7 @@ use Rattle.send_model.specs.Attribute.{IsBytes}
 use Rattle.send_model.specs.Words.{new_guards}
 use Rattle.store_model.specs.Requests.{word_at}
 use Rattle.store_model.specs.Answers.{Answer, OfAnyWord}
-use Rattle.turn_model.specs.TurnDues.{shared}
+use Rattle.turn_model.specs.TurnDues.{in_turns, shared}
 use Rattle.turn_model.specs.TurnAnswers.{TurnsAnswer}
 use Rattle.word_model.specs.AllRequests.{TurnFiles, turn_files}
 use Rattle.guard_rules.specs.AnyKind.{any_kept}
@@ -19,6 +19,10 @@ use Rattle.sx_base.specs.Disk.{IsImage}
 use Rattle.store_words.specs.Ending as ending
 use Rattle.turn_sessions.proofs.Unpacked.{LeftByTurns}
 use Rattle.turn_sessions.proofs.Answering.{unmoved}
+use Rattle.sx_base.specs.Later.{AskedOnly}
+use Rattle.sx_base.proofs.Asking.{asked_nothing}
+use Rattle.turn_sessions.specs.Asked.{AreReadInTurns}
+use Rattle.send_top.proofs.NothingRead.{turns_none}
 use Rattle.send_top.specs.Answered.{answer_of}
 use Rattle.send_top.specs.Requests.{places_in, turns_in}
 use Rattle.send_top.proofs.StreamsEnds.{following, read_of}
@@ -44,7 +48,7 @@ returns-in_default-clause-answered g c tells =
     let out = g.O.Sink.taken c.args.out.now in
     let image : List ℕ = g.D.Disk.seen c.args.disk.now in
     all_read (g.I.Inputs.told c.args.inputs.now) turns.files
-    (λ bytes. Wrote out out (λ written. AllByRecursion IsBytes bytes → TurnsAnswer places bytes (new_guards turns.guards) turns.shares image (OfAnyWord NoMemory) written image))
+    (λ bytes. Wrote out out (λ written. AllByRecursion IsBytes bytes → TurnsAnswer (in_turns places bytes (new_guards turns.guards) turns.shares) image (OfAnyWord NoMemory) written image))
     (λ bytes. ([], Appends-nil out, λ are. unmoved places bytes (new_guards turns.guards) turns.shares image are))
 
 pub interleave_store-requires-clause-schedule : goal.interleave_store-requires-clause-schedule
@@ -88,14 +92,14 @@ returns-clause-answered g c tells =
     let left : List ℕ = g.D.Disk.seen c.interleave_store.new.disk in
     let there = (goal.at.returns-clause-answered g c).After-interleave_store in
     read_of told (map string_bytes c.as_slice-names.result.now) turns.files
-    (λ bytes. Wrote old new (λ written. AllByRecursion IsBytes bytes → TurnsAnswer (places_in c.word_bytes-schedule.result.now) bytes (new_guards turns.guards) turns.shares image (ending.answer_of [] [] c.interleave_store.result) written left))
-    (λ bytes. Wrote old new (λ written. AllByRecursion IsBytes bytes → TurnsAnswer (places_in (word_at words c.args.asked.now.schedule)) bytes (new_guards turns.guards) turns.shares image (answer_of c.end_answer.result) written left))
+    (λ bytes. Wrote old new (λ written. AllByRecursion IsBytes bytes → TurnsAnswer (in_turns (places_in c.word_bytes-schedule.result.now) bytes (new_guards turns.guards) turns.shares) image (ending.answer_of [] [] c.interleave_store.result) written left))
+    (λ bytes. Wrote old new (λ written. AllByRecursion IsBytes bytes → TurnsAnswer (in_turns (places_in (word_at words c.args.asked.now.schedule)) bytes (new_guards turns.guards) turns.shares) image (answer_of c.end_answer.result) written left))
     (names_are g there) (some_names g there)
     (λ bytes w. (
       w.0,
       w.1,
-      λ are. subst (λ (a : Answer). TurnsAnswer (places_in (word_at words c.args.asked.now.schedule)) bytes (new_guards turns.guards) turns.shares image a w.0 left) (sym c.end_answer.ensures.answer)
-          (subst (λ (word : List ℕ). TurnsAnswer (places_in word) bytes (new_guards turns.guards) turns.shares image (ending.answer_of [] [] c.interleave_store.result) w.0 left) (sym c.word_bytes-schedule.ensures.bytes) (w.2 are)),
+      λ are. subst (λ (a : Answer). TurnsAnswer (in_turns (places_in (word_at words c.args.asked.now.schedule)) bytes (new_guards turns.guards) turns.shares) image a w.0 left) (sym c.end_answer.ensures.answer)
+          (subst (λ (word : List ℕ). TurnsAnswer (in_turns (places_in word) bytes (new_guards turns.guards) turns.shares) image (ending.answer_of [] [] c.interleave_store.result) w.0 left) (sym c.word_bytes-schedule.ensures.bytes) (w.2 are)),
     ))
     (c.interleave_store.ensures.answered tells (new_guards turns.guards) turns.shares (guards_are g there))
 
@@ -129,3 +133,10 @@ returns-clause-acknowledged g c tells =
     (names_are g there)
     (λ bytes w. (w.0, w.1, λ are image is. subst (λ (word : List ℕ). LeftByTurns early seen (places_in word) bytes (new_guards turns.guards) turns.shares w.0 image) (sym c.word_bytes-schedule.ensures.bytes) (w.2 are image is)))
     (c.interleave_store.ensures.acknowledged tells (new_guards turns.guards) turns.shares (guards_are g there))
+
+pub returns-in_default-clause-files_read : goal.returns-in_default-clause-files_read
+returns-in_default-clause-files_read g c = asked_nothing g.I.Inputs c.args.inputs.now (turns_none _)
+
+pub returns-clause-files_read : goal.returns-clause-files_read
+returns-clause-files_read g c =
+    subst (λ (names : List (List ℕ)). AskedOnly g.I.Inputs c.args.inputs.now c.interleave_store.new.inputs (AreReadInTurns names)) (names_are g (goal.at.returns-clause-files_read g c).After-interleave_store) c.interleave_store.ensures.asked

@@ -2,6 +2,7 @@ use Rattle.std.specs.Prelude.{◌≡◌, ℕ, List, map, true, false}
 use Rattle.std.specs.String.{string_bytes}
 use Rattle.std.proofs.Common.{sym, subst, ◌∙◌}
 use Rattle.store_model.specs.Requests.{store_of, reads_store}
+use Rattle.send_top.proofs.NothingRead.{no_streams_read}
 use Rattle.send_top.specs.Requests.{streams_meant}
 use Rattle.send_top.proofs.StreamsAnswers.{unread_store, nothing_read, outcome_done, outcome_refused, wrote_over, wrote_alone}
 use Rattle.send_top.specs.Run.{IsComposedFor, IsExportedFor, IsFrontFor}
@@ -72,3 +73,6 @@ apart e = cc
 
 pub returns-clause-allowed : goal.returns-clause-allowed
 returns-clause-allowed g c reads = absurd (apart (sym reads ∙ sym c.reads_store.ensures ∙ c.if-reads_store.false))
+
+pub returns-in_default-clause-files_read : goal.returns-in_default-clause-files_read
+returns-in_default-clause-files_read g c = no_streams_read g.I.Inputs c.args.inputs.now (g.I.Inputs.told c.args.inputs.now) (streams_meant (map string_bytes c.args.asked.now.words.now) c.args.asked.now.request) (map string_bytes c.args.asked.now.words.now)

@@ -1,4 +1,4 @@
-use Rattle.std.specs.Prelude.{◌≡◌, ℕ, [], map, drop, List, Option}
+use Rattle.std.specs.Prelude.{◌≡◌, ℕ, [], ◌∷◌, map, drop, List, Option}
 use Rattle.std.specs.String.{string_bytes}
 use Rattle.std.proofs.Common.{refl, sym, ap, subst, ◌∙◌}
 use Rattle.sx_base.specs.Calls.{FoundChanged, IfAllTold, Wrote}
@@ -13,6 +13,10 @@ use Rattle.extent_map.specs.declared.nowhere.Nowhere.{Nowhere}
 use Rattle.composer.specs.Files as composing
 use Rattle.auditor.specs.Following.{blank}
 use Rattle.auditor.specs.Answers.{AuditEnds}
+use Rattle.sx_base.specs.Later.{AskedOnly}
+use Rattle.sx_base.specs.Asks.{AreReadOnce, AreReadTwice}
+use Rattle.sx_base.proofs.Asking.{asked_so, once_one}
+use Rattle.send_top.proofs.NothingRead.{no_file_read}
 use Rattle.send_top.specs.Requests.{guards_in, before_store, streams_specs, streams_meant, HasGiven, IsGivenAt}
 use Rattle.send_top.proofs.StreamsEnds.{following, read_of, of_one_file, composed_ends, composed_front, headline, audits, dumps, exports, unnamed_ends, caused_unread, of_names, given_files, given_names, files_of_compose, files_of_export}
 use Rattle.send_model.proofs.ExportedStreams.{none_can}
@@ -188,3 +192,34 @@ returns-in-Gen-clause-ends g c =
 pub returns-in-Trial-clause-ends : goal.returns-in-Trial-clause-ends
 returns-in-Trial-clause-ends g c =
     rw c.in-Trial.is (unnamed_ends (g.O.Sink.taken c.args.out.now) (g.O.Sink.taken c.write_trial.new.out) [] (Trial c.in-Trial.count c.in-Trial.seed) c.write_trial.result c.write_trial.ensures.written)
+
+-- ---- how files are read
+
+pub returns-in-Compose-clause-files_read : goal.returns-in-Compose-clause-files_read
+returns-in-Compose-clause-files_read g c =
+    let is = compose_given g (goal.at.returns-in-Compose-clause-files_read g c).After-compose in
+    rw c.in-Compose.is (subst (λ (names : List (List ℕ)). AskedOnly g.I.Inputs c.args.inputs.now c.compose.new.inputs (AreReadTwice (g.I.Inputs.told c.args.inputs.now) names))
+    (c.files.ensures.files ∙ given_files c.in-Compose.files (map string_bytes c.args.asked.now.words.now) c.args.given.now is) c.compose.ensures.asked)
+
+pub returns-in-Audit-clause-files_read : goal.returns-in-Audit-clause-files_read
+returns-in-Audit-clause-files_read g c =
+    let is = audit_given g (goal.at.returns-in-Audit-clause-files_read g c).After-audit in
+    rw c.in-Audit.is (subst (λ (names : List (List ℕ)). AskedOnly g.I.Inputs c.args.inputs.now c.audit.new.inputs (AreReadOnce names))
+    (c.files-in-Audit.ensures.files ∙ given_files c.in-Audit.files (map string_bytes c.args.asked.now.words.now) c.args.given.now is) c.audit.ensures.asked)
+
+pub returns-in-Export-clause-files_read : goal.returns-in-Export-clause-files_read
+returns-in-Export-clause-files_read g c =
+    let is = export_given g (goal.at.returns-in-Export-clause-files_read g c).After-export in
+    rw c.in-Export.is (subst (λ (names : List (List ℕ)). AskedOnly g.I.Inputs c.args.inputs.now c.export.new.inputs (AreReadOnce names))
+    (c.files-in-Export.ensures.files ∙ given_files c.in-Export.files (map string_bytes c.args.asked.now.words.now) c.args.given.now is) c.export.ensures.asked)
+
+pub returns-in-Dump-clause-files_read : goal.returns-in-Dump-clause-files_read
+returns-in-Dump-clause-files_read g c =
+    rw c.in-Dump.is (subst (λ (name : List ℕ). AskedOnly g.I.Inputs c.args.inputs.now c.dump.new.inputs (AreReadOnce (name ∷ []))) c.name_at.ensures.name
+    (asked_so g.I.Inputs (λ asks read. once_one c.name_at.result.now asks read) c.dump.ensures.asked))
+
+pub returns-in-Gen-clause-files_read : goal.returns-in-Gen-clause-files_read
+returns-in-Gen-clause-files_read g c = rw c.in-Gen.is (no_file_read g.I.Inputs c.args.inputs.now [])
+
+pub returns-in-Trial-clause-files_read : goal.returns-in-Trial-clause-files_read
+returns-in-Trial-clause-files_read g c = rw c.in-Trial.is (no_file_read g.I.Inputs c.args.inputs.now [])

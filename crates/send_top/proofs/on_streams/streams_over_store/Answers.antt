@@ -14,6 +14,8 @@ use Rattle.sx_base.specs.declared.outcome.Outcome.TheVariants.{Done, Refused}
 use Rattle.sx_base.specs.declared.outcome.Verdict.{Verdict}
 use Rattle.store_words.specs.declared.ends.StoreEnd.TheVariants.{Ends}
 use Rattle.store_base.specs.Ending.{ChangeFound}
+use Rattle.sx_base.specs.Later.{AskedOnly}
+use Rattle.sx_base.specs.Asks.{AreReadOnce, AreReadTwice}
 use Rattle.send_top.specs.Answered.{answer_of}
 use Rattle.send_top.specs.Requests.{before_store, guards_in, streams_meant, streams_specs, HasGiven, IsGivenAt}
 use Rattle.send_top.specs.Run.{IsComposedFor, IsExportedFor, IsFrontFor}
@@ -201,3 +203,23 @@ returns-in-Export-clause-exported g c =
     (λ bytes w. (w.0, w.1, w.2 (end_done c.export_store.result (answer_of c.end_answer-in-Export.result) c.end_answer-in-Export.ensures.answer done)))
     (subst (λ (ns : Names). IfAllTold told files (λ bytes. Wrote old new (λ written. c.export_store.result ≡ Ends Done → (s : Store ℕ) → StandsFor image s → IsExportedFor s ns bytes written)))
     (c.names-in-Export.ensures.names ∙ given_names c.in-Export.files words c.args.given.now is) (c.export_store.ensures.exported tells))))
+
+-- ---- how files are read
+
+pub returns-in-Compose-clause-files_read : goal.returns-in-Compose-clause-files_read
+returns-in-Compose-clause-files_read g c =
+    let is = compose_given g (goal.at.returns-in-Compose-clause-files_read g c).After-compose_store in
+    rw c.in-Compose.is (subst (λ (names : List (List ℕ)). AskedOnly g.I.Inputs c.args.inputs.now c.compose_store.new.inputs (AreReadTwice (g.I.Inputs.told c.args.inputs.now) names))
+    (c.files.ensures.files ∙ given_files c.in-Compose.files (map string_bytes c.args.asked.now.words.now) c.args.given.now is) c.compose_store.ensures.asked)
+
+pub returns-in-Audit-clause-files_read : goal.returns-in-Audit-clause-files_read
+returns-in-Audit-clause-files_read g c =
+    let is = audit_given g (goal.at.returns-in-Audit-clause-files_read g c).After-audit_store in
+    rw c.in-Audit.is (subst (λ (names : List (List ℕ)). AskedOnly g.I.Inputs c.args.inputs.now c.audit_store.new.inputs (AreReadOnce names))
+    (c.files-in-Audit.ensures.files ∙ given_files c.in-Audit.files (map string_bytes c.args.asked.now.words.now) c.args.given.now is) c.audit_store.ensures.asked)
+
+pub returns-in-Export-clause-files_read : goal.returns-in-Export-clause-files_read
+returns-in-Export-clause-files_read g c =
+    let is = export_given g (goal.at.returns-in-Export-clause-files_read g c).After-export_store in
+    rw c.in-Export.is (subst (λ (names : List (List ℕ)). AskedOnly g.I.Inputs c.args.inputs.now c.export_store.new.inputs (AreReadOnce names))
+    (c.files-in-Export.ensures.files ∙ given_files c.in-Export.files (map string_bytes c.args.asked.now.words.now) c.args.given.now is) c.export_store.ensures.asked)

@@ -17,7 +17,8 @@ use Rattle.turn_sessions.proofs.Unpacked.{LeftByTurns}
 use Rattle.store_words.specs.Receiving.{LeftByReceive}
 use Rattle.sx_base.specs.Calls.{IfAllTold, Wrote}
 use Rattle.sx_base.specs.Disk.{IsImage}
-use Rattle.send_top.specs.Requests.{before_store, entry_name, entry_path, guards_in, places_in, turns_in, with_names}
+use Rattle.send_top.proofs.NothingRead.{nothing_asked}
+use Rattle.send_top.specs.Requests.{before_store, entry_name, entry_path, guards_in, places_in, turns_in, with_names, store_meant}
 use Rattle.send_top.proofs.SentAnew.{answered_of_name, in_part_of_name}
 use Rattle.send_top.proofs.NothingDone.{nothing_answered, nothing_in_part}
 use Rattle.send_top.proofs.ReceiveAnswers.{of_same, of_same_turns}
@@ -147,3 +148,38 @@ returns-in-Interleave-clause-acknowledged_in_turn g c =
     of_same_turns (λ (places : List ℕ) (files : TurnFiles). IfAllTold told files.files (λ bytes. Wrote old new (λ written. AllByRecursion IsBytes bytes
     → (image : List ℕ) → IsImage late image → LeftByTurns early seen places bytes (new_guards files.guards) files.shares written image)))
     c.in-Interleave.store (places_in (word_at words c.in-Interleave.schedule)) (turns_in (drop c.in-Interleave.turns words)) store schedule turns same (c.interleave_answer.ensures.acknowledged tells))
+
+-- ---- how files are read
+
+pub returns-in-Receive-clause-files_read : goal.returns-in-Receive-clause-files_read
+returns-in-Receive-clause-files_read g c = rw c.in-Receive.is c.receive_answer.ensures.files_read
+
+pub returns-in-Interleave-clause-files_read : goal.returns-in-Interleave-clause-files_read
+returns-in-Interleave-clause-files_read g c = rw c.in-Interleave.is c.interleave_answer.ensures.files_read
+
+pub returns-in-Err-clause-files_read : goal.returns-in-Err-clause-files_read
+returns-in-Err-clause-files_read g c = nothing_asked g.I.Inputs c.args.inputs.now (g.I.Inputs.told c.args.inputs.now) (store_meant (map string_bytes c.args.words.now) c.args.request) (map string_bytes c.args.words.now)
+
+pub returns-in-Init-clause-files_read : goal.returns-in-Init-clause-files_read
+returns-in-Init-clause-files_read g c = nothing_asked g.I.Inputs c.args.inputs.now (g.I.Inputs.told c.args.inputs.now) (store_meant (map string_bytes c.args.words.now) c.args.request) (map string_bytes c.args.words.now)
+
+pub returns-in-Drop-clause-files_read : goal.returns-in-Drop-clause-files_read
+returns-in-Drop-clause-files_read g c = nothing_asked g.I.Inputs c.args.inputs.now (g.I.Inputs.told c.args.inputs.now) (store_meant (map string_bytes c.args.words.now) c.args.request) (map string_bytes c.args.words.now)
+
+pub returns-in-List-clause-files_read : goal.returns-in-List-clause-files_read
+returns-in-List-clause-files_read g c = nothing_asked g.I.Inputs c.args.inputs.now (g.I.Inputs.told c.args.inputs.now) (store_meant (map string_bytes c.args.words.now) c.args.request) (map string_bytes c.args.words.now)
+
+pub returns-in-Show-clause-files_read : goal.returns-in-Show-clause-files_read
+returns-in-Show-clause-files_read g c = nothing_asked g.I.Inputs c.args.inputs.now (g.I.Inputs.told c.args.inputs.now) (store_meant (map string_bytes c.args.words.now) c.args.request) (map string_bytes c.args.words.now)
+
+pub returns-in-Cat-clause-files_read : goal.returns-in-Cat-clause-files_read
+returns-in-Cat-clause-files_read g c = nothing_asked g.I.Inputs c.args.inputs.now (g.I.Inputs.told c.args.inputs.now) (store_meant (map string_bytes c.args.words.now) c.args.request) (map string_bytes c.args.words.now)
+
+pub returns-in-Scrub-clause-files_read : goal.returns-in-Scrub-clause-files_read
+returns-in-Scrub-clause-files_read g c = nothing_asked g.I.Inputs c.args.inputs.now (g.I.Inputs.told c.args.inputs.now) (store_meant (map string_bytes c.args.words.now) c.args.request) (map string_bytes c.args.words.now)
+
+pub returns-in-Send-clause-files_read : goal.returns-in-Send-clause-files_read
+returns-in-Send-clause-files_read g c = nothing_asked g.I.Inputs c.args.inputs.now (g.I.Inputs.told c.args.inputs.now) (store_meant (map string_bytes c.args.words.now) c.args.request) (map string_bytes c.args.words.now)
+
+pub returns-in-Restore-clause-files_read : goal.returns-in-Restore-clause-files_read
+returns-in-Restore-clause-files_read g c = nothing_asked g.I.Inputs c.args.inputs.now (g.I.Inputs.told c.args.inputs.now) (store_meant (map string_bytes c.args.words.now) c.args.request) (map string_bytes c.args.words.now)

@@ -17,6 +17,9 @@ use Rattle.sx_base.specs.Calls.{IfAllTold, Wrote}
 use Rattle.sx_base.specs.Crash.{LeavesOnly}
 use Rattle.sx_base.specs.Disk.{Pending, IsImage}
 use Rattle.store_words.specs.Receiving.{LeftByReceive}
+use Rattle.sx_base.specs.Later.{AskedOnly}
+use Rattle.sx_base.specs.Asks.{AreReadOnce}
+use Rattle.send_top.proofs.NothingRead.{no_file_read}
 use Rattle.send_top.specs.Answered.{answer_of}
 use Rattle.send_top.specs.Requests.{before_store, guards_in, with_names}
 use Rattle.send_top.specs.Run.{IfAllRead}
@@ -155,3 +158,13 @@ returns-clause-acknowledged g c tells =
     (subst (λ (ns : Names). IfAllTold told files (λ bytes. Wrote old new (λ written. (specs : List GuardSpec) → AllByRecursion IsBytes bytes → guards ≡ new_guards specs
     → (image : List ℕ) → IsImage late image → LeftByReceive early seen (new_guards specs) (record { bytes = bytes; names = ns }) written image))) (names_are g at)
     (c.receive_store.ensures.acknowledged tells))
+
+pub returns-in_default-clause-files_read : goal.returns-in_default-clause-files_read
+returns-in_default-clause-files_read g c = no_file_read g.I.Inputs c.args.inputs.now _
+
+pub returns-in_default-of-clause-files_read : goal.returns-in_default-of-clause-files_read
+returns-in_default-of-clause-files_read g c = no_file_read g.I.Inputs c.args.inputs.now _
+
+pub returns-clause-files_read : goal.returns-clause-files_read
+returns-clause-files_read g c =
+    subst (λ (names : List (List ℕ)). AskedOnly g.I.Inputs c.args.inputs.now c.receive_store.new.inputs (AreReadOnce names)) (files_are g (goal.at.returns-clause-files_read g c).After-receive_store) c.receive_store.ensures.asked

@@ -7,6 +7,8 @@ use Rattle.store_model.specs.Requests.{OfStreams, ReceiveFiles, at_entry}
 use Rattle.word_model.specs.AllRequests.{Request, OfStore}
 use Rattle.word_model.specs.AllAnswers.{Answers}
 use Rattle.sx_base.specs.Calls.{Wrote}
+use Rattle.sx_base.specs.Later.{AskedOnly}
+use Rattle.send_top.specs.FilesRead.{FilesRead}
 use Rattle.send_top.specs.Answered.{answer_of}
 use Rattle.send_top.specs.Requests.{request_meant, specs_of, streams_meant, store_meant, names_asked, named_files, uses_store}
 use Rattle.send_top.specs.Run.{IfAllRead, IfBytes, MayGet, OfDisk}
@@ -87,3 +89,19 @@ returns-in-Store-clause-silent g c none =
     let fits : guards ≡ new_guards (specs_of mine) = subst (λ r. guards ≡ new_guards (specs_of (request_meant words r))) c.in-Store.is (c.guards_fit.ensures.0 c.if-not-guards_fit.false) in
     let asked = is_asked words guards mine (ap (λ r. Some (request_meant words r)) (sym c.in-Store.is) ∙ c.in-Some.ensures.meaning) fits in
     c.store_answer.ensures.silent (λ does. none mine asked does)
+
+pub returns-in-Store-clause-files_read : goal.returns-in-Store-clause-files_read
+returns-in-Store-clause-files_read g c request asks =
+    let words : List (List ℕ) = map string_bytes c.args.words.now in
+    let guards : List Guard = map (λ b. (goal.Guard-dyn g (b.vtable, b.value)).kept b.value) c.args.guards.now in
+    let mine : Request = store_meant words c.in-Store.request in
+    of_asked (λ r. AskedOnly g.I.Inputs c.args.inputs.now c.store_answer.new.inputs (FilesRead (g.I.Inputs.told c.args.inputs.now) r words)) words guards mine request
+    (ap (λ r. Some (request_meant words r)) (sym c.in-Store.is) ∙ c.in-Some.ensures.meaning) c.store_answer.ensures.files_read asks
+
+pub returns-in-Streams-clause-files_read : goal.returns-in-Streams-clause-files_read
+returns-in-Streams-clause-files_read g c request asks =
+    let words : List (List ℕ) = map string_bytes c.args.words.now in
+    let guards : List Guard = map (λ b. (goal.Guard-dyn g (b.vtable, b.value)).kept b.value) c.args.guards.now in
+    let mine : Request = OfStore (OfStreams (streams_meant words c.in-Streams.request)) in
+    of_asked (λ r. AskedOnly g.I.Inputs c.args.inputs.now c.streams_answer.new.inputs (FilesRead (g.I.Inputs.told c.args.inputs.now) r words)) words guards mine request
+    (ap (λ r. Some (request_meant words r)) (sym c.in-Streams.is) ∙ c.in-Some.ensures.meaning) c.streams_answer.ensures.files_read asks

@@ -6,6 +6,8 @@ use Rattle.store_model.specs.Answers.{Answer, status_of}
 use Rattle.word_model.specs.AllRequests.{Request}
 use Rattle.word_model.specs.AllAnswers.{ReadsFiles, ReadsOnly}
 use Rattle.sx_base.specs.Causes.{Rose}
+use Rattle.sx_base.specs.Later.{AskedOnly}
+use Rattle.send_top.specs.FilesRead.{FilesRead}
 use Rattle.send_top.specs.Answered.{answer_of}
 use Rattle.send_top.specs.Requests.{AskNothing, Asks, uses_store}
 use Rattle.send_top.specs.Run.{Acknowledges, AreSteady, AskForStore, AskToCompose, Composes, ComposesFront, Exports, IsAllowed, IsAnswered, IsChangedAt, IsStoreStatus, Prints, Sends, outside}
@@ -152,3 +154,7 @@ returns-clause-acknowledged g c tells =
     subst (λ gs. Acknowledges (map string_bytes c.args.words.now) (map (λ b. (goal.Guard-dyn g (b.vtable, b.value)).kept b.value) gs)
     (outside (g.I.Inputs.told c.args.inputs.now) (g.D.Disk.seen c.args.disk.now) (g.O.Sink.taken c.args.out.now) (g.O.Sink.taken c.answer_to-answer.new.out))
     (g.D.Disk.pending c.args.disk.now) (g.D.Disk.pending c.answer_to-answer.new.disk)) c.deref_mut.ensures.value (c.answer_to-answer.ensures.acknowledged tells)
+
+pub returns-clause-files_read : goal.returns-clause-files_read
+returns-clause-files_read g c = subst (λ gs. (request : Request) → Asks (map string_bytes c.args.words.now) (map (λ b. (goal.Guard-dyn g (b.vtable, b.value)).kept b.value) gs) request
+    → AskedOnly g.I.Inputs c.args.inputs.now c.answer_to-answer.new.inputs (FilesRead (g.I.Inputs.told c.args.inputs.now) request (map string_bytes c.args.words.now))) c.deref_mut.ensures.value c.answer_to-answer.ensures.files_read

@@ -9,6 +9,7 @@ use Rattle.store_groups.specs.Kept.{AreKept}
 use Rattle.store_journal.specs.Standing.{with_bytes}
 use Rattle.store_base.specs.Standing.{standing, bytes_in, AreLawful}
 use Rattle.store_base.specs.Ending.{EndsOver}
+use Rattle.composer.proofs.Asked.{heads_alone, heads_and_all}
 use Rattle.store_base.proofs.StandingEntries.{kept_lawful}
 use Rattle.store_base.proofs.OverStanding.{traced, had, apart, part, sayable, ends, stopped, no_memory}
 use Rattle.store_base.proofs.composing.compose_opened.Goals as goal
@@ -72,3 +73,18 @@ returns-clause-ends g c tells =
     (subst (λ told. IfAllTold told (map string_bytes c.args.given.now.files.now)
     (λ files. Wrote (g.O.Sink.taken c.args.out.now) (g.O.Sink.taken c.compose_read-over.new.out) (EndsOver (bytes_in (g.D.Disk.seen c.args.disk.now) c.in-Ok-index_all.indexes) c.args.given.now.names.now files c.compose_read-over.result.end)))
     c.survey.ensures.same (c.compose_read-over.ensures.ends tells))
+
+-- ---- what was asked of the inputs
+
+pub returns-in-Err-clause-asked : goal.returns-in-Err-clause-asked
+returns-in-Err-clause-asked g c = heads_alone g.I.Inputs (map string_bytes c.args.given.now.files.now) c.args.inputs.now c.survey.new.inputs c.in-Err.ensures.asked
+
+pub returns-in_default-clause-asked : goal.returns-in_default-clause-asked
+returns-in_default-clause-asked g c = heads_alone g.I.Inputs (map string_bytes c.args.given.now.files.now) c.args.inputs.now c.survey.new.inputs c.in-Ok.ensures.asked
+
+pub returns-in_default-trace_all-clause-asked : goal.returns-in_default-trace_all-clause-asked
+returns-in_default-trace_all-clause-asked g c = heads_alone g.I.Inputs (map string_bytes c.args.given.now.files.now) c.args.inputs.now c.survey.new.inputs c.in-Ok.ensures.asked
+
+pub returns-clause-asked : goal.returns-clause-asked
+returns-clause-asked g c =
+    heads_and_all g.I.Inputs (map string_bytes c.args.given.now.files.now) c.args.inputs.now c.survey.new.inputs c.compose_read-over.new.inputs c.survey.ensures.same c.in-Ok.ensures.asked c.compose_read-over.ensures.asked

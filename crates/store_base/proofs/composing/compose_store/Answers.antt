@@ -7,6 +7,7 @@ use Rattle.sx_base.specs.Disk.{Pending, IsImage}
 use Rattle.sx_base.proofs.DiskImages.{only_settled}
 use Rattle.sx_base.proofs.DiskMoments.{joins, weakens}
 use Rattle.store_model.proofs.LawfulGroups.{stands_lawful}
+use Rattle.composer.proofs.Asked.{heads_none}
 use Rattle.store_journal.specs.Standing.{with_bytes}
 use Rattle.store_base.specs.Ending.{beside, EndsOver, ComposeCaused, ChangeFound}
 use Rattle.store_base.proofs.StoreAnswers.{not_composed, no_headline, no_front, is_composed, is_headline, is_front, opening_caused, opening_unchanged}
@@ -69,3 +70,6 @@ returns-clause-any_moment g c tells =
     joins (c.open.ensures.any_moment tells) (weakens (c.compose_opened.ensures.read.any_moment tells) (λ image is.
     let whole : image ≡ D.seen c.open.new.disk = only_settled (D.seen c.open.new.disk) image (subst (λ (p : Pending). IsImage p image) (c.in-Ok.ensures.durable tells) is) in
     subst (λ (i : List ℕ). IsImage (D.pending c.args.disk.now) i) (sym (whole ∙ c.open.ensures.seen tells)) (g.met.D.Disk.seen_is_image c.args.disk.now tells)))
+
+pub returns-in-Err-clause-asked : goal.returns-in-Err-clause-asked
+returns-in-Err-clause-asked g c = heads_none g.I.Inputs (map string_bytes c.args.given.now.files.now) c.args.inputs.now

@@ -1,5 +1,7 @@
-use Rattle.std.specs.Prelude.{ℕ, List, Option}
+use Rattle.std.specs.Prelude.{ℕ, List, Option, map}
+use Rattle.std.specs.String.{string_bytes}
 use Rattle.std.proofs.Common.{sym, subst}
+use Rattle.sx_base.proofs.Asking.{asked_nothing, once_none}
 use Rattle.send_model.specs.Store.{Store}
 use Rattle.auditor.specs.Following.{HaveSameShape}
 use Rattle.store_groups.specs.declared.place.Place.{Place}
@@ -24,3 +26,6 @@ returns-clause-answered g c tells =
     let core = c.in-Ok.store.core in
     let shape : HaveSameShape c.into_core-core.result (with_bytes seen core) = subst (λ (s : Store (Option Place)). HaveSameShape s (with_bytes seen core)) (sym c.into_core-core.ensures.core) (same_shape seen core) in
     is_audited _ _ seen (g.D.Disk.seen c.open.new.disk) c.args.given.now.names.now _ (c.open.ensures.seen tells) _ _ (with_bytes seen core) c.audit.result (c.in-Ok.ensures.says tells) (c.audit.ensures.audited (with_bytes seen core) shape)
+
+pub returns-in-Err-clause-asked : goal.returns-in-Err-clause-asked
+returns-in-Err-clause-asked g c = asked_nothing g.I.Inputs c.args.inputs.now (once_none (map string_bytes c.args.given.now.files.now))

@@ -1,6 +1,7 @@
 use Rattle.std.specs.Prelude.{ℕ, List, Option, map}
 use Rattle.std.specs.String.{string_bytes}
 use Rattle.std.proofs.Common.{sym, subst}
+use Rattle.sx_base.proofs.Asking.{asked_nothing, once_none}
 use Rattle.send_model.specs.Store.{Store}
 use Rattle.auditor.specs.Following.{HaveSameShape}
 use Rattle.store_groups.specs.declared.place.Place.{Place}
@@ -40,3 +41,6 @@ returns-clause-exported g c tells =
     let kept : AreKept c.in-Ok.store.log.gate core = subst (λ (s : Store (Option Place)). AreKept c.in-Ok.store.log.gate s) c.into_core-core.ensures.core c.into_core-core.ensures.kept in
     is_promised _ _ seen c.args.given.now.names.now _ _ c.in-Ok.store.log.gate core c.export.result c.are_given.ensures.given (map_some string_bytes c.args.given.now.files.now c.requires.some) kept (c.in-Ok.ensures.says tells)
     (c.export.ensures.exported (with_bytes seen core) shape) (c.export.ensures.small (with_bytes seen core) shape)
+
+pub returns-in-Err-clause-asked : goal.returns-in-Err-clause-asked
+returns-in-Err-clause-asked g c = asked_nothing g.I.Inputs c.args.inputs.now (once_none (map string_bytes c.args.given.now.files.now))

@@ -1,6 +1,7 @@
 use Rattle.std.specs.Prelude.{ℕ, List, map}
 use Rattle.std.specs.String.{string_bytes}
 use Rattle.std.proofs.Common.{sym, subst}
+use Rattle.sx_base.proofs.Asking.{asked_nothing, once_none}
 use Rattle.sx_base.specs.Calls.{IfAllTold, Wrote}
 use Rattle.sx_base.proofs.DiskMoments.{leaves_now}
 use Rattle.store_journal.specs.Standing.{with_bytes}
@@ -72,3 +73,6 @@ returns-clause-cause g c =
     let r = c.receive.ensures in
     subst (EndCaused receive_ways _ _ _ _) (sym c.ended_received.ensures)
     (receive_caused _ _ _ _ _ _ _ _ _ c.receive.result c.in-Ok.ensures.steady r.cause r.steady r.ends_steady r.out_steady r.disk_steady)
+
+pub returns-in-Err-clause-asked : goal.returns-in-Err-clause-asked
+returns-in-Err-clause-asked g c = asked_nothing g.I.Inputs c.args.inputs.now (once_none (map string_bytes c.args.given.now.files.now))

@@ -2,6 +2,8 @@ use Rattle.std.proofs.Common.{ℕ, refl, ap, subst, ◌∙◌, arith}
 use Rattle.sx_base.specs.Calls.{SteadyIfDone}
 use Rattle.sx_base.specs.declared.outcome.Outcome.TheVariants as ended
 use Rattle.cmd_reader.specs.Left.{Reader}
+use Rattle.sx_base.proofs.Asking.{asked_nothing, asked_so, read_none}
+use Rattle.cmd_reader.proofs.Asked.{reads_start, reads_then}
 use Rattle.cmd_reader.proofs.Aheads.{start_ahead, next_ahead}
 use Rattle.sx_base.proofs.Ended.{stopped_steady, steady_anyway}
 use Rattle.stream_dump.proofs.Standing.{unopened, stands_first, stands_next, ends_whole, ends_early, item_stops, caused_end, caused_item}
@@ -17,6 +19,7 @@ loop-item-init g c =
       same = refl;
       steady = refl;
       ends_steady = refl;
+      asked = reads_start g.I.Inputs c.args.inputs.now 1 c.args.file.now c.in-Ok.reader fresh;
       out_steady = refl;
       file = ap (λ (r : Reader). r.file) fresh;
       name = ap (λ (r : Reader). r.name) fresh;
@@ -32,6 +35,7 @@ loop-item-preserved g c =
       same = e.same ∙ i.same;
       steady = e.steady ∙ i.steady;
       ends_steady = e.ends_steady ∙ i.ends_steady;
+      asked = reads_then g.I.Inputs _ _ _ _ _ _ _ _ _ i.name refl i.asked c.next.ensures.asked;
       out_steady = c.in_default-written.ensures.steady ∙ i.out_steady;
       file = e.file ∙ i.file;
       name = e.name ∙ i.name;
@@ -95,3 +99,15 @@ returns-in-Err-clause-out_steady g c = stopped_steady _ _ c.finish-in-Err.result
 
 pub returns-in-Err-written-clause-out_steady : goal.returns-in-Err-written-clause-out_steady
 returns-in-Err-written-clause-out_steady g c = stopped_steady _ _ c.in-Err-written.outcome c.in-Err-written.ensures.stops
+
+pub returns-in_default-clause-asked : goal.returns-in_default-clause-asked
+returns-in_default-clause-asked g c = asked_nothing g.I.Inputs c.args.inputs.now (0, read_none c.args.file.now 0)
+
+pub returns-in-Err-written-clause-asked : goal.returns-in-Err-written-clause-asked
+returns-in-Err-written-clause-asked g c = asked_so g.I.Inputs (λ asks on. (_, on)) (reads_then g.I.Inputs _ _ _ _ _ _ _ _ _ c.loop-item.invariant.name refl c.loop-item.invariant.asked c.next.ensures.asked)
+
+pub returns-in-Ok-None-clause-asked : goal.returns-in-Ok-None-clause-asked
+returns-in-Ok-None-clause-asked g c = asked_so g.I.Inputs (λ asks on. (_, on)) (reads_then g.I.Inputs _ _ _ _ _ _ _ _ _ c.loop-item.invariant.name refl c.loop-item.invariant.asked c.next.ensures.asked)
+
+pub returns-in-Err-clause-asked : goal.returns-in-Err-clause-asked
+returns-in-Err-clause-asked g c = asked_so g.I.Inputs (λ asks on. (_, on)) (reads_then g.I.Inputs _ _ _ _ _ _ _ _ _ c.loop-item.invariant.name refl c.loop-item.invariant.asked c.next.ensures.asked)

@@ -1,16 +1,19 @@
 use Rattle.std.proofs.Common.{◌≡◌, ◌-◌}
 use Rattle.send_model.specs.Lengths.{limit}
+use Rattle.sx_base.specs.Later.{ReadsOn}
 use Rattle.cmd_reader.specs.Places.{IfTold}
-use Rattle.cmd_reader.specs.Left.{HasAhead}
+use Rattle.cmd_reader.specs.Left.{HasAhead, read_to}
 use Rattle.stream_dump.proofs.Standing.{Stands}
 use Rattle.stream_dump.proofs.file_writing.write_file.Given as goal
 
--- What was written and gathered are the bytes of what was read; the inputs tell the same files, and no count rose.
+-- What was written and gathered are the bytes of what was read; the inputs tell the same files, no count rose,
+-- and they were asked for nothing but this file, once as far as it was read.
 abbrev pub invariant-loop-item : goal.invariant-loop-item
 invariant-loop-item g l = record {
   same : g.I.Inputs.told l.inputs ≡ g.I.Inputs.told l.fn.inputs;
   steady : g.I.Inputs.faults l.inputs ≡ g.I.Inputs.faults l.fn.inputs;
   ends_steady : g.I.Inputs.ends l.inputs ≡ g.I.Inputs.ends l.fn.inputs;
+  asked : ReadsOn g.I.Inputs l.fn.inputs l.inputs l.fn.file 0 (read_to l.reader);
   out_steady : g.O.Sink.faults l.out ≡ g.O.Sink.faults l.fn.out;
   file : l.reader.file ≡ 1;
   name : l.reader.name ≡ l.fn.file;

@@ -1,6 +1,8 @@
 use Rattle.std.proofs.Common.{refl, ap, ◌∙◌, arith}
 use Rattle.std.specs.Option.{option_copied}
 use Rattle.cmd_reader.specs.Left.{Reader}
+use Rattle.sx_base.proofs.Asking.{asked_nothing, asked_so, read_none}
+use Rattle.cmd_reader.proofs.Asked.{reads_start, reads_then}
 use Rattle.cmd_reader.proofs.Aheads.{start_ahead, next_ahead}
 use Rattle.send_model.specs.Renamed.{named_as}
 use Rattle.auditor.proofs.Short.{item_short}
@@ -20,6 +22,7 @@ loop-item-init g c =
       same = refl;
       steady = refl;
       ends_steady = refl;
+      asked = reads_start g.I.Inputs c.args.inputs.now c.args.file.now.number c.args.file.now.name.now c.in-Ok.reader fresh;
       out_steady = refl;
       file = ap (λ (r : Reader). r.file) fresh;
       name = ap (λ (r : Reader). r.name) fresh;
@@ -35,6 +38,7 @@ loop-item-preserved g c =
       same = e.same ∙ i.same;
       steady = e.steady ∙ i.steady;
       ends_steady = e.ends_steady ∙ i.ends_steady;
+      asked = reads_then g.I.Inputs _ _ _ _ _ _ _ _ _ i.name refl i.asked c.next.ensures.asked;
       out_steady = c.in_default-exported.ensures.out.steady ∙ i.out_steady;
       file = e.file ∙ i.file;
       name = e.name ∙ i.name;
@@ -74,3 +78,15 @@ returns-in-Err-clause-exported g c =
 
 pub export_named-exported-requires-clause-short : goal.export_named-exported-requires-clause-short
 export_named-exported-requires-clause-short g c = item_short c.in-Ok-Some.field-0 c.in-Ok-Some.item _ _ c.in-Ok-Some.field-0-is c.in-Ok-Some.ensures.fits
+
+pub returns-in_default-clause-asked : goal.returns-in_default-clause-asked
+returns-in_default-clause-asked g c = asked_nothing g.I.Inputs c.args.inputs.now (0, read_none c.args.file.now.name.now 0)
+
+pub returns-in-Err-exported-clause-asked : goal.returns-in-Err-exported-clause-asked
+returns-in-Err-exported-clause-asked g c = asked_so g.I.Inputs (λ asks on. (_, on)) (reads_then g.I.Inputs _ _ _ _ _ _ _ _ _ c.loop-item.invariant.name refl c.loop-item.invariant.asked c.next.ensures.asked)
+
+pub returns-in-Ok-None-clause-asked : goal.returns-in-Ok-None-clause-asked
+returns-in-Ok-None-clause-asked g c = asked_so g.I.Inputs (λ asks on. (_, on)) (reads_then g.I.Inputs _ _ _ _ _ _ _ _ _ c.loop-item.invariant.name refl c.loop-item.invariant.asked c.next.ensures.asked)
+
+pub returns-in-Err-clause-asked : goal.returns-in-Err-clause-asked
+returns-in-Err-clause-asked g c = asked_so g.I.Inputs (λ asks on. (_, on)) (reads_then g.I.Inputs _ _ _ _ _ _ _ _ _ c.loop-item.invariant.name refl c.loop-item.invariant.asked c.next.ensures.asked)

@@ -10,13 +10,13 @@ use Rattle.receiver.specs.declared.outcome.Received.{Received}
 use Rattle.turn_sessions.specs.declared.part.OpenPart.{OpenPart}
 use Rattle.turn_sessions.specs.Edits.{AreFrames}
 use Rattle.turn_sessions.specs.Standing.{Blank, edits_of, IsHeld, AreHeld}
-use Rattle.turn_sessions.specs.Turning.{CloseSays}
+use Rattle.turn_sessions.proofs.Unpacked.{CloseSays}
 use Rattle.turn_sessions.proofs.Closing.{none_is, one_is, none_closed, body_written, closed_ok, closed_cut, closed_stopped}
 use Rattle.turn_sessions.proofs.parting.close.Goals as goal
 
 pub returns-in_default-clause-closed : goal.returns-in_default-clause-closed
 returns-in_default-clause-closed g c p are held =
-    none_closed g.D.Disk.tells g.D.Disk.moment g.D.Disk.left_since g.D.Disk.seen g.D.Disk.pending c.args.disk.now c.args.store.now (g.O.Sink.taken c.args.out.now) p
+    none_closed g.D.Disk c.args.disk.now c.args.store.now (g.O.Sink.taken c.args.out.now) p
     (λ is_told image. g.met.D.Disk.only_now c.args.disk.now image is_told) (none_is p c.args.current.now (sym c.in_default.is ∙ c.take.ensures.value) are)
 
 pub complete-requires-clause-completed : goal.complete-requires-clause-completed
@@ -39,8 +39,8 @@ returns-in-Err-clause-closed g c p are held =
     let w = body_written q.r o c.args.store.now uuid q.part own hold in
     let fr : AreFrames o.version c.as_slice.result.now (edits_of q.r) = subst (λ (l : List ℕ). AreFrames o.version l (edits_of q.r)) (sym c.as_slice.ensures.bytes) w.frames in
     let e = c.in-Err.ensures in
-    subst (λ (x : Received). CloseSays g.D.Disk.tells g.D.Disk.moment g.D.Disk.left_since g.D.Disk.seen g.D.Disk.pending c.args.disk.now c.complete.new.disk c.args.store.now c.complete.new.store (g.O.Sink.taken c.args.out.now) (g.O.Sink.taken c.args.out.now) p (Err x)) (sym c.ended_by.ensures)
-    (closed_stopped g.D.Disk.tells g.D.Disk.moment g.D.Disk.left_since g.D.Disk.seen g.D.Disk.pending c.args.disk.now c.complete.new.disk c.args.store.now c.complete.new.store (g.O.Sink.taken c.args.out.now) (g.O.Sink.taken c.args.out.now) o uuid q.r q.part own hold
+    subst (λ (x : Received). CloseSays g.D.Disk c.args.disk.now c.complete.new.disk c.args.store.now c.complete.new.store (g.O.Sink.taken c.args.out.now) (g.O.Sink.taken c.args.out.now) p (Err x)) (sym c.ended_by.ensures)
+    (closed_stopped g.D.Disk c.args.disk.now c.complete.new.disk c.args.store.now c.complete.new.store (g.O.Sink.taken c.args.out.now) (g.O.Sink.taken c.args.out.now) o uuid q.r q.part own hold
     (Rose (g.D.Disk.faults c.args.disk.now) (g.D.Disk.faults c.complete.new.disk)) p c.in-Err.why q.is e.not_refused
     (λ is_told image later is. g.met.D.Disk.counts_now c.complete.new.disk (g.D.Disk.moment c.args.disk.now) image is_told later is)
     (e.stops (edits_of q.r) fr)
@@ -58,7 +58,7 @@ returns-in_default-write_whole-clause-closed g c p are held =
     let w = body_written q.r o c.args.store.now uuid q.part own hold in
     let fr : AreFrames o.version c.as_slice.result.now (edits_of q.r) = subst (λ (l : List ℕ). AreFrames o.version l (edits_of q.r)) (sym c.as_slice.ensures.bytes) w.frames in
     let e = c.in-Ok.ensures in
-    closed_cut g.D.Disk.tells g.D.Disk.moment g.D.Disk.left_since g.D.Disk.seen g.D.Disk.pending c.args.disk.now c.complete.new.disk c.args.store.now c.complete.new.store (g.O.Sink.taken c.args.out.now) (g.O.Sink.taken c.write_whole.new.sink) o uuid q.r q.part own hold p q.is
+    closed_cut g.D.Disk c.args.disk.now c.complete.new.disk c.args.store.now c.complete.new.store (g.O.Sink.taken c.args.out.now) (g.O.Sink.taken c.write_whole.new.sink) o uuid q.r q.part own hold p q.is
     (λ is_told header groups h. e.holds is_told header groups (edits_of q.r) fr h)
     (λ is_told header groups h. e.any_moment is_told header groups (edits_of q.r) fr h)
     (subst (λ (l : List ℕ). AppendsPart (g.O.Sink.taken c.args.out.now) (g.O.Sink.taken c.write_whole.new.sink) l) c.as_slice-2.ensures.bytes c.in_default-write_whole.ensures.part)
@@ -73,7 +73,7 @@ returns-clause-closed g c p are held =
     let w = body_written q.r o c.args.store.now uuid q.part own hold in
     let fr : AreFrames o.version c.as_slice.result.now (edits_of q.r) = subst (λ (l : List ℕ). AreFrames o.version l (edits_of q.r)) (sym c.as_slice.ensures.bytes) w.frames in
     let e = c.in-Ok.ensures in
-    closed_ok g.D.Disk.tells g.D.Disk.moment g.D.Disk.left_since g.D.Disk.seen g.D.Disk.pending c.args.disk.now c.complete.new.disk c.args.store.now c.complete.new.store (g.O.Sink.taken c.args.out.now) (g.O.Sink.taken c.write_whole.new.sink) o uuid q.r q.part own hold p q.is
+    closed_ok g.D.Disk c.args.disk.now c.complete.new.disk c.args.store.now c.complete.new.store (g.O.Sink.taken c.args.out.now) (g.O.Sink.taken c.write_whole.new.sink) o uuid q.r q.part own hold p q.is
     (e.made (edits_of q.r) w.new fr w.completes) (e.gate (edits_of q.r) fr) e.limit (e.fits (edits_of q.r) fr)
     (λ is_told header groups h. e.holds is_told header groups (edits_of q.r) fr h)
     (λ is_told header groups h. e.any_moment is_told header groups (edits_of q.r) fr h)

@@ -5,8 +5,10 @@ use Rattle.send_model.specs.Receive.{fault_of}
 use Rattle.store_model.specs.Turns as meant
 use Rattle.auditor.specs.Following.{blank}
 use Rattle.send_commands.specs.Meaning.{meaning_of}
+use Rattle.sx_base.specs.Later.{ReadsOn}
+use Rattle.sx_base.proofs.Asking.{asked_nothing, read_none}
 use Rattle.cmd_reader.specs.Places.{IfTold}
-use Rattle.cmd_reader.specs.Left.{Reader, HasAhead}
+use Rattle.cmd_reader.specs.Left.{Reader, HasAhead, read_to}
 use Rattle.cmd_reader.specs.Next.{item_of, GoesOn, NextSays}
 use Rattle.cmd_reader.specs.declared.item.ReadStop.{ReadStop}
 use Rattle.cmd_reader.proofs.Told.{told_map}
@@ -16,8 +18,8 @@ use Rattle.sx_base.specs.declared.outcome.Verdict.{Verdict}
 use Rattle.sx_base.specs.declared.outcome.Outcome.TheVariants as ended
 use Rattle.turn_sessions.specs.declared.session.Session as code_session
 use Rattle.turn_sessions.specs.Standing.{blank_cells}
-use Rattle.turn_sessions.specs.Turning.{TurnSays}
 use Rattle.turn_sessions.specs.Reading.{Command, AtEnd, AtFault, AtLimit, Nothing}
+use Rattle.turn_sessions.proofs.Unpacked.{TurnSays}
 use Rattle.turn_sessions.proofs.OneTurn.{turn_over, turn_ended, turn_unread, told_any, reads_as, no_long, on_ok, same_next}
 use Rattle.turn_sessions.proofs.session.take_turn.Goals as goal
 
@@ -26,11 +28,19 @@ returns-then-session-clause-turned g c = record {
   next = Nothing;
   read = told_any (g.I.Inputs.told c.args.inputs.now) c.args.session.now.reader.name;
   reads = c.if-session.true;
-  says = λ s of held next. turn_over g.D.Disk.tells g.D.Disk.moment g.D.Disk.left_since g.D.Disk.seen g.D.Disk.pending c.args.disk.now c.args.store.now (g.O.Sink.taken c.args.out.now) g.G.Guarding.kept (λ is_told image. g.met.D.Disk.only_now c.args.disk.now image is_told) s c.args.session.now of c.if-session.true;
+  says = λ s of held next. turn_over g.D.Disk c.args.disk.now c.args.store.now (g.O.Sink.taken c.args.out.now) g.G.Guarding.kept (λ is_told image. g.met.D.Disk.only_now c.args.disk.now image is_told) s c.args.session.now of c.if-session.true;
 }
+
+pub returns-then-session-clause-asked : goal.returns-then-session-clause-asked
+returns-then-session-clause-asked g c = asked_nothing g.I.Inputs c.args.inputs.now (read_none c.args.session.now.reader.name (read_to c.args.session.now.reader))
 
 pub next-requires : goal.next-requires
 next-requires g c = record { ahead = told_map (g.I.Inputs.told c.args.inputs.now) c.args.session.now.reader.name (λ bytes. c.args.session.now.is_over ≡ false → HasAhead c.args.session.now.reader bytes) (HasAhead c.args.session.now.reader) (λ bytes f. f c.if-session.false) c.requires.ahead }
+
+pub returns-in-Ok-Some-clause-asked : goal.returns-in-Ok-Some-clause-asked
+returns-in-Ok-Some-clause-asked g c =
+    let old : code_session.Session _ = c.args.session.now in
+    subst (λ (r : Reader). ReadsOn g.I.Inputs c.args.inputs.now c.next.new.inputs old.reader.name (read_to old.reader) (read_to r)) (sym c.do_turn.ensures.reader) c.in-Ok-Some.ensures.asked
 
 pub returns-in-Ok-Some-clause-ahead : goal.returns-in-Ok-Some-clause-ahead
 returns-in-Ok-Some-clause-ahead g c =
@@ -73,7 +83,7 @@ returns-in-Ok-None-clause-turned g c =
       reads = going;
       says = λ s of held next.
           let n = next (of.over ∙ going) in
-          turn_ended g.D.Disk.tells g.D.Disk.moment g.D.Disk.left_since g.D.Disk.seen g.D.Disk.pending c.args.disk.now c.args.store.now (g.O.Sink.taken c.args.out.now) g.G.Guarding.kept (λ is_told image. g.met.D.Disk.only_now c.args.disk.now image is_told) s old of
+          turn_ended g.D.Disk c.args.disk.now c.args.store.now (g.O.Sink.taken c.args.out.now) g.G.Guarding.kept (λ is_told image. g.met.D.Disk.only_now c.args.disk.now image is_told) s old of
           (record { file = old.file; reader = c.next.new.self; guards = old.guards; current = None; is_over = true }) None n.0 going refl refl refl (ap fault_of n.1);
     }
 
@@ -89,8 +99,8 @@ returns-in-Err-Refused-clause-turned g c =
       reads = going;
       says = λ s of held next.
           let n = next (of.over ∙ going) in
-          subst (λ (v : Verdict). TurnSays g.D.Disk.tells g.D.Disk.moment g.D.Disk.left_since g.D.Disk.seen g.D.Disk.pending c.args.disk.now c.args.disk.now c.args.store.now c.args.store.now (g.O.Sink.taken c.args.out.now) (g.O.Sink.taken c.args.out.now) g.G.Guarding.kept (meant.session_turn tt blank_cells (blank c.args.store.now.core) s) (record { file = old.file; reader = c.next.new.self; guards = old.guards; current = None; is_over = true }) (Ok (Some v))) (sym c.in-Err-Refused.verdict-is)
-          (turn_ended g.D.Disk.tells g.D.Disk.moment g.D.Disk.left_since g.D.Disk.seen g.D.Disk.pending c.args.disk.now c.args.store.now (g.O.Sink.taken c.args.out.now) g.G.Guarding.kept (λ is_told image. g.met.D.Disk.only_now c.args.disk.now image is_told) s old of
+          subst (λ (v : Verdict). TurnSays g.D.Disk c.args.disk.now c.args.disk.now c.args.store.now c.args.store.now (g.O.Sink.taken c.args.out.now) (g.O.Sink.taken c.args.out.now) g.G.Guarding.kept (meant.session_turn tt blank_cells (blank c.args.store.now.core) s) (record { file = old.file; reader = c.next.new.self; guards = old.guards; current = None; is_over = true }) (Ok (Some v))) (sym c.in-Err-Refused.verdict-is)
+          (turn_ended g.D.Disk c.args.disk.now c.args.store.now (g.O.Sink.taken c.args.out.now) g.G.Guarding.kept (λ is_told image. g.met.D.Disk.only_now c.args.disk.now image is_told) s old of
           (record { file = old.file; reader = c.next.new.self; guards = old.guards; current = None; is_over = true }) (Some verdict) n.0 going refl refl refl (ap fault_of n.1));
     }
 
@@ -101,7 +111,7 @@ returns-in-Err-NoMemory-clause-turned g c =
       next = Nothing;
       read = told_any (g.I.Inputs.told c.args.inputs.now) old.reader.name;
       reads = tt;
-      says = λ s of held next. turn_unread g.D.Disk.tells g.D.Disk.moment g.D.Disk.left_since g.D.Disk.seen g.D.Disk.pending c.args.disk.now c.args.store.now (g.O.Sink.taken c.args.out.now) g.G.Guarding.kept (λ is_told image. g.met.D.Disk.only_now c.args.disk.now image is_told) s old of
+      says = λ s of held next. turn_unread g.D.Disk c.args.disk.now c.args.store.now (g.O.Sink.taken c.args.out.now) g.G.Guarding.kept (λ is_told image. g.met.D.Disk.only_now c.args.disk.now image is_told) s old of
           (record { file = old.file; reader = c.next.new.self; guards = old.guards; current = old.current; is_over = old.is_over }) ended.NoMemory tt;
     }
 
@@ -112,7 +122,7 @@ returns-in-Err-InputFault-clause-turned g c =
       next = Nothing;
       read = told_any (g.I.Inputs.told c.args.inputs.now) old.reader.name;
       reads = tt;
-      says = λ s of held next. turn_unread g.D.Disk.tells g.D.Disk.moment g.D.Disk.left_since g.D.Disk.seen g.D.Disk.pending c.args.disk.now c.args.store.now (g.O.Sink.taken c.args.out.now) g.G.Guarding.kept (λ is_told image. g.met.D.Disk.only_now c.args.disk.now image is_told) s old of
+      says = λ s of held next. turn_unread g.D.Disk c.args.disk.now c.args.store.now (g.O.Sink.taken c.args.out.now) g.G.Guarding.kept (λ is_told image. g.met.D.Disk.only_now c.args.disk.now image is_told) s old of
           (record { file = old.file; reader = c.next.new.self; guards = old.guards; current = old.current; is_over = old.is_over }) ended.InputFault tt;
     }
 
@@ -124,7 +134,7 @@ returns-in-Err-InputTooLong-clause-turned g c =
       next = AtLimit;
       read = subst (λ (why : ReadStop). NextSays told old.reader c.next.new.self (g.I.Inputs.faults c.args.inputs.now) (g.I.Inputs.faults c.next.new.inputs) (Err why)) c.in-Err-InputTooLong.field-0-is c.in-Err-InputTooLong.ensures.read;
       reads = (refl, refl, c.if-session.false);
-      says = λ s of held next. turn_unread g.D.Disk.tells g.D.Disk.moment g.D.Disk.left_since g.D.Disk.seen g.D.Disk.pending c.args.disk.now c.args.store.now (g.O.Sink.taken c.args.out.now) g.G.Guarding.kept (λ is_told image. g.met.D.Disk.only_now c.args.disk.now image is_told) s old of
+      says = λ s of held next. turn_unread g.D.Disk c.args.disk.now c.args.store.now (g.O.Sink.taken c.args.out.now) g.G.Guarding.kept (λ is_told image. g.met.D.Disk.only_now c.args.disk.now image is_told) s old of
           (record { file = old.file; reader = c.next.new.self; guards = old.guards; current = old.current; is_over = old.is_over }) (ended.InputTooLong old.file) tt;
     }
 

@@ -1,8 +1,10 @@
 use Rattle.std.specs.Prelude.{◌≡◌, ℕ, false, List, Ok, slice_index_or}
 use Rattle.std.proofs.Common.{sym, subst, ◌∙◌}
+use Rattle.sx_base.proofs.Asking.{asked_so}
 use Rattle.auditor.specs.Following.{blank}
 use Rattle.cmd_reader.specs.Places.{IfTold}
 use Rattle.cmd_reader.specs.Left.{HasAhead}
+use Rattle.turn_sessions.proofs.AsksInTurn.{one_asked}
 use Rattle.turn_sessions.proofs.Sessions.{reading_at}
 use Rattle.turn_sessions.proofs.GoingOn.{stop_is_end, told_ok, told_err}
 use Rattle.turn_sessions.proofs.Turnings.{there, turn_held, taking_with, still_reading, fewer_left}
@@ -53,8 +55,16 @@ pub returns-in-Ok-clause-taking : goal.returns-in-Ok-clause-taking
 returns-in-Ok-clause-taking g c =
     let t = c.requires.taking in
     let session = slice_index_or c.args.sessions.now c.args.turn.now.place c.index-sessions-turn.result in
-    taking_with g.D.Disk.tells g.D.Disk.moment g.D.Disk.left_since g.D.Disk.seen g.D.Disk.pending c.args.disk.now c.take_turn.new.disk c.args.store.now c.take_turn.new.store (g.O.Sink.taken c.args.out.now) (g.O.Sink.taken c.take_turn.new.out) g.G.Guarding.kept (g.I.Inputs.told c.args.inputs.now)
+    taking_with g.D.Disk c.args.disk.now c.take_turn.new.disk c.args.store.now c.take_turn.new.store (g.O.Sink.taken c.args.out.now) (g.O.Sink.taken c.take_turn.new.out) g.G.Guarding.kept (g.I.Inputs.told c.args.inputs.now)
     c.args.sessions.now c.args.turn.now.place session c.take_turn.new.session (Ok c.in-Ok.now) t.0 (there c.args.sessions.now c.args.turn.now.place c.index-sessions-turn.result c.requires.within) t.1 c.in-Ok.ensures.turned
+
+pub returns-in-Ok-clause-asked : goal.returns-in-Ok-clause-asked
+returns-in-Ok-clause-asked g c =
+    asked_so g.I.Inputs (λ asks on. one_asked c.args.sessions.now c.args.turn.now.place c.index-sessions-turn.result c.take_turn.new.session c.requires.within c.in-Ok.ensures.reader_name asks on) c.in-Ok.ensures.asked
+
+pub returns-in-Err-clause-asked : goal.returns-in-Err-clause-asked
+returns-in-Err-clause-asked g c =
+    asked_so g.I.Inputs (λ asks on. one_asked c.args.sessions.now c.args.turn.now.place c.index-sessions-turn.result c.take_turn.new.session c.requires.within c.in-Err.ensures.reader_name asks on) c.in-Err.ensures.asked
 
 pub returns-in-Ok-clause-fewer : goal.returns-in-Ok-clause-fewer
 returns-in-Ok-clause-fewer g c =
@@ -64,13 +74,13 @@ returns-in-Ok-clause-fewer g c =
 pub returns-in-Ok-clause-going : goal.returns-in-Ok-clause-going
 returns-in-Ok-clause-going g c start was begun names w end last rest are =
     let session = slice_index_or c.args.sessions.now c.args.turn.now.place c.index-sessions-turn.result in
-    told_ok g.D.Disk.tells g.D.Disk.moment g.D.Disk.left_since g.D.Disk.seen g.D.Disk.pending start c.args.disk.now c.take_turn.new.disk was c.args.store.now c.take_turn.new.store begun (g.O.Sink.taken c.args.out.now) (g.O.Sink.taken c.take_turn.new.out) g.G.Guarding.kept w end last c.args.turn.now.place rest c.args.turn.now.refused
+    told_ok g.D.Disk start c.args.disk.now c.take_turn.new.disk was c.args.store.now c.take_turn.new.store begun (g.O.Sink.taken c.args.out.now) (g.O.Sink.taken c.take_turn.new.out) g.G.Guarding.kept w end last c.args.turn.now.place rest c.args.turn.now.refused
     c.args.sessions.now session c.take_turn.new.session (there c.args.sessions.now c.args.turn.now.place c.index-sessions-turn.result c.requires.within) names (g.I.Inputs.told c.args.inputs.now) c.in-Ok.now c.first_of.result are c.in-Ok.ensures.turned c.first_of.ensures
 
 pub returns-in-Err-clause-going : goal.returns-in-Err-clause-going
 returns-in-Err-clause-going g c start was begun names w end last rest are =
     let session = slice_index_or c.args.sessions.now c.args.turn.now.place c.index-sessions-turn.result in
-    told_err g.D.Disk.tells g.D.Disk.moment g.D.Disk.left_since g.D.Disk.seen g.D.Disk.pending start c.args.disk.now c.take_turn.new.disk was c.args.store.now c.take_turn.new.store begun (g.O.Sink.taken c.args.out.now) (g.O.Sink.taken c.take_turn.new.out) g.G.Guarding.kept w end last c.args.turn.now.place rest c.args.turn.now.refused
+    told_err g.D.Disk start c.args.disk.now c.take_turn.new.disk was c.args.store.now c.take_turn.new.store begun (g.O.Sink.taken c.args.out.now) (g.O.Sink.taken c.take_turn.new.out) g.G.Guarding.kept w end last c.args.turn.now.place rest c.args.turn.now.refused
     c.args.sessions.now session c.take_turn.new.session (there c.args.sessions.now c.args.turn.now.place c.index-sessions-turn.result c.requires.within) names (g.I.Inputs.told c.args.inputs.now) c.in-Err.why are c.in-Err.ensures.turned c.in-Err.ensures.kept
 
 pub returns-in-Err-clause-stops : goal.returns-in-Err-clause-stops

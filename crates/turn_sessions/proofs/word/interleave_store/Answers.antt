@@ -2,17 +2,22 @@ use Rattle.std.specs.Prelude.{ℕ, List, map}
 use Rattle.std.specs.String.{string_bytes}
 use Rattle.std.proofs.Common.{sym, subst}
 use Rattle.sx_base.specs.Calls.{IfAllTold, Wrote}
+use Rattle.sx_base.proofs.Asking.{asked_nothing, turn_none}
 use Rattle.sx_base.proofs.DiskMoments.{leaves_now}
 use Rattle.store_journal.specs.Standing.{with_bytes}
 use Rattle.store_words.specs.Ending.{receive_ways, EndCaused}
 use Rattle.store_words.proofs.AuditAnswers.{same_shape}
 use Rattle.store_words.proofs.Opened.{opening_stops}
 use Rattle.store_words.proofs.ReceiveAnswers.{receive_caused}
+use Rattle.turn_sessions.specs.Asked.{unread}
 use Rattle.turn_sessions.specs.Ends.{places_of}
 use Rattle.turn_sessions.proofs.Answering.{TurnsSaid, TurnsLeave, MomentsLeave, not_turned, none_left, none_moments, is_turned, is_left, its_moments}
 use Rattle.turn_sessions.proofs.word.interleave_store.Goals as goal
 
 -- ---- the store does not open
+
+pub returns-in-Err-clause-asked : goal.returns-in-Err-clause-asked
+returns-in-Err-clause-asked g c = asked_nothing g.I.Inputs c.args.inputs.now (map unread (map string_bytes c.args.task.now.files.now), turn_none (map unread (map string_bytes c.args.task.now.files.now)))
 
 pub returns-in-Err-clause-answered : goal.returns-in-Err-clause-answered
 returns-in-Err-clause-answered g c tells all shares own =

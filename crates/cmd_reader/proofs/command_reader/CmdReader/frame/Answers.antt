@@ -1,11 +1,13 @@
 use Rattle.std.proofs.Common.{◌≡◌, ℕ, refl, subst, ◌∙◌, arith}
 use Rattle.cmd_reader.specs.Steadiness.{UnlessFailed}
 use Rattle.cmd_reader.proofs.Goings.{begun_at_start, begun_further, begun_ahead, answered, frame_fits}
+use Rattle.cmd_reader.specs.Left.{read_to}
+use Rattle.cmd_reader.proofs.Asked.{reads_nothing, reads_then}
 use Rattle.cmd_reader.proofs.Standing.{halted_over}
 use Rattle.cmd_reader.proofs.command_reader.CmdReader.frame.Goals as goal
 
 pub loop-answer-init : goal.loop-answer-init
-loop-answer-init g c = record { same = refl; steady = refl; ends_steady = refl; begun = begun_at_start (g.I.Inputs.told c.args.inputs.now) c.args.self.now c.requires.ahead; ahead = c.requires.ahead }
+loop-answer-init g c = record { same = refl; steady = refl; ends_steady = refl; asked = reads_nothing g.I.Inputs c.args.inputs.now c.args.self.now.name (read_to c.args.self.now); begun = begun_at_start (g.I.Inputs.told c.args.inputs.now) c.args.self.now c.requires.ahead; ahead = c.requires.ahead }
 
 pub loop-answer-preserved : goal.loop-answer-preserved
 loop-answer-preserved g c =
@@ -16,6 +18,7 @@ loop-answer-preserved g c =
       same = same;
       steady = c.in-None.ensures.steady ∙ i.steady;
       ends_steady = c.in-None.ensures.ends_steady ∙ i.ends_steady;
+      asked = reads_then g.I.Inputs _ _ _ _ _ _ _ _ _ i.begun.0.name refl i.asked c.in-None.ensures.asked;
       begun = begun;
       ahead = begun_ahead (g.I.Inputs.told c.args.inputs.now) (g.I.Inputs.told c.step.new.inputs) c.args.self.now c.step.new.self same begun;
     }
@@ -31,6 +34,7 @@ returns-in-Some g c =
       steady = subst (λ (n : ℕ). UnlessFailed c.in-Some.answer (g.I.Inputs.faults c.step.new.inputs ≡ n)) i.steady e.steady;
       ends_later = omega (arith, i.ends_steady, e.ends_later);
       ends_steady = subst (λ (n : ℕ). UnlessFailed c.in-Some.answer (g.I.Inputs.ends c.step.new.inputs ≡ n)) i.ends_steady e.ends_steady;
+      asked = reads_then g.I.Inputs _ _ _ _ _ _ _ _ _ i.begun.0.name refl i.asked e.asked;
       file = e.file ∙ i.begun.0.file;
       name = e.name ∙ i.begun.0.name;
       fits = frame_fits (g.I.Inputs.told c.args.inputs.now) c.args.self.now c.step.new.self _ _ c.in-Some.answer says;

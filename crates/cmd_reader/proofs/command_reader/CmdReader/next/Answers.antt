@@ -30,4 +30,4 @@ returns g c =
     let body = c.body_in.ensures.body ∙ ap (λ (l : List ℕ). drop 10 l) c.last_frame.ensures.bytes in
     let says = item_said (g.I.Inputs.told c.args.inputs.now) c.args.self.now c.frame.new.self (g.I.Inputs.faults c.args.inputs.now) (g.I.Inputs.faults c.frame.new.inputs) c.in-Ok-Some.field-0 c.in-Ok-Some.frame _ c.item_in.result c.in-Ok-Some.field-0-is c.in-Ok-Some.ensures.says body (subst IsBytes c.last_frame.ensures.bytes c.body_in.ensures.bytes) c.item_in.ensures.says in
     let stands = item_stands (g.I.Inputs.told c.args.inputs.now) c.args.self.now c.frame.new.self (g.I.Inputs.faults c.args.inputs.now) (g.I.Inputs.faults c.frame.new.inputs) c.in-Ok-Some.field-0 c.in-Ok-Some.frame _ c.item_in.result c.in-Ok-Some.field-0-is c.in-Ok-Some.ensures.says c.item_in.ensures.says in
-    record { same = e.same; later = e.later; steady = whatever c.item_in.result _ c.in-Ok-Some.ensures.steady; ends_later = e.ends_later; ends_steady = whatever c.item_in.result _ c.in-Ok-Some.ensures.ends_steady; file = e.file; name = e.name; fits = says.0.0; end = says.0.1; read = says.1; stands = stands }
+    record { same = e.same; later = e.later; steady = whatever c.item_in.result _ c.in-Ok-Some.ensures.steady; ends_later = e.ends_later; ends_steady = whatever c.item_in.result _ c.in-Ok-Some.ensures.ends_steady; asked = e.asked; file = e.file; name = e.name; fits = says.0.0; end = says.0.1; read = says.1; stands = stands }

@@ -2,6 +2,7 @@ use Rattle.std.proofs.Common.{refl, ap, sym, ◌∙◌, arith}
 use Rattle.std.specs.String.{string_bytes}
 use Rattle.cmd_reader.proofs.Steps.{fault_said, head_said, frame_said, whole_said, cut_said}
 use Rattle.cmd_reader.proofs.Standing.{fault_halted, whole_halted, cut_halted}
+use Rattle.cmd_reader.proofs.Asked.{step_asks}
 use Rattle.cmd_reader.proofs.Steady.{whatever_stop, seen_at_place}
 use Rattle.cmd_reader.proofs.command_reader.CmdReader.step.Goals as goal
 
@@ -50,3 +51,18 @@ returns-in-Err-clause-steady g c = seen_at_place _ _ _ c.in-Err.fault c.stop_at-
 
 pub returns-in-Err-clause-ends_steady : goal.returns-in-Err-clause-ends_steady
 returns-in-Err-clause-ends_steady g c = seen_at_place _ _ _ c.in-Err.fault c.stop_at-in-Err.result _ c.stop_at-in-Err.ensures.stop c.in-Err.ensures.ends_steady
+
+pub returns-then-whole-clause-asked : goal.returns-then-whole-clause-asked
+returns-then-whole-clause-asked g c = step_asks g.I.Inputs _ _ c.args.self.now _ _ _ _ c.pass.new.self.feed c.self.view_is c.self.invariant.source_is.up_to c.in-Ok-None.ensures.source.up_to c.in-Ok-None.ensures.asked
+
+pub returns-in-Ok-None-clause-asked : goal.returns-in-Ok-None-clause-asked
+returns-in-Ok-None-clause-asked g c = step_asks g.I.Inputs _ _ c.args.self.now _ _ _ _ c.pass.new.self.feed c.self.view_is c.self.invariant.source_is.up_to c.in-Ok-None.ensures.source.up_to c.in-Ok-None.ensures.asked
+
+pub returns-in-Err-clause-asked : goal.returns-in-Err-clause-asked
+returns-in-Err-clause-asked g c = step_asks g.I.Inputs _ _ c.args.self.now _ _ _ _ c.pass.new.self.feed c.self.view_is c.self.invariant.source_is.up_to c.in-Err.ensures.source.up_to c.in-Err.ensures.asked
+
+pub returns-in-Head-clause-asked : goal.returns-in-Head-clause-asked
+returns-in-Head-clause-asked g c = step_asks g.I.Inputs _ _ c.args.self.now _ _ _ _ c.pass.new.self.feed c.self.view_is c.self.invariant.source_is.up_to c.in-Ok-Some.ensures.source.up_to c.in-Ok-Some.ensures.asked
+
+pub returns-in-Frame-clause-asked : goal.returns-in-Frame-clause-asked
+returns-in-Frame-clause-asked g c = step_asks g.I.Inputs _ _ c.args.self.now _ _ _ _ c.pass.new.self.feed c.self.view_is c.self.invariant.source_is.up_to c.in-Ok-Some.ensures.source.up_to c.in-Ok-Some.ensures.asked

@@ -1,9 +1,10 @@
-use Rattle.std.proofs.Common.{◌≡◌, ap, subst, ◌∙◌, ◌+◌, length, arith, ℕ}
+use Rattle.std.proofs.Common.{◌≡◌, refl, ap, subst, ◌∙◌, ◌+◌, length, arith, ℕ}
 use Rattle.std.specs.String.{string_bytes}
 use Rattle.tlv_frame.specs.Feeding.{Fed}
 use Rattle.cmd_reader.specs.Sources.{unit_len}
 use Rattle.cmd_reader.specs.Steadiness.{UnlessFault}
-use Rattle.cmd_reader.proofs.Sourcing.{passes, left_after, unit_passed, unit_due, kept_ahead, refused_pass, waited, no_more, not_more}
+use Rattle.cmd_reader.proofs.Asked.{reads_nothing, reads_then}
+use Rattle.cmd_reader.proofs.Sourcing.{passes, left_after, unit_passed, unit_due, kept_ahead, refused_pass, waited, no_more, not_more, given_more}
 use Rattle.cmd_reader.proofs.source.Source.pass.Goals as goal
 
 pub returns-in-Ok-Some-clause-source : goal.returns-in-Ok-Some-clause-source
@@ -55,3 +56,44 @@ returns-in-Err-more-clause-steady g c =
 pub returns-in-Err-more-clause-ends_steady : goal.returns-in-Err-more-clause-ends_steady
 returns-in-Err-more-clause-ends_steady g c =
     subst (λ (n : ℕ). UnlessFault c.in-Err-more.fault (g.I.Inputs.ends c.more.new.inputs ≡ n)) c.loop-unit.invariant.ends_steady c.in-Err-more.ensures.ends_steady
+
+pub loop-unit-init : goal.loop-unit-init
+loop-unit-init g c = record {
+  same = refl;
+  steady = refl;
+  ends_steady = refl;
+  asked = reads_nothing g.I.Inputs _ _ _;
+  source = c.requires.source;
+  name = refl;
+  place = refl;
+  due = refl;
+  ended = refl;
+  ahead = c.requires.ahead;
+}
+
+pub loop-unit-preserved : goal.loop-unit-preserved
+loop-unit-preserved g c =
+    let i = c.loop-unit.invariant in
+    let e = c.in-Ok-true.ensures in
+    let mid = c.loop-unit.self.feed in
+    let w = waited mid c.pass.new.self c.in-Ok-None.field-0 c.in-Ok-None.field-0-is c.in-Ok-None.ensures.after c.in-Ok-None.ensures.answer in
+    let more = given_more (g.I.Inputs.told c.loop-unit.inputs) (g.I.Inputs.told c.more.new.inputs) (record { name = c.loop-unit.self.name; feed = c.pass.new.self; piece = c.loop-unit.self.piece; at = c.loop-unit.self.at; fed = c.loop-unit.self.fed })
+    c.more.new.self 0 0 c.in-Ok-true.field-0 c.in-Ok-true.field-0-test e.same e.name e.says in
+    record {
+      same = e.same ∙ i.same;
+      steady = e.steady ∙ i.steady;
+      ends_steady = e.ends_steady ∙ i.ends_steady;
+      asked = reads_then g.I.Inputs _ _ _ _ _ _ _ _ _ (ap string_bytes i.name) refl i.asked e.asked;
+      source = e.source;
+      name = e.name ∙ i.name;
+      place = e.place ∙ i.place;
+      due = more.0 ∙ ap (λ (f : Fed). f.due) w.1 ∙ i.due;
+      ended = more.1 ∙ ap (λ (f : Fed). f.ended) w.1 ∙ i.ended;
+      ahead = more.2;
+    }
+
+pub returns-in-Ok-false-clause-asked : goal.returns-in-Ok-false-clause-asked
+returns-in-Ok-false-clause-asked g c = reads_then g.I.Inputs _ _ _ _ _ _ _ _ _ (ap string_bytes c.loop-unit.invariant.name) refl c.loop-unit.invariant.asked c.in-Ok-false.ensures.asked
+
+pub returns-in-Err-more-clause-asked : goal.returns-in-Err-more-clause-asked
+returns-in-Err-more-clause-asked g c = reads_then g.I.Inputs _ _ _ _ _ _ _ _ _ (ap string_bytes c.loop-unit.invariant.name) refl c.loop-unit.invariant.asked c.in-Err-more.ensures.asked

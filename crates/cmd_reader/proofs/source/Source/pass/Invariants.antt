@@ -1,6 +1,7 @@
 use Rattle.std.proofs.Common.{◌≡◌, ◌-◌}
 use Rattle.std.specs.String.{string_bytes}
 use Rattle.send_model.specs.Lengths.{limit}
+use Rattle.sx_base.specs.Later.{ReadsOn}
 use Rattle.cmd_reader.specs.Places.{IfTold}
 use Rattle.cmd_reader.specs.Sources.{IsSource, IsAhead}
 use Rattle.cmd_reader.proofs.source.Source.pass.Given as goal
@@ -11,6 +12,7 @@ invariant-loop-unit g l = record {
   same : g.I.Inputs.told l.inputs ≡ g.I.Inputs.told l.fn.inputs;
   steady : g.I.Inputs.faults l.inputs ≡ g.I.Inputs.faults l.fn.inputs;
   ends_steady : g.I.Inputs.ends l.inputs ≡ g.I.Inputs.ends l.fn.inputs;
+  asked : ReadsOn g.I.Inputs l.fn.inputs l.inputs (string_bytes l.fn.self.name) l.fn.self.fed l.self.fed;
   source : IsSource l.self;
   name : l.self.name ≡ l.fn.self.name;
   place : l.self.at ≡ l.fn.self.at;

@@ -7,6 +7,7 @@ use Rattle.send_model.specs.Due.{most_literal}
 use Rattle.send_model.specs.Laws.{CanWrite}
 use Rattle.send_commands.specs.Meaning.{meaning_of}
 use Rattle.send_commands.proofs.Writable.{spellable_is_writable}
+use Rattle.sx_base.proofs.Asking.{asked_nothing}
 use Rattle.subvol_catalog.specs.Entries.{key_of}
 use Rattle.extent_map.specs.Cells.{cells_between}
 use Rattle.provenance.specs.declared.trace.Trace.{Trace}
@@ -130,6 +131,7 @@ returns-in_default g c =
       state = ap (λ (k : Kept). k.state) c.self-in_default.view_is;
       latest = ap (λ (k : Kept). k.latest) c.self-in_default.view_is;
       inputs = record { same = refl; later = omega arith; steady = untouched _ c.map_err-in_default.result; ends_later = omega arith; ends_steady = untouched _ c.map_err-in_default.result };
+      asked = asked_nothing g.I.Inputs c.args.inputs.now tt;
       bytes = record { sizes = λ key ino. refl; held = λ tells. refl; later = omega arith; steady = untouched _ c.map_err-in_default.result };
       out = record { later = c.put_item-in_default.ensures.later; steady = handed_steady _ _ c.put_item-in_default.result c.map_err-in_default.result answered c.put_item-in_default.ensures.steady };
       stops = handed_stops c.put_item-in_default.result c.map_err-in_default.result answered;
@@ -162,3 +164,12 @@ returns-then-not-has_part-clause-out g c = record {
 pub returns-then-not-has_part-clause-stops : goal.returns-then-not-has_part-clause-stops
 returns-then-not-has_part-clause-stops g c =
     handed_stops c.put_item.result c.map_err-then-not-has_part.result (answer_is c.put_item.result c.map_err-then-not-has_part.result c.map_err-then-not-has_part.ensures.cases)
+
+pub returns-in-End-clause-asked : goal.returns-in-End-clause-asked
+returns-in-End-clause-asked g c = asked_nothing g.I.Inputs c.args.inputs.now tt
+
+pub returns-then-is_own-clause-asked : goal.returns-then-is_own-clause-asked
+returns-then-is_own-clause-asked g c = asked_nothing g.I.Inputs c.args.inputs.now tt
+
+pub returns-then-not-has_part-clause-asked : goal.returns-then-not-has_part-clause-asked
+returns-then-not-has_part-clause-asked g c = asked_nothing g.I.Inputs c.args.inputs.now tt

@@ -2,6 +2,7 @@ use Rattle.std.specs.Prelude.{ℕ, ◌+◌, List, map, length}
 use Rattle.std.specs.String.{string_bytes}
 use Rattle.std.proofs.Common.{refl, ap, subst, ◌∙◌, arith}
 use Rattle.send_model.specs.Store.{find}
+use Rattle.sx_base.proofs.Asking.{asked_nothing}
 use Rattle.subvol_catalog.specs.Entries.{key_of}
 use Rattle.extent_map.specs.Cells.{cells_between}
 use Rattle.send_model.specs.Cells.{AllCells}
@@ -29,7 +30,7 @@ returns-then-sum-gt-MOST_LITERAL-clause-added g c tells =
 pub redirect-requires-clause-had : goal.redirect-requires-clause-had
 redirect-requires-clause-had g c =
     let t = c.requires.taken in
-    range_had (IsHad (length c.args.task.now.files.now) (g.E.Known.base c.args.task.now.known.now)) t.0 c.args.self.now.state c.args.range.now.path.now c.args.range.now.offset (key_of c.args.range.now.source) c.args.range.now.source_path.now c.args.range.now.from c.args.range.now.len c.in-Some.contents.now t.1
+    range_had (IsHad (length c.args.task.now.files.now) (g.E.Known.base c.args.task.now.known.now)) t.0 c.args.self.now.state c.args.range.now.offset (key_of c.args.range.now.source) c.args.range.now.source_path.now c.args.range.now.from c.args.range.now.len c.in-Some.contents.now t.1
     (λ source at f w file. c.in-Some.ensures source at (ap (λ (k : Kept). find k.state.store (key_of c.args.range.now.source)) c.self.view_is ∙ f) w file)
     c.requires.had
 
@@ -37,7 +38,7 @@ pub redirect-requires-clause-there : goal.redirect-requires-clause-there
 redirect-requires-clause-there g c =
     let t = c.requires.taken in
     all_map (g.I.Inputs.told c.args.inputs.now) (map string_bytes c.args.task.now.files.now) (λ told. AllCells (IsInInput told) c.args.self.now.state) _ (λ told there.
-    range_had (IsInInput told) t.0 c.args.self.now.state c.args.range.now.path.now c.args.range.now.offset (key_of c.args.range.now.source) c.args.range.now.source_path.now c.args.range.now.from c.args.range.now.len c.in-Some.contents.now t.1
+    range_had (IsInInput told) t.0 c.args.self.now.state c.args.range.now.offset (key_of c.args.range.now.source) c.args.range.now.source_path.now c.args.range.now.from c.args.range.now.len c.in-Some.contents.now t.1
     (λ source at f w file. c.in-Some.ensures source at (ap (λ (k : Kept). find k.state.store (key_of c.args.range.now.source)) c.self.view_is ∙ f) w file)
     there) c.requires.there
 
@@ -90,3 +91,9 @@ returns-clause-out g c =
 
 pub returns-clause-stops : goal.returns-clause-stops
 returns-clause-stops g c = handed_stops c.redirect.result c.map_err.result (answer_is c.redirect.result c.map_err.result c.map_err.ensures.cases)
+
+pub returns-in_default-clause-asked : goal.returns-in_default-clause-asked
+returns-in_default-clause-asked g c = asked_nothing g.I.Inputs c.args.inputs.now tt
+
+pub returns-then-sum-gt-MOST_LITERAL-clause-asked : goal.returns-then-sum-gt-MOST_LITERAL-clause-asked
+returns-then-sum-gt-MOST_LITERAL-clause-asked g c = asked_nothing g.I.Inputs c.args.inputs.now tt

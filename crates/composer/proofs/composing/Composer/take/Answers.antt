@@ -12,6 +12,7 @@ use Rattle.sx_base.specs.declared.stop.Stop.TheVariants as stop
 use Rattle.sx_base.specs.Refusals.{refusal_of, verdict_meant}
 use Rattle.sx_base.specs.contracts.stop.Stop.{enum}
 use Rattle.sx_base.specs.declared.refusal.Refusal.TheVariants.{BadMagic}
+use Rattle.sx_base.proofs.Asking.{asked_nothing}
 use Rattle.subvol_catalog.specs.Entries.{key_of}
 use Rattle.cmd_reader.specs.Next.{item_of}
 use Rattle.provenance.specs.declared.trace.Trace.{Trace}
@@ -149,3 +150,21 @@ returns-clause-taken g c tells =
     (sym c.in-Some-last.ensures.last) edit c.in-Ok.ensures.stepped (stepped_seen {A = Done} (Ok c.in-Ok.field-0) told (g.E.Known.base c.args.task.now.known.now) (the_view c.self.inside).state (record { store = c.step.new.self; part = c.step.new.part }) (item_of c.args.read.now.file c.args.read.now.item.now) there.1 c.in-Ok.ensures.stepped)
     (subst (λ (key : Key). AddEnd told (g.E.Known.base c.args.task.now.known.now) c.args.task.now.survey.now key mid c.add.new.self (meaning_of c.args.read.now.item.now.command) (g.O.Sink.taken c.args.out.now) (g.O.Sink.taken c.add.new.out) c.add.result) c.key.ensures added)
     c.add.ensures.state c.add.ensures.latest)) c.requires.there (c.add.ensures.added tells)
+
+pub returns-in-Err-NoMemory-clause-asked : goal.returns-in-Err-NoMemory-clause-asked
+returns-in-Err-NoMemory-clause-asked g c = asked_nothing g.I.Inputs c.args.inputs.now tt
+
+pub returns-in-Err-Refused-clause-asked : goal.returns-in-Err-Refused-clause-asked
+returns-in-Err-Refused-clause-asked g c = asked_nothing g.I.Inputs c.args.inputs.now tt
+
+pub returns-then-not-in_order-clause-asked : goal.returns-then-not-in_order-clause-asked
+returns-then-not-in_order-clause-asked g c = asked_nothing g.I.Inputs c.args.inputs.now tt
+
+pub returns-in-Ok-begin_part-clause-asked : goal.returns-in-Ok-begin_part-clause-asked
+returns-in-Ok-begin_part-clause-asked g c = asked_nothing g.I.Inputs c.args.inputs.now tt
+
+pub returns-in-Err-clause-asked : goal.returns-in-Err-clause-asked
+returns-in-Err-clause-asked g c = asked_nothing g.I.Inputs c.args.inputs.now tt
+
+pub returns-in_default-last-clause-asked : goal.returns-in_default-last-clause-asked
+returns-in_default-last-clause-asked g c = asked_nothing g.I.Inputs c.args.inputs.now tt
