@@ -96,7 +96,8 @@ impl<D: Disk> Disk for FlakyDisk<D> {
         ensures same { D.tells →
             IsAsBefore (within D.seen) (within D.pending) self.old self.new }
         ensures passes { Passes (members D.tells (within D.moment)
-            (left_within D.left_since) (within D.pending) (faults_within D.faults)) self.old self.new result }
+            (left_within D.left_since) (within D.pending) (faults_within D.faults))
+            self.old self.new result }
         ensures steady { Steady (faults_within D.faults self.old)
             (faults_within D.faults self.new) result }
         ensures counts { CountsCall self.old self.new }
@@ -117,7 +118,8 @@ impl<D: Disk> Disk for FlakyDisk<D> {
         ensures same { D.tells →
             IsAsBefore (within D.seen) (within D.pending) self.old self.new }
         ensures passes { Passes (members D.tells (within D.moment)
-            (left_within D.left_since) (within D.pending) (faults_within D.faults)) self.old self.new result }
+            (left_within D.left_since) (within D.pending) (faults_within D.faults))
+            self.old self.new result }
         ensures steady { Steady (faults_within D.faults self.old)
             (faults_within D.faults self.new) result }
         ensures counts { CountsCall self.old self.new }
@@ -144,7 +146,8 @@ impl<D: Disk> Disk for FlakyDisk<D> {
             (D.seen self.new.disk ≡ put_at at piece.now (D.seen self.old.disk))
             ⊎ Rose (D.faults self.old.disk) (D.faults self.new.disk) }
         ensures passes { Passes (members D.tells (within D.moment)
-            (left_within D.left_since) (within D.pending) (faults_within D.faults)) self.old self.new result }
+            (left_within D.left_since) (within D.pending) (faults_within D.faults))
+            self.old self.new result }
         ensures steady { Steady (faults_within D.faults self.old)
             (faults_within D.faults self.new) result }
         ensures counts { CountsCall self.old self.new }
@@ -169,7 +172,8 @@ impl<D: Disk> Disk for FlakyDisk<D> {
             (D.seen self.new.disk ≡ take size (D.seen self.old.disk))
             ⊎ Rose (D.faults self.old.disk) (D.faults self.new.disk) }
         ensures passes { Passes (members D.tells (within D.moment)
-            (left_within D.left_since) (within D.pending) (faults_within D.faults)) self.old self.new result }
+            (left_within D.left_since) (within D.pending) (faults_within D.faults))
+            self.old self.new result }
         ensures steady { Steady (faults_within D.faults self.old)
             (faults_within D.faults self.new) result }
         ensures counts { CountsCall self.old self.new }
@@ -189,7 +193,8 @@ impl<D: Disk> Disk for FlakyDisk<D> {
         ensures pending_err { D.tells →
             OnErr result (D.pending self.new.disk ≡ D.pending self.old.disk) }
         ensures passes { Passes (members D.tells (within D.moment)
-            (left_within D.left_since) (within D.pending) (faults_within D.faults)) self.old self.new result }
+            (left_within D.left_since) (within D.pending) (faults_within D.faults))
+            self.old self.new result }
         ensures steady { Steady (faults_within D.faults self.old)
             (faults_within D.faults self.new) result }
         ensures counts { CountsCall self.old self.new }

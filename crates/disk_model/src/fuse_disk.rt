@@ -104,7 +104,8 @@ impl<D: Disk> Disk for FuseDisk<D> {
         ensures same { D.tells →
             IsAsBefore (of_inner D.seen) (of_inner D.pending) self.old self.new }
         ensures passes { Passes (members D.tells (of_inner D.moment)
-            (left_inside D.left_since) (of_inner D.pending) (faults_of D.faults)) self.old self.new result }
+            (left_inside D.left_since) (of_inner D.pending) (faults_of D.faults))
+            self.old self.new result }
         ensures steady { Steady (faults_of D.faults self.old) (faults_of D.faults self.new) result }
         ensures counts { self.new.left ≡ self.old.left - 1 }
         ensures stopped { self.old.left ≡ 0 → IsErr result }
@@ -128,7 +129,8 @@ impl<D: Disk> Disk for FuseDisk<D> {
         ensures same { D.tells →
             IsAsBefore (of_inner D.seen) (of_inner D.pending) self.old self.new }
         ensures passes { Passes (members D.tells (of_inner D.moment)
-            (left_inside D.left_since) (of_inner D.pending) (faults_of D.faults)) self.old self.new result }
+            (left_inside D.left_since) (of_inner D.pending) (faults_of D.faults))
+            self.old self.new result }
         ensures steady { Steady (faults_of D.faults self.old) (faults_of D.faults self.new) result }
         ensures counts { self.new.left ≡ self.old.left - 1 }
         ensures stopped { self.old.left ≡ 0 → IsErr result }
@@ -159,7 +161,8 @@ impl<D: Disk> Disk for FuseDisk<D> {
             (D.seen self.new.disk ≡ put_at at piece.now (D.seen self.old.disk))
             ⊎ Rose (D.faults self.old.disk) (D.faults self.new.disk) }
         ensures passes { Passes (members D.tells (of_inner D.moment)
-            (left_inside D.left_since) (of_inner D.pending) (faults_of D.faults)) self.old self.new result }
+            (left_inside D.left_since) (of_inner D.pending) (faults_of D.faults))
+            self.old self.new result }
         ensures steady { Steady (faults_of D.faults self.old) (faults_of D.faults self.new) result }
         ensures counts { self.new.left ≡ self.old.left - 1 }
         ensures stopped { self.old.left ≡ 0 → IsErr result }
@@ -187,7 +190,8 @@ impl<D: Disk> Disk for FuseDisk<D> {
             (D.seen self.new.disk ≡ take size (D.seen self.old.disk))
             ⊎ Rose (D.faults self.old.disk) (D.faults self.new.disk) }
         ensures passes { Passes (members D.tells (of_inner D.moment)
-            (left_inside D.left_since) (of_inner D.pending) (faults_of D.faults)) self.old self.new result }
+            (left_inside D.left_since) (of_inner D.pending) (faults_of D.faults))
+            self.old self.new result }
         ensures steady { Steady (faults_of D.faults self.old) (faults_of D.faults self.new) result }
         ensures counts { self.new.left ≡ self.old.left - 1 }
         ensures stopped { self.old.left ≡ 0 → IsErr result }
@@ -210,7 +214,8 @@ impl<D: Disk> Disk for FuseDisk<D> {
         ensures pending_err { D.tells →
             OnErr result (D.pending self.new.disk ≡ D.pending self.old.disk) }
         ensures passes { Passes (members D.tells (of_inner D.moment)
-            (left_inside D.left_since) (of_inner D.pending) (faults_of D.faults)) self.old self.new result }
+            (left_inside D.left_since) (of_inner D.pending) (faults_of D.faults))
+            self.old self.new result }
         ensures steady { Steady (faults_of D.faults self.old) (faults_of D.faults self.new) result }
         ensures counts { self.new.left ≡ self.old.left - 1 }
         ensures stopped { self.old.left ≡ 0 → IsErr result }

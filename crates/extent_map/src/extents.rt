@@ -96,7 +96,8 @@ impl<O: Origin> Root<O> {
     fn with(&self, at: u64, piece: &Piece<O>) -> Option<Piece<O>>
         requires root { IsRoot O.advanced O.reach self.now }
         requires end { at + piece.now.len < 2 ^ 63 }
-        ensures { IfSome result (IsPut O.advanced O.reach (root_cells O.advanced self.now) at piece.now) }
+        ensures { IfSome result
+            (IsPut O.advanced O.reach (root_cells O.advanced self.now) at piece.now) }
     {
         match self {
             Root::One(one) => { if at == one.len { one.with(piece) } else { None } }

@@ -32,7 +32,8 @@ pub(crate) fn over_two<O: Origin>(
     len: u64,
 ) -> Result<Two<O>, AllocError>
     requires open { IsOpenAt kids.height index kids.trees.items }
-    requires two { IsTwo (two.first.cells ++ two.second.cells) two.first.height two.first two.second }
+    requires two { IsTwo (two.first.cells ++ two.second.cells) two.first.height two.first
+        two.second }
     requires high { two.first.height + 1 ≡ kids.height }
     requires some { 0 < two.first.height }
     requires count { len
@@ -85,7 +86,8 @@ fn join_forks<O: Origin>(alloc: Global, left: Tree<O>, right: Tree<O>) -> Result
     requires high { 1 < left.height }
     requires level { left.height ≡ right.height }
     requires fits { length left.cells + length right.cells < 2 ^ 63 }
-    ensures { IfOk result (λ two. IsTwo (left.cells ++ right.cells) left.height two.first two.second) }
+    ensures { IfOk result
+        (λ two. IsTwo (left.cells ++ right.cells) left.height two.first two.second) }
 {
     let len = left.span() + right.span();
     let mut kids = left.forked(alloc)?;
@@ -99,7 +101,8 @@ fn join_level<O: Origin>(alloc: Global, left: Tree<O>, right: Tree<O>) -> Result
     requires some { 0 < left.height }
     requires level { left.height ≡ right.height }
     requires fits { length left.cells + length right.cells < 2 ^ 63 }
-    ensures { IfOk result (λ two. IsTwo (left.cells ++ right.cells) left.height two.first two.second) }
+    ensures { IfOk result
+        (λ two. IsTwo (left.cells ++ right.cells) left.height two.first two.second) }
 {
     if !left.takes(&right) {
         return Ok(Two {

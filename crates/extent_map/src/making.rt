@@ -102,7 +102,8 @@ pub(crate) fn leaves<O: Origin>(
 ) -> Result<Two<O>, AllocError>
     requires leaf { IsLeaf O.reach len pieces.items }
     requires fits { len < 2 ^ 63 }
-    ensures { IfOk result (λ two. IsTwo (all_cells O.advanced pieces.items) 1 two.first two.second) }
+    ensures { IfOk result
+        (λ two. IsTwo (all_cells O.advanced pieces.items) 1 two.first two.second) }
 {
     if pieces.len() <= PIECES {
         return Ok(Two {
@@ -185,7 +186,8 @@ pub(crate) fn any<O: Origin>(
 
 /// One tree of one or two. Fails for want of memory alone.
 pub(crate) fn root<O: Origin>(alloc: Global, two: Two<O>) -> Result<Tree<O>, AllocError>
-    requires two { IsTwo (two.first.cells ++ two.second.cells) two.first.height two.first two.second }
+    requires two { IsTwo (two.first.cells ++ two.second.cells) two.first.height two.first
+        two.second }
     requires fits { length (two.first.cells ++ two.second.cells) < 2 ^ 63 }
     ensures { IfOk result (λ t. t.cells ≡ two.first.cells ++ two.second.cells) }
 {

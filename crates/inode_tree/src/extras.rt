@@ -151,7 +151,8 @@ impl Extras {
         value: &[u8],
     ) -> Result<(), AllocError>
         ensures { OnOk result (self.new
-            ≡ record self.old { xattrs = with_value bytes_cmp name.now value.now self.old.xattrs }) }
+            ≡ record self.old
+            { xattrs = with_value bytes_cmp name.now value.now self.old.xattrs }) }
     {
         let mut fields = self.take(alloc)?;
         let value = Bytes::new(alloc, value)?;

@@ -48,8 +48,10 @@ impl<O: Origin> Model for Tree<O> {
 
     ghost view = { λ t. record { inodes = t.inodes; names = t.names; next = t.next } };
 
-    ghost invariant = { λ t. IsWholeTree t.whole (record { inodes = t.inodes; names = t.names; next = t.next }) t.further
-        × IsRemembered t.whole (record { inodes = t.inodes; names = t.names; next = t.next }) t.last };
+    ghost invariant = { λ t. IsWholeTree t.whole
+        (record { inodes = t.inodes; names = t.names; next = t.next }) t.further
+        × IsRemembered t.whole (record { inodes = t.inodes; names = t.names; next = t.next })
+        t.last };
 }
 
 impl<O: Origin> Tree<O> {

@@ -28,7 +28,8 @@ impl Model for LastWalks {
 
     ghost Value = { Walked };
 
-    ghost view = { λ w. record { front = w.front.items; directory = w.directory; path = w.path.items; ino = w.ino } };
+    ghost view = { λ w. record
+        { front = w.front.items; directory = w.directory; path = w.path.items; ino = w.ino } };
 }
 
 impl LastWalks {

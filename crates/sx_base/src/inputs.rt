@@ -49,7 +49,8 @@ pub trait Inputs {
         ensures later { faults self.old ≤ faults self.new }
         ensures ends { EndsKept (told self.old) (ends self.old) (ends self.new) }
         ensures cause { LostFor (told self.old) at (length buf.new)
-            (counts (ends self.old) (faults self.old) 0) (counts (ends self.new) (faults self.new) 0)
+            (counts (ends self.old) (faults self.old) 0)
+            (counts (ends self.new) (faults self.new) 0)
             result }
         ensures met { MeetsEnd name.now (last_end self.new) result }
         ensures steady { Steady (faults self.old) (faults self.new) result }
