@@ -256,7 +256,6 @@ file_stops told inputs new_name file name first old new now parts commands f0 f1
         told_both told name (Here (IsRefused (λ _. IsFaulty old verdict) (refusal_of verdict.refusal))) (Here Stood) (FileEnds new_name file first now (Err (ended_by.Refused verdict))) (refused verdict)
         (told_here told name (IsRefused (λ _. IsFaulty old verdict) (refusal_of verdict.refusal)) (told_moved told inputs name old.name (IsRefused (λ _. IsFaulty old verdict) (refusal_of verdict.refusal)) same name_is said))
         (told_here told name Stood stands)
-    by_why stop.NoMemory said = told_always told name (FileEnds new_name file first now (Err ended_by.NoMemory)) (λ bytes. tt)
     by_why stop.InputFault said = told_always told name (FileEnds new_name file first now (Err ended_by.InputFault)) (λ bytes. tt)
     by_why stop.InputTooLong said =
         told_both told name (Here Stood) (IsLongAt old.offset (OnlyEnds old)) (FileEnds new_name file first now (Err (ended_by.InputTooLong file))) long

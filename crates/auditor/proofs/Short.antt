@@ -1,7 +1,7 @@
 -- The data of a command that a version can say lie in its frame, so they are no longer than the greatest body.
-use Rattle.std.specs.Prelude.{◌≡◌, ℕ, ◌^◌, ◌≤◌, List, [], ◌++◌, length, Option, Some, Ok}
+use Rattle.std.specs.Prelude.{ℕ, ◌^◌, ◌≤◌, List, [], ◌++◌, length}
 use Rattle.std.specs.Int.{w16, to_le_bytes}
-use Rattle.std.proofs.Common.{subst, arith, length-append, zero-le}
+use Rattle.std.proofs.Common.{arith, length-append, zero-le}
 use Rattle.send_model.specs.Attribute.{PATH, FILE_OFFSET, DATA, field_bytes, Number}
 use Rattle.send_model.specs.Command.{Command, Write, row}
 use Rattle.send_model.specs.Spelling.{Attribute, length_bytes, attribute_bytes, body_of, attributes_of, greatest_body}
@@ -9,7 +9,7 @@ use Rattle.send_commands.specs.Meaning.{meaning_of}
 use Rattle.clone_resolve.specs.Steps.{data_len}
 use Rattle.cmd_reader.specs.declared.item.Item as read
 use Rattle.cmd_reader.specs.Left.{Reader}
-use Rattle.cmd_reader.specs.Next.{ItemFits, IfItem}
+use Rattle.cmd_reader.specs.Next.{ItemFits}
 
 in_attribute : (version : ℕ) (a : Attribute) → length a.bytes ≤ length (attribute_bytes version a)
 unfolding attribute_bytes
@@ -32,11 +32,5 @@ short_data version (Write path offset bytes) short = omega (arith, short, data_i
 short_data version c short = zero-le
 
 -- The data of an item that was read.
-pub item_short : (o : Option read.Item) (item : read.Item) (old new : Reader) → o ≡ Some item → IfItem (Ok o) (ItemFits old new) → data_len (meaning_of item.command) ≤ 2 ^ 18
-item_short o item old new e fits =
-    let f : ItemFits old new item = subst (λ (x : Option read.Item). IfItem (Ok x) (ItemFits old new)) e fits in
-    short_data item.version (meaning_of item.command) f.can_write.spellable.short
-
--- Where the reader stands after an item.
-pub item_moves : (o : Option read.Item) (item : read.Item) (old new : Reader) → o ≡ Some item → IfItem (Ok o) (ItemFits old new) → ItemFits old new item
-item_moves o item old new e fits = subst (λ (x : Option read.Item). IfItem (Ok x) (ItemFits old new)) e fits
+pub item_short : (item : read.Item) (old new : Reader) → ItemFits old new item → data_len (meaning_of item.command) ≤ 2 ^ 18
+item_short item old new fits = short_data item.version (meaning_of item.command) fits.can_write.spellable.short

@@ -16,7 +16,7 @@ use cmd_reader::Item;
 use extent_map::Origin;
 use guard_rules::{Guard, look_all};
 use inode_tree::Tree;
-use part_names::{NamedFile, rename};
+use part_names::{NamedFile, given_or, rename};
 use send_commands::Command;
 use std::marker::Model;
 use sx_base::{Outcome, Refusal, Stop, Verdict};
@@ -70,7 +70,7 @@ impl<R: Origin> Follower<R> {
     ///
     /// # Errors
     /// The refusals of the command.
-    pub fn step(&mut self, command: &Command) -> Result<Done, Stop>
+    pub fn step(&mut self, command: &Command<'_>) -> Result<Done, Stop>
         requires short { data_len (meaning_of command.now) ≤ 2 ^ 18 }
         ensures done { IfOk result (λ done. done ≡ done_by (meaning_of command.now)) }
         ensures stepped { Answers result self.new (blank_step self.old (meaning_of command.now)) }
@@ -83,7 +83,7 @@ impl<R: Origin> Follower<R> {
 fn look_and_step<R: Origin>(
     follower: &mut Follower<R>,
     guards: &mut [Box<dyn Guard>],
-    item: &Item,
+    item: &Item<'_>,
 ) -> Result<Done, Stop>
     requires short { data_len (meaning_of item.now.command) ≤ 2 ^ 18 }
     ensures followed { (file : ℕ) → Follows result
@@ -111,7 +111,7 @@ fn follow_item<R: Origin>(
     follower: &mut Follower<R>,
     guards: &mut [Box<dyn Guard>],
     file: u64,
-    item: &Item,
+    item: &Item<'_>,
 ) -> Result<Done, Outcome>
     requires short { data_len (meaning_of item.now.command) ≤ 2 ^ 18 }
     ensures stops { IfErr result IsStop }
@@ -135,17 +135,16 @@ pub(crate) fn follow_named<R: Origin>(
     file: &NamedFile<'_>,
     follower: &mut Follower<R>,
     guards: &mut [Box<dyn Guard>],
-    item: Item,
+    item: &Item<'_>,
 ) -> Result<Done, Outcome>
-    requires short { data_len (meaning_of item.command) ≤ 2 ^ 18 }
+    requires short { data_len (meaning_of item.now.command) ≤ 2 ^ 18 }
     requires name_fits { IfSome (option_copied file.now.new_name) IsShort }
     ensures stops { IfErr result IsStop }
     ensures followed { ItemEnds (beside (map (λ g. kept g) guards.old) follower.old)
         (beside (map (λ g. kept g) guards.new) follower.new)
-        (named_as (option_copied file.now.new_name) (item_of file.now.number item)) result }
+        (named_as (option_copied file.now.new_name) (item_of file.now.number item.now)) result }
 {
-    match rename(file.alloc, file.new_name, item) {
-        Ok(item) => follow_item(follower, guards, file.number, &item),
-        Err(_) => Err(Outcome::NoMemory),
-    }
+    let renamed = rename(file.new_name, item);
+    let named = given_or(item, &renamed);
+    follow_item(follower, guards, file.number, named)
 }

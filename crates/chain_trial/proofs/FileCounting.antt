@@ -18,11 +18,11 @@ use Rattle.cmd_reader.specs.declared.item.ReadStop.TheVariants as stop
 use Rattle.cmd_reader.specs.Fronts.{IsRefused, IsLongAt}
 use Rattle.cmd_reader.specs.Places.{IfTold}
 use Rattle.cmd_reader.specs.Left.{Reader, at_start, left}
-use Rattle.cmd_reader.specs.Next.{item_of, HasEnded, OnlyEnds, IsFaulty, ItemFits, IfItem, IsNext, NextSays}
+use Rattle.cmd_reader.specs.Next.{item_of, HasEnded, OnlyEnds, IsFaulty, IsNext, NextSays}
 use Rattle.cmd_reader.proofs.Aheads.{next_item, next_end}
 use Rattle.cmd_reader.proofs.Told.{told_both, told_always}
 use Rattle.chain_trial.specs.declared.counting.Counted.{Counted}
-use Rattle.chain_trial.specs.Counting.{AreCounted, FileCounted, IsCountable, IsNoMemory}
+use Rattle.chain_trial.specs.Counting.{AreCounted, FileCounted, IsCountable}
 
 -- Items, and then what else is read.
 abbrev and_then : List Item → Reading → Reading
@@ -143,8 +143,7 @@ one_room c clones commands offset next a b d l = one (is_clone c)
     one false = (omega (arith, b, d, l), omega (arith, a, b, d, l), omega (arith, a))
 
 stops_at : (table : List (List ℕ × List ℕ)) (name : List ℕ) (old new : Reader) (counted : Counted) (stopped : ReadStop)
-    → old.name ≡ name → NextSays (Some table) old new 0 0 (Err stopped) → IfTold (Some table) name (Stands old counted) → IsCountable (file_at table name) → IsNoMemory stopped
-stops_at table name old new counted stop.NoMemory name_is says stands countable = tt
+    → old.name ≡ name → NextSays (Some table) old new 0 0 (Err stopped) → IfTold (Some table) name (Stands old counted) → IsCountable (file_at table name) → ⊥
 stops_at table name old new counted stop.InputFault name_is says stands countable = omega (arith, says)
 stops_at table name old new counted (stop.Refused verdict) name_is says stands countable =
     let bytes : List ℕ = file_at table name in
@@ -160,12 +159,8 @@ stops_at table name old new counted stop.InputTooLong name_is says stands counta
     let short = countable.short in
     omega (arith, long, short)
 
--- A file that can be counted stops a reader for want of memory alone.
-pub stops_for_memory : (table inputs : List (List ℕ × List ℕ)) (name : List ℕ) (old new : Reader) (counted : Counted) (stopped : ReadStop)
-    → inputs ≡ table → old.name ≡ name → NextSays (Some inputs) old new 0 0 (Err stopped) → IfTold (Some table) name (Stands old counted) → IsCountable (file_at table name) → IsNoMemory stopped
-stops_for_memory table inputs name old new counted stopped same name_is says stands countable =
+-- A file that can be counted stops no reader.
+pub never_stops : (table inputs : List (List ℕ × List ℕ)) (name : List ℕ) (old new : Reader) (counted : Counted) (stopped : ReadStop)
+    → inputs ≡ table → old.name ≡ name → NextSays (Some inputs) old new 0 0 (Err stopped) → IfTold (Some table) name (Stands old counted) → IsCountable (file_at table name) → ⊥
+never_stops table inputs name old new counted stopped same name_is says stands countable =
     stops_at table name old new counted stopped name_is (subst (λ (t : List (List ℕ × List ℕ)). NextSays (Some t) old new 0 0 (Err stopped)) same says) stands countable
-
--- Where the reader stands after an item.
-pub item_moves : (o : Option read.Item) (item : read.Item) (old new : Reader) → o ≡ Some item → IfItem (Ok o) (ItemFits old new) → ItemFits old new item
-item_moves o item old new e fits = subst (λ (x : Option read.Item). IfItem (Ok x) (ItemFits old new)) e fits

@@ -1,12 +1,10 @@
 -- The commands of a file, counted.
-use Rattle.std.specs.Prelude.{◌≡◌, ⊤, ℕ, ◌<◌, ◌^◌, List, length}
+use Rattle.std.specs.Prelude.{◌≡◌, ℕ, ◌<◌, ◌^◌, List, length}
 use Rattle.send_model.specs.Command.{Command}
 use Rattle.send_model.specs.Reading.{Whole, reads}
 use Rattle.send_model.specs.Order.{commands_of}
 use Rattle.send_model.specs.Counts.{literal, clones}
 use Rattle.send_model.specs.Lengths.{limit}
-use Rattle.cmd_reader.specs.declared.item.ReadStop.{ReadStop}
-use Rattle.cmd_reader.specs.declared.item.ReadStop.TheVariants as stop
 use Rattle.chain_trial.specs.declared.counting.Counted.{Counted}
 
 -- So many commands, clones among them, and bytes that they write.
@@ -25,10 +23,3 @@ pub record IsCountable (bytes : List ℕ) : Type 0 where
   pub whole : (reads 1 bytes).end ≡ Whole
   pub short : length bytes < limit
   pub few : literal (commands_of (reads 1 bytes).items) < 2 ^ 64
-
--- Reading stops for want of memory.
-abbrev pub IsNoMemory : ReadStop → Type 0
-IsNoMemory stop.NoMemory = ⊤
-IsNoMemory (stop.Refused verdict) = ⊥
-IsNoMemory stop.InputFault = ⊥
-IsNoMemory stop.InputTooLong = ⊥

@@ -4,9 +4,9 @@ ghost use Rattle.send_model.specs.Receive.{bytes_of};
 ghost use Rattle.send_model.specs.Counts.{is_clone};
 ghost use Rattle.send_commands.specs.Meaning.{meaning_of};
 ghost use Rattle.sx_base.specs.Outside.{file_at};
-ghost use Rattle.chain_trial.specs.Counting.{FileCounted, IsCountable, IsNoMemory};
+ghost use Rattle.chain_trial.specs.Counting.{FileCounted, IsCountable};
 
-use cmd_reader::{CmdReader, ReadStop};
+use cmd_reader::CmdReader;
 use send_commands::Command;
 use std::alloc::{AllocError, Global};
 use sx_base::PlainInputs;
@@ -34,7 +34,7 @@ impl Counted {
     }
 
     // Those of one more command, where each number has room for it.
-    fn with(self, command: &Command) -> Counted
+    fn with(self, command: &Command<'_>) -> Counted
         requires commands { self.commands + 1 < 2 ^ 64 }
         requires clones { self.clones + cond (is_clone (meaning_of command.now)) 1 0 < 2 ^ 64 }
         requires literal { self.literal + length (bytes_of (meaning_of command.now)) < 2 ^ 64 }
@@ -53,7 +53,7 @@ impl Counted {
 }
 
 // 1 for a clone.
-fn clones_in(command: &Command) -> u64
+fn clones_in(command: &Command<'_>) -> u64
     ensures { result ≡ cond (is_clone (meaning_of command.now)) 1 0 }
 {
     match command {
@@ -63,16 +63,17 @@ fn clones_in(command: &Command) -> u64
 }
 
 // The length of the data that a command carries.
-fn bytes_in(command: &Command) -> u64
+fn bytes_in(command: &Command<'_>) -> u64
     ensures { result ≡ length (bytes_of (meaning_of command.now)) }
 {
     match command {
-        Command::Write { bytes, .. } => bytes.as_slice().len() as u64,
+        Command::Write { bytes, .. } => bytes.len() as u64,
         _ => 0,
     }
 }
 
-/// Counts the commands of a file in memory that can be read to a whole end. An error is for want of memory.
+/// Counts the commands of a file in memory that can be read to a whole end. An error is for want of memory: it is the reader's room
+/// that there is none for. Once the reader is made it takes no memory, and no such file stops it.
 pub(crate) fn count_file(
     alloc: Global,
     inputs: &mut PlainInputs,
@@ -86,26 +87,15 @@ pub(crate) fn count_file(
     let mut reader = CmdReader::new(alloc, 1, name)?;
     let mut counted = Counted::none();
     loop {
-        match reader.next(inputs) {
+        let frame = match reader.advance(inputs) {
+            Ok(Some(frame)) => frame,
             Ok(None) => return Ok(counted),
-            Ok(Some(item)) => {
-                let more = counted.with(&item.command);
-                drop(item);
-                counted = more;
-            }
-            Err(stop) => return Err(lack_of(stop)),
-        }
-    }
-}
-
-// Why a file in memory that can be read to a whole end is not read: there is no memory.
-fn lack_of(stop: ReadStop) -> AllocError
-    requires { IsNoMemory stop }
-{
-    match stop {
-        ReadStop::NoMemory => AllocError,
-        ReadStop::Refused(_) => unreachable!(),
-        ReadStop::InputFault => unreachable!(),
-        ReadStop::InputTooLong => unreachable!(),
+            Err(_) => unreachable!(),
+        };
+        let item = match reader.item(frame) {
+            Ok(item) => item,
+            Err(_) => unreachable!(),
+        };
+        counted = counted.with(&item.command);
     }
 }

@@ -1,5 +1,5 @@
 // Writing the bytes of cells that no block carries.
-ghost use Rattle.std.specs.Prelude.{◌≡◌, ◌+◌, ◌<◌, ◌≤◌, ◌^◌, ◌⊎◌, map, length, IfOk};
+ghost use Rattle.std.specs.Prelude.{◌≡◌, ◌+◌, ◌<◌, ◌≤◌, ◌^◌, ◌⊎◌, map, length};
 ghost use Rattle.std.specs.List.{AllByRecursion};
 ghost use Rattle.std.specs.String.{string_bytes};
 ghost use Rattle.send_model.specs.Command.{Write};
@@ -22,7 +22,6 @@ use crate::ranges::{CellRange, Sources, Target};
 use crate::sending::put;
 use crate::stops::SendStop;
 use send_commands::Command;
-use std::alloc::{AllocError, Global};
 use sx_base::{Blob, Inputs, Sink};
 
 // How many bytes one WRITE carries at the most.
@@ -137,42 +136,29 @@ fn write_some<I: Inputs, E, B: OutsideBytes, O: Sink>(
         bytes,
         buf,
     ) {
-        Ok(()) => put_write(sources.alloc, &range.to, row, pending, out),
+        Ok(()) => put_write(&range.to, row.as_slice(), pending, out),
         Err(stop) => Err(stop),
     }
 }
 
 // Puts one WRITE command.
-fn put_write<O: Sink>(
-    alloc: Global,
-    to: &Target<'_>,
-    row: Vec<u8>,
+fn put_write<'a, O: Sink>(
+    to: &Target<'a>,
+    bytes: &'a [u8],
     pending: &mut Blob,
     out: &mut O,
 ) -> Result<(), SendStop>
     requires version { (to.now.version ≡ 1) ⊎ (to.now.version ≡ 2) }
     requires path { length to.now.path.now < 2 ^ 16 }
-    requires most { length row.items ≤ 49_152 }
+    requires most { length bytes.now ≤ 49_152 }
     ensures out { OutputLater O.Sink out.old out.new result }
     ensures put { PutEnd (output O.Sink out.old pending.old) (output O.Sink out.new pending.new)
-        (canonical to.now.version (Write to.now.path.now to.now.offset row.items)) result }
+        (canonical to.now.version (Write to.now.path.now to.now.offset bytes.now)) result }
 {
-    let Ok(path) = blob_of(alloc, to.path) else {
-        return Err(SendStop::NoMemory);
-    };
     let command = Command::Write {
-        path,
+        path: to.path,
         offset: to.offset,
-        bytes: Blob::from(row),
+        bytes,
     };
     put(&command, to.version, pending, out)
-}
-
-/// A blob of these bytes.
-pub(crate) fn blob_of(alloc: Global, bytes: &[u8]) -> Result<Blob, AllocError>
-    ensures bytes { IfOk result (λ blob. blob ≡ bytes.now) }
-{
-    let mut blob = Blob::new(alloc);
-    blob.push_all(bytes)?;
-    Ok(blob)
 }

@@ -21,7 +21,7 @@ ghost use Rattle.clone_pieces.specs.Cutting.{cut_len, rest_len, rest_cells, Stan
 ghost use Rattle.clone_pieces.specs.Redirecting.{seen_cells, pieces_spelled, RedirectEnd, RedirectCaused, RedirectChanged};
 ghost use Rattle.clone_pieces.specs.Sending.{output, PutEnd};
 
-use crate::literal::{blob_of, write_cells};
+use crate::literal::write_cells;
 use crate::outside::{Known, OutsideBytes};
 use crate::ranges::{CellRange, Sources, Target};
 use crate::sending::put;
@@ -232,21 +232,37 @@ fn clone_run<E: Known, O: Sink>(
         (record { key = key_of run.now.key; ino = run.now.ino; offset = run.now.from }))
         run.now.from run.now.len)) result }
 {
-    let key = run.key;
-    let clone_uuid = key.uuid;
+    let Ok(Some(clone_path)) = sources.known.first_path(sources.alloc, run.key, run.ino) else {
+        return Err(SendStop::NoMemory);
+    };
+    put_clone(to.path, clone_path.as_slice(), to, run, pending, out)
+}
+
+// The same, where the paths of both files are known: of the one that is written, and of the run's.
+fn put_clone<'a, O: Sink>(
+    path: &'a [u8],
+    clone_path: &'a [u8],
+    to: &Target<'_>,
+    run: &CarriedRun,
+    pending: &mut Blob,
+    out: &mut O,
+) -> Result<(), SendStop>
+    requires version { (to.now.version ≡ 1) ⊎ (to.now.version ≡ 2) }
+    requires path { length path.now < 2 ^ 16 }
+    requires clone_path { length clone_path.now < 2 ^ 16 }
+    ensures out { OutputLater O.Sink out.old out.new result }
+    ensures put { PutEnd (output O.Sink out.old pending.old) (output O.Sink out.new pending.new)
+        (canonical to.now.version
+        (Clone path.now to.now.offset run.now.key.uuid run.now.key.ctransid clone_path.now
+        run.now.from run.now.len)) result }
+{
+    let clone_uuid = run.key.uuid;
     let _bytes: &[u8] = clone_uuid.as_bytes();
-    let clone_ctransid = key.ctransid;
-    let Ok(Some(clone_path)) = sources.known.first_path(sources.alloc, key, run.ino) else {
-        return Err(SendStop::NoMemory);
-    };
-    let Ok(path) = blob_of(sources.alloc, to.path) else {
-        return Err(SendStop::NoMemory);
-    };
     let command = Command::Clone {
         path,
         offset: to.offset,
         clone_uuid,
-        clone_ctransid,
+        clone_ctransid: run.key.ctransid,
         clone_path,
         clone_offset: run.from,
         clone_len: run.len,

@@ -15,7 +15,7 @@ const PIECE: usize = 65_536;
 
 /// Adds a command's canonical spelling to what is pending, and writes what is pending where it is 65,536 bytes or more.
 pub fn put<O: Sink>(
-    c: &Command,
+    c: &Command<'_>,
     version: u32,
     pending: &mut Blob,
     out: &mut O,

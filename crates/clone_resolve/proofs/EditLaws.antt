@@ -45,10 +45,10 @@ pub record IsOfTree {C : Type 0} (zero_cell : C) (put : List C) (store : Store C
   pub edits : edit_part zero_cell put store part (meaning_of c) ≡ edit zero_cell [] (meaning_of c) part.subvolume
 
 pub of_tree : {C : Type 0} (zero_cell : C) (put : List C) (store : Store C) (part : Part C) (c : code.Command)
-    → ((path : List ℕ) (offset : ℕ) (bytes : List ℕ) → c ≡ made.Write path offset bytes → ⊥)
-    → ((size : ℕ) (path : List ℕ) → c ≡ made.Truncate size path → ⊥)
-    → ((size : ℕ) (path : List ℕ) (offset mode : ℕ) → c ≡ made.Fallocate size path offset mode → ⊥)
-    → ((path : List ℕ) (offset : ℕ) (clone_uuid : List ℕ) (clone_ctransid : ℕ) (clone_path : List ℕ) (clone_offset clone_len : ℕ) → c ≡ made.Clone path offset clone_uuid clone_ctransid clone_path clone_offset clone_len → ⊥)
+    → ((path : _) (offset : ℕ) (bytes : _) → c ≡ made.Write path offset bytes → ⊥)
+    → ((size : ℕ) (path : _) → c ≡ made.Truncate size path → ⊥)
+    → ((size : ℕ) (path : _) (offset mode : ℕ) → c ≡ made.Fallocate size path offset mode → ⊥)
+    → ((path : _) (offset : ℕ) (clone_uuid : List ℕ) (clone_ctransid : ℕ) (clone_path : _) (clone_offset clone_len : ℕ) → c ≡ made.Clone path offset clone_uuid clone_ctransid clone_path clone_offset clone_len → ⊥)
     → IsOfTree zero_cell put store part c
 unfolding edit_part edit
 of_tree zero_cell put store part (made.Write path offset bytes) w t f l = absurd (w path offset bytes refl)

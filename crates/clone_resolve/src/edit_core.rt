@@ -121,7 +121,7 @@ impl<O: Origin> EditCore<O> {
     ///
     /// # Errors
     /// `BadName`, `NameThere`, `UuidThere` and `NoParent`: the first of these that holds. After an error nothing is changed.
-    pub fn begin(&mut self, head: &Command) -> Result<Part<O>, Stop>
+    pub fn begin(&mut self, head: &Command<'_>) -> Result<Part<O>, Stop>
         requires head { IsTrue (is_some (head_of (meaning_of head.now))) }
         ensures begun { IfSome (head_of (meaning_of head.now))
             (λ h. Begins result h self.old self.new) }
@@ -164,7 +164,7 @@ impl<O: Origin> EditCore<O> {
     ///
     /// # Errors
     /// The refusals of the command, after which the part is unchanged.
-    pub fn edit(&self, part: &mut Part<O>, c: &Command, origin: O) -> Result<(), Stop>
+    pub fn edit(&self, part: &mut Part<O>, c: &Command<'_>, origin: O) -> Result<(), Stop>
         requires edits { done_by (meaning_of c.now) ≡ did.Edited }
         requires reach { data_len (meaning_of c.now) ≤ O.reach origin }
         ensures key { part.new.key ≡ part.old.key }
@@ -178,16 +178,16 @@ impl<O: Origin> EditCore<O> {
                 offset,
                 bytes,
             } => {
-                let len = bytes.as_slice().len() as u64;
-                part.sub.write(path.as_slice(), *offset, origin, len)
+                let len = bytes.len() as u64;
+                part.sub.write(path, *offset, origin, len)
             }
-            Command::Truncate { size, path } => part.sub.truncate(path.as_slice(), *size),
+            Command::Truncate { size, path } => part.sub.truncate(path, *size),
             Command::Fallocate {
                 size,
                 path,
                 offset,
                 mode,
-            } => part.sub.fallocate(path.as_slice(), *mode, *offset, *size),
+            } => part.sub.fallocate(path, *mode, *offset, *size),
             Command::Clone {
                 path,
                 offset,
@@ -200,12 +200,12 @@ impl<O: Origin> EditCore<O> {
                 let source = Source {
                     key: key_with(*clone_uuid, *clone_ctransid),
                     range: SourceRange {
-                        path: clone_path.as_slice(),
+                        path: clone_path,
                         from: *clone_offset,
                         len: *clone_len,
                     },
                 };
-                self.clone_range(part, path.as_slice(), *offset, &source)
+                self.clone_range(part, path, *offset, &source)
             }
             _ => edit_tree(part.sub.tree_mut(), c),
         }
@@ -286,7 +286,12 @@ impl<O: Origin> EditCore<O> {
     ///
     /// # Errors
     /// `NoSubvolume` for an edit without a part, else the refusals of the command. After that of an edit nothing is changed.
-    pub fn step(&mut self, part: &mut Option<Part<O>>, c: &Command, origin: O) -> Result<Done, Stop>
+    pub fn step(
+        &mut self,
+        part: &mut Option<Part<O>>,
+        c: &Command<'_>,
+        origin: O,
+    ) -> Result<Done, Stop>
         requires fits { Fits self.old part.old }
         requires reach { data_len (meaning_of c.now) ≤ O.reach origin }
         ensures fits { Fits self.new part.new }
@@ -330,7 +335,12 @@ impl<O: Origin> EditCore<O> {
     }
 
     // An edit of the part, if there is one.
-    fn edit_open(&self, part: &mut Option<Part<O>>, c: &Command, origin: O) -> Result<Done, Stop>
+    fn edit_open(
+        &self,
+        part: &mut Option<Part<O>>,
+        c: &Command<'_>,
+        origin: O,
+    ) -> Result<Done, Stop>
         requires edits { done_by (meaning_of c.now) ≡ did.Edited }
         requires reach { data_len (meaning_of c.now) ≤ O.reach origin }
         ensures key { option_map (λ p. p.key) part.new ≡ option_map (λ p. p.key) part.old }

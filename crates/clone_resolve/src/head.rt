@@ -21,7 +21,7 @@ pub struct Head<'a> {
 }
 
 /// The head in a command; `None` where the command begins no subvolume. Takes no memory.
-pub fn head_of(c: &Command) -> Option<Head<'_>>
+pub fn head_of<'a>(c: &Command<'a>) -> Option<Head<'a>>
     ensures { option_map head_meant result ≡ head_of (meaning_of c.now) }
 {
     match c {
@@ -30,7 +30,7 @@ pub fn head_of(c: &Command) -> Option<Head<'_>>
             ctransid,
             path,
         } => Some(Head {
-            name: path.as_slice(),
+            name: path,
             key: key_with(*uuid, *ctransid),
             parent: None,
         }),
@@ -41,7 +41,7 @@ pub fn head_of(c: &Command) -> Option<Head<'_>>
             clone_uuid,
             clone_ctransid,
         } => Some(Head {
-            name: path.as_slice(),
+            name: path,
             key: key_with(*uuid, *ctransid),
             parent: Some(key_with(*clone_uuid, *clone_ctransid)),
         }),

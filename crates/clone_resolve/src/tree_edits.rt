@@ -26,41 +26,31 @@ const BLOCK_DEVICE: u64 = 0o060_000;
 /// # Errors
 /// The refusals of the command, after which the tree is unchanged.
 #[tactic(auto, unfolding(send_model::specs::Edit::edit))]
-pub(crate) fn edit_tree<O: Origin>(tree: &mut Tree<O>, c: &Command) -> Result<(), Stop>
+pub(crate) fn edit_tree<O: Origin>(tree: &mut Tree<O>, c: &Command<'_>) -> Result<(), Stop>
     requires tree { is_of_contents (meaning_of c.now) ≡ false }
     ensures { MayChange result tree.old tree.new (edit.edit None [] (meaning_of c.now) tree.old) }
 {
     match c {
-        Command::MkFile { path } => make(tree, path.as_slice(), NodeKind::File, 0, b""),
-        Command::MkDir { path } => make(tree, path.as_slice(), NodeKind::Directory, 0, b""),
-        Command::MkNod { mode, rdev, path } => make_device(tree, *mode, *rdev, path.as_slice()),
-        Command::MkFifo { path } => make(tree, path.as_slice(), NodeKind::Fifo, 0, b""),
-        Command::MkSock { path } => make(tree, path.as_slice(), NodeKind::Socket, 0, b""),
+        Command::MkFile { path } => make(tree, path, NodeKind::File, 0, b""),
+        Command::MkDir { path } => make(tree, path, NodeKind::Directory, 0, b""),
+        Command::MkNod { mode, rdev, path } => make_device(tree, *mode, *rdev, path),
+        Command::MkFifo { path } => make(tree, path, NodeKind::Fifo, 0, b""),
+        Command::MkSock { path } => make(tree, path, NodeKind::Socket, 0, b""),
         Command::Symlink { path, path_link } => {
-            make(
-                tree,
-                path.as_slice(),
-                NodeKind::SymbolicLink,
-                0,
-                path_link.as_slice(),
-            )
+            make(tree, path, NodeKind::SymbolicLink, 0, path_link)
         }
-        Command::Rename { path, path_to } => tree.rename(path.as_slice(), path_to.as_slice()),
-        Command::Link { path, path_link } => tree.link(path.as_slice(), path_link.as_slice()),
-        Command::Unlink { path } => tree.unlink(path.as_slice()),
-        Command::Rmdir { path } => tree.rmdir(path.as_slice()),
-        Command::SetXattr { name, value, path } => {
-            tree.set_xattr(path.as_slice(), name.as_slice(), value.as_slice())
-        }
-        Command::RemoveXattr { name, path } => tree.remove_xattr(path.as_slice(), name.as_slice()),
-        Command::Chmod { mode, path } => {
-            tree.set_mode(path.as_slice(), (*mode % 0o10_000) as u16)
-        }
-        Command::Chown { uid, gid, path } => tree.set_owner(path.as_slice(), *uid, *gid),
+        Command::Rename { path, path_to } => tree.rename(path, path_to),
+        Command::Link { path, path_link } => tree.link(path, path_link),
+        Command::Unlink { path } => tree.unlink(path),
+        Command::Rmdir { path } => tree.rmdir(path),
+        Command::SetXattr { name, value, path } => { tree.set_xattr(path, name, value) }
+        Command::RemoveXattr { name, path } => tree.remove_xattr(path, name),
+        Command::Chmod { mode, path } => { tree.set_mode(path, (*mode % 0o10_000) as u16) }
+        Command::Chown { uid, gid, path } => tree.set_owner(path, *uid, *gid),
         Command::Utimes { mtime, atime, path } => {
-            tree.set_times(path.as_slice(), timestamp(atime), timestamp(mtime))
+            tree.set_times(path, timestamp(atime), timestamp(mtime))
         }
-        Command::FileAttr { path, flags } => tree.set_flags(path.as_slice(), *flags),
+        Command::FileAttr { path, flags } => tree.set_flags(path, *flags),
         Command::UpdateExtent { .. }
         | Command::Write { .. }
         | Command::Truncate { .. }

@@ -37,7 +37,7 @@ use Rattle.cmd_reader.specs.Sources.{HasPassed, StandsThere, HasStayed, IsCutSho
 use Rattle.cmd_reader.proofs.Passes.{PassSays}
 use Rattle.cmd_reader.specs.Left.{Reader, left, left_from, HasAhead}
 use Rattle.cmd_reader.specs.Commands.{body_read}
-use Rattle.cmd_reader.specs.Next.{item_of, is_last, HasBegun, BeginsAt, HasEnded, OnlyEnds, GoesOn, IsNext, IsFaulty, Says, NextSays, ItemFits, IfItem, EndsAfterEnd, HasRead}
+use Rattle.cmd_reader.specs.Next.{item_of, as_some, is_last, HasBegun, BeginsAt, HasEnded, OnlyEnds, GoesOn, IsNext, IsFaulty, Says, NextSays, ItemFits, IfItem, EndsAfterEnd, HasRead}
 use Rattle.cmd_reader.specs.Stands.{HasPassedFrame}
 use Rattle.cmd_reader.specs.Frames.{frame_here, HasGonePast, HasReached, FrameFits, StepSays, FrameSays}
 use Rattle.cmd_reader.specs.Glances.{IsGlance, GlanceSays, GlanceFits}
@@ -213,10 +213,8 @@ fault_step told old new before now next feed (fault.Refused refusal) (stop.Refus
       left_refused old bytes (refusal_of refusal) bad (λ ends. not_none old.fed.due (drop old.offset bytes) (refusal_of refusal) bad whole) ∙ ap (λ (v : reading.Verdict). record { items = []; end = reading.Faulty v }) (sym s),
       λ cut. absurd (true≢false (sym cut ∙ ap is_truncated same_refusal ∙ whole)),
     )
-fault_step told old new before now next feed (fault.Refused refusal) stop.NoMemory p s = elim s [ ]
 fault_step told old new before now next feed (fault.Refused refusal) stop.InputFault p s = elim s [ ]
 fault_step told old new before now next feed (fault.Refused refusal) stop.InputTooLong p s = elim s [ ]
-fault_step told old new before now next feed fault.NoMemory why p s = elim p [ ]
 fault_step told old new before now next feed fault.InputFault why p s = let S : ReadStop → Type 0 = λ w. StepSays told old new before now (Some (Err w)) in subst S (sym s) (tt, p.1)
 fault_step told old new before now next feed fault.InputTooLong why p s =
     let S : ReadStop → Type 0 = λ w. StepSays told old new before now (Some (Err w)) in
@@ -258,7 +256,6 @@ cut_step told old new before now next feed (stop.Refused verdict) stay cut goes_
       where
         not_whole : (f : Fed) → f.ended ≡ true → f.left ≡ [] → is_whole f ≡ false → ⊥
         not_whole f ends none goes_on = let w : is_whole f ≡ true = rw (ends, none) refl in true≢false (sym w ∙ goes_on)
-cut_step told old new before now next feed stop.NoMemory stay cut goes_on s = elim s [ ]
 cut_step told old new before now next feed stop.InputFault stay cut goes_on s = elim s [ ]
 cut_step told old new before now next feed stop.InputTooLong stay cut goes_on s = elim s [ ]
 
@@ -293,7 +290,6 @@ answered told now_told old mid new first before now (Err (stop.Refused verdict))
   told_both told old.name (BeginsAt old mid) (IsRefused (λ _. IsFaulty mid verdict) (refusal_of verdict.refusal)) (IsRefused (λ _. IsFaulty old verdict) (refusal_of verdict.refusal)) (λ bytes a e. (a.left_is ∙ e.0, e.1)) at
       (told_moved told now_told old.name mid.name (IsRefused (λ _. IsFaulty mid verdict) (refusal_of verdict.refusal)) same b.name says.1),
 )
-answered told now_told old mid new first before now (Err stop.NoMemory) same le b at says = (tt, tt)
 answered told now_told old mid new first before now (Err stop.InputFault) same le b at says = (tt, rises first before now le says.1)
 answered told now_told old mid new first before now (Err stop.InputTooLong) same le b at says = (
   tt,
@@ -556,9 +552,9 @@ body_refused told old new frame r verdict (refused, is) =
         )
 
 -- What a call answers by a frame that it has reached, from what is made of the frame's body.
-body_said : {T : Type 0} (made : FrameAt → List ℕ → T → Type 0) (fits given : T → Type 0) (told : Option (List (List ℕ × List ℕ))) (old new : Reader) (before now : ℕ) (o : Option FrameAt) (frame : FrameAt) (body : List ℕ) (result : Result (Option T) ReadStop)
+body_said : {T : Type 0} (made : FrameAt → List ℕ → T → Type 0) (fits given : T → Type 0) (told : Option (List (List ℕ × List ℕ))) (old new : Reader) (before now : ℕ) (o : Option FrameAt) (frame : FrameAt) (body : List ℕ) (result : Result T Verdict)
     → o ≡ Some frame → FrameSays told old new before now (Ok o) → body ≡ own_body new → ((r : HasReached told old new frame) (x : T) → made (frame_of_reached told old new frame r) (own_body new) x → fits x × given x) → BodySays (made frame body) frame body result
-    → (IfItem result fits × EndsAfterEnd old result) × Says given told old before now result
+    → (IfItem (as_some result) fits × EndsAfterEnd old (as_some result)) × Says given told old before now (as_some result)
 body_said {T = T} made fits given told old new before now o frame body result is says body_is turn m =
     by_result result (subst (λ (f : FrameAt). BodySays (made f (own_body new)) f (own_body new) result) r.past.is (subst (λ (b : List ℕ). BodySays (made frame b) frame b result) body_is m))
   where
@@ -568,21 +564,17 @@ body_said {T = T} made fits given told old new before now o frame body result is
     here : FrameAt
     here = frame_of_reached told old new frame r
 
-    by_result : (x : Result (Option T) ReadStop) → BodySays (made here (own_body new)) here (own_body new) x → (IfItem x fits × EndsAfterEnd old x) × Says given told old before now x
-    by_result (Ok (Some x)) s = let t = turn r x s in ((t.0, tt), t.1)
-    by_result (Ok None) s = elim s [ ]
-    by_result (Err (stop.Refused verdict)) s = ((tt, tt), body_refused told old new frame r verdict s)
-    by_result (Err stop.NoMemory) s = ((tt, tt), tt)
-    by_result (Err stop.InputFault) s = elim s [ ]
-    by_result (Err stop.InputTooLong) s = elim s [ ]
+    by_result : (x : Result T Verdict) → BodySays (made here (own_body new)) here (own_body new) x → (IfItem (as_some x) fits × EndsAfterEnd old (as_some x)) × Says given told old before now (as_some x)
+    by_result (Ok x) s = let t = turn r x s in ((t.0, tt), t.1)
+    by_result (Err verdict) s = ((tt, tt), body_refused told old new frame r verdict s)
 
-pub item_said : (told : Option (List (List ℕ × List ℕ))) (old new : Reader) (before now : ℕ) (o : Option FrameAt) (frame : FrameAt) (body : List ℕ) (result : Result (Option Item) ReadStop) → o ≡ Some frame → FrameSays told old new before now (Ok o) → body ≡ drop 10 new.fed.last → IsBytes new.fed.last → ItemSays frame body result
-    → (IfItem result (ItemFits old new) × EndsAfterEnd old result) × NextSays told old new before now result
+pub item_said : (told : Option (List (List ℕ × List ℕ))) (old new : Reader) (before now : ℕ) (o : Option FrameAt) (frame : FrameAt) (body : List ℕ) (result : Result Item Verdict) → o ≡ Some frame → FrameSays told old new before now (Ok o) → body ≡ drop 10 new.fed.last → IsBytes new.fed.last → ItemSays frame body result
+    → (IfItem (as_some result) (ItemFits old new) × EndsAfterEnd old (as_some result)) × NextSays told old new before now (as_some result)
 item_said told old new before now o frame body result is says body_is bytes_are m =
     body_said ItemIs (ItemFits old new) (λ item. IfTold told old.name (IsNext old new item)) told old new before now o frame body result is says body_is (λ r item i. item_given told old new frame r item bytes_are i) m
 
-pub glance_said : (told : Option (List (List ℕ × List ℕ))) (old new : Reader) (before now : ℕ) (o : Option FrameAt) (frame : FrameAt) (body : List ℕ) (result : Result (Option Glance) ReadStop) → o ≡ Some frame → FrameSays told old new before now (Ok o) → body ≡ drop 10 new.fed.last → GlanceSaid frame body result
-    → (IfItem result (GlanceFits old new) × EndsAfterEnd old result) × GlanceSays told old new before now result
+pub glance_said : (told : Option (List (List ℕ × List ℕ))) (old new : Reader) (before now : ℕ) (o : Option FrameAt) (frame : FrameAt) (body : List ℕ) (result : Result Glance Verdict) → o ≡ Some frame → FrameSays told old new before now (Ok o) → body ≡ drop 10 new.fed.last → GlanceSaid frame body result
+    → (IfItem (as_some result) (GlanceFits old new) × EndsAfterEnd old (as_some result)) × GlanceSays told old new before now (as_some result)
 glance_said told old new before now o frame body result is says body_is m =
     body_said GlanceIs (GlanceFits old new) (IsGlance told old new) told old new before now o frame body result is says body_is (λ r glance i. glance_given told old new frame r glance i) m
 
@@ -592,6 +584,5 @@ ended_said given told old new before now o none says = subst (λ (x : Option Fra
 
 pub stopped_said : {T : Type 0} (given : T → Type 0) (told : Option (List (List ℕ × List ℕ))) (old new : Reader) (before now : ℕ) (why : ReadStop) → FrameSays told old new before now (Err why) → Says given told old before now (Err why)
 stopped_said given told old new before now (stop.Refused verdict) says = says.1
-stopped_said given told old new before now stop.NoMemory says = tt
 stopped_said given told old new before now stop.InputFault says = says.1
 stopped_said given told old new before now stop.InputTooLong says = says.1

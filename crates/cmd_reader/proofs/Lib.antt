@@ -12,4 +12,5 @@ mod Goings
 mod Steps
 pub mod Aheads
 mod Standing
+pub mod Nexts
 mod Steady

@@ -233,7 +233,6 @@ no_more told now_told name at first last before now feed mid old new more is p p
 pub not_more : (told now_told : Option (List (List ℕ × List ℕ))) (name : List ℕ) (at first before now : ℕ) (feed mid : Fed) (old new : Source) (fault : Fault) → MoreSays now_told old new before now (Err fault) → first ≤ before → new.at ≡ old.at → old.at + length old.feed.left ≡ old.fed
     → Waits told now_told name at feed mid old → IfTold told name (IsAhead at mid) → PassSays told name at feed new.at new.feed first now (Err fault)
 not_more told now_told name at first before now feed mid old new (fault.Refused r) p le place up w ahead = elim p [ ]
-not_more told now_told name at first before now feed mid old new fault.NoMemory p le place up w ahead = elim p [ ]
 not_more told now_told name at first before now feed mid old new fault.InputFault p le place up w ahead = (stayed at new.at feed mid new.feed (place ∙ w.place) (p.0 ∙ w.mid_is) w.due w.ended, rises first before now le p.1)
 not_more told now_told name at first before now feed mid old new fault.InputTooLong p le place up w ahead =
     let full : at + length mid.left ≡ limit = omega (arith, ap (λ (f : Fed). length f.left) w.mid_is, w.place, up, p.1) in

@@ -2,6 +2,7 @@
 use Rattle.std.specs.Prelude.{◌≡◌, ℕ, List, Option, None, Some, Result, Ok, Err}
 use Rattle.std.proofs.Common.{sym, ap, subst, ◌∙◌, arith, inl, inr}
 use Rattle.send_model.specs.Reading as reading
+use Rattle.sx_base.specs.declared.outcome.Verdict.{Verdict}
 use Rattle.sx_base.specs.declared.refusal.Refusal.TheVariants as code
 use Rattle.cmd_reader.specs.declared.front.FrameAt.{FrameAt}
 use Rattle.cmd_reader.specs.declared.item.Item.{Item}
@@ -14,7 +15,7 @@ use Rattle.tlv_frame.specs.declared.feed.Passed.{Passed}
 use Rattle.cmd_reader.specs.Sources.{HasStayed}
 use Rattle.cmd_reader.proofs.Passes.{PassSays}
 use Rattle.cmd_reader.specs.Left.{Reader}
-use Rattle.cmd_reader.specs.Next.{HasBegun}
+use Rattle.cmd_reader.specs.Next.{HasBegun, as_some}
 use Rattle.cmd_reader.specs.Stands.{HasPassedFrame, Stands, NextStands, GlanceStands}
 use Rattle.cmd_reader.specs.Frames.{HasReached, FrameSays, Halts, StepHalts}
 use Rattle.cmd_reader.specs.Items.{StopAt, ItemIs, GlanceIs, BodySays, ItemSays, GlanceSaid}
@@ -29,10 +30,8 @@ stayed_begun old new file name number s = record { later = omega (arith, s.place
 fault_halts : (told : Option (List (List ℕ × List ℕ))) (old new : Reader) (before now : ℕ) (fault : Fault) (why : ReadStop) → new.file ≡ old.file → new.name ≡ old.name → new.number ≡ old.number
     → PassSays told old.name old.offset old.fed new.offset new.fed before now (Err fault) → StopAt old.file old.number old.offset fault why → Halts old new (Err why)
 fault_halts told old new before now (fault.Refused refusal) (stop.Refused verdict) file name number p s = (stayed_begun old new file name number p.0, p.0.place ∙ sym (ap (λ (v : reading.Verdict). v.offset) s))
-fault_halts told old new before now (fault.Refused refusal) stop.NoMemory file name number p s = elim s [ ]
 fault_halts told old new before now (fault.Refused refusal) stop.InputFault file name number p s = elim s [ ]
 fault_halts told old new before now (fault.Refused refusal) stop.InputTooLong file name number p s = elim s [ ]
-fault_halts told old new before now fault.NoMemory why file name number p s = elim p [ ]
 fault_halts told old new before now fault.InputFault why file name number p s = let S : ReadStop → Type 0 = λ w. Halts old new (Err w) in subst S (sym s) (stayed_begun old new file name number p.0)
 fault_halts told old new before now fault.InputTooLong why file name number p s = let S : ReadStop → Type 0 = λ w. Halts old new (Err w) in subst S (sym s) (stayed_begun old new file name number p.0)
 
@@ -60,7 +59,6 @@ cut_halted told old shown new before now answer why is a file name number p s =
 
     by_stop : (w : ReadStop) → StopAt shown.file shown.number shown.offset (fault.Refused code.Truncated) w → Halts shown new (Err w)
     by_stop (stop.Refused verdict) t = (stayed_begun shown new file name number stay, stay.place ∙ sym (ap (λ (v : reading.Verdict). v.offset) t))
-    by_stop stop.NoMemory t = elim t [ ]
     by_stop stop.InputFault t = elim t [ ]
     by_stop stop.InputTooLong t = elim t [ ]
 
@@ -73,7 +71,6 @@ pub halted_over : (old mid new : Reader) (answer : Result (Option FrameAt) ReadS
 halted_over old mid new (Ok (Some frame)) b h = tt
 halted_over old mid new (Ok None) b h = over old mid new b h
 halted_over old mid new (Err (stop.Refused verdict)) b h = (over old mid new b h.0, h.1)
-halted_over old mid new (Err stop.NoMemory) b h = elim h [ ]
 halted_over old mid new (Err stop.InputFault) b h = over old mid new b h
 halted_over old mid new (Err stop.InputTooLong) b h = over old mid new b h
 
@@ -84,12 +81,11 @@ ended_stands given told old new o none h = subst (λ (x : Option FrameAt). Halts
 
 pub stopped_stands : {T : Type 0} (given : T → Type 0) (told : Option (List (List ℕ × List ℕ))) (old new : Reader) (why : ReadStop) → Halts old new (Err why) → Stands given told old new (Err why)
 stopped_stands given told old new (stop.Refused verdict) h = inl h
-stopped_stands given told old new stop.NoMemory h = elim h [ ]
 stopped_stands given told old new stop.InputFault h = h
 stopped_stands given told old new stop.InputTooLong h = h
 
-body_stands : {T : Type 0} (made given : T → Type 0) (told : Option (List (List ℕ × List ℕ))) (old new : Reader) (before now : ℕ) (o : Option FrameAt) (frame : FrameAt) (body : List ℕ) (result : Result (Option T) ReadStop) → o ≡ Some frame → FrameSays told old new before now (Ok o)
-    → (HasPassedFrame told old new frame.offset → (x : T) → made x → given x) → BodySays made frame body result → Stands given told old new result
+body_stands : {T : Type 0} (made given : T → Type 0) (told : Option (List (List ℕ × List ℕ))) (old new : Reader) (before now : ℕ) (o : Option FrameAt) (frame : FrameAt) (body : List ℕ) (result : Result T Verdict) → o ≡ Some frame → FrameSays told old new before now (Ok o)
+    → (HasPassedFrame told old new frame.offset → (x : T) → made x → given x) → BodySays made frame body result → Stands given told old new (as_some result)
 body_stands {T = T} made given told old new before now o frame body result is says turn m = by_result result m
   where
     r : HasReached told old new frame
@@ -98,18 +94,14 @@ body_stands {T = T} made given told old new before now o frame body result is sa
     past : HasPassedFrame told old new frame.offset
     past = frame_passed told old new frame r
 
-    by_result : (x : Result (Option T) ReadStop) → BodySays made frame body x → Stands given told old new x
-    by_result (Ok (Some x)) s = turn past x s
-    by_result (Ok None) s = elim s [ ]
-    by_result (Err (stop.Refused verdict)) s = inr (subst (λ (at : ℕ). HasPassedFrame told old new at) (sym (ap (λ (v : reading.Verdict). v.offset) s.1)) past)
-    by_result (Err stop.NoMemory) s = (frame.offset, past)
-    by_result (Err stop.InputFault) s = elim s [ ]
-    by_result (Err stop.InputTooLong) s = elim s [ ]
+    by_result : (x : Result T Verdict) → BodySays made frame body x → Stands given told old new (as_some x)
+    by_result (Ok x) s = turn past x s
+    by_result (Err verdict) s = inr (subst (λ (at : ℕ). HasPassedFrame told old new at) (sym (ap (λ (v : reading.Verdict). v.offset) s.1)) past)
 
-pub item_stands : (told : Option (List (List ℕ × List ℕ))) (old new : Reader) (before now : ℕ) (o : Option FrameAt) (frame : FrameAt) (body : List ℕ) (result : Result (Option Item) ReadStop) → o ≡ Some frame → FrameSays told old new before now (Ok o) → ItemSays frame body result → NextStands told old new result
+pub item_stands : (told : Option (List (List ℕ × List ℕ))) (old new : Reader) (before now : ℕ) (o : Option FrameAt) (frame : FrameAt) (body : List ℕ) (result : Result Item Verdict) → o ≡ Some frame → FrameSays told old new before now (Ok o) → ItemSays frame body result → NextStands told old new (as_some result)
 item_stands told old new before now o frame body result is says m =
     body_stands (ItemIs frame body) (λ (item : Item). HasPassedFrame told old new item.offset) told old new before now o frame body result is says (λ past item i. subst (λ (at : ℕ). HasPassedFrame told old new at) (sym i.offset_is) past) m
 
-pub glance_stands : (told : Option (List (List ℕ × List ℕ))) (old new : Reader) (before now : ℕ) (o : Option FrameAt) (frame : FrameAt) (body : List ℕ) (result : Result (Option Glance) ReadStop) → o ≡ Some frame → FrameSays told old new before now (Ok o) → GlanceSaid frame body result → GlanceStands told old new result
+pub glance_stands : (told : Option (List (List ℕ × List ℕ))) (old new : Reader) (before now : ℕ) (o : Option FrameAt) (frame : FrameAt) (body : List ℕ) (result : Result Glance Verdict) → o ≡ Some frame → FrameSays told old new before now (Ok o) → GlanceSaid frame body result → GlanceStands told old new (as_some result)
 glance_stands told old new before now o frame body result is says m =
     body_stands (GlanceIs frame body) (λ (glance : Glance). (at : ℕ) × HasPassedFrame told old new at) told old new before now o frame body result is says (λ past glance i. (frame.offset, past)) m

@@ -7,12 +7,11 @@ use Rattle.send_model.specs.Spelling.{Attribute, attributes_of}
 use Rattle.send_model.specs.Reading.{attributes_at, command_of, data_place}
 use Rattle.send_model.specs.Laws.{CanWrite}
 use Rattle.sx_base.specs.Refusals.{refusal_of}
+use Rattle.sx_base.specs.declared.refusal.Refusal as code
 use Rattle.send_commands.specs.Meaning.{meaning_of}
 use Rattle.send_commands.specs.Writing.{IsWritable}
 use Rattle.send_commands.specs.declared.command.Command.{Command}
 use Rattle.cmd_reader.specs.declared.front.Front.{Front}
-use Rattle.cmd_reader.specs.declared.fault.Fault.{Fault}
-use Rattle.cmd_reader.specs.declared.fault.Fault.TheVariants.{Refused, NoMemory, InputFault, InputTooLong}
 
 -- The rules after the checksum, in their order.
 abbrev pub body_read : ℕ → ℕ → List ℕ → Result meant.Command Refusal
@@ -25,12 +24,9 @@ pub record CommandIs (at version number : ℕ) (body : List ℕ) (command : mean
   pub command_is : command_of version number attributes ≡ Ok command
   pub place : data_at ≡ data_place version at attributes
 
-abbrev pub ReadsCommand : ℕ → ℕ → ℕ → List ℕ → Result Front Fault → Type 0
+abbrev pub ReadsCommand : ℕ → ℕ → ℕ → List ℕ → Result Front code.Refusal → Type 0
 ReadsCommand at version number body (Ok front) = CommandIs at version number body (meaning_of front.command) front.data_at
-ReadsCommand at version number body (Err (Refused refusal)) = body_read version number body ≡ Err (refusal_of refusal)
-ReadsCommand at version number body (Err NoMemory) = Unit {0}
-ReadsCommand at version number body (Err InputFault) = ⊥
-ReadsCommand at version number body (Err InputTooLong) = ⊥
+ReadsCommand at version number body (Err refusal) = body_read version number body ≡ Err (refusal_of refusal)
 
 -- The attributes that are read are those of the command and no others, in rising order of their numbers.
 abbrev pub HasAlone : ℕ → List ℕ → meant.Command → Type 0

@@ -59,7 +59,6 @@ abbrev pub Halts : Reader → Reader → Result (Option FrameAt) ReadStop → Ty
 Halts old new (Ok (Some frame)) = ⊤
 Halts old new (Ok None) = HasBegun old new
 Halts old new (Err (stop.Refused verdict)) = HasBegun old new × (new.offset ≡ verdict.offset)
-Halts old new (Err stop.NoMemory) = ⊥
 Halts old new (Err stop.InputFault) = HasBegun old new
 Halts old new (Err stop.InputTooLong) = HasBegun old new
 

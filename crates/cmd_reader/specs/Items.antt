@@ -1,11 +1,11 @@
 -- The item of a frame and what is seen of it, or the answer that there is none.
-use Rattle.std.specs.Prelude.{◌≡◌, ℕ, List, Option, None, Some, Result, Ok, Err, ⊤, IfSome}
+use Rattle.std.specs.Prelude.{◌≡◌, ℕ, List, Result, Ok, Err, IfSome}
 use Rattle.send_model.specs.Refusal.{Refusal}
 use Rattle.send_model.specs.Reading as reading
 use Rattle.sx_base.specs.Refusals.{refusal_of, verdict_meant}
 use Rattle.sx_base.specs.declared.outcome.Verdict.{Verdict}
 use Rattle.cmd_reader.specs.declared.fault.Fault.{Fault}
-use Rattle.cmd_reader.specs.declared.fault.Fault.TheVariants.{Refused, NoMemory, InputFault, InputTooLong}
+use Rattle.cmd_reader.specs.declared.fault.Fault.TheVariants.{Refused, InputFault, InputTooLong}
 use Rattle.send_commands.specs.Meaning.{meaning_of}
 use Rattle.send_commands.specs.Writing.{IsWritable}
 use Rattle.cmd_reader.specs.declared.front.FrameAt.{FrameAt}
@@ -23,10 +23,8 @@ verdict_at file number offset refusal = record { file = file; command = number; 
 -- An answer that no command was read, for a fault at a place.
 abbrev pub StopAt : ℕ → ℕ → ℕ → Fault → ReadStop → Type 0
 StopAt file number offset (Refused refusal) (stop.Refused verdict) = verdict_meant verdict ≡ verdict_at file number offset (refusal_of refusal)
-StopAt file number offset (Refused refusal) stop.NoMemory = ⊥
 StopAt file number offset (Refused refusal) stop.InputFault = ⊥
 StopAt file number offset (Refused refusal) stop.InputTooLong = ⊥
-StopAt file number offset NoMemory why = why ≡ stop.NoMemory
 StopAt file number offset InputFault why = why ≡ stop.InputFault
 StopAt file number offset InputTooLong why = why ≡ stop.InputTooLong
 
@@ -49,17 +47,13 @@ abbrev pub IsRefusedAt : FrameAt → List ℕ → Verdict → Type 0
 IsRefusedAt frame body verdict =
     (body_read frame.version frame.cmd body ≡ Err (refusal_of verdict.refusal)) × (verdict_meant verdict ≡ verdict_at frame.file frame.number frame.offset (refusal_of verdict.refusal))
 
--- What is made of a frame by its body, or why nothing is.
-abbrev pub BodySays : {T : Type 0} → (T → Type 0) → FrameAt → List ℕ → Result (Option T) ReadStop → Type 0
-BodySays made frame body (Ok (Some x)) = made x
-BodySays made frame body (Ok None) = ⊥
-BodySays made frame body (Err (stop.Refused verdict)) = IsRefusedAt frame body verdict
-BodySays made frame body (Err stop.NoMemory) = ⊤
-BodySays made frame body (Err stop.InputFault) = ⊥
-BodySays made frame body (Err stop.InputTooLong) = ⊥
+-- What is made of a frame by its body, or that it is refused.
+abbrev pub BodySays : {T : Type 0} → (T → Type 0) → FrameAt → List ℕ → Result T Verdict → Type 0
+BodySays made frame body (Ok x) = made x
+BodySays made frame body (Err verdict) = IsRefusedAt frame body verdict
 
-abbrev pub ItemSays : FrameAt → List ℕ → Result (Option Item) ReadStop → Type 0
+abbrev pub ItemSays : FrameAt → List ℕ → Result Item Verdict → Type 0
 ItemSays frame body result = BodySays (ItemIs frame body) frame body result
 
-abbrev pub GlanceSaid : FrameAt → List ℕ → Result (Option Glance) ReadStop → Type 0
+abbrev pub GlanceSaid : FrameAt → List ℕ → Result Glance Verdict → Type 0
 GlanceSaid frame body result = BodySays (GlanceIs frame body) frame body result

@@ -8,10 +8,9 @@ use Rattle.send_model.specs.Store.{head_of}
 use Rattle.send_model.specs.Outside.{keys_named}
 use Rattle.send_model.specs.Laws.{CanWrite}
 use Rattle.sx_base.specs.Refusals.{refusal_of}
+use Rattle.sx_base.specs.declared.refusal.Refusal as code
 use Rattle.send_commands.specs.declared.command.Command.{Command}
 use Rattle.send_commands.specs.Meaning.{meaning_of}
-use Rattle.cmd_reader.specs.declared.fault.Fault.{Fault}
-use Rattle.cmd_reader.specs.declared.fault.Fault.TheVariants.{Refused, NoMemory, InputFault, InputTooLong}
 use Rattle.cmd_reader.specs.Commands.{body_read}
 
 abbrev pub is_any : {A : Type 0} → List A → Bool
@@ -39,9 +38,6 @@ pub record MentionIs (version number : ℕ) (body : List ℕ) (mention : Option 
   pub can_write : CanWrite version command
   pub mention_is : option_map meaning_of mention ≡ as_mention command
 
-abbrev pub ReadsMention : ℕ → ℕ → List ℕ → Result (Option Command) Fault → Type 0
+abbrev pub ReadsMention : ℕ → ℕ → List ℕ → Result (Option Command) code.Refusal → Type 0
 ReadsMention version number body (Ok mention) = MentionIs version number body mention
-ReadsMention version number body (Err (Refused refusal)) = body_read version number body ≡ Err (refusal_of refusal)
-ReadsMention version number body (Err NoMemory) = Unit {0}
-ReadsMention version number body (Err InputFault) = ⊥
-ReadsMention version number body (Err InputTooLong) = ⊥
+ReadsMention version number body (Err refusal) = body_read version number body ≡ Err (refusal_of refusal)

@@ -81,9 +81,13 @@ abbrev pub Says : {T : Type 0} → (T → Type 0) → Option (List (List ℕ × 
 Says given told old before now (Ok (Some x)) = given x
 Says given told old before now (Ok None) = IfTold told old.name (HasEnded old)
 Says given told old before now (Err (stop.Refused verdict)) = IfTold told old.name (IsRefused (λ refusal. IsFaulty old verdict) (refusal_of verdict.refusal))
-Says given told old before now (Err stop.NoMemory) = ⊤
 Says given told old before now (Err stop.InputFault) = Rose before now
 Says given told old before now (Err stop.InputTooLong) = IfTold told old.name (IsLongAt old.offset (OnlyEnds old))
+
+-- What is read of a frame, or its refusal, as the answer of a call that may also end.
+abbrev pub as_some : {T : Type 0} → Result T Verdict → Result (Option T) ReadStop
+as_some (Ok x) = Ok (Some x)
+as_some (Err verdict) = Err (stop.Refused verdict)
 
 -- The next command, or why there is none.
 abbrev pub NextSays : Option (List (List ℕ × List ℕ)) → Reader → Reader → ℕ → ℕ → Result (Option Item) ReadStop → Type 0

@@ -34,7 +34,6 @@ unit_len (passed.Frame head version) = frame_header_len + head.len
 abbrev pub IsInputFault : ℕ → ℕ → Result ℕ Fault → Type 0
 IsInputFault before now (Ok count) = ⊤
 IsInputFault before now (Err (fault.Refused refusal)) = ⊥
-IsInputFault before now (Err fault.NoMemory) = ⊥
 IsInputFault before now (Err fault.InputFault) = Rose before now
 IsInputFault before now (Err fault.InputTooLong) = ⊥
 
@@ -53,7 +52,6 @@ abbrev pub MoreSays : Option (List (List ℕ × List ℕ)) → Source → Source
 MoreSays told old new before now (Ok true) = HasMore old new × IfTold told (string_bytes old.name) (IsAhead new.at new.feed)
 MoreSays told old new before now (Ok false) = (new.feed ≡ old.feed) × IfTold told (string_bytes old.name) (EndsThere old.at old.feed)
 MoreSays told old new before now (Err (fault.Refused refusal)) = ⊥
-MoreSays told old new before now (Err fault.NoMemory) = ⊥
 MoreSays told old new before now (Err fault.InputFault) = (new.feed ≡ old.feed) × Rose before now
 MoreSays told old new before now (Err fault.InputTooLong) = (new.feed ≡ old.feed) × (old.fed ≡ limit)
 
@@ -116,7 +114,6 @@ abbrev pub PassSays : Pass → (before now : ℕ) → Result (Option Passed) Fau
 PassSays p before now (Ok (Some unit)) = GoesPast p unit
 PassSays p before now (Ok None) = Stays p (IsCutShort p.next p.new)
 PassSays p before now (Err (fault.Refused refusal)) = Stays p (BadThere p.at p.feed.due (refusal_of refusal))
-PassSays p before now (Err fault.NoMemory) = ⊥
 PassSays p before now (Err fault.InputFault) = HasStayed p.at p.feed p.next p.new × Rose before now
 PassSays p before now (Err fault.InputTooLong) = Stays p (IsLongAt p.at (NotThere p.at p.feed.due meant.Truncated))
 

@@ -27,12 +27,11 @@ pub record HasPassedFrame (told : Option (List (List ℕ × List ℕ))) (old new
 
 -- After something that was given, this; after the end or a fault of the inputs, no frame was gone past. A refusal stands either
 -- where the reader stands, before a header or frame that is not there, or where a frame begins that was gone past and whose body
--- was refused. Memory is wanted only for such a body.
+-- was refused.
 abbrev pub Stands : {T : Type 0} → (T → Type 0) → Option (List (List ℕ × List ℕ)) → Reader → Reader → Result (Option T) ReadStop → Type 0
 Stands given told old new (Ok (Some x)) = given x
 Stands given told old new (Ok None) = HasBegun old new
 Stands given told old new (Err (stop.Refused verdict)) = (HasBegun old new × (new.offset ≡ verdict.offset)) ⊎ HasPassedFrame told old new verdict.offset
-Stands given told old new (Err stop.NoMemory) = (at : ℕ) × HasPassedFrame told old new at
 Stands given told old new (Err stop.InputFault) = HasBegun old new
 Stands given told old new (Err stop.InputTooLong) = HasBegun old new
 

@@ -7,7 +7,6 @@ use Rattle.cmd_reader.specs.declared.item.ReadStop.TheVariants as stop
 
 abbrev pub UnlessFault : Fault → Type 0 → Type 0
 UnlessFault (fault.Refused refusal) P = P
-UnlessFault fault.NoMemory P = P
 UnlessFault fault.InputFault P = ⊤
 UnlessFault fault.InputTooLong P = P
 
@@ -18,7 +17,6 @@ UnlessErr (Err fault) P = UnlessFault fault P
 
 abbrev pub UnlessStop : ReadStop → Type 0 → Type 0
 UnlessStop (stop.Refused verdict) P = P
-UnlessStop stop.NoMemory P = P
 UnlessStop stop.InputFault P = ⊤
 UnlessStop stop.InputTooLong P = P
 

@@ -7,6 +7,5 @@ use Rattle.cmd_reader.specs.declared.item.ReadStop.TheVariants as stop
 
 abbrev pub outcome_at : ℕ → ReadStop → Outcome
 outcome_at file (stop.Refused verdict) = ended.Refused verdict
-outcome_at file stop.NoMemory = ended.NoMemory
 outcome_at file stop.InputFault = ended.InputFault
 outcome_at file stop.InputTooLong = ended.InputTooLong file

@@ -1,12 +1,12 @@
 // Reading commands one at a time.
-ghost use Rattle.std.specs.Prelude.{◌≡◌, ◌≤◌, IfOk};
+ghost use Rattle.std.specs.Prelude.{◌≡◌, ◌≤◌, drop, IfOk};
 ghost use Rattle.cmd_reader.specs.Places.{IfTold};
 ghost use Rattle.sx_base.specs.Later.{ReadsOn};
 ghost use Rattle.cmd_reader.specs.Left.{Reader, at_start, HasAhead, read_to};
-ghost use Rattle.cmd_reader.specs.Next.{NextSays, ItemFits, IfItem, EndsAfterEnd};
-ghost use Rattle.cmd_reader.specs.Stands.{NextStands, GlanceStands};
+ghost use Rattle.cmd_reader.specs.Next.{IfItem};
+ghost use Rattle.cmd_reader.specs.Items.{ItemSays, GlanceSaid};
 ghost use Rattle.cmd_reader.specs.Frames.{FrameFits, StepSays, FrameSays, Halts, StepHalts};
-ghost use Rattle.cmd_reader.specs.Glances.{GlanceFits, GlanceSays};
+ghost use Rattle.send_model.specs.Attribute.{IsBytes};
 ghost use Rattle.cmd_reader.specs.Steadiness.{UnlessFailed, UnlessStepFailed};
 
 use crate::fault::Fault;
@@ -15,16 +15,15 @@ use crate::item::{Glance, Item, ReadStop};
 use crate::source::Source;
 use std::alloc::{AllocError, Global};
 use std::marker::Model;
-use sx_base::{Inputs, Refusal};
+use sx_base::{Inputs, Refusal, Verdict};
 use tlv_frame::Passed;
 
 /// Reads the commands of one file in order, one for each call. It is seen as its place in the
 /// file, with the bytes that it was given from there on. It asks the inputs for 65,536 bytes at a
 /// time, each time from where the last ones ended, and only where it has no whole header or frame.
-/// Once made, it takes memory for the values of commands alone.
+/// Once made, it takes no memory.
 #[derive(Debug, Drop)]
 pub struct CmdReader {
-    alloc: Global,
     file: u64,
     number: u64,
     source: Source,
@@ -48,88 +47,21 @@ impl CmdReader {
     {
         let source = Source::new(alloc, name)?;
         Ok(CmdReader {
-            alloc,
             file,
             number: 1,
             source,
         })
     }
 
-    /// The next command, or None where the file ends after END. Refused, with the place, exactly
-    /// where the bytes break a rule of reading, by the first rule that they break; InputFault only
-    /// where the inputs count another fault; InputTooLong exactly where the file has 2^62 bytes or
-    /// more and what is left of the first 2^62 ends at once, whole or cut short. Where the inputs
-    /// tell, they are those that gave the reader its bytes, and it has not stopped before. Whatever it answers, it has gone past
-    /// headers, and past one frame only where it gives a command or its body gave none.
-    pub fn next<I: Inputs>(&mut self, inputs: &mut I) -> Result<Option<Item>, ReadStop>
-        requires ahead { IfTold (I.told inputs.old) self.old.name (HasAhead self.old) }
-        ensures same { I.told inputs.new ≡ I.told inputs.old }
-        ensures later { I.faults inputs.old ≤ I.faults inputs.new }
-        ensures steady { UnlessFailed result (I.faults inputs.new ≡ I.faults inputs.old) }
-        ensures ends_later { I.ends inputs.old ≤ I.ends inputs.new }
-        ensures ends_steady { UnlessFailed result (I.ends inputs.new ≡ I.ends inputs.old) }
-        ensures asked { ReadsOn I.Inputs inputs.old inputs.new self.old.name
-            (read_to self.old) (read_to self.new) }
-        ensures file { self.new.file ≡ self.old.file }
-        ensures name { self.new.name ≡ self.old.name }
-        ensures fits { IfItem result (ItemFits self.old self.new) }
-        ensures end { EndsAfterEnd self.old result }
-        ensures read { NextSays (I.told inputs.old) self.old self.new
-            (I.faults inputs.old) (I.faults inputs.new) result }
-        ensures stands { NextStands (I.told inputs.old) self.old self.new result }
-    {
-        let frame = match self.frame(inputs) {
-            Ok(Some(frame)) => frame,
-            Ok(None) => return Ok(None),
-            Err(stop) => return Err(stop),
-        };
-        let alloc = self.alloc();
-        item_in(alloc, frame, body_in(self.last_frame()))
-    }
-
-    /// What is seen of the next command: it goes past what `next` gives, stops where `next` stops, and makes no command but one
-    /// that begins a part. It takes memory for the values of that one alone.
-    pub fn glance<I: Inputs>(&mut self, inputs: &mut I) -> Result<Option<Glance>, ReadStop>
-        requires ahead { IfTold (I.told inputs.old) self.old.name (HasAhead self.old) }
-        ensures same { I.told inputs.new ≡ I.told inputs.old }
-        ensures later { I.faults inputs.old ≤ I.faults inputs.new }
-        ensures steady { UnlessFailed result (I.faults inputs.new ≡ I.faults inputs.old) }
-        ensures ends_later { I.ends inputs.old ≤ I.ends inputs.new }
-        ensures ends_steady { UnlessFailed result (I.ends inputs.new ≡ I.ends inputs.old) }
-        ensures asked { ReadsOn I.Inputs inputs.old inputs.new self.old.name
-            (read_to self.old) (read_to self.new) }
-        ensures file { self.new.file ≡ self.old.file }
-        ensures name { self.new.name ≡ self.old.name }
-        ensures fits { IfItem result (GlanceFits self.old self.new) }
-        ensures end { EndsAfterEnd self.old result }
-        ensures read { GlanceSays (I.told inputs.old) self.old self.new
-            (I.faults inputs.old) (I.faults inputs.new) result }
-        ensures stands { GlanceStands (I.told inputs.old) self.old self.new result }
-    {
-        let frame = match self.frame(inputs) {
-            Ok(Some(frame)) => frame,
-            Ok(None) => return Ok(None),
-            Err(stop) => return Err(stop),
-        };
-        let alloc = self.alloc();
-        glance_in(alloc, frame, body_in(self.last_frame()))
-    }
-
-    /// The bytes of the frame of the command that was read last, as they stand in the file: after `next`, from the item's place
-    /// on, and after both, up to where the reader stands. Takes no memory.
-    pub fn last_frame(&self) -> &[u8]
-        ensures bytes { result.now ≡ self.now.fed.last }
-    {
-        self.source.feed.last()
-    }
-
-    // Where memory is taken from.
-    fn alloc(&self) -> Global {
-        self.alloc
-    }
-
-    // Goes past the next frame, and the headers before it. None where the file ends after END.
-    fn frame<I: Inputs>(&mut self, inputs: &mut I) -> Result<Option<FrameAt>, ReadStop>
+    /// Goes past the next frame, whose command `item` and `glance` read, or answers `None` where the file ends after END. Where the
+    /// inputs tell, they are those that gave the reader its bytes, and it has not stopped before. Whatever it answers, it has gone
+    /// past headers, and past one frame only where it gives one.
+    ///
+    /// # Errors
+    /// `Refused`, with the place, exactly where the bytes break a rule of reading before a frame's body; `InputFault` only where the
+    /// inputs count another fault; `InputTooLong` exactly where the file has 2^62 bytes or more and what is left of the first 2^62
+    /// ends at once, whole or cut short.
+    pub fn advance<I: Inputs>(&mut self, inputs: &mut I) -> Result<Option<FrameAt>, ReadStop>
         requires ahead { IfTold (I.told inputs.old) self.old.name (HasAhead self.old) }
         ensures same { I.told inputs.new ≡ I.told inputs.old }
         ensures later { I.faults inputs.old ≤ I.faults inputs.new }
@@ -151,6 +83,37 @@ impl CmdReader {
                 None => {}
             }
         }
+    }
+
+    /// The command of the frame that was gone past last. Takes no memory: the bytes of the command stand in the reader.
+    ///
+    /// # Errors
+    /// The first rule of reading that the frame's body breaks, at the place of the frame.
+    pub fn item(&self, frame: FrameAt) -> Result<Item<'_>, Verdict>
+        requires fits { FrameFits self.now frame }
+        ensures says { ItemSays frame (drop 10 self.now.fed.last) result }
+        ensures bytes { IsBytes self.now.fed.last }
+    {
+        item_in(frame, body_in(self.last_frame()))
+    }
+
+    /// What is seen of that command: no command is made but one that begins a part or names a key. Takes no memory.
+    ///
+    /// # Errors
+    /// Those of `item`.
+    pub fn glance(&self, frame: FrameAt) -> Result<Glance<'_>, Verdict>
+        requires fits { FrameFits self.now frame }
+        ensures says { GlanceSaid frame (drop 10 self.now.fed.last) result }
+    {
+        glance_in(frame, body_in(self.last_frame()))
+    }
+
+    /// The bytes of the frame that was gone past last, as they stand in the file: from the item's place on up to where the reader
+    /// stands. Takes no memory.
+    pub fn last_frame(&self) -> &[u8]
+        ensures bytes { result.now ≡ self.now.fed.last }
+    {
+        self.source.feed.last()
     }
 
     // Goes past the next header or frame. None where it was a header.

@@ -6,8 +6,6 @@ use sx_base::Refusal;
 pub(crate) enum Fault {
     // The bytes are refused.
     Refused(Refusal),
-    // There is no memory.
-    NoMemory,
     // The inputs failed.
     InputFault,
     // The file gave as many bytes as are read at the most, and no end.

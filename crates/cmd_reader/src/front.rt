@@ -14,14 +14,13 @@ use crate::fault::Fault;
 use crate::item::{Glance, Item, ReadStop};
 use crate::spelled::is_canonical;
 use send_commands::{Command, Kind, decode, lawful_kind};
-use std::alloc::{AllocError, Global};
-use sx_base::{Stop, Verdict};
+use sx_base::{Refusal, Verdict};
 use tlv_frame::attribute_numbers::DATA;
 use tlv_frame::{FRAME_HEAD_LEN, attrs};
 
-// A frame that was gone past.
-#[derive(Clone, Copy)]
-pub(crate) struct FrameAt {
+/// A frame that a reader has gone past, of which nothing but its header was read.
+#[derive(Debug, Clone, Copy)]
+pub struct FrameAt {
     // The file, and the command's number in it, both counted from 1.
     pub(crate) file: u64,
     pub(crate) number: u64,
@@ -34,9 +33,9 @@ pub(crate) struct FrameAt {
 }
 
 // A command with what its frame says of it.
-#[derive(Drop)]
-pub(crate) struct Front {
-    command: Command,
+#[derive(Clone, Copy)]
+pub(crate) struct Front<'a> {
+    command: Command<'a>,
     // The place in the file of the first byte of its data, 0 where it has no data.
     data_at: u64,
     // Whether the frame has the wanted attributes alone, in rising order.
@@ -53,40 +52,46 @@ pub(crate) fn body_in(frame: &[u8]) -> &[u8]
 }
 
 // The item that a frame is, by its body.
-pub(crate) fn item_in(alloc: Global, frame: FrameAt, body: &[u8]) -> Result<Option<Item>, ReadStop>
+pub(crate) fn item_in<'a>(frame: FrameAt, body: &'a [u8]) -> Result<Item<'a>, Verdict>
     requires place { frame.offset ≤ limit }
     requires short { length body.now ≤ greatest_body }
     requires version { is_version frame.version ≡ true }
     ensures says { ItemSays frame body.now result }
 {
-    match command_in(alloc, frame.offset, frame.version, frame.cmd, body) {
-        Ok(front) => Ok(Some(Item {
+    match command_in(frame.offset, frame.version, frame.cmd, body) {
+        Ok(front) => Ok(Item {
             command: front.command,
             number: frame.number,
             offset: frame.offset,
             data_at: front.data_at,
             version: frame.version,
             canonical: front.canonical,
-        })),
-        Err(fault) => Err(stop_at(frame.file, frame.number, frame.offset, fault)),
+        }),
+        Err(refusal) => Err(Verdict {
+            file: frame.file,
+            command: frame.number,
+            offset: frame.offset,
+            refusal,
+        }),
     }
 }
 
 // What is seen of the command that a frame is, by its body.
-pub(crate) fn glance_in(
-    alloc: Global,
-    frame: FrameAt,
-    body: &[u8],
-) -> Result<Option<Glance>, ReadStop>
+pub(crate) fn glance_in<'a>(frame: FrameAt, body: &'a [u8]) -> Result<Glance<'a>, Verdict>
     requires short { length body.now ≤ greatest_body }
     ensures says { GlanceSaid frame body.now result }
 {
-    match mention_in(alloc, frame.version, frame.cmd, body) {
-        Ok(mention) => Ok(Some(Glance {
+    match mention_in(frame.version, frame.cmd, body) {
+        Ok(mention) => Ok(Glance {
             mention,
             version: frame.version,
-        })),
-        Err(fault) => Err(stop_at(frame.file, frame.number, frame.offset, fault)),
+        }),
+        Err(refusal) => Err(Verdict {
+            file: frame.file,
+            command: frame.number,
+            offset: frame.offset,
+            refusal,
+        }),
     }
 }
 
@@ -101,7 +106,6 @@ pub(crate) fn stop_at(file: u64, number: u64, offset: u64, fault: Fault) -> Read
             offset,
             refusal,
         }),
-        Fault::NoMemory => ReadStop::NoMemory,
         Fault::InputFault => ReadStop::InputFault,
         Fault::InputTooLong => ReadStop::InputTooLong,
     }
@@ -109,7 +113,7 @@ pub(crate) fn stop_at(file: u64, number: u64, offset: u64, fault: Fault) -> Read
 
 // The command of a number whose attributes are these, in a frame at the place, and the place of
 // its data.
-fn command_in(alloc: Global, at: u64, version: u32, cmd: u16, body: &[u8]) -> Result<Front, Fault>
+fn command_in<'a>(at: u64, version: u32, cmd: u16, body: &'a [u8]) -> Result<Front<'a>, Refusal>
     requires place { at ≤ limit }
     requires short { length body.now ≤ greatest_body }
     requires version { is_version version ≡ true }
@@ -118,53 +122,44 @@ fn command_in(alloc: Global, at: u64, version: u32, cmd: u16, body: &[u8]) -> Re
 {
     let table = match attrs(body, version) {
         Ok(table) => table,
-        Err(refusal) => return Err(Fault::Refused(refusal)),
+        Err(refusal) => return Err(refusal),
     };
     let data_at = match table.place(DATA) {
         Some(place) => at + FRAME_HEAD_LEN as u64 + place as u64,
         None => 0,
     };
     let canonical = is_canonical(version, cmd, &table, body.len());
-    match decode(alloc, cmd, &table) {
+    match decode(cmd, &table) {
         Ok(command) => Ok(Front {
             command,
             data_at,
             canonical,
         }),
-        Err(Stop::Refused(refusal)) => Err(Fault::Refused(refusal)),
-        Err(Stop::NoMemory) => Err(Fault::NoMemory),
+        Err(refusal) => Err(refusal),
     }
 }
 
 /// The command whose canonical spelling a frame with this number and body is; `None` exactly where there is none. The command
-/// is not spelled again. Fails for want of memory alone.
-pub fn canonical_command(
-    alloc: Global,
-    version: u32,
-    cmd: u16,
-    body: &[u8],
-) -> Result<Option<Command>, AllocError>
+/// is not spelled again. Takes no memory.
+pub fn canonical_command<'a>(version: u32, cmd: u16, body: &'a [u8]) -> Option<Command<'a>>
     requires short { length body.now ≤ greatest_body }
     requires version { is_version version ≡ true }
-    ensures found { IfOk result (FindsCanonical version cmd body.now) }
+    ensures found { FindsCanonical version cmd body.now result }
 {
-    match command_in(alloc, 0, version, cmd, body) {
+    match command_in(0, version, cmd, body) {
         Ok(front) => {
             if front.canonical {
-                Ok(Some(front.command))
+                Some(front.command)
             } else {
-                Ok(None)
+                None
             }
         }
-        Err(fault) => match fault {
-            Fault::Refused(_) => Ok(None),
-            _ => Err(AllocError),
-        },
+        Err(_) => None,
     }
 }
 
 // The command of a number whose attributes are these, where it begins a part or names a key.
-fn mention_in(alloc: Global, version: u32, cmd: u16, body: &[u8]) -> Result<Option<Command>, Fault>
+fn mention_in<'a>(version: u32, cmd: u16, body: &'a [u8]) -> Result<Option<Command<'a>>, Refusal>
     requires short { length body.now ≤ greatest_body }
     ensures writable { IfOk result
         (λ mention. IfSome mention (λ command. IsWritable version (meaning_of command))) }
@@ -172,19 +167,18 @@ fn mention_in(alloc: Global, version: u32, cmd: u16, body: &[u8]) -> Result<Opti
 {
     let table = match attrs(body, version) {
         Ok(table) => table,
-        Err(refusal) => return Err(Fault::Refused(refusal)),
+        Err(refusal) => return Err(refusal),
     };
     let kind = match lawful_kind(cmd, &table) {
         Ok(kind) => kind,
-        Err(why) => return Err(Fault::Refused(why)),
+        Err(refusal) => return Err(refusal),
     };
     if !is_mention(kind) {
         return Ok(None);
     }
-    match decode(alloc, cmd, &table) {
+    match decode(cmd, &table) {
         Ok(command) => Ok(Some(command)),
-        Err(Stop::Refused(refusal)) => Err(Fault::Refused(refusal)),
-        Err(Stop::NoMemory) => Err(Fault::NoMemory),
+        Err(refusal) => Err(refusal),
     }
 }
 

@@ -3,10 +3,10 @@ use send_commands::Command;
 use sx_base::Verdict;
 
 /// A command with where it stands.
-#[derive(Debug, Drop)]
-pub struct Item {
-    /// The command.
-    pub command: Command,
+#[derive(Debug, Clone, Copy)]
+pub struct Item<'a> {
+    /// The command, whose bytes stand in the reader.
+    pub command: Command<'a>,
     /// Its number in its file, counted from 1.
     pub number: u64,
     /// The place in the file of its frame's first byte.
@@ -21,10 +21,10 @@ pub struct Item {
 }
 
 /// What is seen of a command that is not made, unless it begins a part or names another subvolume.
-#[derive(Debug, Drop)]
-pub struct Glance {
+#[derive(Debug, Clone, Copy)]
+pub struct Glance<'a> {
     /// The command itself where it begins a part or names a key beside its own, None where it does neither.
-    pub mention: Option<Command>,
+    pub mention: Option<Command<'a>>,
     /// The version of its stream.
     pub version: u32,
 }
@@ -34,8 +34,6 @@ pub struct Glance {
 pub enum ReadStop {
     /// The bytes are refused.
     Refused(Verdict),
-    /// There is no memory.
-    NoMemory,
     /// The inputs failed.
     InputFault,
     /// The file gave 2^62 bytes and no end.

@@ -10,6 +10,6 @@ mod spelled;
 mod stopping;
 
 pub use command_reader::CmdReader;
-pub use front::canonical_command;
+pub use front::{FrameAt, canonical_command};
 pub use item::{Glance, Item, ReadStop};
 pub use stopping::outcome_of;

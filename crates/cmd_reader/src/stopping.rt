@@ -13,7 +13,6 @@ pub fn outcome_of(file: u64, stop: ReadStop) -> Outcome
 {
     match stop {
         ReadStop::Refused(verdict) => Outcome::Refused(verdict),
-        ReadStop::NoMemory => Outcome::NoMemory,
         ReadStop::InputFault => Outcome::InputFault,
         ReadStop::InputTooLong => Outcome::InputTooLong { file },
     }

@@ -1,48 +1,24 @@
 //! Guard words, and what guards allow at their limits.
 
 use crate::same::same;
-use crate::values::{blob, uuid};
+use crate::values::uuid;
 use guard_rules::{
     ByteGuard, CommandGuard, DeviceGuard, EndGuard, Guard, GuardSpec, look_all, parse_guard,
 };
 use send_commands::Command;
-use std::alloc::{AllocError, Global};
 use std::process::Abort;
 use std::test::Fail;
 
-fn write(alloc: Global, offset: u64, bytes: &[u8]) -> Result<Command, AllocError> {
-    Ok(Command::Write {
-        path: blob(alloc, b"x")?,
-        offset,
-        bytes: blob(alloc, bytes)?,
-    })
-}
-
-fn clone(alloc: Global, offset: u64, clone_len: u64) -> Result<Command, AllocError> {
-    Ok(Command::Clone {
-        path: blob(alloc, b"x")?,
+fn clone(offset: u64, clone_len: u64) -> Command<'static> {
+    Command::Clone {
+        path: b"x",
         offset,
         clone_uuid: uuid(1),
         clone_ctransid: 1,
-        clone_path: blob(alloc, b"y")?,
+        clone_path: b"y",
         clone_offset: 0,
         clone_len,
-    })
-}
-
-fn truncate(alloc: Global, size: u64) -> Result<Command, AllocError> {
-    Ok(Command::Truncate {
-        size,
-        path: blob(alloc, b"x")?,
-    })
-}
-
-fn device(alloc: Global) -> Result<Command, AllocError> {
-    Ok(Command::MkNod {
-        mode: 0o20644,
-        rdev: 259,
-        path: blob(alloc, b"d")?,
-    })
+    }
 }
 
 // What the command of a test does: a WRITE or a CLONE at a place, a TRUNCATE, a new device, or END.
@@ -55,13 +31,21 @@ enum Word {
     End,
 }
 
-fn command(alloc: Global, word: Word) -> Result<Command, AllocError> {
+fn command(word: Word) -> Command<'static> {
     match word {
-        Word::Write(offset, bytes) => write(alloc, offset, bytes),
-        Word::Clone(offset, clone_len) => clone(alloc, offset, clone_len),
-        Word::Truncate(size) => truncate(alloc, size),
-        Word::Device => device(alloc),
-        Word::End => Ok(Command::End),
+        Word::Write(offset, bytes) => Command::Write {
+            path: b"x",
+            offset,
+            bytes,
+        },
+        Word::Clone(offset, clone_len) => clone(offset, clone_len),
+        Word::Truncate(size) => Command::Truncate { size, path: b"x" },
+        Word::Device => Command::MkNod {
+            mode: 0o20644,
+            rdev: 259,
+            path: b"d",
+        },
+        Word::End => Command::End,
     }
 }
 
@@ -110,18 +94,12 @@ fn words(rt: HostRuntime) {
 type Look = (Word, bool, u64);
 
 // The guard looks at each command.
-fn looks<G: Guard>(
-    rt: &impl Abort,
-    alloc: Global,
-    guard: &mut G,
-    table: &[Look],
-) -> Result<(), AllocError> {
+fn looks<G: Guard>(rt: &impl Abort, guard: &mut G, table: &[Look]) {
     for (word, allowed, used) in table {
-        let command = command(alloc, *word)?;
+        let command = command(*word);
         same(rt, guard.look(&command), *allowed);
         same(rt, guard.used(), *used);
     }
-    Ok(())
 }
 
 const BYTES: &[Look] = &[
@@ -135,11 +113,10 @@ const BYTES: &[Look] = &[
 ];
 
 #[test]
-fn bytes_up_to_the_limit(rt: HostRuntime) -> Result<(), Fail> {
+fn bytes_up_to_the_limit(rt: HostRuntime) {
     let mut guard = ByteGuard::new(8);
     same(&rt, guard.spec(), GuardSpec::Bytes(8));
-    looks(&rt, rt.alloc(), &mut guard, BYTES)?;
-    Ok(())
+    looks(&rt, &mut guard, BYTES);
 }
 
 const ENDS: &[Look] = &[
@@ -155,11 +132,10 @@ const ENDS: &[Look] = &[
 ];
 
 #[test]
-fn ends_up_to_the_limit(rt: HostRuntime) -> Result<(), Fail> {
+fn ends_up_to_the_limit(rt: HostRuntime) {
     let mut guard = EndGuard::new(4096);
     same(&rt, guard.spec(), GuardSpec::End(4096));
-    looks(&rt, rt.alloc(), &mut guard, ENDS)?;
-    Ok(())
+    looks(&rt, &mut guard, ENDS);
 }
 
 // A command, the place of the first guard that refuses it, and what the guards have counted then.
@@ -174,7 +150,7 @@ const NAMED: &[(Word, Option<usize>, [u64; 3])] = &[
 // Whether the first guard that refuses the command has this place, and the guards then have these counts.
 fn answers(
     guards: &mut [Box<dyn Guard>],
-    command: &Command,
+    command: &Command<'_>,
     refused: Option<usize>,
     counts: [u64; 3],
 ) -> bool {
@@ -192,7 +168,7 @@ fn the_first_guard_that_refuses_is_named(rt: HostRuntime) -> Result<(), Fail> {
     guards.push(Box::new(rt.alloc(), DeviceGuard::new())?)?;
     guards.push(Box::new(rt.alloc(), ByteGuard::new(2))?)?;
     for &(word, refused, counts) in NAMED {
-        let command = command(rt.alloc(), word)?;
+        let command = command(word);
         same(&rt, answers(&mut guards, &command, refused, counts), true);
     }
     Ok(())

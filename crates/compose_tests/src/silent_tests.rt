@@ -107,23 +107,30 @@ impl OutsideBytes for SilentBytes {
     }
 }
 
+// The subvolume, its file, and as many bytes as the base has of it.
+const NAME: &[u8] = b"a";
+
+const PATH: &[u8] = b"x";
+
+const BYTES: &[u8] = &[0, 0];
+
 // One command more, whose data are those of the base.
 fn led(
     core: &mut EditCore<Trace>,
     part: &mut Option<Part<Trace>>,
-    c: &Command,
-    key: Key,
+    c: &Command<'_>,
+    key: &Key,
 ) -> Result<(), Stop>
     requires fits { Fits core.old part.old }
     requires short { data_len (meaning_of c.now) ≤ 2 }
-    requires had { AllCells (IsHad 0 (held_store (key_of key)))
+    requires had { AllCells (IsHad 0 (held_store (key_of key.now)))
         (record { store = core.old; part = part.old }) }
     ensures fits { Fits core.new part.new }
-    ensures had { OnOk result (AllCells (IsHad 0 (held_store (key_of key)))
+    ensures had { OnOk result (AllCells (IsHad 0 (held_store (key_of key.now)))
         (record { store = core.new; part = part.new })) }
 {
     let origin = Trace::Outside {
-        key,
+        key: *key,
         ino: 257,
         at: 0,
     };
@@ -133,11 +140,67 @@ fn led(
     }
 }
 
-// The two bytes that the file's write gave once.
-fn written(alloc: Global) -> Result<Blob, AllocError>
-    ensures two { IfOk result (λ bytes. length bytes ≡ 2) }
+// The head of a subvolume of this name.
+fn begun(
+    core: &mut EditCore<Trace>,
+    part: &mut Option<Part<Trace>>,
+    name: &[u8],
+    key: &Key,
+) -> Result<(), Stop>
+    requires fits { Fits core.old part.old }
+    requires had { AllCells (IsHad 0 (held_store (key_of key.now)))
+        (record { store = core.old; part = part.old }) }
+    ensures fits { Fits core.new part.new }
+    ensures had { OnOk result (AllCells (IsHad 0 (held_store (key_of key.now)))
+        (record { store = core.new; part = part.new })) }
 {
-    Ok(Blob::from(Vec::from_array(alloc, [0, 0])?))
+    let head = Command::Subvol {
+        uuid: key.uuid,
+        ctransid: key.ctransid,
+        path: name,
+    };
+    led(core, part, &head, key)
+}
+
+// A new file.
+fn made(
+    core: &mut EditCore<Trace>,
+    part: &mut Option<Part<Trace>>,
+    path: &[u8],
+    key: &Key,
+) -> Result<(), Stop>
+    requires fits { Fits core.old part.old }
+    requires had { AllCells (IsHad 0 (held_store (key_of key.now)))
+        (record { store = core.old; part = part.old }) }
+    ensures fits { Fits core.new part.new }
+    ensures had { OnOk result (AllCells (IsHad 0 (held_store (key_of key.now)))
+        (record { store = core.new; part = part.new })) }
+{
+    led(core, part, &Command::MkFile { path }, key)
+}
+
+// The bytes that a file's write gave once.
+fn written<'a>(
+    core: &mut EditCore<Trace>,
+    part: &mut Option<Part<Trace>>,
+    path: &'a [u8],
+    bytes: &'a [u8],
+    key: &Key,
+) -> Result<(), Stop>
+    requires fits { Fits core.old part.old }
+    requires short { length bytes.now ≤ 2 }
+    requires had { AllCells (IsHad 0 (held_store (key_of key.now)))
+        (record { store = core.old; part = part.old }) }
+    ensures fits { Fits core.new part.new }
+    ensures had { OnOk result (AllCells (IsHad 0 (held_store (key_of key.now)))
+        (record { store = core.new; part = part.new })) }
+{
+    let write = Command::Write {
+        path,
+        offset: 0,
+        bytes,
+    };
+    led(core, part, &write, key)
 }
 
 // A core with the subvolume a, whose file x has the two bytes of the base.
@@ -147,28 +210,11 @@ fn standing(alloc: Global, key: Key) -> Result<EditCore<Trace>, Stop>
 {
     let mut core = EditCore::new(alloc);
     let mut part = None;
-    let head = Command::Subvol {
-        uuid: key.uuid,
-        ctransid: key.ctransid,
-        path: copied(alloc, b"a")?,
-    };
-    led(&mut core, &mut part, &head, key)?;
-    let file = Command::MkFile {
-        path: copied(alloc, b"x")?,
-    };
-    led(&mut core, &mut part, &file, key)?;
-    let write = Command::Write {
-        path: copied(alloc, b"x")?,
-        offset: 0,
-        bytes: written(alloc)?,
-    };
-    led(&mut core, &mut part, &write, key)?;
-    led(&mut core, &mut part, &Command::End, key)?;
+    begun(&mut core, &mut part, NAME, &key)?;
+    made(&mut core, &mut part, PATH, &key)?;
+    written(&mut core, &mut part, PATH, BYTES, &key)?;
+    led(&mut core, &mut part, &Command::End, &key)?;
     Ok(core)
-}
-
-fn copied(alloc: Global, bytes: &[u8]) -> Result<Blob, AllocError> {
-    Ok(Blob::from(Vec::from_slice(alloc, bytes)?))
 }
 
 // The names of the files, and what was found in them.

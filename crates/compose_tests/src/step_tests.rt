@@ -1,20 +1,20 @@
 // Chains of parts. The commands stand in tables, so that each test is a loop over one helper.
-ghost use Rattle.std.specs.Prelude.{◌≡◌, [], ◌^◌, ◌<◌, IfOk, IsTrue, is_some, length};
+ghost use Rattle.std.specs.Prelude.{◌≡◌, [], ◌^◌, ◌<◌, IsTrue, is_some, length};
 ghost use Rattle.send_model.specs.Store.{head_of};
 ghost use Rattle.send_commands.specs.Meaning.{meaning_of};
 ghost use Rattle.clone_resolve.specs.Steps.{data_len, done_by, Fits};
 ghost use Rattle.clone_resolve.specs.declared.done.Done.TheVariants as did;
 
 use crate::same::same;
-use crate::values::{blob, key, uuid};
+use crate::values::{key, uuid};
 use clone_resolve::{EditCore, Part};
 use extent_map::Nowhere;
 use send_commands::Command;
-use std::alloc::{AllocError, Global};
+use std::alloc::Global;
 use std::process::Abort;
 use std::test::Fail;
 use subvol::Subvol;
-use sx_base::{Blob, Stop};
+use sx_base::Stop;
 
 // What a command of a test does.
 #[derive(Clone, Copy)]
@@ -38,8 +38,8 @@ enum Word {
 // parent's transaction number, the length, the size, the mode, or the place.
 type Row = (Word, u8, &'static [u8], &'static [u8], u64, u64);
 
-fn command(word: Word, id: u8, path: Blob, other: Blob, number: u64) -> Command
-    requires short { length other < 2 ^ 64 }
+fn command<'a>(word: Word, id: u8, path: &'a [u8], other: &'a [u8], number: u64) -> Command<'a>
+    requires short { length other.now < 2 ^ 64 }
     ensures short { data_len (meaning_of result) < 2 ^ 64 }
 {
     match word {
@@ -91,20 +91,19 @@ fn command(word: Word, id: u8, path: Blob, other: Blob, number: u64) -> Command
     }
 }
 
-fn command_of(alloc: Global, row: Row) -> Result<Command, AllocError>
-    ensures short { IfOk result (λ c. data_len (meaning_of c) < 2 ^ 64) }
+fn command_of(row: Row) -> Command<'static>
+    ensures short { data_len (meaning_of result) < 2 ^ 64 }
 {
     let (word, id, path, other, number, _want) = row;
-    let path = blob(alloc, path)?;
-    let other = blob(alloc, other)?;
-    Ok(command(word, id, path, other, number))
+    let _len = other.len();
+    command(word, id, path, other, number)
 }
 
 // The number of the refusal of a command, 0 where it is taken; an error where there is no memory.
 fn number_of(
     core: &mut EditCore<Nowhere>,
     part: &mut Option<Part<Nowhere>>,
-    c: &Command,
+    c: &Command<'_>,
 ) -> Result<u64, Stop>
     requires fits { Fits core.old part.old }
     requires short { data_len (meaning_of c.now) < 2 ^ 64 }
@@ -122,7 +121,7 @@ fn copied_after(rt: &impl Abort, alloc: Global, rows: &[Row]) -> Result<Option<u
     let mut core = EditCore::new(alloc);
     let mut part = None;
     for row in rows {
-        let c = command_of(alloc, *row)?;
+        let c = command_of(*row);
         let answer = number_of(&mut core, &mut part, &c)?;
         same(rt, answer, row.5);
     }
@@ -229,7 +228,7 @@ fn add_root(alloc: Global, core: &mut EditCore<Nowhere>) -> Result<(), Stop> {
     core.add(b"a", key(1, 1), None, Some(root))
 }
 
-fn head(path: Blob) -> Command
+fn head(path: &[u8]) -> Command<'_>
     ensures head { IsTrue (is_some (head_of (meaning_of result))) }
 {
     Command::Subvol {
@@ -239,7 +238,7 @@ fn head(path: Blob) -> Command
     }
 }
 
-fn edit(path: Blob) -> Command
+fn edit(path: &[u8]) -> Command<'_>
     ensures edits { done_by (meaning_of result) ≡ did.Edited }
     ensures short { data_len (meaning_of result) < 2 ^ 64 }
 {
@@ -247,7 +246,7 @@ fn edit(path: Blob) -> Command
 }
 
 // The part of a subvolume that began, taken up again.
-fn part_again(core: &mut EditCore<Nowhere>, head: &Command) -> Result<Part<Nowhere>, Stop>
+fn part_again(core: &mut EditCore<Nowhere>, head: &Command<'_>) -> Result<Part<Nowhere>, Stop>
     requires empty { core.old ≡ [] }
     requires head { IsTrue (is_some (head_of (meaning_of head.now))) }
 {
@@ -257,8 +256,7 @@ fn part_again(core: &mut EditCore<Nowhere>, head: &Command) -> Result<Part<Nowhe
 
 fn first_part(alloc: Global) -> Result<Part<Nowhere>, Stop> {
     let mut core = EditCore::new(alloc);
-    let head = head(blob(alloc, b"a")?);
-    part_again(&mut core, &head)
+    part_again(&mut core, &head(b"a"))
 }
 
 // Whether the subvolume of the core has the file.
@@ -270,8 +268,8 @@ fn has_file(core: &EditCore<Nowhere>) -> bool {
 }
 
 // Adds a file to the part.
-fn add_file(alloc: Global, core: &EditCore<Nowhere>, part: &mut Part<Nowhere>) -> Result<(), Stop> {
-    core.edit(part, &edit(blob(alloc, b"x")?), Nowhere)
+fn add_file(core: &EditCore<Nowhere>, part: &mut Part<Nowhere>) -> Result<(), Stop> {
+    core.edit(part, &edit(b"x"), Nowhere)
 }
 
 // A core whose one subvolume is the part with the file.
@@ -279,7 +277,7 @@ fn with_part(alloc: Global) -> Result<EditCore<Nowhere>, Stop> {
     let mut core = EditCore::new(alloc);
     add_root(alloc, &mut core)?;
     let mut part = first_part(alloc)?;
-    add_file(alloc, &core, &mut part)?;
+    add_file(&core, &mut part)?;
     core.complete(part);
     Ok(core)
 }

@@ -1,9 +1,8 @@
 // Values that commands, catalogues and calls of these tests have.
-ghost use Rattle.std.specs.Prelude.{◌≡◌, ◌^◌, ◌<◌, IfOk, length};
+ghost use Rattle.std.specs.Prelude.{◌≡◌, IfOk, length};
 
 use std::alloc::{AllocError, Global};
 use subvol_catalog::Key;
-use sx_base::Blob;
 use uuid::Uuid;
 
 // Sixteen times the same byte.
@@ -16,14 +15,6 @@ pub(crate) fn key(byte: u8, ctransid: u64) -> Key {
         uuid: uuid(byte),
         ctransid,
     }
-}
-
-pub(crate) fn blob(alloc: Global, bytes: &[u8]) -> Result<Blob, AllocError>
-    ensures short { IfOk result (λ b. length b < 2 ^ 64) }
-{
-    let blob = Blob::from(Vec::from_slice(alloc, bytes)?);
-    let _len = blob.as_slice().len();
-    Ok(blob)
 }
 
 // The names of two files.

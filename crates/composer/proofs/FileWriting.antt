@@ -283,23 +283,6 @@ file_unopened told names plan number file given now out = all_always told names 
   why = tt;
 })
 
--- There is no memory for the name of the next item.
-pub file_unnamed : (told : Option (List (List ℕ × List ℕ))) (names : List (List ℕ)) (plan : Plan) (number file : ℕ) (given : Option (List ℕ)) (c0 : Kept) (out0 : Option (List ℕ)) (old : Reader) (now : Kept) (out_now : Option (List ℕ)) (before place : Place)
-    → IfAllTold told names (λ files. Stands files plan file given c0 out0 old now out_now before place (get_or files number []))
-    → IfAllTold told names (λ files. FileStops files plan file given c0 out0 out_now over.NoMemory (get_or files number []))
-file_unnamed told names plan number file given c0 out0 old now out_now before place stands =
-    all_map told names (λ files. Stands files plan file given c0 out0 old now out_now before place (get_or files number [])) (λ files. FileStops files plan file given c0 out0 out_now over.NoMemory (get_or files number []))
-    (λ files s. record {
-      items = s.items;
-      rest = left old (get_or files number []);
-      next = unsent s.sent (composing_of files plan.base now);
-      read = s.read;
-      all = s.all;
-      front = front_after out0 out_now out_now s.sent now.pending s.appends (no_front out_now now.pending);
-      whole = tt;
-      why = tt;
-    }) stands
-
 -- Why a file can not be read on, whatever was composed.
 Unread : Plan → ℕ → Option (List ℕ) → Reader → ReadStop → List ℕ → Type 0
 Unread plan file given old why bytes = old.offset ≤ length bytes → (now : Composing) → FileWhy plan file given now (left old bytes) (outcome_at file why) bytes
@@ -311,7 +294,6 @@ Unread_by plan file given old why bytes = old.offset ≤ length bytes → (reads
 unread_by : (told : Option (List (List ℕ × List ℕ))) (plan : Plan) (file : ℕ) (given : Option (List ℕ)) (old new : Reader) (f0 f1 : ℕ) (why : ReadStop) → NextSays told old new f0 f1 (Err why) → IfTold told old.name (Unread_by plan file given old why)
 unfolding Unread_by
 unread_by told plan file given old new f0 f1 (stop.Refused verdict) says = told_map told old.name (IsRefused (λ _. IsFaulty old verdict) (refusal_of verdict.refusal)) (Unread_by plan file given old (stop.Refused verdict)) (λ bytes (bad, early) reached ends now. inl bad) says
-unread_by told plan file given old new f0 f1 stop.NoMemory says = told_always told old.name (Unread_by plan file given old stop.NoMemory) (λ bytes reached ends now. tt)
 unread_by told plan file given old new f0 f1 stop.InputFault says = told_always told old.name (Unread_by plan file given old stop.InputFault) (λ bytes reached ends now. tt)
 unread_by told plan file given old new f0 f1 stop.InputTooLong says =
     told_map told old.name (IsLongAt old.offset (OnlyEnds old)) (Unread_by plan file given old stop.InputTooLong) (λ bytes long reached ends now. (let l = long reached in (refl, long_is file bytes l.0 (ap only_ends ends ∙ l.1.1)))) says

@@ -1,6 +1,6 @@
 -- An item with the name that is given for its file, as it is taken in place of the one that was read: it is as long, and its data stand
 -- where they stood.
-use Rattle.std.specs.Prelude.{◌≡◌, ℕ, ◌+◌, ◌-◌, ◌≤◌, true, List, [], ◌∷◌, ◌++◌, length, take, drop, get_or, Option, None, Some, Ok}
+use Rattle.std.specs.Prelude.{◌≡◌, ℕ, ◌+◌, ◌-◌, ◌≤◌, true, List, [], ◌∷◌, ◌++◌, length, take, drop, get_or, Option, None, Some}
 use Rattle.std.proofs.Common.{refl, sym, ap, ap₂, subst, ◌∙◌}
 use Rattle.send_model.specs.Command.{Command, Subvol, Snapshot, End}
 use Rattle.send_model.specs.Spelling.{canonical}
@@ -12,8 +12,7 @@ use Rattle.send_model.specs.Lengths.{limit}
 use Rattle.send_model.specs.Renamed.{Names, with_name, name_for, named_as, renamed_items}
 use Rattle.send_commands.specs.Meaning.{meaning_of}
 use Rattle.cmd_reader.specs.declared.item.Item as read
-use Rattle.cmd_reader.specs.Left.{Reader}
-use Rattle.cmd_reader.specs.Next.{item_of, IfItem, ItemFits}
+use Rattle.cmd_reader.specs.Next.{item_of}
 use Rattle.composer.specs.Taking.{DataStand}
 
 bytes_stay : (name : List ℕ) (c : Command) → bytes_of (with_name name c) ≡ bytes_of c
@@ -40,10 +39,6 @@ data_stay files (Some name) item d = record {
 -- The one that is taken is the one that was read, with the name that is given.
 abbrev pub IsNamed : Option (List ℕ) → read.Item → read.Item → Type 0
 IsNamed given item taken = (file : ℕ) → item_of file taken ≡ named_as given (item_of file item)
-
--- What holds of what a call gives holds of the item in it.
-pub item_fits : (o : Option read.Item) (item : read.Item) (old new : Reader) → o ≡ Some item → IfItem (Ok o) (ItemFits old new) → ItemFits old new item
-item_fits o item old new e fits = subst (λ (x : Option read.Item). IfItem (Ok x) (ItemFits old new)) e fits
 
 -- The name is the one for the file.
 pub named_for : (given name : Option (List ℕ)) (file : ℕ) (item taken : read.Item) → given ≡ name → IsNamed given item taken → item_of file taken ≡ named_as name (item_of file item)

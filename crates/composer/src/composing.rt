@@ -1,5 +1,5 @@
 // Composing, item by item.
-ghost use Rattle.std.specs.Prelude.{◌≡◌, ◌⊎◌, ℕ, ◌+◌, ◌≤◌, ◌<◌, ◌^◌, List, [], ◌++◌, length, map, not, true, Option, None, Some, is_some, Ok, OnOk, IfOk, IfErr};
+ghost use Rattle.std.specs.Prelude.{◌≡◌, ◌⊎◌, ℕ, ◌+◌, ◌≤◌, ◌<◌, ◌^◌, List, [], ◌++◌, length, map, not, true, Option, None, Some, is_some, Ok, OnOk, IfErr};
 ghost use Rattle.std.specs.Option.{option_map, option_copied};
 ghost use Rattle.std.specs.List.{AllByRecursion};
 ghost use Rattle.std.specs.String.{string_bytes};
@@ -57,8 +57,8 @@ const MOST_LITERAL: u64 = 1 << 40;
 
 // An edit or END whose step was taken, the bytes of its frame as they came, and the key of the last part.
 #[derive(Clone, Copy)]
-struct Edit<'a> {
-    item: &'a Item,
+struct Edit<'a, 'b> {
+    item: &'a Item<'b>,
     frame: &'a [u8],
     last: Key,
 }
@@ -129,7 +129,7 @@ impl Composer {
     /// outside subvolume, before any of the clone with which they are too many is written.
     pub fn take<I: Inputs, E: Known, B: OutsideBytes, O: Sink>(
         &mut self,
-        read: &ReadItem<'_>,
+        read: &ReadItem<'_, '_>,
         task: &Task<'_, E>,
         inputs: &mut I,
         bytes: &mut B,
@@ -235,7 +235,7 @@ impl Composer {
     // A head whose part has begun: the first begins the stream.
     fn begin_part(
         &mut self,
-        c: &Command,
+        c: &Command<'_>,
         version: u32,
         parent: Option<Key>,
         survey: &Survey,
@@ -262,7 +262,7 @@ impl Composer {
     // Adds what stands for an edit or for END, of which the step was taken.
     fn add<I: Inputs, E: Known, B: OutsideBytes, O: Sink>(
         &mut self,
-        edit: &Edit<'_>,
+        edit: &Edit<'_, '_>,
         task: &Task<'_, E>,
         inputs: &mut I,
         bytes: &mut B,
@@ -326,13 +326,13 @@ impl Composer {
                     ctransid: *clone_ctransid,
                 };
                 let range = Range {
-                    path: path.as_slice(),
+                    path,
                     offset: *offset,
                     source: Key {
                         uuid: *clone_uuid,
                         ctransid: *clone_ctransid,
                     },
-                    source_path: clone_path.as_slice(),
+                    source_path: clone_path,
                     from: *clone_offset,
                     len: *clone_len,
                 };
@@ -385,20 +385,14 @@ impl Composer {
             (Clone range.now.path.now range.now.offset (key_of last).uuid (key_of last).ctransid
             range.now.source_path.now range.now.from range.now.len)) result }
     {
-        let Ok(path) = copied(self.alloc, range.path) else {
-            return Err(SendStop::NoMemory);
-        };
-        let Ok(clone_path) = copied(self.alloc, range.source_path) else {
-            return Err(SendStop::NoMemory);
-        };
         let clone_uuid = last.uuid;
         let _bytes: &[u8] = clone_uuid.as_bytes();
         let own = Command::Clone {
-            path,
+            path: range.path,
             offset: range.offset,
             clone_uuid,
             clone_ctransid: last.ctransid,
-            clone_path,
+            clone_path: range.source_path,
             clone_offset: range.from,
             clone_len: range.len,
         };
@@ -539,7 +533,7 @@ impl Composer {
 
 // Adds an item's command as it is: its frame as it came, where that is the canonical spelling of the version, or spelled anew.
 fn put_item<O: Sink>(
-    edit: &Edit<'_>,
+    edit: &Edit<'_, '_>,
     version: u32,
     pending: &mut Blob,
     out: &mut O,
@@ -591,11 +585,4 @@ fn ended<O: Sink>(outcome: Outcome, pending: &mut Blob, out: &mut O) -> Outcome
         Ok(()) => outcome,
         Err(_) => Outcome::OutputFault,
     }
-}
-
-// A copy of bytes.
-fn copied(alloc: Global, bytes: &[u8]) -> Result<Blob, AllocError>
-    ensures { IfOk result (λ copy. copy ≡ bytes.now) }
-{
-    Ok(Blob::from(Vec::from_slice(alloc, bytes)?))
 }

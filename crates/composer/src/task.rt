@@ -22,9 +22,9 @@ pub struct Task<'a, E> {
 
 /// An item that was read of the input file with this number, counted from 1, and the bytes of its frame as they came.
 #[derive(Debug, Clone, Copy)]
-pub struct ReadItem<'a> {
+pub struct ReadItem<'a, 'b> {
     /// The item.
-    pub item: &'a Item,
+    pub item: &'a Item<'b>,
     /// The bytes of its frame.
     pub frame: &'a [u8],
     /// The number of the file.

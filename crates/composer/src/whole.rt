@@ -28,7 +28,7 @@ use clone_pieces::{Known, NoBase, OutsideBytes};
 use clone_resolve::EditCore;
 use cmd_reader::{CmdReader, outcome_of};
 use file_survey::{Place, survey};
-use part_names::{PartNames, rename};
+use part_names::{PartNames, given_or, rename};
 use provenance::Trace;
 use std::alloc::Global;
 use sx_base::{Inputs, Outcome, Refusal, Sink};
@@ -246,34 +246,35 @@ fn write_file<I: Inputs, E: Known, B: OutsideBytes, O: Sink>(
     let name = task.names.of_file(file);
     let mut place = turn.before;
     loop {
-        match reader.next(inputs) {
+        let frame = match reader.advance(inputs) {
+            Ok(Some(frame)) => frame,
             Ok(None) => return Ok(place),
-            Ok(Some(item)) => {
-                place = Place {
-                    file,
-                    command: item.number,
-                    offset: item.offset,
-                };
-                if item.version > task.survey.version() {
-                    let refused = place.refused(Refusal::NotConsecutive);
-                    return Err(composer.stopped(Outcome::Refused(refused), out));
-                }
-                let Ok(named) = rename(task.alloc, name, item) else {
-                    return Err(Outcome::NoMemory);
-                };
-                let frame = reader.last_frame();
-                let read = ReadItem {
-                    item: &named,
-                    frame,
-                    file,
-                };
-                let taken = composer.take(&read, task, inputs, bytes, out);
-                drop(named);
-                if let Err(outcome) = taken {
-                    return Err(outcome);
-                }
-            }
             Err(stop) => return Err(composer.stopped(outcome_of(file, stop), out)),
+        };
+        let item = match reader.item(frame) {
+            Ok(item) => item,
+            Err(verdict) => return Err(composer.stopped(Outcome::Refused(verdict), out)),
+        };
+        place = Place {
+            file,
+            command: item.number,
+            offset: item.offset,
+        };
+        if item.version > task.survey.version() {
+            let refused = place.refused(Refusal::NotConsecutive);
+            return Err(composer.stopped(Outcome::Refused(refused), out));
+        }
+        let renamed = rename(name, &item);
+        let named = given_or(&item, &renamed);
+        let came = reader.last_frame();
+        let read = ReadItem {
+            item: named,
+            frame: came,
+            file,
+        };
+        let taken = composer.take(&read, task, inputs, bytes, out);
+        if let Err(outcome) = taken {
+            return Err(outcome);
         }
     }
 }

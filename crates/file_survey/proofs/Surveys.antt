@@ -256,7 +256,6 @@ file_stop told told_now file given name old new why outcome before last early la
 
     by_why : (x : ReadStop) → ((verdict : Verdict) → x ≡ stop.Refused verdict → ⊥) → GlanceSays told_now old new early late (Err x) → IfTold told name (FileStop file (outcome_at file x))
     by_why (stop.Refused verdict) other says = absurd (other verdict refl)
-    by_why stop.NoMemory other says = told_always told name (FileStop file ended_by.NoMemory) (λ bytes. tt)
     by_why stop.InputFault other says = told_always told name (FileStop file ended_by.InputFault) (λ bytes. tt)
     by_why stop.InputTooLong other says =
         told_both told name (Here (FileSoFar file given old before last)) (IsLongAt old.offset (OnlyEnds old)) (FileStop file (ended_by.InputTooLong file)) by_file (told_here told name (FileSoFar file given old before last) h)

@@ -41,7 +41,7 @@ impl PartHead {
     ///
     /// # Errors
     /// There is no memory.
-    pub fn of(alloc: Global, c: &Command, version: u32) -> Result<Option<PartHead>, AllocError>
+    pub fn of(alloc: Global, c: &Command<'_>, version: u32) -> Result<Option<PartHead>, AllocError>
         requires writable { IsWritable version (meaning_of c.now) }
         ensures head { IfOk result (λ h. h ≡ head_of (meaning_of c.now)) }
     {
@@ -87,28 +87,27 @@ impl PartHead {
 
     // The command that begins a part of this name and key and of the given parent.
     #[tactic(auto, unfolding(send_commands::specs::Writing::IsWritable, send_model::specs::Command::row))]
-    fn command(&self, parent: Option<Key>) -> Result<Command, AllocError>
-        ensures command { IfOk result
-            (λ c. meaning_of c ≡ head_command self.now.name self.now.key
-            (option_map key_of parent)) }
-        ensures writable { IfOk result (λ c. IsWritable 1 (meaning_of c)) }
+    fn command(&self, parent: Option<Key>) -> Command<'_>
+        ensures command { meaning_of result
+            ≡ head_command self.now.name self.now.key (option_map key_of parent) }
+        ensures writable { IsWritable 1 (meaning_of result) }
     {
-        let path = self.name.copy()?;
+        let path = self.name.as_slice();
         let uuid = self.key.uuid;
         let ctransid = self.key.ctransid;
         match parent {
-            None => Ok(Command::Subvol {
+            None => Command::Subvol {
                 uuid,
                 ctransid,
                 path,
-            }),
-            Some(parent) => Ok(Command::Snapshot {
+            },
+            Some(parent) => Command::Snapshot {
                 uuid,
                 ctransid,
                 path,
                 clone_uuid: parent.uuid,
                 clone_ctransid: parent.ctransid,
-            }),
+            },
         }
     }
 
@@ -128,7 +127,7 @@ impl PartHead {
             (head_command self.now.name self.now.key (option_map key_of parent)))) }
         ensures same { OnErr result (to.new ≡ to.old) }
     {
-        let head = self.command(parent)?;
+        let head = self.command(parent);
         let start = to.as_slice().len();
         to.push_all(&StreamHead { version }.bytes())?;
         // A head has no data, and both versions spell it in the same bytes.

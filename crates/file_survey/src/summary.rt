@@ -86,11 +86,11 @@ impl Survey {
     }
 
     // Keeps what was seen of a command: the head that it is, if it is one, what it names, and its version.
-    pub(crate) fn keep(&mut self, alloc: Global, glance: Glance) -> Result<(), AllocError>
-        requires writable { IfSome glance.mention
-            (λ command. IsWritable glance.version (meaning_of command)) }
+    pub(crate) fn keep(&mut self, alloc: Global, glance: &Glance<'_>) -> Result<(), AllocError>
+        requires writable { IfSome glance.now.mention
+            (λ command. IsWritable glance.now.version (meaning_of command)) }
         ensures kept { OnOk result
-            (self.new ≡ after_glance self.old glance.version glance.mention) }
+            (self.new ≡ after_glance self.old glance.now.version glance.now.mention) }
     {
         self.keep_version(glance.version);
         let Some(mention) = &glance.mention else {
@@ -114,7 +114,7 @@ impl Survey {
     }
 
     // Keeps the UUID that a command names, if it names one.
-    fn keep_named(&mut self, command: &Command) -> Result<(), AllocError>
+    fn keep_named(&mut self, command: &Command<'_>) -> Result<(), AllocError>
         ensures kept { OnOk result
             (self.new ≡ with_named self.old (uuids_named (meaning_of command.now))) }
     {
@@ -135,7 +135,7 @@ impl Survey {
 }
 
 // The UUID that a command names as that of a parent or of the source of a clone.
-fn uuid_named(command: &Command) -> Option<Uuid>
+fn uuid_named(command: &Command<'_>) -> Option<Uuid>
     ensures { in_list result ≡ uuids_named (meaning_of command.now) }
 {
     match command {

@@ -1,10 +1,10 @@
 // Once over all files, for their heads and versions.
-ghost use Rattle.std.specs.Prelude.{◌≡◌, ◌≤◌, map, IfErr, IfOk, IfSome};
+ghost use Rattle.std.specs.Prelude.{◌≡◌, ◌≤◌, map, IfErr, IfSome};
 ghost use Rattle.std.specs.Option.{option_copied};
 ghost use Rattle.std.specs.String.{string_bytes};
 ghost use Rattle.send_model.specs.Renamed.{name_for};
 ghost use Rattle.cmd_reader.specs.Places.{IfTold};
-ghost use Rattle.part_names.specs.Naming.{IsShort};
+ghost use Rattle.part_names.specs.Naming.{IsShort, given_or};
 ghost use Rattle.file_survey.specs.Findings.{FileEnd, SurveyEnd};
 ghost use Rattle.file_survey.specs.NamedGlances.{HasName};
 ghost use Rattle.sx_base.specs.Asks.{IsReadOnce, AreReadOnce};
@@ -14,8 +14,8 @@ ghost use Rattle.sx_base.specs.Later.{AskedOnly};
 
 use crate::summary::Survey;
 use cmd_reader::{CmdReader, Glance, ReadStop, outcome_of};
-use part_names::{PartNames, rename_command};
-use std::alloc::{AllocError, Global};
+use part_names::{PartNames, given_or, rename_command};
+use std::alloc::Global;
 use sx_base::{Blob, Inputs, Outcome};
 
 /// Reads the files once, in order, for their heads and versions, as far as they can be read: what stands behind a fault is not
@@ -78,17 +78,20 @@ fn survey_file<I: Inputs>(
         return Err(Outcome::NoMemory);
     };
     loop {
-        let glance = match reader.glance(inputs) {
-            Ok(Some(glance)) => glance,
+        let frame = match reader.advance(inputs) {
+            Ok(Some(frame)) => frame,
             Ok(None) => return Ok(true),
             Err(stop) => match stop {
                 ReadStop::Refused(_) => return Ok(false),
                 _ => return Err(outcome_of(file, stop)),
             },
         };
-        let Ok(named) = glance_as(alloc, new_name, glance) else {
-            return Err(Outcome::NoMemory);
+        let glance = match reader.glance(frame) {
+            Ok(glance) => glance,
+            Err(_) => return Ok(false),
         };
+        let renamed = glance_as(new_name, &glance);
+        let named = given_or(&glance, &renamed);
         match seen.keep(alloc, named) {
             Ok(()) => {}
             Err(_) => return Err(Outcome::NoMemory),
@@ -96,21 +99,19 @@ fn survey_file<I: Inputs>(
     }
 }
 
-// What is seen of a command of a file for which this name is given, if one is.
-fn glance_as(alloc: Global, name: Option<&Blob>, glance: Glance) -> Result<Glance, AllocError>
+// What is seen of a command of a file for which this name is given, if one is; `None` where that is what was seen of it.
+fn glance_as<'a>(name: Option<&'a Blob>, glance: &Glance<'a>) -> Option<Glance<'a>>
     requires short { IfSome (option_copied name) IsShort }
-    ensures named { IfOk result (HasName (option_copied name.entry) glance) }
+    ensures named { HasName (option_copied name.entry) glance.now (given_or glance.now result) }
 {
-    let Glance { mention, version } = glance;
-    let Some(mention) = mention else {
-        return Ok(Glance {
-            mention: None,
-            version,
-        });
+    let Some(mention) = &glance.mention else {
+        return None;
     };
-    let command = rename_command(alloc, name, mention)?;
-    Ok(Glance {
+    let Some(command) = rename_command(name, mention) else {
+        return None;
+    };
+    Some(Glance {
         mention: Some(command),
-        version,
+        version: glance.version,
     })
 }

@@ -168,24 +168,29 @@ const REFUSED_IN_SECOND: &[(&str, u16, &[u8], Refusal)] = &[
 ];
 
 // The command of a number whose frame has this body in a version.
-fn read(alloc: Global, version: u32, cmd: u16, body: &[u8]) -> Result<Command, Stop>
+fn read<'a>(version: u32, cmd: u16, body: &'a [u8]) -> Result<Command<'a>, Refusal>
     ensures { IfOk result (λ command. IsWritable version (meaning_of command)) }
 {
-    let table = attrs(body, version)?;
-    decode(alloc, cmd, &table)
+    match attrs(body, version) {
+        Ok(table) => decode(cmd, &table),
+        Err(refusal) => Err(refusal),
+    }
 }
 
 // The refusal of a body in a version.
-fn refusal(alloc: Global, version: u32, cmd: u16, body: &[u8]) -> Option<Refusal> {
-    match read(alloc, version, cmd, body) {
-        Err(Stop::Refused(refusal)) => Some(refusal),
-        _ => None,
+fn refusal(version: u32, cmd: u16, body: &[u8]) -> Option<Refusal> {
+    match read(version, cmd, body) {
+        Ok(_) => None,
+        Err(refusal) => Some(refusal),
     }
 }
 
 // The canonical spelling of the command of a number whose frame has this body in version 1, and the place of its data.
 fn spelled(alloc: Global, cmd: u16, body: &[u8]) -> Result<(Blob, Option<u64>), Stop> {
-    let command = read(alloc, 1, cmd, body)?;
+    let command = match read(1, cmd, body) {
+        Ok(command) => command,
+        Err(refusal) => return Err(Stop::Refused(refusal)),
+    };
     let mut to = Blob::new(alloc);
     encode(&command, 1, &mut to)?;
     Ok((to, data_place(&command, 1)))
@@ -220,36 +225,39 @@ fn attributes_stand_in_any_order(rt: HostRuntime) -> Result<(), Fail> {
 }
 
 // Each body is refused in a version; what is wrong is there to be shown.
-fn are_refused(
-    rt: &impl Abort,
-    alloc: Global,
-    version: u32,
-    table: &[(&str, u16, &[u8], Refusal)],
-) {
+fn are_refused(rt: &impl Abort, version: u32, table: &[(&str, u16, &[u8], Refusal)]) {
     for &(what, cmd, body, want) in table {
-        let refused = refusal(alloc, version, cmd, body);
+        let refused = refusal(version, cmd, body);
         same(rt, (what, refused), (what, Some(want)));
     }
 }
 
 #[test]
 fn the_first_rule_that_is_broken_refuses(rt: HostRuntime) {
-    are_refused(&rt, rt.alloc(), 1, REFUSED);
-    are_refused(&rt, rt.alloc(), 2, REFUSED_IN_SECOND);
-    let unknown = refusal(rt.alloc(), 1, 25, b"");
+    are_refused(&rt, 1, REFUSED);
+    are_refused(&rt, 2, REFUSED_IN_SECOND);
+    let unknown = refusal(1, 25, b"");
     same(&rt, unknown, Some(Refusal::UnknownCommand(25)));
 }
 
 // Where a WRITE begins, and its bytes.
-fn written(command: &Command) -> Option<(u64, &[u8])> {
+fn written<'a>(command: &Command<'a>) -> Option<(u64, &'a [u8])> {
     match command {
-        Command::Write { offset, bytes, .. } => Some((*offset, bytes.as_slice())),
+        Command::Write { offset, bytes, .. } => Some((*offset, *bytes)),
         _ => None,
     }
 }
 
+// The same of the command with this body in version 2.
+fn written_of<'a>(cmd: u16, body: &'a [u8]) -> Option<(u64, &'a [u8])> {
+    match read(2, cmd, body) {
+        Ok(command) => written(&command),
+        Err(_) => None,
+    }
+}
+
 // The size, the place and the mode of a FALLOCATE, or the flags of a FILEATTR.
-fn numbers(command: &Command) -> Option<(u64, u64, u32)> {
+fn numbers(command: &Command<'_>) -> Option<(u64, u64, u32)> {
     match command {
         Command::Fallocate {
             size,
@@ -268,32 +276,28 @@ const FALLOCATE_BODY: &[u8] =
 const FILEATTR_BODY: &[u8] = b"\x0f\x00\x01\x00x\x1a\x00\x08\x00\x10\x00\x00\x00\x00\x00\x00\x00";
 
 // The numbers of the command with this body in version 2.
-fn numbers_of(alloc: Global, cmd: u16, body: &[u8]) -> Result<Option<(u64, u64, u32)>, Stop> {
-    Ok(numbers(&read(alloc, 2, cmd, body)?))
+fn numbers_of(cmd: u16, body: &[u8]) -> Option<(u64, u64, u32)> {
+    match read(2, cmd, body) {
+        Ok(command) => numbers(&command),
+        Err(_) => None,
+    }
 }
 
 #[test]
-fn commands_of_version_two_are_read(rt: HostRuntime) -> Result<(), Fail> {
-    let write = read(rt.alloc(), 2, 15, &WRITE_OF_VERSION_2[10..])?;
-    same(&rt, written(&write), Some((5, b"hi".as_slice())));
-    let allocated = numbers_of(rt.alloc(), 23, FALLOCATE_BODY);
-    same(&rt, allocated, Ok(Some((1, 2, 3))));
-    let flagged = numbers_of(rt.alloc(), 24, FILEATTR_BODY);
-    same(&rt, flagged, Ok(Some((16, 0, 0))));
-    Ok(())
+fn commands_of_version_two_are_read(rt: HostRuntime) {
+    let written = written_of(15, &WRITE_OF_VERSION_2[10..]);
+    same(&rt, written, Some((5, b"hi".as_slice())));
+    same(&rt, numbers_of(23, FALLOCATE_BODY), Some((1, 2, 3)));
+    same(&rt, numbers_of(24, FILEATTR_BODY), Some((16, 0, 0)));
 }
 
 // A WRITE as version 2 spells it, and the place of its data.
 #[tactic(auto, unfolding(send_commands::specs::Writing::IsWritable, send_model::specs::Command::row, send_model::specs::Spelling::attributes_of, send_model::specs::Spelling::body_of, send_model::specs::Spelling::attribute_bytes))]
 fn written_in_second(alloc: Global) -> Result<(Blob, Option<u64>), AllocError> {
-    let mut path = Blob::new(alloc);
-    path.push_all(b"x")?;
-    let mut bytes = Blob::new(alloc);
-    bytes.push_all(b"hi")?;
     let write = Command::Write {
-        path,
+        path: b"x",
         offset: 5,
-        bytes,
+        bytes: b"hi",
     };
     let mut to = Blob::new(alloc);
     encode(&write, 2, &mut to)?;

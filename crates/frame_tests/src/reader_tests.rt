@@ -78,7 +78,7 @@ struct Shown {
 }
 
 // The transaction number of a command that begins a part.
-fn begun(c: &Command) -> Option<u64> {
+fn begun(c: &Command<'_>) -> Option<u64> {
     match c {
         Command::Subvol { ctransid, .. } => Some(*ctransid),
         Command::Snapshot { ctransid, .. } => Some(*ctransid),
@@ -87,14 +87,18 @@ fn begun(c: &Command) -> Option<u64> {
 }
 
 fn next(reader: &mut CmdReader, inputs: &mut CountedInputs) -> Result<Option<Shown>, ReadStop> {
-    match reader.next(inputs) {
-        Ok(Some(item)) => Ok(Some(Shown {
+    let frame = match reader.advance(inputs) {
+        Ok(Some(frame)) => frame,
+        Ok(None) => return Ok(None),
+        Err(stop) => return Err(stop),
+    };
+    match reader.item(frame) {
+        Ok(item) => Ok(Some(Shown {
             place: (item.number, item.offset, item.data_at),
             begun: (begun(&item.command), item.version),
             canonical: item.canonical,
         })),
-        Ok(None) => Ok(None),
-        Err(stop) => Err(stop),
+        Err(verdict) => Err(ReadStop::Refused(verdict)),
     }
 }
 
@@ -228,7 +232,7 @@ fn given(
     }
 }
 
-fn seen_begun(glance: &Glance) -> Option<u64> {
+fn seen_begun(glance: &Glance<'_>) -> Option<u64> {
     match &glance.mention {
         Some(mention) => begun(mention),
         None => None,
@@ -240,10 +244,14 @@ fn seen(
     reader: &mut CmdReader,
     inputs: &mut CountedInputs,
 ) -> Result<Option<(Option<u64>, u32)>, ReadStop> {
-    match reader.glance(inputs) {
-        Ok(Some(glance)) => Ok(Some((seen_begun(&glance), glance.version))),
-        Ok(None) => Ok(None),
-        Err(stop) => Err(stop),
+    let frame = match reader.advance(inputs) {
+        Ok(Some(frame)) => frame,
+        Ok(None) => return Ok(None),
+        Err(stop) => return Err(stop),
+    };
+    match reader.glance(frame) {
+        Ok(glance) => Ok(Some((seen_begun(&glance), glance.version))),
+        Err(verdict) => Err(ReadStop::Refused(verdict)),
     }
 }
 
@@ -260,7 +268,7 @@ fn both_say(
 }
 
 #[test]
-fn a_glance_goes_past_what_next_gives(rt: HostRuntime) -> Result<(), Fail> {
+fn a_glance_sees_what_an_item_says(rt: HostRuntime) -> Result<(), Fail> {
     let mut inputs = counted(rt.alloc(), "parts", FILE, 7)?;
     let mut glances = CmdReader::new(rt.alloc(), 1, "parts")?;
     let mut items = CmdReader::new(rt.alloc(), 1, "parts")?;
@@ -302,7 +310,7 @@ const LACKS_PATH: ReadStop = ReadStop::Refused(Verdict {
 });
 
 #[test]
-fn a_glance_is_refused_where_next_is(rt: HostRuntime) -> Result<(), Fail> {
+fn a_glance_is_refused_where_an_item_is(rt: HostRuntime) -> Result<(), Fail> {
     let bytes = file_and_lacking(rt.alloc())?;
     let mut inputs = counted(rt.alloc(), "parts", &bytes, 65_536)?;
     let mut glances = CmdReader::new(rt.alloc(), 3, "parts")?;

@@ -57,7 +57,7 @@ impl Guard for AnyGuard {
         }
     }
 
-    fn look(&mut self, command: &Command) -> bool {
+    fn look(&mut self, command: &Command<'_>) -> bool {
         match self {
             AnyGuard::Bytes(guard) => guard.look(command),
             AnyGuard::Commands(guard) => guard.look(command),

@@ -24,7 +24,7 @@ pub trait Guard: Drop {
 
     /// Looks at a command. False exactly where its kind refuses the command; then nothing has changed, and else the command
     /// is counted.
-    fn look(&mut self, command: &Command) -> bool
+    fn look(&mut self, command: &Command<'_>) -> bool
         ensures allows { result ≡ not (guard_refuses (kept self.old) (meaning_of command.now)) }
         ensures counts { kept self.new ≡ after_look (kept self.old) (meaning_of command.now) };
 }
@@ -32,7 +32,7 @@ pub trait Guard: Drop {
 /// Lets each guard in turn look at a command. None exactly where none refuses it; then each has counted it. Else the place of
 /// the first that refuses it, counted from 0: the guards before that one have counted it, and it and those after it are as
 /// before.
-pub fn look_all(guards: &mut [Box<dyn Guard>], command: &Command) -> Option<usize>
+pub fn look_all(guards: &mut [Box<dyn Guard>], command: &Command<'_>) -> Option<usize>
     ensures within { IfSome result (λ place. place < length guards.new) }
     ensures refused { IsRefusedAt (map (λ g. kept g) guards.old) (map (λ g. kept g) guards.new)
         (meaning_of command.now) result }
@@ -47,7 +47,7 @@ pub fn look_all(guards: &mut [Box<dyn Guard>], command: &Command) -> Option<usiz
     None
 }
 
-fn look_one(guard: &mut Box<dyn Guard>, command: &Command) -> bool
+fn look_one(guard: &mut Box<dyn Guard>, command: &Command<'_>) -> bool
     ensures allows { result ≡ not (guard_refuses (kept guard.old) (meaning_of command.now)) }
     ensures counts { kept guard.new ≡ after_look (kept guard.old) (meaning_of command.now) }
 {

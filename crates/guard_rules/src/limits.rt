@@ -44,7 +44,7 @@ impl Guard for ByteGuard {
     }
 
     #[tactic(auto, unfolding(send_model::specs::Guards::guard_refuses, send_model::specs::Guards::guard_after))]
-    fn look(&mut self, command: &Command) -> bool {
+    fn look(&mut self, command: &Command<'_>) -> bool {
         let before = self.used;
         let Some(len) = write_len(command) else {
             return true;
@@ -94,7 +94,7 @@ impl Guard for CommandGuard {
     }
 
     #[tactic(auto, unfolding(send_model::specs::Guards::guard_refuses, send_model::specs::Guards::guard_after))]
-    fn look(&mut self, _command: &Command) -> bool {
+    fn look(&mut self, _command: &Command<'_>) -> bool {
         if self.used >= self.most {
             return false;
         }
@@ -128,7 +128,7 @@ impl Guard for DeviceGuard {
     }
 
     #[tactic(auto, unfolding(send_model::specs::Guards::guard_refuses, send_model::specs::Guards::guard_after))]
-    fn look(&mut self, command: &Command) -> bool {
+    fn look(&mut self, command: &Command<'_>) -> bool {
         !makes_device(command)
     }
 }
@@ -169,7 +169,7 @@ impl Guard for EndGuard {
     }
 
     #[tactic(auto, unfolding(send_model::specs::Guards::guard_refuses, send_model::specs::Guards::guard_after))]
-    fn look(&mut self, command: &Command) -> bool {
+    fn look(&mut self, command: &Command<'_>) -> bool {
         let before = self.used;
         let Some(end) = end_place(command) else {
             return true;

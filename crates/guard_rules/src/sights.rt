@@ -6,22 +6,22 @@ ghost use Rattle.send_commands.specs.Meaning.{meaning_of};
 use send_commands::Command;
 
 /// How many bytes a WRITE carries, and None of another command.
-pub fn write_len(command: &Command) -> Option<u64>
+pub fn write_len(command: &Command<'_>) -> Option<u64>
     ensures { result ≡ written_len (seen (meaning_of command.now)) }
 {
     match command {
-        Command::Write { bytes, .. } => Some(bytes.as_slice().len() as u64),
+        Command::Write { bytes, .. } => Some(bytes.len() as u64),
         _ => None,
     }
 }
 
 /// Where a WRITE of a byte or more, a CLONE or a TRUNCATE ends, and None of another command.
-pub fn end_place(command: &Command) -> Option<u128>
+pub fn end_place(command: &Command<'_>) -> Option<u128>
     ensures { result ≡ end_of (seen (meaning_of command.now)) }
 {
     match command {
         Command::Write { bytes, offset, .. } => {
-            let len = bytes.as_slice().len() as u128;
+            let len = bytes.len() as u128;
             if len == 0 {
                 None
             } else {
@@ -39,7 +39,7 @@ pub fn end_place(command: &Command) -> Option<u128>
 }
 
 /// Whether it is MKNOD.
-pub fn makes_device(command: &Command) -> bool
+pub fn makes_device(command: &Command<'_>) -> bool
     ensures { result ≡ is_device (seen (meaning_of command.now)) }
 {
     matches!(command, Command::MkNod { .. })

@@ -17,7 +17,7 @@ pub trait Form {
     ghost spelled: { ℕ → meant.Command → List ℕ };
 
     /// Appends the bytes of a command. Fails for want of memory alone, and then nothing is said of what was appended.
-    fn push(&self, command: &Command, version: u32, to: &mut Blob) -> Result<(), AllocError>
+    fn push(&self, command: &Command<'_>, version: u32, to: &mut Blob) -> Result<(), AllocError>
         requires can { CanPush (meaning_of command.now) }
         ensures added { OnOk result
             (to.new ≡ to.old ++ spelled version (meaning_of command.now)) };
@@ -34,7 +34,7 @@ pub struct Receivable;
 impl Form for Canonical {
     ghost spelled = { canonical };
 
-    fn push(&self, command: &Command, version: u32, to: &mut Blob) -> Result<(), AllocError> {
+    fn push(&self, command: &Command<'_>, version: u32, to: &mut Blob) -> Result<(), AllocError> {
         encode(command, version, to)
     }
 }
@@ -42,7 +42,7 @@ impl Form for Canonical {
 impl Form for Receivable {
     ghost spelled = { receivable };
 
-    fn push(&self, command: &Command, version: u32, to: &mut Blob) -> Result<(), AllocError> {
+    fn push(&self, command: &Command<'_>, version: u32, to: &mut Blob) -> Result<(), AllocError> {
         push_receivable(command, version, to)
     }
 }

@@ -1,16 +1,15 @@
 // The command that makes an inode.
-ghost use Rattle.std.specs.Prelude.{◌≡◌, ◌++◌, IfOk, OnOk};
+ghost use Rattle.std.specs.Prelude.{◌≡◌, ◌++◌, OnOk};
 ghost use Rattle.send_commands.specs.Meaning.{meaning_of};
 ghost use Rattle.sent_model.specs.Sent.{making};
 ghost use Rattle.inode_commands.specs.Spelled.{IsShortPath, IsSaid};
 
 use crate::form::Form;
-use crate::plain::blob_of;
 use crate::spelling::Spelling;
 use extent_map::Origin;
 use inode_tree::{Inode, NodeKind};
 use send_commands::Command;
-use std::alloc::{AllocError, Global};
+use std::alloc::AllocError;
 use sx_base::Blob;
 
 // The type of MKNOD's mode: a character device, and a block device. Source: inode(7).
@@ -31,23 +30,20 @@ impl<F: Form> Spelling<F> {
         ensures added { OnOk result (to.new ≡ to.old
             ++ F.spelled self.now.version (making path.now inode.now.kind inode.now)) }
     {
-        let command = making(self.alloc, path, inode)?;
-        self.push(&command, to)
+        self.push(&making(path, inode), to)
     }
 }
 
 // The command that makes an inode at a path.
-fn making<R: Origin>(alloc: Global, path: &[u8], inode: &Inode<R>) -> Result<Command, AllocError>
-    ensures { IfOk result (λ command. meaning_of command
-        ≡ making path.now inode.now.kind inode.now) }
+fn making<'a, R: Origin>(path: &'a [u8], inode: &'a Inode<R>) -> Command<'a>
+    ensures { meaning_of result ≡ making path.now inode.now.kind inode.now }
 {
-    let path = blob_of(alloc, path)?;
-    Ok(match inode.kind() {
+    match inode.kind() {
         NodeKind::File => Command::MkFile { path },
         NodeKind::Directory => Command::MkDir { path },
         NodeKind::SymbolicLink => Command::Symlink {
             path,
-            path_link: blob_of(alloc, inode.target())?,
+            path_link: inode.target(),
         },
         NodeKind::CharacterDevice => Command::MkNod {
             mode: CHARACTER,
@@ -61,5 +57,5 @@ fn making<R: Origin>(alloc: Global, path: &[u8], inode: &Inode<R>) -> Result<Com
         },
         NodeKind::Fifo => Command::MkFifo { path },
         NodeKind::Socket => Command::MkSock { path },
-    })
+    }
 }

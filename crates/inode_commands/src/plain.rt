@@ -1,5 +1,5 @@
 // Commands that name no inode's values: the head, names, data and END.
-ghost use Rattle.std.specs.Prelude.{◌≡◌, ◌++◌, ◌≤◌, length, IfOk, OnOk};
+ghost use Rattle.std.specs.Prelude.{◌≡◌, ◌++◌, ◌≤◌, length, OnOk};
 ghost use Rattle.send_model.specs.Command.{Subvol, Rename, Link, Write, Truncate, End};
 ghost use Rattle.send_model.specs.Spelling.{stream_header};
 ghost use Rattle.inode_commands.specs.Spelled.{IsShortPath, HasLength};
@@ -7,7 +7,7 @@ ghost use Rattle.inode_commands.specs.Spelled.{IsShortPath, HasLength};
 use crate::form::Form;
 use crate::spelling::Spelling;
 use send_commands::Command;
-use std::alloc::{AllocError, Global};
+use std::alloc::AllocError;
 use sx_base::Blob;
 use tlv_frame::StreamHead;
 use uuid::Uuid;
@@ -35,7 +35,7 @@ impl<F: Form> Spelling<F> {
         ensures added { OnOk result
             (to.new ≡ to.old ++ F.spelled self.now.version (Subvol uuid ctransid name.now)) }
     {
-        let path = blob_of(self.alloc, name)?;
+        let path = name;
         let _sixteen = uuid.into_bytes();
         self.push(
             &Command::Subvol {
@@ -48,44 +48,44 @@ impl<F: Form> Spelling<F> {
     }
 
     /// Appends a RENAME.
-    pub fn rename(&self, path: &[u8], path_to: &[u8], to: &mut Blob) -> Result<(), AllocError>
+    pub fn rename<'a>(
+        &self,
+        path: &'a [u8],
+        path_to: &'a [u8],
+        to: &mut Blob,
+    ) -> Result<(), AllocError>
         requires short { IsShortPath path.now }
         requires short_to { IsShortPath path_to.now }
         ensures added { OnOk result
             (to.new ≡ to.old ++ F.spelled self.now.version (Rename path.now path_to.now)) }
     {
-        let path = blob_of(self.alloc, path)?;
-        let path_to = blob_of(self.alloc, path_to)?;
         self.push(&Command::Rename { path, path_to }, to)
     }
 
     /// Appends a LINK.
-    pub fn link(&self, path: &[u8], first: &[u8], to: &mut Blob) -> Result<(), AllocError>
+    pub fn link<'a>(&self, path: &'a [u8], first: &'a [u8], to: &mut Blob) -> Result<(), AllocError>
         requires short { IsShortPath path.now }
         requires short_first { IsShortPath first.now }
         ensures added { OnOk result
             (to.new ≡ to.old ++ F.spelled self.now.version (Link path.now first.now)) }
     {
-        let path = blob_of(self.alloc, path)?;
-        let path_link = blob_of(self.alloc, first)?;
+        let path_link = first;
         self.push(&Command::Link { path, path_link }, to)
     }
 
     /// Appends a WRITE of these bytes.
-    pub fn write(
+    pub fn write<'a>(
         &self,
-        path: &[u8],
+        path: &'a [u8],
         offset: u64,
-        bytes: Vec<u8>,
+        bytes: &'a [u8],
         to: &mut Blob,
     ) -> Result<(), AllocError>
         requires short { IsShortPath path.now }
-        requires most { length bytes.items ≤ 49_152 }
+        requires most { length bytes.now ≤ 49_152 }
         ensures added { OnOk result
-            (to.new ≡ to.old ++ F.spelled self.now.version (Write path.now offset bytes.items)) }
+            (to.new ≡ to.old ++ F.spelled self.now.version (Write path.now offset bytes.now)) }
     {
-        let path = blob_of(self.alloc, path)?;
-        let bytes = Blob::from(bytes);
         self.push(
             &Command::Write {
                 path,
@@ -102,7 +102,6 @@ impl<F: Form> Spelling<F> {
         ensures added { OnOk result
             (to.new ≡ to.old ++ F.spelled self.now.version (Truncate size path.now)) }
     {
-        let path = blob_of(self.alloc, path)?;
         self.push(&Command::Truncate { size, path }, to)
     }
 
@@ -112,13 +111,4 @@ impl<F: Form> Spelling<F> {
     {
         self.push(&Command::End, to)
     }
-}
-
-// A blob of these bytes.
-pub(crate) fn blob_of(alloc: Global, bytes: &[u8]) -> Result<Blob, AllocError>
-    ensures { IfOk result (λ blob. blob ≡ bytes.now) }
-{
-    let mut blob = Blob::new(alloc);
-    blob.push_all(bytes)?;
-    Ok(blob)
 }

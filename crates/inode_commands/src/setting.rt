@@ -10,7 +10,6 @@ ghost use Rattle.send_model.specs.Exported.{IsMoment};
 ghost use Rattle.inode_commands.specs.Spelled.{spelled_all, IsShortPath, HasLength, IsSaid};
 
 use crate::form::Form;
-use crate::plain::blob_of;
 use crate::spelling::Spelling;
 use extent_map::Origin;
 use inode_tree::{Bytes, Inode, NodeKind, Timestamp};
@@ -42,15 +41,18 @@ impl<F: Form> Spelling<F> {
     }
 
     // Appends one.
-    fn xattr(&self, path: &[u8], name: &[u8], value: &[u8], to: &mut Blob) -> Result<(), AllocError>
+    fn xattr<'a>(
+        &self,
+        path: &'a [u8],
+        name: &'a [u8],
+        value: &'a [u8],
+        to: &mut Blob,
+    ) -> Result<(), AllocError>
         requires short { IsShortPath path.now }
         requires said { HasLength name.now × HasLength value.now }
         ensures added { OnOk result (to.new ≡ to.old
             ++ F.spelled self.now.version (SetXattr name.now value.now path.now)) }
     {
-        let path = blob_of(self.alloc, path)?;
-        let name = blob_of(self.alloc, name)?;
-        let value = blob_of(self.alloc, value)?;
         self.push(&Command::SetXattr { name, value, path }, to)
     }
 
@@ -98,7 +100,6 @@ impl<F: Form> Spelling<F> {
         ensures added { OnOk result
             (to.new ≡ to.old ++ F.spelled self.now.version (Chown uid gid path.now)) }
     {
-        let path = blob_of(self.alloc, path)?;
         self.push(&Command::Chown { uid, gid, path }, to)
     }
 
@@ -108,7 +109,6 @@ impl<F: Form> Spelling<F> {
         ensures added { OnOk result
             (to.new ≡ to.old ++ F.spelled self.now.version (Chmod mode path.now)) }
     {
-        let path = blob_of(self.alloc, path)?;
         let mode = u64::from(mode);
         self.push(&Command::Chmod { mode, path }, to)
     }
@@ -140,7 +140,6 @@ impl<F: Form> Spelling<F> {
         if flags == 0 {
             return Ok(());
         }
-        let path = blob_of(self.alloc, path)?;
         self.push(&Command::FileAttr { path, flags }, to)
     }
 
@@ -157,7 +156,6 @@ impl<F: Form> Spelling<F> {
         ensures added { OnOk result (to.new ≡ to.old
             ++ F.spelled self.now.version (Utimes (time_of mtime) (time_of atime) path.now)) }
     {
-        let path = blob_of(self.alloc, path)?;
         self.push(
             &Command::Utimes {
                 mtime: moment_at(mtime),

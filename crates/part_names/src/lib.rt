@@ -7,4 +7,4 @@ mod renaming;
 
 pub use named_files::{NamedFile, NamedFiles};
 pub use names::PartNames;
-pub use renaming::{name_of, rename, rename_command};
+pub use renaming::{given_or, rename, rename_command};

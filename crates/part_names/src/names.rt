@@ -76,7 +76,8 @@ fn has_bytes(name: &Option<Blob>)
     }
 }
 
-fn are_bytes(name: &[u8])
+// Bytes are bytes.
+pub(crate) fn are_bytes(name: &[u8])
     ensures bytes { IsBytes name.now }
 {
     let _len = name.len();

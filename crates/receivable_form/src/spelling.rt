@@ -20,7 +20,7 @@ use tlv_frame::attribute_numbers::{
 /// attribute by attribute; the number of an inode that is made is 0. Fails for want of memory alone; then a part of the frame may stand
 /// behind what stood there.
 #[tactic(auto, unfolding(send_model::specs::Receivable::receivable, send_model::specs::Receivable::receivable_attributes, send_model::specs::Spelling::attributes_of, send_model::specs::Command::row, send_commands::specs::Writing::IsWritable), using(crate::proofs::Frames::short_text))]
-pub fn push_receivable(command: &Command, version: u32, to: &mut Blob) -> Result<(), AllocError>
+pub fn push_receivable(command: &Command<'_>, version: u32, to: &mut Blob) -> Result<(), AllocError>
     requires writable { IsWritable version (meaning_of command.now) }
     requires short { IsShortEnough version (meaning_of command.now) }
     ensures added { OnOk result
@@ -28,19 +28,13 @@ pub fn push_receivable(command: &Command, version: u32, to: &mut Blob) -> Result
     ensures kept { IsFront to.old to.new }
 {
     match command {
-        Command::MkFile { path } => push_made(Kind::MkFile, path.as_slice(), version, to),
-        Command::MkDir { path } => push_made(Kind::MkDir, path.as_slice(), version, to),
-        Command::MkFifo { path } => push_made(Kind::MkFifo, path.as_slice(), version, to),
-        Command::MkSock { path } => push_made(Kind::MkSock, path.as_slice(), version, to),
-        Command::MkNod { mode, rdev, path } => {
-            push_device(*mode, *rdev, path.as_slice(), version, to)
-        }
-        Command::Symlink { path, path_link } => {
-            push_symlink(path.as_slice(), path_link.as_slice(), version, to)
-        }
-        Command::Utimes { mtime, atime, path } => {
-            push_times(*mtime, *atime, path.as_slice(), version, to)
-        }
+        Command::MkFile { path } => push_made(Kind::MkFile, path, version, to),
+        Command::MkDir { path } => push_made(Kind::MkDir, path, version, to),
+        Command::MkFifo { path } => push_made(Kind::MkFifo, path, version, to),
+        Command::MkSock { path } => push_made(Kind::MkSock, path, version, to),
+        Command::MkNod { mode, rdev, path } => { push_device(*mode, *rdev, path, version, to) }
+        Command::Symlink { path, path_link } => { push_symlink(path, path_link, version, to) }
+        Command::Utimes { mtime, atime, path } => { push_times(*mtime, *atime, path, version, to) }
         Command::Subvol { .. } => push_plain(command, version, to),
         Command::Snapshot { .. } => push_plain(command, version, to),
         Command::Rename { .. } => push_plain(command, version, to),
@@ -63,7 +57,7 @@ pub fn push_receivable(command: &Command, version: u32, to: &mut Blob) -> Result
 
 // The same for a command of which nothing more is asked, so that the canonical spelling is the receivable one.
 #[tactic(auto, using(crate::proofs::Frames::plain_is))]
-fn push_plain(command: &Command, version: u32, to: &mut Blob) -> Result<(), AllocError>
+fn push_plain(command: &Command<'_>, version: u32, to: &mut Blob) -> Result<(), AllocError>
     requires plain { asked_for (meaning_of command.now) ≡ [] }
     requires writable { IsWritable version (meaning_of command.now) }
     requires short { IsShortEnough version (meaning_of command.now) }

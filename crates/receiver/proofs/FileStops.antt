@@ -1,5 +1,5 @@
 -- The ends of the loop over a file's commands.
-use Rattle.std.specs.Prelude.{◌≡◌, ℕ, true, List, [], ◌∷◌, ◌++◌, map, take, Option, None, Some, Result, Ok, Err, OnOk}
+use Rattle.std.specs.Prelude.{◌≡◌, ℕ, List, [], ◌∷◌, ◌++◌, map, take, Option, None, Some, Result, Ok, Err, OnOk}
 use Rattle.std.specs.Io.KnownBytes.{Appends}
 use Rattle.std.proofs.KnownBytes.{Appends-nil, Appends-trans}
 use Rattle.std.proofs.Common.{refl, sym, ap, subst, ◌∙◌, append_assoc, append-nil}
@@ -20,7 +20,7 @@ use Rattle.cmd_reader.specs.declared.item.ReadStop.TheVariants as stop
 use Rattle.cmd_reader.specs.Places.{IfTold}
 use Rattle.cmd_reader.specs.Fronts.{IsRefused, IsLongAt}
 use Rattle.cmd_reader.specs.Left.{Reader, left}
-use Rattle.cmd_reader.specs.Next.{item_of, HasEnded, IsFaulty, OnlyEnds, IsNext, NextSays, EndsAfterEnd}
+use Rattle.cmd_reader.specs.Next.{item_of, HasEnded, IsFaulty, OnlyEnds, IsNext, NextSays}
 use Rattle.cmd_reader.specs.Stopping.{outcome_at}
 use Rattle.cmd_reader.proofs.Aheads.{next_item, next_end}
 use Rattle.cmd_reader.proofs.Told.{Here, told_both, told_map, told_always, told_here, told_moved}
@@ -233,7 +233,7 @@ file_read_stops told inputs new_name file limit name base spot old new guards st
         (no_items_due limit base s_front.now stop, no_items_left limit base s_front.now stop, no_items_core limit base s_front.now stop guards store current s_front.at) in
         whole
 
-    -- an object of the outside failed, or there was no memory
+    -- an object of the outside failed
     Q : Outcome → List ℕ → Limited → Type 0
     Q x lines read = Stops (how.Files x) limit base spot read lines store.core × M (groups_from spot.watched spot.begun read.items) × J (how.Files x) (λ H. IsLeft (how.Files x) limit base spot read lines H)
 
@@ -277,15 +277,10 @@ file_read_stops told inputs new_name file limit name base spot old new guards st
         told_both told name (Here (IsRefused (λ _. IsFaulty old verdict) (refusal_of verdict.refusal))) (Here Stood) (FileEnds new_name file limit base spot guards store out out_now L M J (Err (how.Files (ended.Refused verdict)))) (refused verdict)
         (told_here told name (IsRefused (λ _. IsFaulty old verdict) (refusal_of verdict.refusal)) (told_moved told inputs name old.name (IsRefused (λ _. IsFaulty old verdict) (refusal_of verdict.refusal)) same name_is said))
         (told_here told name Stood stands)
-    by_why stop.NoMemory said = told_map told name (Here Stood) (FileEnds new_name file limit base spot guards store out out_now L M J (Err (how.Files ended.NoMemory))) (failed ended.NoMemory (λ P. (tt, tt)) (λ now on read. whatever_front base now read on)) (told_here told name Stood stands)
     by_why stop.InputFault said = told_map told name (Here Stood) (FileEnds new_name file limit base spot guards store out out_now L M J (Err (how.Files ended.InputFault))) (failed ended.InputFault (λ P. (tt, tt)) (λ now on read. whatever_front base now read on)) (told_here told name Stood stands)
     by_why stop.InputTooLong said =
         told_both told name (Here Stood) (IsLongAt old.offset (OnlyEnds old)) (FileEnds new_name file limit base spot guards store out out_now L M J (Err (how.Files (ended.InputTooLong file)))) long
         (told_here told name Stood stands) (told_moved told inputs name old.name (IsLongAt old.offset (OnlyEnds old)) same name_is said)
-
--- A file ends only behind END.
-pub ended_at_end : (o : Option read.Item) (old : Reader) → o ≡ None → EndsAfterEnd {T = read.Item} old (Ok o) → old.fed.ended ≡ true
-ended_at_end o old e said = subst (λ (x : Option read.Item). EndsAfterEnd {T = read.Item} old (Ok x)) e said
 
 -- A part that is open where the file ends early stays unfinished.
 pub file_abandoned : (told : Option (List (List ℕ × List ℕ))) (new_name : Option (List ℕ)) (file limit : ℕ) (name : List ℕ) (base : Store ℕ) (spot : Spot) (guards : List Guard) (was now : StoreState) (current : Option Opened) (o : Opened) (out out_now : Option (List ℕ)) (K L : List Group → Option Begun → Type 0) (M : List Group → Type 0) (I J : Received → ((List Group → Type 0) → Type 0) → Type 0) (r : Result (Unit {0}) Received)

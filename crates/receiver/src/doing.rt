@@ -29,7 +29,7 @@ use store_journal::Store;
 use sx_base::{Disk, Outcome, Refusal, Verdict};
 
 // A refusal, with the place of its command.
-pub(crate) fn refused(file: u64, item: &Item, refusal: Refusal) -> Verdict
+pub(crate) fn refused(file: u64, item: &Item<'_>, refusal: Refusal) -> Verdict
     ensures { result ≡ record {
       file = file;
       command = item.now.number;
@@ -46,7 +46,7 @@ pub(crate) fn refused(file: u64, item: &Item, refusal: Refusal) -> Verdict
 }
 
 // Why a call of the store stopped at a command.
-fn stopped(file: u64, item: &Item, stop: StoreStop) -> Received
+fn stopped(file: u64, item: &Item<'_>, stop: StoreStop) -> Received
     requires usual { IsUsualStop stop }
     ensures { result ≡ ended_by (item_of file item.now) stop }
 {
@@ -74,7 +74,7 @@ fn stopped_log(why: LogStop) -> Received
 
 // Begins the part of a head. No part is open before it.
 pub(crate) fn begin<D: Disk>(
-    read: &FileItem<'_>,
+    read: &FileItem<'_, '_>,
     head: &Head<'_>,
     store: &mut Store,
     disk: &mut D,
@@ -127,7 +127,7 @@ pub(crate) fn begin<D: Disk>(
 
 // Edits the open part, if there is one.
 pub(crate) fn edit<D: Disk>(
-    read: &FileItem<'_>,
+    read: &FileItem<'_, '_>,
     store: &mut Store,
     disk: &mut D,
     current: &mut Option<Opened>,

@@ -17,7 +17,7 @@ pub trait Guarding {
     ghost kept: { Self → List meant.Guard };
 
     /// Lets each guard in turn look at a command, and gives the refusal of the first that refuses it.
-    fn look(&mut self, command: &Command) -> Option<Refusal>
+    fn look(&mut self, command: &Command<'_>) -> Option<Refusal>
         ensures refused { guarded (kept self.old) (meaning_of command.now)
             ≡ option_map refusal_of result }
         ensures counted { kept self.new ≡ looked (kept self.old) (meaning_of command.now) };
@@ -41,13 +41,13 @@ impl<G: Guard> GuardList<G> {
 impl<G: Guard> Guarding for GuardList<G> {
     ghost kept = { λ l. map G.kept l.guards.items };
 
-    fn look(&mut self, command: &Command) -> Option<Refusal> {
+    fn look(&mut self, command: &Command<'_>) -> Option<Refusal> {
         look_list(self.guards.as_mut_slice(), command)
     }
 }
 
 // The refusal of the first guard that refuses the command, if one does.
-fn look_list<G: Guard>(guards: &mut [G], command: &Command) -> Option<Refusal>
+fn look_list<G: Guard>(guards: &mut [G], command: &Command<'_>) -> Option<Refusal>
     ensures refused { guarded (map G.kept guards.old) (meaning_of command.now)
         ≡ option_map refusal_of result }
     ensures counted { map G.kept guards.new
@@ -65,7 +65,7 @@ fn look_list<G: Guard>(guards: &mut [G], command: &Command) -> Option<Refusal>
     None
 }
 
-fn look_one<G: Guard>(guard: &mut G, command: &Command) -> bool
+fn look_one<G: Guard>(guard: &mut G, command: &Command<'_>) -> bool
     ensures allows { result ≡ not (guard_refuses (G.kept guard.old) (meaning_of command.now)) }
     ensures counts { G.kept guard.new ≡ after_look (G.kept guard.old) (meaning_of command.now) }
 {

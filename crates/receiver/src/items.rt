@@ -27,7 +27,7 @@ use sx_base::{Disk, Outcome, Sink};
 
 // The next command of a file, which is the given one of several.
 pub(crate) fn receive_item<D: Disk, O: Sink, G: Guarding>(
-    read: &FileItem<'_>,
+    read: &FileItem<'_, '_>,
     store: &mut Store,
     disk: &mut D,
     guards: &mut G,

@@ -32,7 +32,7 @@ use sx_base::{Disk, Sink};
 
 // Whether a command ends its part.
 #[tactic(auto, unfolding(send_commands::specs::Meaning::meaning_of))]
-fn ends(command: &Command) -> bool
+fn ends(command: &Command<'_>) -> bool
     ensures { result ≡ is_end (meaning_of command.now) }
 {
     matches!(command, Command::End)
@@ -40,7 +40,7 @@ fn ends(command: &Command) -> bool
 
 // Does a command that no guard refuses.
 pub(crate) fn do_item<D: Disk, O: Sink>(
-    read: &FileItem<'_>,
+    read: &FileItem<'_, '_>,
     store: &mut Store,
     disk: &mut D,
     current: &mut Option<Opened>,
@@ -106,7 +106,7 @@ pub(crate) fn do_item<D: Disk, O: Sink>(
 
 // Completes the part before a head, and begins the one of the head.
 fn enter<D: Disk, O: Sink>(
-    read: &FileItem<'_>,
+    read: &FileItem<'_, '_>,
     head: &Head<'_>,
     store: &mut Store,
     disk: &mut D,

@@ -14,30 +14,30 @@ time_of t = record { secs = t.secs; nanos = t.nanos }
 
 -- A command with its values.
 abbrev pub meaning_of : Command → meant.Command
-meaning_of (made.Subvol uuid ctransid path) = meant.Subvol uuid ctransid path
-meaning_of (made.Snapshot uuid ctransid path clone_uuid clone_ctransid) = meant.Snapshot uuid ctransid path clone_uuid clone_ctransid
-meaning_of (made.MkFile path) = meant.MkFile path
-meaning_of (made.MkDir path) = meant.MkDir path
-meaning_of (made.MkNod mode rdev path) = meant.MkNod mode rdev path
-meaning_of (made.MkFifo path) = meant.MkFifo path
-meaning_of (made.MkSock path) = meant.MkSock path
-meaning_of (made.Symlink path path_link) = meant.Symlink path path_link
-meaning_of (made.Rename path path_to) = meant.Rename path path_to
-meaning_of (made.Link path path_link) = meant.Link path path_link
-meaning_of (made.Unlink path) = meant.Unlink path
-meaning_of (made.Rmdir path) = meant.Rmdir path
-meaning_of (made.SetXattr name value path) = meant.SetXattr name value path
-meaning_of (made.RemoveXattr name path) = meant.RemoveXattr name path
-meaning_of (made.Write path offset bytes) = meant.Write path offset bytes
-meaning_of (made.Clone path offset clone_uuid clone_ctransid clone_path clone_offset clone_len) = meant.Clone path offset clone_uuid clone_ctransid clone_path clone_offset clone_len
-meaning_of (made.Truncate size path) = meant.Truncate size path
-meaning_of (made.Chmod mode path) = meant.Chmod mode path
-meaning_of (made.Chown uid gid path) = meant.Chown uid gid path
-meaning_of (made.Utimes mtime atime path) = meant.Utimes (time_of mtime) (time_of atime) path
+meaning_of (made.Subvol uuid ctransid path) = meant.Subvol uuid ctransid path.now
+meaning_of (made.Snapshot uuid ctransid path clone_uuid clone_ctransid) = meant.Snapshot uuid ctransid path.now clone_uuid clone_ctransid
+meaning_of (made.MkFile path) = meant.MkFile path.now
+meaning_of (made.MkDir path) = meant.MkDir path.now
+meaning_of (made.MkNod mode rdev path) = meant.MkNod mode rdev path.now
+meaning_of (made.MkFifo path) = meant.MkFifo path.now
+meaning_of (made.MkSock path) = meant.MkSock path.now
+meaning_of (made.Symlink path path_link) = meant.Symlink path.now path_link.now
+meaning_of (made.Rename path path_to) = meant.Rename path.now path_to.now
+meaning_of (made.Link path path_link) = meant.Link path.now path_link.now
+meaning_of (made.Unlink path) = meant.Unlink path.now
+meaning_of (made.Rmdir path) = meant.Rmdir path.now
+meaning_of (made.SetXattr name value path) = meant.SetXattr name.now value.now path.now
+meaning_of (made.RemoveXattr name path) = meant.RemoveXattr name.now path.now
+meaning_of (made.Write path offset bytes) = meant.Write path.now offset bytes.now
+meaning_of (made.Clone path offset clone_uuid clone_ctransid clone_path clone_offset clone_len) = meant.Clone path.now offset clone_uuid clone_ctransid clone_path.now clone_offset clone_len
+meaning_of (made.Truncate size path) = meant.Truncate size path.now
+meaning_of (made.Chmod mode path) = meant.Chmod mode path.now
+meaning_of (made.Chown uid gid path) = meant.Chown uid gid path.now
+meaning_of (made.Utimes mtime atime path) = meant.Utimes (time_of mtime) (time_of atime) path.now
 meaning_of made.End = meant.End
-meaning_of (made.UpdateExtent size path offset) = meant.UpdateExtent size path offset
-meaning_of (made.Fallocate size path offset mode) = meant.Fallocate size path offset mode
-meaning_of (made.FileAttr path flags) = meant.FileAttr path flags
+meaning_of (made.UpdateExtent size path offset) = meant.UpdateExtent size path.now offset
+meaning_of (made.Fallocate size path offset mode) = meant.Fallocate size path.now offset mode
+meaning_of (made.FileAttr path flags) = meant.FileAttr path.now flags
 
 -- A command's name.
 abbrev pub kind_meant : Kind → meant.Kind

@@ -2,7 +2,6 @@
 ghost use Rattle.std.specs.Prelude.{◌≡◌, ◌++◌};
 ghost use Rattle.std.specs.Int.{w32, w64, to_le_bytes};
 
-use sx_base::Blob;
 use uuid::Uuid;
 
 /// A moment: seconds, and nanoseconds below a second.
@@ -29,136 +28,136 @@ impl Time {
     }
 }
 
-/// A command with its values. Paths, names and data are bytes; sizes, offsets and lengths count bytes. Source: enum
+/// A command with its values. Paths, names and data are bytes that stand elsewhere; sizes, offsets and lengths count bytes. Source: enum
 /// btrfs_send_cmd in send.h of btrfs-progs.
-#[derive(Debug, Drop)]
-pub enum Command {
+#[derive(Debug, Clone, Copy)]
+pub enum Command<'a> {
     /// Begins a subvolume of its own.
     Subvol {
         uuid: Uuid,
         ctransid: u64,
-        path: Blob,
+        path: &'a [u8],
     },
     /// Begins a subvolume as a snapshot of another.
     Snapshot {
         uuid: Uuid,
         ctransid: u64,
-        path: Blob,
+        path: &'a [u8],
         clone_uuid: Uuid,
         clone_ctransid: u64,
     },
     /// Makes a regular file.
     MkFile {
-        path: Blob,
+        path: &'a [u8],
     },
     /// Makes a directory.
     MkDir {
-        path: Blob,
+        path: &'a [u8],
     },
     /// Makes a character or block device.
     MkNod {
         mode: u64,
         rdev: u64,
-        path: Blob,
+        path: &'a [u8],
     },
     /// Makes a named pipe.
     MkFifo {
-        path: Blob,
+        path: &'a [u8],
     },
     /// Makes a socket.
     MkSock {
-        path: Blob,
+        path: &'a [u8],
     },
     /// Makes a symbolic link to `path_link`.
     Symlink {
-        path: Blob,
-        path_link: Blob,
+        path: &'a [u8],
+        path_link: &'a [u8],
     },
     /// Moves a name.
     Rename {
-        path: Blob,
-        path_to: Blob,
+        path: &'a [u8],
+        path_to: &'a [u8],
     },
     /// Gives what `path_link` names one more name.
     Link {
-        path: Blob,
-        path_link: Blob,
+        path: &'a [u8],
+        path_link: &'a [u8],
     },
     /// Takes a name away.
     Unlink {
-        path: Blob,
+        path: &'a [u8],
     },
     /// Takes an empty directory away.
     Rmdir {
-        path: Blob,
+        path: &'a [u8],
     },
     /// Sets an extended attribute.
     SetXattr {
-        name: Blob,
-        value: Blob,
-        path: Blob,
+        name: &'a [u8],
+        value: &'a [u8],
+        path: &'a [u8],
     },
     /// Takes an extended attribute away.
     RemoveXattr {
-        name: Blob,
-        path: Blob,
+        name: &'a [u8],
+        path: &'a [u8],
     },
     /// Puts bytes into a file, from the place `offset` on.
     Write {
-        path: Blob,
+        path: &'a [u8],
         offset: u64,
-        bytes: Blob,
+        bytes: &'a [u8],
     },
     /// Shares a range of another file.
     Clone {
-        path: Blob,
+        path: &'a [u8],
         offset: u64,
         clone_uuid: Uuid,
         clone_ctransid: u64,
-        clone_path: Blob,
+        clone_path: &'a [u8],
         clone_offset: u64,
         clone_len: u64,
     },
     /// Sets a file's size in bytes.
     Truncate {
         size: u64,
-        path: Blob,
+        path: &'a [u8],
     },
     /// Sets the mode.
     Chmod {
         mode: u64,
-        path: Blob,
+        path: &'a [u8],
     },
     /// Sets the owner and the group.
     Chown {
         uid: u64,
         gid: u64,
-        path: Blob,
+        path: &'a [u8],
     },
     /// Sets the times.
     Utimes {
         mtime: Time,
         atime: Time,
-        path: Blob,
+        path: &'a [u8],
     },
     /// Ends a part.
     End,
     /// Says that a range of a file has bytes that are not sent.
     UpdateExtent {
         size: u64,
-        path: Blob,
+        path: &'a [u8],
         offset: u64,
     },
     /// Reserves or frees a range of a file, as `fallocate` does in this mode. Of version 2.
     Fallocate {
         size: u64,
-        path: Blob,
+        path: &'a [u8],
         offset: u64,
         mode: u32,
     },
     /// Sets the flags of an inode. Of version 2.
     FileAttr {
-        path: Blob,
+        path: &'a [u8],
         flags: u64,
     },
 }

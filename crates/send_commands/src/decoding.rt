@@ -5,17 +5,15 @@ ghost use Rattle.send_model.specs.Spelling.{Attribute};
 ghost use Rattle.send_model.specs.Reading.{command_of};
 ghost use Rattle.tlv_frame.specs.Table.{StandsFor};
 ghost use Rattle.sx_base.specs.Answers.{Reads};
-ghost use Rattle.sx_base.specs.Answers.{Gives};
 ghost use Rattle.send_commands.specs.Meaning.{meaning_of, kind_meant};
 ghost use Rattle.send_commands.specs.Values.{bytes_in, HaveForms, are_timely};
 ghost use Rattle.send_commands.specs.Writing.{IsWritable};
 
 use crate::command::Command;
 use crate::kind::Kind;
-use crate::values::{blob, identifier, moment, number, short_number};
+use crate::values::{bytes, identifier, moment, number, short_number};
 use crate::wanted::{find_wanted, times_lawful};
-use std::alloc::{AllocError, Global};
-use sx_base::{Refusal, Stop};
+use sx_base::Refusal;
 use tlv_frame::AttrTable;
 use tlv_frame::attribute_numbers::*;
 
@@ -25,15 +23,16 @@ const ENCODED_WRITE: u16 = 25;
 /// The command of this number with these attributes, in the version that they were read in. Encoded where the number is that of a
 /// write of compressed bytes, which version 2 has; UnknownCommand where no command of the version has the number; then for the first
 /// wanted attribute, in rising order, MissingAttribute where it is not there and BadAttribute where it has a wrong length;
-/// then BadTime where a time has 1,000,000,000 nanoseconds or more. What is read can be written by `encode`.
-pub fn decode(alloc: Global, cmd: u16, table: &AttrTable<'_>) -> Result<Command, Stop>
+/// then BadTime where a time has 1,000,000,000 nanoseconds or more. What is read can be written by `encode`, and its
+/// bytes stay where the table has them. Takes no memory.
+pub fn decode<'a>(cmd: u16, table: &AttrTable<'a>) -> Result<Command<'a>, Refusal>
     ensures exact { (attributes : List Attribute) → StandsFor table.now attributes
-        → Gives meaning_of result (command_of table.now.version cmd attributes) }
+        → Reads meaning_of result (command_of table.now.version cmd attributes) }
     ensures writable { IfOk result (λ command. IsWritable table.now.version (meaning_of command)) }
 {
     match lawful_kind(cmd, table) {
-        Ok(kind) => Ok(command_in(alloc, kind, table)?),
-        Err(refusal) => Err(Stop::Refused(refusal)),
+        Ok(kind) => Ok(command_in(kind, table)),
+        Err(refusal) => Err(refusal),
     }
 }
 
@@ -72,117 +71,116 @@ fn is_compressed_write(version: u32, cmd: u16) -> bool
 
 // The command of this name with the values of its attributes, which are lawful.
 #[tactic(auto, unfolding(crate::specs::Writing::IsWritable, send_model::specs::Command::row, send_model::specs::Attribute::form_of))]
-fn command_in(alloc: Global, kind: Kind, table: &AttrTable<'_>) -> Result<Command, AllocError>
+fn command_in<'a>(kind: Kind, table: &AttrTable<'a>) -> Command<'a>
     requires forms { HaveForms table.now (row (kind_meant kind)).wanted }
     requires timely { are_timely table.now (row (kind_meant kind)).wanted ≡ true }
-    ensures exact { IfOk result
-        (λ command. meaning_of command ≡ command_with (kind_meant kind) (bytes_in table.now)) }
-    ensures writable { IfOk result (λ command. IsWritable table.now.version (meaning_of command)) }
+    ensures exact { meaning_of result ≡ command_with (kind_meant kind) (bytes_in table.now) }
+    ensures writable { IsWritable table.now.version (meaning_of result) }
 {
     match kind {
-        Kind::Subvol => Ok(Command::Subvol {
+        Kind::Subvol => Command::Subvol {
             uuid: identifier(table, UUID),
             ctransid: number(table, CTRANSID),
-            path: blob(alloc, table, PATH)?,
-        }),
-        Kind::Snapshot => Ok(Command::Snapshot {
+            path: bytes(table, PATH),
+        },
+        Kind::Snapshot => Command::Snapshot {
             uuid: identifier(table, UUID),
             ctransid: number(table, CTRANSID),
-            path: blob(alloc, table, PATH)?,
+            path: bytes(table, PATH),
             clone_uuid: identifier(table, CLONE_UUID),
             clone_ctransid: number(table, CLONE_CTRANSID),
-        }),
-        Kind::MkFile => Ok(Command::MkFile {
-            path: blob(alloc, table, PATH)?,
-        }),
-        Kind::MkDir => Ok(Command::MkDir {
-            path: blob(alloc, table, PATH)?,
-        }),
-        Kind::MkNod => Ok(Command::MkNod {
+        },
+        Kind::MkFile => Command::MkFile {
+            path: bytes(table, PATH),
+        },
+        Kind::MkDir => Command::MkDir {
+            path: bytes(table, PATH),
+        },
+        Kind::MkNod => Command::MkNod {
             mode: number(table, MODE),
             rdev: number(table, RDEV),
-            path: blob(alloc, table, PATH)?,
-        }),
-        Kind::MkFifo => Ok(Command::MkFifo {
-            path: blob(alloc, table, PATH)?,
-        }),
-        Kind::MkSock => Ok(Command::MkSock {
-            path: blob(alloc, table, PATH)?,
-        }),
-        Kind::Symlink => Ok(Command::Symlink {
-            path: blob(alloc, table, PATH)?,
-            path_link: blob(alloc, table, PATH_LINK)?,
-        }),
-        Kind::Rename => Ok(Command::Rename {
-            path: blob(alloc, table, PATH)?,
-            path_to: blob(alloc, table, PATH_TO)?,
-        }),
-        Kind::Link => Ok(Command::Link {
-            path: blob(alloc, table, PATH)?,
-            path_link: blob(alloc, table, PATH_LINK)?,
-        }),
-        Kind::Unlink => Ok(Command::Unlink {
-            path: blob(alloc, table, PATH)?,
-        }),
-        Kind::Rmdir => Ok(Command::Rmdir {
-            path: blob(alloc, table, PATH)?,
-        }),
-        Kind::SetXattr => Ok(Command::SetXattr {
-            name: blob(alloc, table, XATTR_NAME)?,
-            value: blob(alloc, table, XATTR_DATA)?,
-            path: blob(alloc, table, PATH)?,
-        }),
-        Kind::RemoveXattr => Ok(Command::RemoveXattr {
-            name: blob(alloc, table, XATTR_NAME)?,
-            path: blob(alloc, table, PATH)?,
-        }),
-        Kind::Write => Ok(Command::Write {
-            path: blob(alloc, table, PATH)?,
+            path: bytes(table, PATH),
+        },
+        Kind::MkFifo => Command::MkFifo {
+            path: bytes(table, PATH),
+        },
+        Kind::MkSock => Command::MkSock {
+            path: bytes(table, PATH),
+        },
+        Kind::Symlink => Command::Symlink {
+            path: bytes(table, PATH),
+            path_link: bytes(table, PATH_LINK),
+        },
+        Kind::Rename => Command::Rename {
+            path: bytes(table, PATH),
+            path_to: bytes(table, PATH_TO),
+        },
+        Kind::Link => Command::Link {
+            path: bytes(table, PATH),
+            path_link: bytes(table, PATH_LINK),
+        },
+        Kind::Unlink => Command::Unlink {
+            path: bytes(table, PATH),
+        },
+        Kind::Rmdir => Command::Rmdir {
+            path: bytes(table, PATH),
+        },
+        Kind::SetXattr => Command::SetXattr {
+            name: bytes(table, XATTR_NAME),
+            value: bytes(table, XATTR_DATA),
+            path: bytes(table, PATH),
+        },
+        Kind::RemoveXattr => Command::RemoveXattr {
+            name: bytes(table, XATTR_NAME),
+            path: bytes(table, PATH),
+        },
+        Kind::Write => Command::Write {
+            path: bytes(table, PATH),
             offset: number(table, FILE_OFFSET),
-            bytes: blob(alloc, table, DATA)?,
-        }),
-        Kind::Clone => Ok(Command::Clone {
-            path: blob(alloc, table, PATH)?,
+            bytes: bytes(table, DATA),
+        },
+        Kind::Clone => Command::Clone {
+            path: bytes(table, PATH),
             offset: number(table, FILE_OFFSET),
             clone_uuid: identifier(table, CLONE_UUID),
             clone_ctransid: number(table, CLONE_CTRANSID),
-            clone_path: blob(alloc, table, CLONE_PATH)?,
+            clone_path: bytes(table, CLONE_PATH),
             clone_offset: number(table, CLONE_OFFSET),
             clone_len: number(table, CLONE_LEN),
-        }),
-        Kind::Truncate => Ok(Command::Truncate {
+        },
+        Kind::Truncate => Command::Truncate {
             size: number(table, SIZE),
-            path: blob(alloc, table, PATH)?,
-        }),
-        Kind::Chmod => Ok(Command::Chmod {
+            path: bytes(table, PATH),
+        },
+        Kind::Chmod => Command::Chmod {
             mode: number(table, MODE),
-            path: blob(alloc, table, PATH)?,
-        }),
-        Kind::Chown => Ok(Command::Chown {
+            path: bytes(table, PATH),
+        },
+        Kind::Chown => Command::Chown {
             uid: number(table, UID),
             gid: number(table, GID),
-            path: blob(alloc, table, PATH)?,
-        }),
-        Kind::Utimes => Ok(Command::Utimes {
+            path: bytes(table, PATH),
+        },
+        Kind::Utimes => Command::Utimes {
             mtime: moment(table, MTIME),
             atime: moment(table, ATIME),
-            path: blob(alloc, table, PATH)?,
-        }),
-        Kind::End => Ok(Command::End),
-        Kind::UpdateExtent => Ok(Command::UpdateExtent {
+            path: bytes(table, PATH),
+        },
+        Kind::End => Command::End,
+        Kind::UpdateExtent => Command::UpdateExtent {
             size: number(table, SIZE),
-            path: blob(alloc, table, PATH)?,
+            path: bytes(table, PATH),
             offset: number(table, FILE_OFFSET),
-        }),
-        Kind::Fallocate => Ok(Command::Fallocate {
+        },
+        Kind::Fallocate => Command::Fallocate {
             size: number(table, SIZE),
-            path: blob(alloc, table, PATH)?,
+            path: bytes(table, PATH),
             offset: number(table, FILE_OFFSET),
             mode: short_number(table, FALLOCATE_MODE),
-        }),
-        Kind::FileAttr => Ok(Command::FileAttr {
-            path: blob(alloc, table, PATH)?,
+        },
+        Kind::FileAttr => Command::FileAttr {
+            path: bytes(table, PATH),
             flags: number(table, FILE_FLAGS),
-        }),
+        },
     }
 }

@@ -26,7 +26,7 @@ enum Field<'a> {
 
 /// Appends the canonical spelling of the command, a frame with the wanted attributes alone in rising order of their
 /// numbers, or changes nothing where there is no memory.
-pub fn encode(c: &Command, version: u32, to: &mut Blob) -> Result<(), AllocError>
+pub fn encode(c: &Command<'_>, version: u32, to: &mut Blob) -> Result<(), AllocError>
     requires writable { IsWritable version (meaning_of c.now) }
     requires short { IsShortEnough version (meaning_of c.now) }
     ensures appended { OnOk result (to.new ≡ to.old ++ canonical version (meaning_of c.now)) }
@@ -42,20 +42,20 @@ pub fn encode(c: &Command, version: u32, to: &mut Blob) -> Result<(), AllocError
 
 /// The place in the canonical spelling of the command where the bytes of a write begin, None for other commands.
 #[tactic(auto, unfolding(crate::specs::Writing::data_at, send_model::specs::Spelling::attributes_of, send_model::specs::Command::row))]
-pub fn data_place(c: &Command, version: u32) -> Option<u64>
+pub fn data_place(c: &Command<'_>, version: u32) -> Option<u64>
     ensures place { result ≡ data_at version (meaning_of c.now) }
 {
     match c {
         Command::Write { path, .. } => {
             let head = if version == 2 { 28 } else { 30 };
-            Some(head + path.as_slice().len() as u64)
+            Some(head + path.len() as u64)
         }
         _ => None,
     }
 }
 
 #[tactic(auto, unfolding(send_model::specs::Spelling::canonical, send_model::specs::Spelling::attributes_of, send_model::specs::Command::row, crate::specs::Writing::IsWritable))]
-fn put_command(c: &Command, version: u32, to: &mut Blob) -> Result<(), AllocError>
+fn put_command(c: &Command<'_>, version: u32, to: &mut Blob) -> Result<(), AllocError>
     requires writable { IsWritable version (meaning_of c.now) }
     requires short { IsShortEnough version (meaning_of c.now) }
     ensures appended { OnOk result (to.new ≡ to.old ++ canonical version (meaning_of c.now)) }
@@ -72,7 +72,7 @@ fn put_command(c: &Command, version: u32, to: &mut Blob) -> Result<(), AllocErro
             &[
                 Field::Identifier(*uuid),
                 Field::Number(*ctransid),
-                Field::Bytes(path.as_slice()),
+                Field::Bytes(path),
             ],
             to,
         ),
@@ -88,89 +88,56 @@ fn put_command(c: &Command, version: u32, to: &mut Blob) -> Result<(), AllocErro
             &[
                 Field::Identifier(*uuid),
                 Field::Number(*ctransid),
-                Field::Bytes(path.as_slice()),
+                Field::Bytes(path),
                 Field::Identifier(*clone_uuid),
                 Field::Number(*clone_ctransid),
             ],
             to,
         ),
-        Command::MkFile { path } => put(
-            Kind::MkFile,
-            version,
-            &[Field::Bytes(path.as_slice())],
-            to,
-        ),
-        Command::MkDir { path } => put(Kind::MkDir, version, &[Field::Bytes(path.as_slice())], to),
+        Command::MkFile { path } => put(Kind::MkFile, version, &[Field::Bytes(path)], to),
+        Command::MkDir { path } => put(Kind::MkDir, version, &[Field::Bytes(path)], to),
         Command::MkNod { mode, rdev, path } => put(
             Kind::MkNod,
             version,
             &[
                 Field::Number(*mode),
                 Field::Number(*rdev),
-                Field::Bytes(path.as_slice()),
+                Field::Bytes(path),
             ],
             to,
         ),
-        Command::MkFifo { path } => put(
-            Kind::MkFifo,
-            version,
-            &[Field::Bytes(path.as_slice())],
-            to,
-        ),
-        Command::MkSock { path } => put(
-            Kind::MkSock,
-            version,
-            &[Field::Bytes(path.as_slice())],
-            to,
-        ),
+        Command::MkFifo { path } => put(Kind::MkFifo, version, &[Field::Bytes(path)], to),
+        Command::MkSock { path } => put(Kind::MkSock, version, &[Field::Bytes(path)], to),
         Command::Symlink { path, path_link } => put(
             Kind::Symlink,
             version,
-            &[
-                Field::Bytes(path.as_slice()),
-                Field::Bytes(path_link.as_slice()),
-            ],
+            &[Field::Bytes(path), Field::Bytes(path_link)],
             to,
         ),
         Command::Rename { path, path_to } => put(
             Kind::Rename,
             version,
-            &[
-                Field::Bytes(path.as_slice()),
-                Field::Bytes(path_to.as_slice()),
-            ],
+            &[Field::Bytes(path), Field::Bytes(path_to)],
             to,
         ),
         Command::Link { path, path_link } => put(
             Kind::Link,
             version,
-            &[
-                Field::Bytes(path.as_slice()),
-                Field::Bytes(path_link.as_slice()),
-            ],
+            &[Field::Bytes(path), Field::Bytes(path_link)],
             to,
         ),
-        Command::Unlink { path } => put(
-            Kind::Unlink,
-            version,
-            &[Field::Bytes(path.as_slice())],
-            to,
-        ),
-        Command::Rmdir { path } => put(Kind::Rmdir, version, &[Field::Bytes(path.as_slice())], to),
+        Command::Unlink { path } => put(Kind::Unlink, version, &[Field::Bytes(path)], to),
+        Command::Rmdir { path } => put(Kind::Rmdir, version, &[Field::Bytes(path)], to),
         Command::SetXattr { name, value, path } => put(
             Kind::SetXattr,
             version,
-            &[
-                Field::Bytes(name.as_slice()),
-                Field::Bytes(value.as_slice()),
-                Field::Bytes(path.as_slice()),
-            ],
+            &[Field::Bytes(name), Field::Bytes(value), Field::Bytes(path)],
             to,
         ),
         Command::RemoveXattr { name, path } => put(
             Kind::RemoveXattr,
             version,
-            &[Field::Bytes(name.as_slice()), Field::Bytes(path.as_slice())],
+            &[Field::Bytes(name), Field::Bytes(path)],
             to,
         ),
         Command::Write {
@@ -181,9 +148,9 @@ fn put_command(c: &Command, version: u32, to: &mut Blob) -> Result<(), AllocErro
             Kind::Write,
             version,
             &[
-                Field::Bytes(path.as_slice()),
+                Field::Bytes(path),
                 Field::Number(*offset),
-                Field::Bytes(bytes.as_slice()),
+                Field::Bytes(bytes),
             ],
             to,
         ),
@@ -199,11 +166,11 @@ fn put_command(c: &Command, version: u32, to: &mut Blob) -> Result<(), AllocErro
             Kind::Clone,
             version,
             &[
-                Field::Bytes(path.as_slice()),
+                Field::Bytes(path),
                 Field::Number(*offset),
                 Field::Identifier(*clone_uuid),
                 Field::Number(*clone_ctransid),
-                Field::Bytes(clone_path.as_slice()),
+                Field::Bytes(clone_path),
                 Field::Number(*clone_offset),
                 Field::Number(*clone_len),
             ],
@@ -212,23 +179,19 @@ fn put_command(c: &Command, version: u32, to: &mut Blob) -> Result<(), AllocErro
         Command::Truncate { size, path } => put(
             Kind::Truncate,
             version,
-            &[Field::Number(*size), Field::Bytes(path.as_slice())],
+            &[Field::Number(*size), Field::Bytes(path)],
             to,
         ),
         Command::Chmod { mode, path } => put(
             Kind::Chmod,
             version,
-            &[Field::Number(*mode), Field::Bytes(path.as_slice())],
+            &[Field::Number(*mode), Field::Bytes(path)],
             to,
         ),
         Command::Chown { uid, gid, path } => put(
             Kind::Chown,
             version,
-            &[
-                Field::Number(*uid),
-                Field::Number(*gid),
-                Field::Bytes(path.as_slice()),
-            ],
+            &[Field::Number(*uid), Field::Number(*gid), Field::Bytes(path)],
             to,
         ),
         Command::Utimes { mtime, atime, path } => put(
@@ -237,7 +200,7 @@ fn put_command(c: &Command, version: u32, to: &mut Blob) -> Result<(), AllocErro
             &[
                 Field::Moment(*mtime),
                 Field::Moment(*atime),
-                Field::Bytes(path.as_slice()),
+                Field::Bytes(path),
             ],
             to,
         ),
@@ -247,7 +210,7 @@ fn put_command(c: &Command, version: u32, to: &mut Blob) -> Result<(), AllocErro
             version,
             &[
                 Field::Number(*size),
-                Field::Bytes(path.as_slice()),
+                Field::Bytes(path),
                 Field::Number(*offset),
             ],
             to,
@@ -262,7 +225,7 @@ fn put_command(c: &Command, version: u32, to: &mut Blob) -> Result<(), AllocErro
             version,
             &[
                 Field::Number(*size),
-                Field::Bytes(path.as_slice()),
+                Field::Bytes(path),
                 Field::Number(*offset),
                 Field::ShortNumber(*mode),
             ],
@@ -271,7 +234,7 @@ fn put_command(c: &Command, version: u32, to: &mut Blob) -> Result<(), AllocErro
         Command::FileAttr { path, flags } => put(
             Kind::FileAttr,
             version,
-            &[Field::Bytes(path.as_slice()), Field::Number(*flags)],
+            &[Field::Bytes(path), Field::Number(*flags)],
             to,
         ),
     }

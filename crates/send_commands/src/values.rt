@@ -1,5 +1,5 @@
 // The values of attributes that are there.
-ghost use Rattle.std.specs.Prelude.{◌≡◌, ◌==◌, ◌≤◌, true, IfOk, length, take};
+ghost use Rattle.std.specs.Prelude.{◌≡◌, ◌==◌, ◌≤◌, true, length, take};
 ghost use Rattle.std.specs.Int.{w64, from_le_bytes};
 ghost use Rattle.send_model.specs.Attribute.{HasRoom};
 ghost use Rattle.send_model.specs.Command.{number_in, short_number_in, time_in};
@@ -7,13 +7,11 @@ ghost use Rattle.send_commands.specs.Meaning.{time_of};
 ghost use Rattle.send_commands.specs.Values.{bytes_in};
 
 use crate::command::Time;
-use std::alloc::{AllocError, Global};
-use sx_base::Blob;
 use tlv_frame::AttrTable;
 use uuid::Uuid;
 
 // The bytes of an attribute, none where it is not there.
-fn bytes<'a>(table: &AttrTable<'a>, kind: u16) -> &'a [u8]
+pub(crate) fn bytes<'a>(table: &AttrTable<'a>, kind: u16) -> &'a [u8]
     ensures bytes { result.now ≡ bytes_in table.now kind }
     ensures short { HasRoom table.now.version kind (length result.now) }
 {
@@ -21,16 +19,6 @@ fn bytes<'a>(table: &AttrTable<'a>, kind: u16) -> &'a [u8]
         Some(bytes) => bytes,
         None => &[],
     }
-}
-
-// The bytes of an attribute as a blob.
-pub(crate) fn blob(alloc: Global, table: &AttrTable<'_>, kind: u16) -> Result<Blob, AllocError>
-    ensures bytes { IfOk result (λ blob. blob ≡ bytes_in table.now kind) }
-    ensures short { IfOk result (λ blob. HasRoom table.now.version kind (length blob)) }
-{
-    let mut blob = Blob::new(alloc);
-    blob.push_all(bytes(table, kind))?;
-    Ok(blob)
 }
 
 // The identifier of sixteen bytes that an attribute is.

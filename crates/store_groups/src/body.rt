@@ -23,7 +23,7 @@ use crate::window::{Ahead, WINDOW, refill};
 use clone_resolve::{EditCore, Part};
 use crc32c_part::update;
 use group_log::Log;
-use std::alloc::{AllocError, Global};
+use std::alloc::AllocError;
 use sx_base::Disk;
 use uuid::Uuid;
 
@@ -45,12 +45,11 @@ pub(crate) struct Frames {
     pub(crate) stop: u64,
 }
 
-// What a run over the frames of a group goes by: the journal that they stand in, the frames, and where memory comes from.
+// What a run over the frames of a group goes by: the journal that they stand in, and the frames.
 #[derive(Debug, Clone, Copy)]
 struct FrameRun<'a> {
     log: &'a Log,
     frames: Frames,
-    alloc: Global,
 }
 
 // Takes a group of edits, the first of whose bytes a window has. False where it is at fault.
@@ -59,7 +58,6 @@ pub(crate) fn take_body<D: Disk>(
     disk: &mut D,
     core: &mut EditCore<Place>,
     group: TaggedGroup,
-    alloc: Global,
     window: &mut [u8],
 ) -> Result<bool, StoreStop>
     requires kind { group.tag.kind ≡ kind_is.Body }
@@ -108,7 +106,6 @@ pub(crate) fn take_body<D: Disk>(
             end,
             stop,
         },
-        alloc,
     };
     if !take_frames(&run, disk, core, &mut part, ahead, window)? {
         return Ok(false);
@@ -169,7 +166,7 @@ fn take_frames<D: Disk>(
     let mut ahead = first;
     while ahead.at < run.frames.end {
         ahead = refill(run.log, disk, ahead, run.frames.stop, window)?;
-        match take_shown(run.alloc, core, part, run.frames, ahead, window)? {
+        match take_shown(core, part, run.frames, ahead, window)? {
             Some(next) => ahead = next,
             None => return Ok(false),
         }
@@ -180,7 +177,6 @@ fn take_frames<D: Disk>(
 
 // Takes the edit whose frame a window shows next. None where it is at fault.
 fn take_shown(
-    alloc: Global,
     core: &EditCore<Place>,
     part: &mut Part<Place>,
     frames: Frames,
@@ -203,7 +199,7 @@ fn take_shown(
     let left = frames.end - ahead.at;
     let count = left.min((ahead.have - ahead.used) as u64) as usize;
     let bytes = &window[ahead.used..ahead.used + count];
-    match take_front(alloc, core, part, frames.version, ahead.at, bytes)? {
+    match take_front(core, part, frames.version, ahead.at, bytes)? {
         Some(len) => Ok(Some(Ahead {
             at: ahead.at + len as u64,
             used: ahead.used + len,

@@ -13,14 +13,13 @@ use crate::front::{Front, front_of};
 use crate::place::Place;
 use clone_resolve::{EditCore, Part};
 use send_commands::{Command, data_place};
-use std::alloc::{AllocError, Global};
+use std::alloc::AllocError;
 use sx_base::Stop;
 use uuid::Uuid;
 
 // Takes the edit whose frame is in front of the bytes, which stand at a place, and says how long the frame is. None where it is at
 // fault.
 pub(crate) fn take_front(
-    alloc: Global,
     core: &EditCore<Place>,
     part: &mut Part<Place>,
     version: u32,
@@ -35,7 +34,7 @@ pub(crate) fn take_front(
     ensures kept { AreKept at core.now → IsKept at part.old.subvolume →
         IfOk result (λ o. IfSome o (λ len. IsKept (at + len) part.new.subvolume)) }
 {
-    let Some(front) = front_of(alloc, version, bytes)? else {
+    let Some(front) = front_of(version, bytes) else {
         return Ok(None);
     };
     if take_edit(core, part, version, at, &front)? {
@@ -51,7 +50,7 @@ fn take_edit(
     part: &mut Part<Place>,
     version: u32,
     at: u64,
-    front: &Front,
+    front: &Front<'_>,
 ) -> Result<bool, AllocError>
     requires spellable { IsSpellable version (meaning_of front.now.command) }
     requires room { at + length (canonical version (meaning_of front.now.command)) < 2 ^ 64 }
@@ -77,7 +76,7 @@ fn take_edit(
 }
 
 // Whether a command edits a part.
-fn is_edit(command: &Command) -> bool
+fn is_edit(command: &Command<'_>) -> bool
     ensures { result ≡ is_edit (meaning_of command.now) }
 {
     match command {

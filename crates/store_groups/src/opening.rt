@@ -17,7 +17,6 @@ use crate::stops::StoreStop;
 use crate::window::{WINDOW, Window, grow};
 use clone_resolve::EditCore;
 use group_log::{GroupPlace, Log};
-use std::alloc::Global;
 use sx_base::Disk;
 
 /// Takes one group into the subvolumes. False where it is at fault; then the subvolumes may be anything. What is read of the disk is
@@ -53,7 +52,7 @@ pub fn take_group<D: Disk>(
         return Ok(false);
     }
     grow(&mut window.bytes, group.len)?;
-    take_kept(log, disk, core, group, window.alloc, &mut window.bytes)
+    take_kept(log, disk, core, group, &mut window.bytes)
 }
 
 // The same with room for the group's first bytes.
@@ -62,7 +61,6 @@ fn take_kept<D: Disk>(
     disk: &mut D,
     core: &mut EditCore<Place>,
     group: GroupPlace,
-    alloc: Global,
     window: &mut [u8],
 ) -> Result<bool, StoreStop>
     requires fits { D.len disk.old ≡ log.now.size }
@@ -92,12 +90,12 @@ fn take_kept<D: Disk>(
     }
     if tag.kind == Kind::Body {
         let tagged = TaggedGroup { place: group, tag };
-        return take_body(log, disk, core, tagged, alloc, window);
+        return take_body(log, disk, core, tagged, window);
     }
     // A head's frame and a name are shorter than a window.
     let _names = core.catalog();
     if group.len > WINDOW as u64 {
         return Ok(false);
     }
-    Ok(take_short(alloc, core, tag, &window[..count])?)
+    Ok(take_short(core, tag, &window[..count])?)
 }

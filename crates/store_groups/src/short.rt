@@ -15,12 +15,11 @@ use crate::place::Place;
 use clone_resolve::{EditCore, head_of};
 use crc32c_part::update;
 use send_commands::Command;
-use std::alloc::{AllocError, Global};
+use std::alloc::AllocError;
 use sx_base::Stop;
 
 // Takes a group that has no edits. False where it is at fault.
 pub(crate) fn take_short(
-    alloc: Global,
     core: &mut EditCore<Place>,
     tag: Tag,
     body: &[u8],
@@ -35,7 +34,7 @@ pub(crate) fn take_short(
     if !is_right(tag.is_sealed, front, last) {
         return Ok(false);
     }
-    take_content(alloc, core, tag.kind, &front[1..])
+    take_content(core, tag.kind, &front[1..])
 }
 
 // Whether the checksum behind bytes is theirs, if they have one.
@@ -47,12 +46,7 @@ fn is_right(is_sealed: bool, front: &[u8], last: &[u8]) -> bool
 }
 
 // Takes what such a group says.
-fn take_content(
-    alloc: Global,
-    core: &mut EditCore<Place>,
-    kind: Kind,
-    content: &[u8],
-) -> Result<bool, AllocError>
+fn take_content(core: &mut EditCore<Place>, kind: Kind, content: &[u8]) -> Result<bool, AllocError>
     requires kind { kind ≢ kind_is.Body }
     ensures taken { (at : ℕ) →
         IfOk result (TakesContent kind at content.now core.old core.new) }
@@ -60,20 +54,20 @@ fn take_content(
         IfOk result (λ t. t ≡ true → AreKept end core.new) }
 {
     match kind {
-        Kind::Mark => take_mark(alloc, core, content),
+        Kind::Mark => take_mark(core, content),
         Kind::Drop => Ok(core.drop_name(content)),
         Kind::Body => unreachable!(),
     }
 }
 
 // Takes a head, whose frame these bytes are. False where they are that of no head or it is refused.
-fn take_mark(alloc: Global, core: &mut EditCore<Place>, bytes: &[u8]) -> Result<bool, AllocError>
+fn take_mark(core: &mut EditCore<Place>, bytes: &[u8]) -> Result<bool, AllocError>
     ensures taken { (at : ℕ) →
         IfOk result (TakesContent kind_is.Mark at bytes.now core.old core.new) }
     ensures kept { (end : ℕ) → AreKept end core.old →
         IfOk result (λ t. t ≡ true → AreKept end core.new) }
 {
-    let Some(front) = front_of(alloc, 1, bytes)? else {
+    let Some(front) = front_of(1, bytes) else {
         return Ok(false);
     };
     if front.len != bytes.len() {
@@ -83,7 +77,7 @@ fn take_mark(alloc: Global, core: &mut EditCore<Place>, bytes: &[u8]) -> Result<
 }
 
 // Begins the entry of a head. False where the command is none or is refused.
-fn begin_marked(core: &mut EditCore<Place>, command: &Command) -> Result<bool, AllocError>
+fn begin_marked(core: &mut EditCore<Place>, command: &Command<'_>) -> Result<bool, AllocError>
     ensures begun { IfOk result (λ t. marked core.old (meaning_of command.now)
         ≡ (if t then Some core.new else None)) }
     ensures kept { (end : ℕ) → AreKept end core.old →

@@ -20,7 +20,6 @@ const GREATEST_FRAME: usize = 262_154;
 /// Where bytes of a disk are kept while groups are read. It grows to what a group needs, 512 KiB at the most.
 #[derive(Drop)]
 pub struct Window {
-    pub(crate) alloc: Global,
     pub(crate) bytes: Vec<u8>,
 }
 
@@ -28,7 +27,6 @@ impl Window {
     /// A window that keeps nothing yet. Takes no memory.
     pub fn new(alloc: Global) -> Window {
         Window {
-            alloc,
             bytes: Vec::new(alloc),
         }
     }

@@ -94,7 +94,7 @@ pub(crate) fn start_group<D: Disk>(log: &mut Log, disk: &mut D, bytes: &[u8]) ->
 }
 
 /// The bytes of a group of a head.
-pub(crate) fn spell_mark(head: &Command, to: &mut Blob) -> Result<(), StoreStop>
+pub(crate) fn spell_mark(head: &Command<'_>, to: &mut Blob) -> Result<(), StoreStop>
     requires { IsSpellable 1 (meaning_of head.now) }
     ensures spelled { OnOk result (to.new ≡ 4 ∷ canonical 1 (meaning_of head.now)) }
     ensures stops { IfErr result (λ why. why ≡ stop.NoMemory) }
@@ -132,7 +132,7 @@ pub(crate) fn write_mark<D: Disk>(
     log: &mut Log,
     disk: &mut D,
     spelled: &mut Blob,
-    head: &Command,
+    head: &Command<'_>,
 ) -> Result<(), StoreStop>
     requires rest { IsAtRest (D.len disk.old) log.old }
     requires spellable { IsSpellable 1 (meaning_of head.now) }
@@ -177,7 +177,7 @@ pub(crate) fn write_edit<D: Disk>(
     log: &mut Log,
     disk: &mut D,
     spelled: &mut Blob,
-    c: &Command,
+    c: &Command<'_>,
     version: u32,
 ) -> Result<(), StoreStop>
     requires open { IsInProgress (D.len disk.old) log.old }

@@ -163,7 +163,11 @@ impl Store {
     /// # Errors
     /// `BadName`, `NameThere`, `UuidThere` and `NoParent`: the first of these that holds, and then nothing is written and nothing is
     /// changed. `LogFull`, where the group does not fit; `DiskFault`.
-    pub fn mark<D: Disk>(&mut self, disk: &mut D, head: &Command) -> Result<Part<Place>, StoreStop>
+    pub fn mark<D: Disk>(
+        &mut self,
+        disk: &mut D,
+        head: &Command<'_>,
+    ) -> Result<Part<Place>, StoreStop>
         requires idle { IsIdle (D.len disk.old) self.old }
         requires head { IsTrue (is_some (head_of (meaning_of head.now))) }
         requires spellable { IsSpellable 1 (meaning_of head.now) }
@@ -296,7 +300,7 @@ impl Store {
     pub fn begin<D: Disk>(
         &mut self,
         disk: &mut D,
-        head: &Command,
+        head: &Command<'_>,
         version: u32,
     ) -> Result<Part<Place>, StoreStop>
         requires idle { IsIdle (D.len disk.old) self.old }
@@ -430,7 +434,7 @@ impl Store {
         &mut self,
         disk: &mut D,
         part: &mut Part<Place>,
-        c: &Command,
+        c: &Command<'_>,
         version: u32,
     ) -> Result<(), StoreStop>
         requires is_open { IsOpen (D.len disk.old) part.old self.old }

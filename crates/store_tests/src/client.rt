@@ -16,7 +16,7 @@ use clone_resolve::{Part, head_of};
 use cmd_reader::canonical_command;
 use group_log::LogStop;
 use send_commands::Command;
-use std::alloc::{AllocError, Global};
+use std::alloc::Global;
 use std::process::Abort;
 use store_journal::{Place, Store, StoreStop};
 use subvol_catalog::Key;
@@ -80,23 +80,20 @@ pub(crate) fn read_back<D: Disk>(
 }
 
 // The command whose canonical spelling the frame is.
-fn command_of(
-    rt: &impl Abort,
-    alloc: Global,
-    version: u32,
-    frame: &Frame<'_>,
-) -> Result<Command, AllocError>
+fn command_of<'a>(rt: &impl Abort, version: u32, frame: &Frame<'a>) -> Command<'a>
     requires { is_version version ≡ true }
-    ensures { IfOk result (λ c. IsSpellable version (meaning_of c)) }
+    ensures { IsSpellable version (meaning_of result) }
 {
     assert!(rt; frame.body.len() <= 262_144);
-    let found = canonical_command(alloc, version, frame.cmd, frame.body)?;
-    Ok(found.expect(rt, "no canonical spelling"))
+    let Some(command) = canonical_command(version, frame.cmd, frame.body) else {
+        panic!(rt; "no canonical spelling")
+    };
+    command
 }
 
 // Whether a command edits a part.
 #[tactic(auto, unfolding(send_commands::specs::Meaning::meaning_of))]
-fn edits(command: &Command) -> bool
+fn edits(command: &Command<'_>) -> bool
     ensures { result ≡ is_edit (meaning_of command.now) }
 {
     match command {
@@ -110,7 +107,6 @@ fn edits(command: &Command) -> bool
 // Begins the part of a head.
 fn begin_one<D: Disk>(
     rt: &impl Abort,
-    alloc: Global,
     store: &mut Store,
     disk: &mut D,
     version: u32,
@@ -120,7 +116,7 @@ fn begin_one<D: Disk>(
     requires version { is_version version ≡ true }
     ensures still_open { IfOk result (λ part. IsOpen (D.len disk.new) part store.new) }
 {
-    let command = command_of(rt, alloc, 1, frame)?;
+    let command = command_of(rt, 1, frame);
     assert!(rt; head_of(&command).is_some());
     store.begin(disk, &command, version)
 }
@@ -131,7 +127,7 @@ fn edit_one<D: Disk>(
     store: &mut Store,
     disk: &mut D,
     part: &mut Part<Place>,
-    command: &Command,
+    command: &Command<'_>,
     version: u32,
 ) -> Result<(), StoreStop>
     requires is_open { IsOpen (D.len disk.old) part.old store.old }
@@ -145,7 +141,6 @@ fn edit_one<D: Disk>(
 /// Receives one part: a head and its edits.
 pub(crate) fn receive_one<D: Disk>(
     rt: &impl Abort,
-    alloc: Global,
     store: &mut Store,
     disk: &mut D,
     frames: &PartFrames<'_>,
@@ -155,9 +150,9 @@ pub(crate) fn receive_one<D: Disk>(
     ensures idle { OnOk result (IsIdle (D.len disk.new) store.new) }
 {
     let version = frames.version;
-    let mut part = begin_one(rt, alloc, store, disk, version, frames.head)?;
+    let mut part = begin_one(rt, store, disk, version, frames.head)?;
     for edit in frames.edits {
-        let command = command_of(rt, alloc, version, edit)?;
+        let command = command_of(rt, version, edit);
         edit_one(rt, store, disk, &mut part, &command, version)?;
     }
     store.complete(disk, part)?;

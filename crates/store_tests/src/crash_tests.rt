@@ -20,9 +20,9 @@ fn change_store<D: Disk>(
     done: &mut u64,
 ) -> Result<(), StoreStop> {
     let mut store = Store::open(disk, alloc)?;
-    receive_a(rt, alloc, &mut store, disk)?;
+    receive_a(rt, &mut store, disk)?;
     *done = 1;
-    receive_b(rt, alloc, &mut store, disk)?;
+    receive_b(rt, &mut store, disk)?;
     *done = 2;
     store.drop_name(disk, b"a")?;
     *done = 3;

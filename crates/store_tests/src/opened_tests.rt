@@ -73,8 +73,8 @@ fn receive_two<D: Disk>(rt: &impl Abort, alloc: Global, disk: &mut D) -> Result<
     ensures { IfOk result (IsIdle (D.len disk.new)) }
 {
     let mut store = Store::open(disk, alloc)?;
-    receive_a(rt, alloc, &mut store, disk)?;
-    receive_b(rt, alloc, &mut store, disk)?;
+    receive_a(rt, &mut store, disk)?;
+    receive_b(rt, &mut store, disk)?;
     Ok(store)
 }
 
@@ -241,8 +241,8 @@ fn is_there(answer: Result<(), StoreStop>) -> bool {
 fn a_part_whose_name_is_there_is_refused(rt: HostRuntime) -> Result<(), Fail> {
     let mut disk = MemDisk::new(rt.alloc(), NEW)?;
     let mut store = Store::open(&mut disk, rt.alloc())?;
-    receive_a(&rt, rt.alloc(), &mut store, &mut disk)?;
-    let again = receive_a(&rt, rt.alloc(), &mut store, &mut disk);
+    receive_a(&rt, &mut store, &mut disk)?;
+    let again = receive_a(&rt, &mut store, &mut disk);
     same(&rt, is_there(again), true);
     same(&rt, store.live(), true);
     Ok(())

@@ -85,7 +85,6 @@ pub(crate) fn judged<D: Disk>(alloc: Global, disk: &mut D) -> Result<u64, u64> {
 /// Receives the subvolume `a`: a file x with "hi" at 3 and, after a hole, "end" at 4096, 5000 bytes long.
 pub(crate) fn receive_a<D: Disk>(
     rt: &impl Abort,
-    alloc: Global,
     store: &mut Store,
     disk: &mut D,
 ) -> Result<(), StoreStop>
@@ -97,13 +96,12 @@ pub(crate) fn receive_a<D: Disk>(
         head: HEAD_A,
         edits: EDITS_A,
     };
-    receive_one(rt, alloc, store, disk, &frames)
+    receive_one(rt, store, disk, &frames)
 }
 
 /// Receives `b`, a snapshot of `a`, in version 2: "!" over the file at 2.
 pub(crate) fn receive_b<D: Disk>(
     rt: &impl Abort,
-    alloc: Global,
     store: &mut Store,
     disk: &mut D,
 ) -> Result<(), StoreStop>
@@ -115,7 +113,7 @@ pub(crate) fn receive_b<D: Disk>(
         head: HEAD_B,
         edits: EDITS_B,
     };
-    receive_one(rt, alloc, store, disk, &frames)
+    receive_one(rt, store, disk, &frames)
 }
 
 /// The bytes of a store that has `a`.
@@ -123,6 +121,6 @@ pub(crate) fn with_a(rt: &impl Abort, alloc: Global) -> Result<Vec<u8>, Fail> {
     let mut disk = MemDisk::new(alloc, b"")?;
     Store::create(&mut disk)?;
     let mut store = Store::open(&mut disk, alloc)?;
-    receive_a(rt, alloc, &mut store, &mut disk)?;
+    receive_a(rt, &mut store, &mut disk)?;
     image(alloc, &mut disk)
 }

@@ -1,6 +1,6 @@
 -- The text of a CLONE, value by value.
 use Rattle.std.specs.Prelude.{◌≡◌, ℕ, List, [], ◌∷◌, ◌++◌}
-use Rattle.std.proofs.Common.{sym, ap, ◌∙◌, append_assoc}
+use Rattle.std.proofs.Common.{Bor, sym, ap, ◌∙◌, append_assoc}
 use Rattle.send_model.specs.Attribute.{Identifier, Number, Bytes}
 use Rattle.send_model.specs.Command.{CLONE, row}
 use Rattle.send_model.specs.Lines.{values_text}
@@ -9,14 +9,11 @@ use Rattle.send_commands.specs.declared.command.Command.{Command}
 use Rattle.send_commands.specs.declared.command.Command.TheVariants as made
 use Rattle.stream_dump.specs.Values.{command_text}
 
-pub clone_printed : (to : List ℕ) (command : Command) (path : List ℕ) (offset : ℕ) (clone_uuid : List ℕ) (clone_ctransid : ℕ) (clone_path : List ℕ) (clone_offset clone_len : ℕ) (first second : List ℕ)
-    → command ≡ made.Clone path offset clone_uuid clone_ctransid clone_path clone_offset clone_len → first ≡ path → second ≡ clone_path
-    → (to ++ (row CLONE).name) ++ values_text (row CLONE).wanted (Bytes first ∷ Number offset ∷ Identifier clone_uuid ∷ Number clone_ctransid ∷ Bytes second ∷ Number clone_offset ∷ Number clone_len ∷ [])
+pub clone_printed : (to : List ℕ) (command : Command) (path : Bor (List ℕ)) (offset : ℕ) (clone_uuid : List ℕ) (clone_ctransid : ℕ) (clone_path : Bor (List ℕ)) (clone_offset clone_len : ℕ)
+    → command ≡ made.Clone path offset clone_uuid clone_ctransid clone_path clone_offset clone_len
+    → (to ++ (row CLONE).name) ++ values_text (row CLONE).wanted (Bytes path.now ∷ Number offset ∷ Identifier clone_uuid ∷ Number clone_ctransid ∷ Bytes clone_path.now ∷ Number clone_offset ∷ Number clone_len ∷ [])
     ≡ to ++ command_text (meaning_of command)
 unfolding command_text
-clone_printed to command path offset clone_uuid clone_ctransid clone_path clone_offset clone_len first second is one two =
-    let text : List ℕ → List ℕ → List ℕ = λ a b.
-    (row CLONE).name ++ values_text (row CLONE).wanted (Bytes a ∷ Number offset ∷ Identifier clone_uuid ∷ Number clone_ctransid ∷ Bytes b ∷ Number clone_offset ∷ Number clone_len ∷ []) in
-    append_assoc to (row CLONE).name (values_text (row CLONE).wanted (Bytes first ∷ Number offset ∷ Identifier clone_uuid ∷ Number clone_ctransid ∷ Bytes second ∷ Number clone_offset ∷ Number clone_len ∷ []))
-    ∙ ap (λ (l : List ℕ). to ++ text l second) one ∙ ap (λ (l : List ℕ). to ++ text path l) two
+clone_printed to command path offset clone_uuid clone_ctransid clone_path clone_offset clone_len is =
+    append_assoc to (row CLONE).name (values_text (row CLONE).wanted (Bytes path.now ∷ Number offset ∷ Identifier clone_uuid ∷ Number clone_ctransid ∷ Bytes clone_path.now ∷ Number clone_offset ∷ Number clone_len ∷ []))
     ∙ sym (ap (λ (c : Command). to ++ command_text (meaning_of c)) is)

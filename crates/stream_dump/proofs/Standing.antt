@@ -190,7 +190,6 @@ ends_early piece told told_now name old new why outcome gathered taken_old taken
         told_both told name (Here (Stands piece old gathered taken_old taken_mid)) (Here (IsRefused (λ _. IsFaulty old verdict) (refusal_of verdict.refusal))) (Answered piece taken_old taken_now result) (broken verdict ends)
         (told_here told name (Stands piece old gathered taken_old taken_mid) s)
         (told_here told name (IsRefused (λ _. IsFaulty old verdict) (refusal_of verdict.refusal)) (told_moved told told_now name old.name (IsRefused (λ _. IsFaulty old verdict) (refusal_of verdict.refusal)) t n says))
-    by_why stop.NoMemory says ends = here ended_by.NoMemory ends (λ bytes s. part_front (written_of piece bytes) s.sent gathered.bytes (pieces_from piece gathered.begins (left old bytes).items) 0 s.ahead)
     by_why stop.InputFault says ends = here ended_by.InputFault ends (λ bytes s. part_front (written_of piece bytes) s.sent gathered.bytes (pieces_from piece gathered.begins (left old bytes).items) 0 s.ahead)
     by_why stop.InputTooLong says ends =
         told_both told name (Here (Stands piece old gathered taken_old taken_mid)) (IsLongAt old.offset (OnlyEnds old)) (Answered piece taken_old taken_now result) (long ends)

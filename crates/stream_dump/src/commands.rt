@@ -13,7 +13,7 @@ use sx_base::Blob;
 
 /// Appends a command's name and the values of its wanted attributes.
 #[tactic(auto, unfolding(crate::specs::Values::command_text, send_model::specs::Command::row))]
-pub fn push_command(command: &Command, to: &mut Blob) -> Result<(), AllocError>
+pub fn push_command(command: &Command<'_>, to: &mut Blob) -> Result<(), AllocError>
     ensures pushed { OnOk result (to.new ≡ to.old ++ command_text (meaning_of command.now)) }
     ensures kept { IsFront to.old to.new }
 {
@@ -27,7 +27,7 @@ pub fn push_command(command: &Command, to: &mut Blob) -> Result<(), AllocError>
             &[
                 Value::Identifier(*uuid),
                 Value::Number(*ctransid),
-                Value::Bytes(path.as_slice()),
+                Value::Bytes(path),
             ],
             to,
         ),
@@ -42,63 +42,50 @@ pub fn push_command(command: &Command, to: &mut Blob) -> Result<(), AllocError>
             &[
                 Value::Identifier(*uuid),
                 Value::Number(*ctransid),
-                Value::Bytes(path.as_slice()),
+                Value::Bytes(path),
                 Value::Identifier(*clone_uuid),
                 Value::Number(*clone_ctransid),
             ],
             to,
         ),
-        Command::MkFile { path } => put(Kind::MkFile, &[Value::Bytes(path.as_slice())], to),
-        Command::MkDir { path } => put(Kind::MkDir, &[Value::Bytes(path.as_slice())], to),
+        Command::MkFile { path } => put(Kind::MkFile, &[Value::Bytes(path)], to),
+        Command::MkDir { path } => put(Kind::MkDir, &[Value::Bytes(path)], to),
         Command::MkNod { mode, rdev, path } => put(
             Kind::MkNod,
             &[
                 Value::Number(*mode),
                 Value::Number(*rdev),
-                Value::Bytes(path.as_slice()),
+                Value::Bytes(path),
             ],
             to,
         ),
-        Command::MkFifo { path } => put(Kind::MkFifo, &[Value::Bytes(path.as_slice())], to),
-        Command::MkSock { path } => put(Kind::MkSock, &[Value::Bytes(path.as_slice())], to),
+        Command::MkFifo { path } => put(Kind::MkFifo, &[Value::Bytes(path)], to),
+        Command::MkSock { path } => put(Kind::MkSock, &[Value::Bytes(path)], to),
         Command::Symlink { path, path_link } => put(
             Kind::Symlink,
-            &[
-                Value::Bytes(path.as_slice()),
-                Value::Bytes(path_link.as_slice()),
-            ],
+            &[Value::Bytes(path), Value::Bytes(path_link)],
             to,
         ),
         Command::Rename { path, path_to } => put(
             Kind::Rename,
-            &[
-                Value::Bytes(path.as_slice()),
-                Value::Bytes(path_to.as_slice()),
-            ],
+            &[Value::Bytes(path), Value::Bytes(path_to)],
             to,
         ),
         Command::Link { path, path_link } => put(
             Kind::Link,
-            &[
-                Value::Bytes(path.as_slice()),
-                Value::Bytes(path_link.as_slice()),
-            ],
+            &[Value::Bytes(path), Value::Bytes(path_link)],
             to,
         ),
-        Command::Unlink { path } => put(Kind::Unlink, &[Value::Bytes(path.as_slice())], to),
-        Command::Rmdir { path } => put(Kind::Rmdir, &[Value::Bytes(path.as_slice())], to),
+        Command::Unlink { path } => put(Kind::Unlink, &[Value::Bytes(path)], to),
+        Command::Rmdir { path } => put(Kind::Rmdir, &[Value::Bytes(path)], to),
         Command::SetXattr { name, value, path } => put(
             Kind::SetXattr,
-            &[
-                Value::Bytes(name.as_slice()),
-                Value::Bytes(value.as_slice()),
-                Value::Bytes(path.as_slice()),
-            ],
+            &[Value::Bytes(name), Value::Bytes(value), Value::Bytes(path)],
             to,
         ),
         Command::RemoveXattr { name, path } => put(
             Kind::RemoveXattr,
-            &[Value::Bytes(name.as_slice()), Value::Bytes(path.as_slice())],
+            &[Value::Bytes(name), Value::Bytes(path)],
             to,
         ),
         Command::Write {
@@ -108,9 +95,9 @@ pub fn push_command(command: &Command, to: &mut Blob) -> Result<(), AllocError>
         } => put(
             Kind::Write,
             &[
-                Value::Bytes(path.as_slice()),
+                Value::Bytes(path),
                 Value::Number(*offset),
-                Value::Bytes(bytes.as_slice()),
+                Value::Bytes(bytes),
             ],
             to,
         ),
@@ -125,11 +112,11 @@ pub fn push_command(command: &Command, to: &mut Blob) -> Result<(), AllocError>
         } => put(
             Kind::Clone,
             &[
-                Value::Bytes(path.as_slice()),
+                Value::Bytes(path),
                 Value::Number(*offset),
                 Value::Identifier(*clone_uuid),
                 Value::Number(*clone_ctransid),
-                Value::Bytes(clone_path.as_slice()),
+                Value::Bytes(clone_path),
                 Value::Number(*clone_offset),
                 Value::Number(*clone_len),
             ],
@@ -137,21 +124,17 @@ pub fn push_command(command: &Command, to: &mut Blob) -> Result<(), AllocError>
         ),
         Command::Truncate { size, path } => put(
             Kind::Truncate,
-            &[Value::Number(*size), Value::Bytes(path.as_slice())],
+            &[Value::Number(*size), Value::Bytes(path)],
             to,
         ),
         Command::Chmod { mode, path } => put(
             Kind::Chmod,
-            &[Value::Number(*mode), Value::Bytes(path.as_slice())],
+            &[Value::Number(*mode), Value::Bytes(path)],
             to,
         ),
         Command::Chown { uid, gid, path } => put(
             Kind::Chown,
-            &[
-                Value::Number(*uid),
-                Value::Number(*gid),
-                Value::Bytes(path.as_slice()),
-            ],
+            &[Value::Number(*uid), Value::Number(*gid), Value::Bytes(path)],
             to,
         ),
         Command::Utimes { mtime, atime, path } => put(
@@ -159,7 +142,7 @@ pub fn push_command(command: &Command, to: &mut Blob) -> Result<(), AllocError>
             &[
                 Value::Moment(*mtime),
                 Value::Moment(*atime),
-                Value::Bytes(path.as_slice()),
+                Value::Bytes(path),
             ],
             to,
         ),
@@ -168,7 +151,7 @@ pub fn push_command(command: &Command, to: &mut Blob) -> Result<(), AllocError>
             Kind::UpdateExtent,
             &[
                 Value::Number(*size),
-                Value::Bytes(path.as_slice()),
+                Value::Bytes(path),
                 Value::Number(*offset),
             ],
             to,
@@ -182,7 +165,7 @@ pub fn push_command(command: &Command, to: &mut Blob) -> Result<(), AllocError>
             Kind::Fallocate,
             &[
                 Value::Number(*size),
-                Value::Bytes(path.as_slice()),
+                Value::Bytes(path),
                 Value::Number(*offset),
                 Value::ShortNumber(*mode),
             ],
@@ -190,7 +173,7 @@ pub fn push_command(command: &Command, to: &mut Blob) -> Result<(), AllocError>
         ),
         Command::FileAttr { path, flags } => put(
             Kind::FileAttr,
-            &[Value::Bytes(path.as_slice()), Value::Number(*flags)],
+            &[Value::Bytes(path), Value::Number(*flags)],
             to,
         ),
     }

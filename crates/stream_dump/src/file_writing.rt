@@ -49,15 +49,18 @@ pub fn write_file<F: ItemForm, I: Inputs, O: Sink>(
     };
     let mut gathered = Gathered::new(alloc);
     loop {
-        match reader.next(inputs) {
-            Ok(Some(item)) => {
-                let written = write_item(form, &mut gathered, item, out);
-                if let Err(outcome) = written {
-                    return outcome;
-                }
-            }
+        let frame = match reader.advance(inputs) {
+            Ok(Some(frame)) => frame,
             Ok(None) => return finish(&mut gathered, out, Outcome::Done),
             Err(stop) => return finish(&mut gathered, out, outcome_of(1, stop)),
+        };
+        let item = match reader.item(frame) {
+            Ok(item) => item,
+            Err(verdict) => return finish(&mut gathered, out, Outcome::Refused(verdict)),
+        };
+        let written = write_item(form, &mut gathered, &item, out);
+        if let Err(outcome) = written {
+            return outcome;
         }
     }
 }
@@ -66,18 +69,18 @@ pub fn write_file<F: ItemForm, I: Inputs, O: Sink>(
 fn write_item<F: ItemForm, O: Sink>(
     form: &mut F,
     gathered: &mut Gathered,
-    item: Item,
+    item: &Item<'_>,
     out: &mut O,
 ) -> Result<(), Outcome>
-    requires writable { IsWritable item.version (meaning_of item.command) }
-    requires sayable { CanWrite item.version (meaning_of item.command) }
+    requires writable { IsWritable item.now.version (meaning_of item.now.command) }
+    requires sayable { CanWrite item.now.version (meaning_of item.now.command) }
     ensures later { O.faults out.old ≤ O.faults out.new }
     ensures steady { Steady (O.faults out.old) (O.faults out.new) result }
     ensures stops { IfErr result IsStop }
-    ensures ends { ItemEnds (with_item F.piece gathered.old (item_of 1 item)) gathered.new
+    ensures ends { ItemEnds (with_item F.piece gathered.old (item_of 1 item.now)) gathered.new
         (output O.Sink out.old) (output O.Sink out.new) result }
 {
-    let Ok(()) = gathered.add(form, &item) else {
+    let Ok(()) = gathered.add(form, item) else {
         return Err(Outcome::NoMemory);
     };
     if gathered.bytes.as_slice().len() >= PIECE {

@@ -33,7 +33,7 @@ impl Gathered {
     }
 
     /// Adds the bytes of a command.
-    pub fn add<F: ItemForm>(&mut self, form: &mut F, item: &Item) -> Result<(), AllocError>
+    pub fn add<F: ItemForm>(&mut self, form: &mut F, item: &Item<'_>) -> Result<(), AllocError>
         requires writable { IsWritable item.now.version (meaning_of item.now.command) }
         requires sayable { CanWrite item.now.version (meaning_of item.now.command) }
         ensures added { OnOk result (self.new ≡ with_item F.piece self.old (item_of 1 item.now)) }

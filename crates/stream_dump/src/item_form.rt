@@ -17,7 +17,7 @@ pub trait ItemForm {
 
     /// Appends the bytes of a command that was read. Without memory the blob begins with the bytes that it had, and some of those of
     /// the command may stand behind them.
-    fn add(&mut self, begins: bool, item: &Item, to: &mut Blob) -> Result<(), AllocError>
+    fn add(&mut self, begins: bool, item: &Item<'_>, to: &mut Blob) -> Result<(), AllocError>
         requires writable { IsWritable item.now.version (meaning_of item.now.command) }
         requires sayable { CanWrite item.now.version (meaning_of item.now.command) }
         ensures added { OnOk result (to.new ≡ to.old ++ piece begins (item_of 1 item.now)) }

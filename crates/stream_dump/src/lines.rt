@@ -19,7 +19,7 @@ pub struct DumpLines;
 impl ItemForm for DumpLines {
     ghost piece = { dump_lines };
 
-    fn add(&mut self, begins: bool, item: &Item, to: &mut Blob) -> Result<(), AllocError> {
+    fn add(&mut self, begins: bool, item: &Item<'_>, to: &mut Blob) -> Result<(), AllocError> {
         if begins {
             push_stream_line(item.version, to)?;
         }
@@ -37,7 +37,7 @@ fn push_stream_line(version: u32, to: &mut Blob) -> Result<(), AllocError>
 }
 
 #[tactic(auto, unfolding(send_model::specs::Lines::command_line, crate::specs::Values::command_text))]
-fn push_line(item: &Item, to: &mut Blob) -> Result<(), AllocError>
+fn push_line(item: &Item<'_>, to: &mut Blob) -> Result<(), AllocError>
     ensures added { OnOk result (to.new ≡ to.old ++ command_line (item_of 1 item.now)) }
     ensures kept { IsFront to.old to.new }
 {

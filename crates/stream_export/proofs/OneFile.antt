@@ -288,7 +288,6 @@ file_stops told inputs new_name file name first now bytes_old bytes_now taken_ol
         told_both told name (Here (IsRefusedAt (λ _. IsFaulty old verdict) (refusal_of verdict.refusal))) (Here Stood) (Ended (ended_by.Refused verdict)) (refused verdict)
         (told_here told name (IsRefusedAt (λ _. IsFaulty old verdict) (refusal_of verdict.refusal)) (told_moved told inputs name old.name (IsRefusedAt (λ _. IsFaulty old verdict) (refusal_of verdict.refusal)) same name_is said))
         (told_here told name Stood stands)
-    by_why stop.NoMemory said = here (Ended ended_by.NoMemory) front
     by_why stop.InputFault said = here (Ended ended_by.InputFault) front
     by_why stop.InputTooLong said =
         told_both told name (Here Stood) (IsLongAt old.offset (OnlyEnds old)) (Ended (ended_by.InputTooLong file)) long

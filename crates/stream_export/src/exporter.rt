@@ -75,7 +75,7 @@ impl<R: Origin> Exporter<R> {
     pub(crate) fn take(
         &mut self,
         begins: bool,
-        item: &Item,
+        item: &Item<'_>,
         frame: &[u8],
         to: &mut Blob,
     ) -> Result<(), Stop>
@@ -125,7 +125,7 @@ impl<R: Origin> Exporter<R> {
     fn push_item<'c>(
         &mut self,
         begins: bool,
-        item: &'c Item,
+        item: &Item<'c>,
         frame: &[u8],
         to: &mut Blob,
     ) -> Result<Option<&'c [u8]>, AllocError>
@@ -154,7 +154,7 @@ impl<R: Origin> Exporter<R> {
     // Appends what goes before a command. Gives the path that the command opens, if it writes to one that is not open.
     fn push_before<'c>(
         &mut self,
-        command: &'c Command,
+        command: &Command<'c>,
         version: u32,
         to: &mut Blob,
     ) -> Result<Option<&'c [u8]>, AllocError>
@@ -293,7 +293,7 @@ fn names_file<R: Origin>(tree: &Tree<R>, path: &[u8]) -> bool
 }
 
 // Whether the receiver has no file open after a command: a head or END.
-fn closes_file(command: &Command) -> bool
+fn closes_file(command: &Command<'_>) -> bool
     ensures { result ≡ closes (meaning_of command.now) }
 {
     matches!(
@@ -303,13 +303,13 @@ fn closes_file(command: &Command) -> bool
 }
 
 // The path of the file that a command writes to through the one that the receiver keeps open.
-fn written_path(command: &Command) -> Option<&[u8]>
+fn written_path<'c>(command: &Command<'c>) -> Option<&'c [u8]>
     ensures { option_map (λ path. path.now) result ≡ written_path (meaning_of command.now) }
 {
     match command {
-        Command::Write { path, .. } => Some(path.as_slice()),
-        Command::Clone { path, .. } => Some(path.as_slice()),
-        Command::Fallocate { path, .. } => Some(path.as_slice()),
+        Command::Write { path, .. } => Some(*path),
+        Command::Clone { path, .. } => Some(*path),
+        Command::Fallocate { path, .. } => Some(*path),
         Command::Subvol { .. } => None,
         Command::Snapshot { .. } => None,
         Command::MkFile { .. } => None,

@@ -18,7 +18,11 @@ use sx_base::Blob;
 
 // Appends the receivable spelling of an item's command, whose frame came so.
 #[tactic(auto, unfolding(send_model::specs::Command::row, send_commands::specs::Writing::IsWritable), using(receivable_form::proofs::Frames::short_text))]
-pub(crate) fn push_receivable(item: &Item, frame: &[u8], to: &mut Blob) -> Result<(), AllocError>
+pub(crate) fn push_receivable(
+    item: &Item<'_>,
+    frame: &[u8],
+    to: &mut Blob,
+) -> Result<(), AllocError>
     requires frame { item.now.canonical ≡ true
         → frame.now ≡ canonical item.now.version (meaning_of item.now.command) }
     requires framed { IsFramed frame.now }
@@ -30,7 +34,7 @@ pub(crate) fn push_receivable(item: &Item, frame: &[u8], to: &mut Blob) -> Resul
 {
     match &item.command {
         Command::Utimes { mtime, atime, path } => {
-            push_read_times(frame, *mtime, *atime, path.as_slice(), item.version, to)
+            push_read_times(frame, *mtime, *atime, path, item.version, to)
         }
         _ => push_read(item, frame, to),
     }
@@ -39,7 +43,7 @@ pub(crate) fn push_receivable(item: &Item, frame: &[u8], to: &mut Blob) -> Resul
 // The same, but of UTIMES as if its frame had not come. The canonical spelling of a command of which nothing more is asked is the
 // receivable one: a frame that came in it goes out as it came.
 #[tactic(auto, using(receivable_form::proofs::Frames::plain_is))]
-fn push_read(item: &Item, frame: &[u8], to: &mut Blob) -> Result<(), AllocError>
+fn push_read(item: &Item<'_>, frame: &[u8], to: &mut Blob) -> Result<(), AllocError>
     requires frame { item.now.canonical ≡ true
         → frame.now ≡ canonical item.now.version (meaning_of item.now.command) }
     requires writable { IsWritable item.now.version (meaning_of item.now.command) }
@@ -55,7 +59,7 @@ fn push_read(item: &Item, frame: &[u8], to: &mut Blob) -> Result<(), AllocError>
 }
 
 // Whether more is asked of a command than its wanted attributes.
-fn is_asked_for_more(command: &Command) -> bool
+fn is_asked_for_more(command: &Command<'_>) -> bool
     ensures plain { result ≡ false → asked_for (meaning_of command.now) ≡ [] }
 {
     matches!(

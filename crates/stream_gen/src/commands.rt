@@ -72,7 +72,7 @@ pub fn push_header(to: &mut Blob) -> Result<(), AllocError>
 
 // Appends a command in its canonical spelling.
 #[tactic(auto, unfolding(send_commands::specs::Writing::IsWritable, send_model::specs::Command::row))]
-fn push_short(command: &Command, to: &mut Blob) -> Result<(), AllocError>
+fn push_short(command: &Command<'_>, to: &mut Blob) -> Result<(), AllocError>
     requires writable { IsWritable 1 (meaning_of command.now) }
     ensures appended { OnOk result (to.new ≡ to.old ++ canonical 1 (meaning_of command.now)) }
     ensures kept { IsFront to.old to.new }
@@ -86,10 +86,11 @@ pub fn push_subvol(alloc: Global, uuid: Uuid, to: &mut Blob) -> Result<(), Alloc
     ensures appended { OnOk result (to.new ≡ to.old ++ canonical 1 (Subvol uuid 1 (part_name 1))) }
     ensures kept { IsFront to.old to.new }
 {
+    let name = name_of_part(alloc, 1)?;
     let command = Command::Subvol {
         uuid,
         ctransid: 1,
-        path: name_of_part(alloc, 1)?,
+        path: name.as_slice(),
     };
     push_short(&command, to)
 }
@@ -108,10 +109,11 @@ pub fn push_snapshot(
         (to.new ≡ to.old ++ canonical 1 (Snapshot uuid part (part_name part) before (part - 1))) }
     ensures kept { IsFront to.old to.new }
 {
+    let name = name_of_part(alloc, part)?;
     let command = Command::Snapshot {
         uuid,
         ctransid: part,
-        path: name_of_part(alloc, part)?,
+        path: name.as_slice(),
         clone_uuid: before,
         clone_ctransid: part - 1,
     };
@@ -124,8 +126,9 @@ pub fn push_mkfile(alloc: Global, file: u64, to: &mut Blob) -> Result<(), AllocE
     ensures appended { OnOk result (to.new ≡ to.old ++ canonical 1 (MkFile (file_name file))) }
     ensures kept { IsFront to.old to.new }
 {
+    let name = name_of_file(alloc, file)?;
     let command = Command::MkFile {
-        path: name_of_file(alloc, file)?,
+        path: name.as_slice(),
     };
     push_short(&command, to)
 }
@@ -146,10 +149,11 @@ pub fn push_write(
     ensures kept { IsFront to.old to.new }
 {
     let bytes = Vec::from_elem(alloc, byte, count)?;
+    let name = name_of_file(alloc, file)?;
     let command = Command::Write {
-        path: name_of_file(alloc, file)?,
+        path: name.as_slice(),
         offset,
-        bytes: Blob::from(bytes),
+        bytes: bytes.as_slice(),
     };
     push_short(&command, to)
 }
@@ -170,12 +174,14 @@ pub fn push_clone(
         (to.new ≡ to.old ++ canonical 1 (clone_by before part drawn.now)) }
     ensures kept { IsFront to.old to.new }
 {
+    let goal = name_of_file(alloc, drawn.goal)?;
+    let source = name_of_file(alloc, drawn.source)?;
     let command = Command::Clone {
-        path: name_of_file(alloc, drawn.goal)?,
+        path: goal.as_slice(),
         offset: BLOCK * drawn.goal_block,
         clone_uuid: before,
         clone_ctransid: part - 1,
-        clone_path: name_of_file(alloc, drawn.source)?,
+        clone_path: source.as_slice(),
         clone_offset: BLOCK * drawn.source_block,
         clone_len: BLOCK,
     };
@@ -189,11 +195,10 @@ fn push_away(alloc: Global, file: u64, to: &mut Blob) -> Result<(), AllocError>
         (to.new ≡ to.old ++ canonical 1 (Rename (file_name file) (codes "t"))) }
     ensures kept { IsFront to.old to.new }
 {
-    let mut other = Blob::new(alloc);
-    other.push_all(b"t")?;
+    let name = name_of_file(alloc, file)?;
     let command = Command::Rename {
-        path: name_of_file(alloc, file)?,
-        path_to: other,
+        path: name.as_slice(),
+        path_to: b"t",
     };
     push_short(&command, to)
 }
@@ -205,11 +210,10 @@ fn push_back(alloc: Global, file: u64, to: &mut Blob) -> Result<(), AllocError>
         (to.new ≡ to.old ++ canonical 1 (Rename (codes "t") (file_name file))) }
     ensures kept { IsFront to.old to.new }
 {
-    let mut other = Blob::new(alloc);
-    other.push_all(b"t")?;
+    let name = name_of_file(alloc, file)?;
     let command = Command::Rename {
-        path: other,
-        path_to: name_of_file(alloc, file)?,
+        path: b"t",
+        path_to: name.as_slice(),
     };
     push_short(&command, to)
 }

@@ -1,8 +1,8 @@
 -- One turn of a session.
-use Rattle.std.specs.Prelude.{◌≡◌, ⊤, ℕ, Bool, true, false, List, [], ◌∷◌, Option, None, Some, Result, Ok, Err, IfErr, OnOk, is_some, if◌then◌else◌}
+use Rattle.std.specs.Prelude.{◌≡◌, ⊤, ℕ, ◌+◌, ◌-◌, ◌<◌, ◌≤◌, Bool, true, false, List, [], ◌∷◌, Option, None, Some, Result, Ok, Err, IfErr, OnOk, is_some, if◌then◌else◌}
 use Rattle.cmd_reader.specs.Places.{IfTold}
 use Rattle.std.specs.Option.{option_map}
-use Rattle.std.proofs.Common.{refl, sym, ap, subst, ◌∙◌}
+use Rattle.std.proofs.Common.{refl, sym, ap, subst, ◌∙◌, arith}
 use Rattle.sx_base.specs.declared.disk.Disk as keeping
 use Rattle.sx_base.specs.Refusals.{refusal_of, verdict_meant}
 use Rattle.sx_base.specs.declared.outcome.Verdict.{Verdict}
@@ -15,6 +15,7 @@ use Rattle.send_model.specs.Reading as reading
 use Rattle.send_model.specs.Receive.{verdict_of, fault_of}
 use Rattle.send_model.specs.Guards.{Guard, guarded, looked}
 use Rattle.send_model.specs.Store.{Store}
+use Rattle.send_model.specs.Lengths as lengths
 use Rattle.store_model.specs.Turns.{Receiving, Session, Turn, receiving_after, turned, next_turn, session_turn}
 use Rattle.store_model.proofs.TurnOrder.{held_of}
 use Rattle.turn_model.proofs.Overs.{over_does, going_does}
@@ -27,7 +28,7 @@ use Rattle.turn_sessions.specs.declared.session.Session as code_session
 use Rattle.turn_sessions.specs.Standing.{Blank, blank_cells, AreParts, IsSession}
 use Rattle.turn_sessions.specs.Doing.{OutcomeReason, IsItemStop}
 use Rattle.turn_sessions.specs.Reading.{Next, Command, AtLimit}
-use Rattle.turn_sessions.specs.Turning.{step_at, StopsAt, IfTooLong, ReadsAs, HasVersion, HasVersionOf}
+use Rattle.turn_sessions.specs.Turning.{step_at, StopsAt, IfTooLong, ReadsAs, HasVersion, HasVersionOf, bytes_left}
 use Rattle.send_model.specs.Command as model
 use Rattle.send_model.specs.Counts.{is_end}
 use Rattle.cmd_reader.specs.Left.{Reader}
@@ -186,6 +187,10 @@ stops_at (how.Files (ended.InputChanged file place)) item before going s = absur
 stops_at how.StoreFault item before going s = tt
 stops_at (how.LogFull end wanted limit) item before going s = (tt, going)
 
+pub stops_there : {G T : Type 0} (result : Result T Received) (item : Item) (before : code_session.Session G) → before.is_over ≡ false → IfErr result IsItemStop → IfErr result (λ why. StopsAt why (Command item) before)
+stops_there (Ok x) item before going s = tt
+stops_there (Err why) item before going s = stops_at why item before going s
+
 -- It does not look at what the session has of its file and its part.
 pub stops_same : {G : Type 0} (why : Received) (next : Next) (a b : code_session.Session G) → a.file ≡ b.file → a.is_over ≡ b.is_over → StopsAt why next a → StopsAt why next b
 stops_same (how.Files ended.OutputFault) next a b file over s = tt
@@ -252,3 +257,19 @@ pub same_next : {T E : Type 0} (result : Result T E) (reader : Reader) (version 
     → (is_end command ≡ true → OnOk result (current ≡ None)) → OnOk result (HasVersion reader current)
 same_next (Ok x) reader version command current due v closed = due_next reader version command current due v closed
 same_next (Err e) reader version command current due v closed = tt
+
+-- The command that was read has the version of the open part.
+pub read_alike : (reader : Reader) (current : Option OpenPart) (version : ℕ) → HasVersion reader current → ((v : ℕ) → reader.fed.due ≡ reading.CommandDue v → version ≡ v) → HasVersionOf version current
+read_alike reader None version has same = tt
+read_alike reader (Some current) version has same = sym (same current.version has)
+
+-- A session that read a command has fewer bytes left.
+pub fewer_left : {G : Type 0} (before after : code_session.Session G) → before.is_over ≡ false → before.reader.offset < after.reader.offset → after.reader.offset ≤ lengths.limit → bytes_left after < bytes_left before
+fewer_left before after going further within = by_over after.is_over
+  where
+    were : bytes_left before ≡ lengths.limit + 1 - before.reader.offset
+    were = ap (λ (b : Bool). if b then 0 else lengths.limit + 1 - before.reader.offset) going
+
+    by_over : (b : Bool) → (if b then 0 else lengths.limit + 1 - after.reader.offset) < bytes_left before
+    by_over true = omega (arith, were, further, within)
+    by_over false = omega (arith, were, further, within)

@@ -1,6 +1,6 @@
 -- What stands between two turns: the store, and the sessions with their open parts, against those of the definitions over cells that carry
 -- nothing. This program's own.
-use Rattle.std.specs.Prelude.{◌≡◌, ⊤, ℕ, true, List, [], ◌∷◌, map, Option, None, Some}
+use Rattle.std.specs.Prelude.{◌≡◌, ⊤, ℕ, Bool, true, List, [], ◌∷◌, map, Option, None, Some}
 use Rattle.std.specs.List.{AllByRecursion}
 use Rattle.send_model.specs.Command.{Command}
 use Rattle.send_model.specs.Spelling.{canonical_all}
@@ -13,6 +13,7 @@ use Rattle.store_model.specs.Stored.{Putting, IsEdit, made}
 use Rattle.store_model.specs.Turns.{Event, Completes, Receiving, part_uuid, part_line, group_of_event}
 use Rattle.store_model.specs.Turns as meant
 use Rattle.store_model.proofs.TurnOrder.{held_of}
+use Rattle.cmd_reader.specs.Left.{Reader}
 use Rattle.turn_sessions.specs.declared.part.OpenPart.{OpenPart}
 use Rattle.turn_sessions.specs.declared.session.Session.{Session}
 
@@ -53,6 +54,10 @@ IsHeld store r = (place : ℕ) → made tt blank_put place store (group_of_event
 abbrev pub AreHeld : Store Blank → Option (Receiving Blank) → Type 0
 AreHeld store None = ⊤
 AreHeld store (Some r) = IsHeld store r
+
+-- A session with this file, reader, guards and part, which is over or not.
+abbrev pub session_with : {G : Type 0} → ℕ → Reader → G → Option OpenPart → Bool → Session G
+session_with file reader guards current is_over = record { file = file; reader = reader; guards = guards; current = current; is_over = is_over }
 
 -- A session of the definitions is this one, but for what it has not read yet and what cells carry.
 pub record IsSession {G : Type 0} (kept : G → List Guard) (s : meant.Session Blank) (session : Session G) : Type 0 where

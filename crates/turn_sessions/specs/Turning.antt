@@ -96,6 +96,12 @@ IfTooLong (how.Files outcome) P = OutcomeLong outcome P
 IfTooLong how.StoreFault P = ⊤
 IfTooLong (how.LogFull end wanted most) P = ⊤
 
+-- A turn refuses its command.
+abbrev pub is_refused : Result (Option Verdict) Received → Bool
+is_refused (Ok None) = false
+is_refused (Ok (Some verdict)) = true
+is_refused (Err why) = false
+
 abbrev pub IsCommand : Next → Type 0
 IsCommand (Command item) = ⊤
 IsCommand AtEnd = ⊥

@@ -21,40 +21,37 @@ ghost use Rattle.turn_sessions.specs.Edits.{AreFrames, AreMade, IsFront, IsTaken
 use clone_resolve::Part;
 use cmd_reader::canonical_command;
 use send_commands::Command;
-use std::alloc::{AllocError, Global};
 use store_groups::{Place, StoreStop};
 use store_journal::Store;
 use sx_base::Disk;
 use tlv_frame::{FRAME_HEAD_LEN, frame_in};
 
 // A command and the length of its frame.
-#[derive(Drop)]
-pub(crate) struct Front {
-    pub(crate) command: Command,
+#[derive(Clone, Copy)]
+pub(crate) struct Front<'a> {
+    pub(crate) command: Command<'a>,
     pub(crate) len: usize,
 }
 
 // The command whose canonical spelling stands in front of the bytes, none where there is none.
-fn front_of(alloc: Global, version: u32, bytes: &[u8]) -> Result<Option<Front>, AllocError>
+fn front_of<'a>(version: u32, bytes: &'a [u8]) -> Option<Front<'a>>
     requires version { is_version version ≡ true }
-    ensures found { IfOk result (FindsFront version bytes.now) }
+    ensures found { FindsFront version bytes.now result }
 {
     let head = match frame_in(bytes) {
         Ok(Some(head)) => head,
-        Ok(None) => return Ok(None),
-        Err(_) => return Ok(None),
+        Ok(None) => return None,
+        Err(_) => return None,
     };
     let len = FRAME_HEAD_LEN + head.len as usize;
-    match canonical_command(alloc, version, head.cmd, &bytes[FRAME_HEAD_LEN..len]) {
-        Ok(Some(command)) => Ok(Some(Front { command, len })),
-        Ok(None) => Ok(None),
-        Err(error) => Err(error),
-    }
+    let Some(command) = canonical_command(version, head.cmd, &bytes[FRAME_HEAD_LEN..len]) else {
+        return None;
+    };
+    Some(Front { command, len })
 }
 
 // Edits the open part by the command of the frame in front, and says how long the frame is.
 fn write_front<D: Disk>(
-    alloc: Global,
     store: &mut Store,
     disk: &mut D,
     part: &mut Part<Place>,
@@ -105,21 +102,18 @@ fn write_front<D: Disk>(
     ensures later { D.faults disk.old ≤ D.faults disk.new }
     ensures steady { Steady (D.faults disk.old) (D.faults disk.new) result }
 {
-    let Some(front) = front_of(alloc, version, bytes)? else {
+    let Some(front) = front_of(version, bytes) else {
         unreachable!()
     };
     let edited = store.edit(disk, part, &front.command, version);
-    let len = front.len;
-    drop(front);
     match edited {
-        Ok(()) => Ok(len),
+        Ok(()) => Ok(front.len),
         Err(why) => Err(why),
     }
 }
 
 // Edits the open part by the command of each frame, in order.
 pub(crate) fn write_frames<D: Disk>(
-    alloc: Global,
     store: &mut Store,
     disk: &mut D,
     part: &mut Part<Place>,
@@ -166,7 +160,7 @@ pub(crate) fn write_frames<D: Disk>(
 {
     let mut at = 0;
     while at < frames.len() {
-        match write_front(alloc, store, disk, part, version, &frames[at..]) {
+        match write_front(store, disk, part, version, &frames[at..]) {
             Ok(len) => at += len,
             Err(why) => return Err(why),
         }

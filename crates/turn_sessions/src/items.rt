@@ -29,7 +29,7 @@ use sx_base::{Disk, Refusal, Sink};
 
 // Whether a command ends its part.
 #[tactic(auto, unfolding(send_commands::specs::Meaning::meaning_of))]
-fn ends(command: &Command) -> bool
+fn ends(command: &Command<'_>) -> bool
     ensures { result ≡ is_end (meaning_of command.now) }
 {
     matches!(command, Command::End)
@@ -37,7 +37,7 @@ fn ends(command: &Command) -> bool
 
 // The next command of a session: its guards look at it, and it is done. None where it is taken.
 pub(crate) fn take_item<D: Disk, O: Sink, G: Guarding + Drop>(
-    read: &FileItem<'_>,
+    read: &FileItem<'_, '_>,
     store: &mut Store,
     disk: &mut D,
     guards: &mut G,
@@ -79,7 +79,7 @@ pub(crate) fn take_item<D: Disk, O: Sink, G: Guarding + Drop>(
 
 // Does a command that no guard refuses.
 fn do_item<D: Disk, O: Sink>(
-    read: &FileItem<'_>,
+    read: &FileItem<'_, '_>,
     store: &mut Store,
     disk: &mut D,
     current: &mut Option<OpenPart>,
@@ -110,7 +110,7 @@ fn do_item<D: Disk, O: Sink>(
     ensures out { OutputLater O.Sink out.old out.new result }
 {
     if ends(&read.item.command) {
-        return match close(read.alloc, store, disk, current, out) {
+        return match close(store, disk, current, out) {
             Ok(()) => Ok(None),
             Err(why) => Err(why),
         };
@@ -123,7 +123,7 @@ fn do_item<D: Disk, O: Sink>(
 
 // Completes the part before a head, and begins the one of the head.
 fn enter<D: Disk, O: Sink>(
-    read: &FileItem<'_>,
+    read: &FileItem<'_, '_>,
     head: &Head<'_>,
     store: &mut Store,
     disk: &mut D,
@@ -152,7 +152,7 @@ fn enter<D: Disk, O: Sink>(
     ensures steady { Steady (D.faults disk.old) (D.faults disk.new) result }
     ensures out { OutputLater O.Sink out.old out.new result }
 {
-    match close(read.alloc, store, disk, current, out) {
+    match close(store, disk, current, out) {
         Ok(()) => {}
         Err(why) => return Err(why),
     }

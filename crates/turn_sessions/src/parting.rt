@@ -34,7 +34,6 @@ use clone_resolve::Head;
 use group_log::LogStop;
 use receiver::Received;
 use send_commands::encode;
-use std::alloc::Global;
 use store_groups::{Place, StoreStop};
 use store_journal::Store;
 use sx_base::{Blob, Disk, Outcome, Refusal, Sink, Stop, write_whole};
@@ -68,7 +67,6 @@ fn ended_by(why: StoreStop) -> Received
 
 // Writes the group of a part, and publishes it: the edits that complete an unfinished entry.
 fn complete<D: Disk>(
-    alloc: Global,
     store: &mut Store,
     disk: &mut D,
     uuid: Uuid,
@@ -120,7 +118,7 @@ fn complete<D: Disk>(
         Ok(part) => part,
         Err(why) => return Err(why),
     };
-    match write_frames(alloc, store, disk, &mut part, version, frames) {
+    match write_frames(store, disk, &mut part, version, frames) {
         Ok(()) => {}
         Err(why) => {
             store.abandon(part);
@@ -135,7 +133,6 @@ fn complete<D: Disk>(
 
 // Completes the open part, if there is one: its group is written and published, and then its line.
 pub(crate) fn close<D: Disk, O: Sink>(
-    alloc: Global,
     store: &mut Store,
     disk: &mut D,
     current: &mut Option<OpenPart>,
@@ -167,14 +164,7 @@ pub(crate) fn close<D: Disk, O: Sink>(
         version,
         frames,
     } = open;
-    match complete(
-        alloc,
-        store,
-        disk,
-        part.key().uuid,
-        version,
-        frames.as_slice(),
-    ) {
+    match complete(store, disk, part.key().uuid, version, frames.as_slice()) {
         Ok(()) => {}
         Err(why) => return Err(ended_by(why)),
     }
@@ -186,7 +176,7 @@ pub(crate) fn close<D: Disk, O: Sink>(
 
 // Begins the part of a head, or gives the refusal of it. No part is open before it.
 pub(crate) fn begin<D: Disk>(
-    read: &FileItem<'_>,
+    read: &FileItem<'_, '_>,
     head: &Head<'_>,
     store: &mut Store,
     disk: &mut D,
@@ -235,7 +225,7 @@ pub(crate) fn begin<D: Disk>(
 
 // Edits the open part, if there is one, and keeps the frame of the edit; or gives its refusal.
 pub(crate) fn edit(
-    read: &FileItem<'_>,
+    read: &FileItem<'_, '_>,
     store: &Store,
     current: &mut Option<OpenPart>,
 ) -> Result<Option<Refusal>, Received>

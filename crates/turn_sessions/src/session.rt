@@ -10,19 +10,18 @@ ghost use Rattle.send_model.specs.Receive.{verdict_of};
 ghost use Rattle.send_model.specs.Spelling.{IsSpellable};
 ghost use Rattle.send_model.specs.Reading.{is_version, CommandDue};
 ghost use Rattle.store_model.specs.Turns as meant;
-ghost use Rattle.store_model.specs.Turns.{session_turn};
+ghost use Rattle.store_model.specs.Turns.{Receiving, session_turn};
 ghost use Rattle.store_model.proofs.TurnOrder.{held_of};
 ghost use Rattle.auditor.specs.Following.{blank};
 ghost use Rattle.send_commands.specs.Meaning.{meaning_of};
 ghost use Rattle.cmd_reader.specs.Places.{IfTold};
-ghost use Rattle.cmd_reader.specs.Left.{at_start, HasAhead, read_to};
+ghost use Rattle.cmd_reader.specs.Left.{Reader, at_start, HasAhead, read_to};
 ghost use Rattle.cmd_reader.specs.Next.{item_of};
 ghost use Rattle.store_journal.specs.Shown.{IsIdle};
 ghost use Rattle.receiver.specs.Answers.{fault_counts};
-ghost use Rattle.turn_sessions.specs.Standing.{Blank, blank_cells, AreHeld, IsSession};
-ghost use Rattle.turn_sessions.specs.Doing.{ErrCaused, IdleSays, run_of, work};
-ghost use Rattle.turn_sessions.specs.Reading.{Command};
-ghost use Rattle.turn_sessions.specs.Turning.{HasVersion, HasVersionOf, IfTooLong, bytes_left, StopsAt, TakesTurn, TurnSays};
+ghost use Rattle.turn_sessions.specs.Standing.{Blank, blank_cells, AreParts, AreHeld, IsSession, session_with};
+ghost use Rattle.turn_sessions.specs.Doing.{ErrCaused, IdleSays, IsItemStop, run_of, work};
+ghost use Rattle.turn_sessions.specs.Turning.{HasVersion, HasVersionOf, IfTooLong, bytes_left, is_refused, TakesTurn, TurnSays};
 
 use crate::items::take_item;
 use crate::part::OpenPart;
@@ -67,7 +66,7 @@ pub(crate) fn new_session<G: Guarding + Drop>(
 }
 
 // A refusal, with the place of its command.
-fn verdict_at(file: u64, item: &Item, refusal: Refusal) -> Verdict
+fn verdict_at(file: u64, item: &Item<'_>, refusal: Refusal) -> Verdict
     ensures { verdict_meant result ≡ verdict_of (item_of file item.now) (refusal_of refusal) }
 {
     Verdict {
@@ -127,56 +126,90 @@ pub(crate) fn take_turn<I: Inputs, O: Sink, D: Disk, G: Guarding + Drop>(
     if session.is_over {
         return Ok(None);
     }
-    match session.reader.next(inputs) {
-        Ok(Some(item)) => do_turn(alloc, store, disk, session, out, &item),
+    let file = session.file;
+    let frame = match session.reader.advance(inputs) {
+        Ok(Some(frame)) => frame,
         Ok(None) => {
             session.is_over = true;
             session.current = None;
-            Ok(None)
+            return Ok(None);
         }
         Err(ReadStop::Refused(verdict)) => {
             session.is_over = true;
             session.current = None;
-            Ok(Some(verdict))
+            return Ok(Some(verdict));
         }
-        Err(ReadStop::NoMemory) => Err(Received::Files(Outcome::NoMemory)),
-        Err(ReadStop::InputFault) => Err(Received::Files(Outcome::InputFault)),
+        Err(ReadStop::InputFault) => return Err(Received::Files(Outcome::InputFault)),
         Err(ReadStop::InputTooLong) => {
-            let file = session.file;
-            Err(Received::Files(Outcome::InputTooLong { file }))
+            return Err(Received::Files(Outcome::InputTooLong { file }));
         }
+    };
+    let item = match session.reader.item(frame) {
+        Ok(item) => item,
+        Err(verdict) => {
+            session.is_over = true;
+            session.current = None;
+            return Ok(Some(verdict));
+        }
+    };
+    let read = FileItem {
+        alloc,
+        file,
+        item: &item,
+    };
+    let turned = do_turn(
+        &read,
+        store,
+        disk,
+        &mut session.guards,
+        &mut session.current,
+        out,
+    );
+    let over = is_refused(&turned);
+    session.is_over = over;
+    turned
+}
+
+// Whether a turn refuses its command.
+fn is_refused(turned: &Result<Option<Verdict>, Received>) -> bool
+    ensures { result ≡ is_refused turned.now }
+{
+    match turned {
+        Ok(Some(_)) => true,
+        Ok(None) => false,
+        Err(_) => false,
     }
 }
 
-// One turn with the command that was read.
+// One turn with the command that was read, of the session with these guards and this part. A session whose command is refused is over
+// then, and has no part.
 fn do_turn<O: Sink, D: Disk, G: Guarding + Drop>(
-    alloc: Global,
+    read: &FileItem<'_, '_>,
     store: &mut Store,
     disk: &mut D,
-    session: &mut Session<G>,
+    guards: &mut G,
+    current: &mut Option<OpenPart>,
     out: &mut O,
-    item: &Item,
 ) -> Result<Option<Verdict>, Received>
     requires idle { IsIdle (D.len disk.old) store.old }
-    requires going { session.old.is_over ≡ false }
-    requires spellable { IsSpellable item.now.version (meaning_of item.now.command) }
-    requires version { is_version item.now.version ≡ true }
-    requires same { HasVersionOf item.now.version session.old.current }
-    requires held { (s : meant.Session Blank) × IsSession G.kept s session.old
-        × AreHeld (blank store.old.core) (held_of s) }
-    ensures file { session.new.file ≡ session.old.file }
-    ensures reader { session.new.reader ≡ session.old.reader }
-    ensures same { OnOk result (HasVersionOf item.now.version session.new.current) }
-    ensures closed { is_end (meaning_of item.now.command) ≡ true →
-        OnOk result (session.new.current ≡ None) }
-    ensures turned { (s : meant.Session Blank) → IsSession G.kept s session.old →
+    requires spellable { IsSpellable read.now.item.now.version
+        (meaning_of read.now.item.now.command) }
+    requires version { is_version read.now.item.now.version ≡ true }
+    requires same { HasVersionOf read.now.item.now.version current.old }
+    requires held { (p : Option (Receiving Blank)) × AreParts p current.old
+        × AreHeld (blank store.old.core) p }
+    ensures same { OnOk result (HasVersionOf read.now.item.now.version current.new) }
+    ensures closed { is_end (meaning_of read.now.item.now.command) ≡ true →
+        OnOk result (current.new ≡ None) }
+    ensures turned { (reader : Reader) (s : meant.Session Blank) →
+        IsSession G.kept s (session_with read.now.file reader guards.old current.old false) →
         AreHeld (blank store.old.core) (held_of s) → (items : List _) →
-        s.items ≡ item_of session.old.file item.now ∷ items →
+        s.items ≡ item_of read.now.file read.now.item.now ∷ items →
         TurnSays (run_of D.Disk (work disk.old store.old (O.taken out.old))
         (work disk.new store.new (O.taken out.new))) G.kept
-        (session_turn tt blank_cells (blank store.old.core) s) session.new result }
-    ensures stops { IfErr result (λ why. StopsAt why
-        (Command (item_of session.old.file item.now)) session.old) }
+        (session_turn tt blank_cells (blank store.old.core) s)
+        (session_with read.now.file reader guards.new current.new (is_refused result)) result }
+    ensures stops { IfErr result IsItemStop }
     ensures limit { store.new.log.limit ≡ store.old.log.limit }
     ensures idle { IdleSays result (D.len disk.new) store.new }
     ensures cause { ErrCaused (fault_counts 0 (O.faults out.old) (D.faults disk.old))
@@ -185,24 +218,11 @@ fn do_turn<O: Sink, D: Disk, G: Guarding + Drop>(
     ensures steady { Steady (D.faults disk.old) (D.faults disk.new) result }
     ensures out { OutputLater O.Sink out.old out.new result }
 {
-    let read = FileItem {
-        alloc,
-        file: session.file,
-        item,
-    };
-    match take_item(
-        &read,
-        store,
-        disk,
-        &mut session.guards,
-        &mut session.current,
-        out,
-    ) {
+    match take_item(read, store, disk, guards, current, out) {
         Ok(None) => Ok(None),
         Ok(Some(refusal)) => {
-            session.is_over = true;
-            session.current = None;
-            Ok(Some(verdict_at(session.file, item, refusal)))
+            *current = None;
+            Ok(Some(verdict_at(read.file, read.item, refusal)))
         }
         Err(why) => Err(why),
     }

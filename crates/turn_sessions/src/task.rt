@@ -16,10 +16,10 @@ pub struct Task<'a> {
 
 // A command that was read of the file with this number. And where memory comes from.
 #[derive(Debug, Drop)]
-pub(crate) struct FileItem<'a> {
+pub(crate) struct FileItem<'a, 'b> {
     pub(crate) alloc: Global,
     pub(crate) file: u64,
-    pub(crate) item: &'a Item,
+    pub(crate) item: &'a Item<'b>,
 }
 
 // The verdict of the session that was refused first, if one was until now. And where memory comes from.

@@ -7,8 +7,8 @@ use Rattle.chain_trial.proofs.FileCounting.{Stands}
 use Rattle.chain_trial.proofs.counting.count_file.Given as goal
 
 -- The commands that were read are counted; the inputs are the same.
-abbrev pub invariant-loop-reader : goal.invariant-loop-reader
-invariant-loop-reader l = record {
+abbrev pub invariant-loop-frame : goal.invariant-loop-frame
+invariant-loop-frame l = record {
   same : l.inputs ≡ l.fn.inputs;
   file : l.reader.file ≡ 1;
   name : l.reader.name ≡ l.fn.name;
@@ -20,5 +20,5 @@ invariant-loop-reader l = record {
 }
 
 -- Each command brings the reader nearer to the limit.
-abbrev pub decreases-loop-reader : goal.decreases-loop-reader
-decreases-loop-reader l = limit - l.reader.offset
+abbrev pub decreases-loop-frame : goal.decreases-loop-frame
+decreases-loop-frame l = limit - l.reader.offset

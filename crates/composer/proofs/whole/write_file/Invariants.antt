@@ -15,8 +15,8 @@ use Rattle.composer.proofs.whole.write_file.Given as goal
 
 -- The items that were read were taken, the inputs tell the same files and were asked for this one, and for ranges again; what is held of the base is the same, and no
 -- count rose.
-abbrev pub invariant-loop-reader : goal.invariant-loop-reader
-invariant-loop-reader g l = record {
+abbrev pub invariant-loop-frame : goal.invariant-loop-frame
+invariant-loop-frame g l = record {
   same : g.I.Inputs.told l.inputs ≡ g.I.Inputs.told l.fn.inputs;
   asked : FileAsked g.I.Inputs (map string_bytes l.fn.task.files.now) l.fn.turn.number l.reader l.fn.inputs l.inputs;
   sizes : AreAsLong (g.B.OutsideBytes.held l.bytes) (g.B.OutsideBytes.held l.fn.bytes);
@@ -35,5 +35,5 @@ invariant-loop-reader g l = record {
 }
 
 -- Each item brings the reader nearer to the limit.
-abbrev pub decreases-loop-reader : goal.decreases-loop-reader
-decreases-loop-reader g l = limit - l.reader.offset
+abbrev pub decreases-loop-frame : goal.decreases-loop-frame
+decreases-loop-frame g l = limit - l.reader.offset

@@ -8,13 +8,13 @@ use Rattle.file_survey.proofs.Surveys.{FileSoFar}
 use Rattle.file_survey.proofs.surveying.survey_file.Given as goal
 
 -- Each command brings the reader nearer to the limit.
-abbrev pub decreases-loop-glance : goal.decreases-loop-glance
-decreases-loop-glance g l = limit - l.reader.offset
+abbrev pub decreases-loop-frame : goal.decreases-loop-frame
+decreases-loop-frame g l = limit - l.reader.offset
 
 -- What is known is what the commands so far say, after what was known before the file; what is left to read is left to the reader; no count
 -- rose, and the inputs were asked for nothing but this file, once as far as it was read.
-abbrev pub invariant-loop-glance : goal.invariant-loop-glance
-invariant-loop-glance g l = record {
+abbrev pub invariant-loop-frame : goal.invariant-loop-frame
+invariant-loop-frame g l = record {
   same : g.I.Inputs.told l.inputs ≡ g.I.Inputs.told l.fn.inputs;
   steady : g.I.Inputs.faults l.inputs ≡ g.I.Inputs.faults l.fn.inputs;
   ends_steady : g.I.Inputs.ends l.inputs ≡ g.I.Inputs.ends l.fn.inputs;

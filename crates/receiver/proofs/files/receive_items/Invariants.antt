@@ -16,8 +16,8 @@ use Rattle.receiver.proofs.files.receive_items.Given as goal
 
 -- The commands that were read were taken; the inputs tell the same files, no count rose,
 -- and they were asked for nothing but this file, once as far as it was read.
-abbrev pub invariant-loop-ended : goal.invariant-loop-ended
-invariant-loop-ended g l = record {
+abbrev pub invariant-loop-frame : goal.invariant-loop-frame
+invariant-loop-frame g l = record {
   same : g.I.Inputs.told l.inputs ≡ g.I.Inputs.told l.fn.inputs;
   steady : g.I.Inputs.faults l.inputs ≡ g.I.Inputs.faults l.fn.inputs;
   ends_steady : g.I.Inputs.ends l.inputs ≡ g.I.Inputs.ends l.fn.inputs;
@@ -37,5 +37,5 @@ invariant-loop-ended g l = record {
 }
 
 -- Each command brings the reader nearer to the limit.
-abbrev pub decreases-loop-ended : goal.decreases-loop-ended
-decreases-loop-ended g l = limit - l.reader.offset
+abbrev pub decreases-loop-frame : goal.decreases-loop-frame
+decreases-loop-frame g l = limit - l.reader.offset

@@ -6,6 +6,5 @@ pub returns-in-Clone-clause-pushed : goal.returns-in-Clone-clause-pushed
 returns-in-Clone-clause-pushed c =
     let v = c.in-Clone in
     subst (λ (l : List ℕ). OnOk c.put-in-Clone.result (c.put-in-Clone.new.to ≡ l))
-    (clone_printed c.args.to.now c.args.command.now v.path v.offset v.clone_uuid v.clone_ctransid v.clone_path v.clone_offset v.clone_len c.as_slice-in-Clone.result.now c.as_slice-in-Clone-2.result.now
-    v.is c.as_slice-in-Clone.ensures.bytes c.as_slice-in-Clone-2.ensures.bytes)
+    (clone_printed c.args.to.now c.args.command.now v.path v.offset v.clone_uuid v.clone_ctransid v.clone_path v.clone_offset v.clone_len v.is)
     c.put-in-Clone.ensures.pushed

@@ -8,8 +8,8 @@ use Rattle.stream_dump.proofs.file_writing.write_file.Given as goal
 
 -- What was written and gathered are the bytes of what was read; the inputs tell the same files, no count rose,
 -- and they were asked for nothing but this file, once as far as it was read.
-abbrev pub invariant-loop-item : goal.invariant-loop-item
-invariant-loop-item g l = record {
+abbrev pub invariant-loop-frame : goal.invariant-loop-frame
+invariant-loop-frame g l = record {
   same : g.I.Inputs.told l.inputs ≡ g.I.Inputs.told l.fn.inputs;
   steady : g.I.Inputs.faults l.inputs ≡ g.I.Inputs.faults l.fn.inputs;
   ends_steady : g.I.Inputs.ends l.inputs ≡ g.I.Inputs.ends l.fn.inputs;
@@ -22,5 +22,5 @@ invariant-loop-item g l = record {
 }
 
 -- Each command brings the reader nearer to the limit.
-abbrev pub decreases-loop-item : goal.decreases-loop-item
-decreases-loop-item g l = limit - l.reader.offset
+abbrev pub decreases-loop-frame : goal.decreases-loop-frame
+decreases-loop-frame g l = limit - l.reader.offset

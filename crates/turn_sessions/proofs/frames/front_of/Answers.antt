@@ -3,11 +3,9 @@ use Rattle.std.specs.Prelude.{◌+◌, ◌-◌, take, drop}
 use Rattle.std.proofs.Common.{arith}
 use Rattle.send_model.proofs.ElementLaws.{all_take}
 use Rattle.sx_base.specs.Refusals.{refusal_of}
-use Rattle.send_commands.specs.declared.command.Command.{Command}
 use Rattle.send_commands.specs.Meaning.{meaning_of}
 use Rattle.tlv_frame.specs.declared.frame_head.FrameHead.{FrameHead}
 use Rattle.tlv_frame.specs.InFront.{FindsFrame}
-use Rattle.cmd_reader.specs.Commands.{FindsCanonical}
 use Rattle.cmd_reader.proofs.CommandFacts.{slice_bytes}
 use Rattle.turn_sessions.proofs.Spelled.{not_cut, not_refused_there, body_read, is_in_front}
 use Rattle.turn_sessions.proofs.frames.front_of.Goals as goal
@@ -24,25 +22,24 @@ returns-in-Err c = record { found = λ command rest s is. not_refused_there c.ar
 body_is : (len : ℕ) (bytes : List ℕ) → take (10 + len - 10) (drop 10 bytes) ≡ take len (drop 10 bytes)
 body_is len bytes = ap (λ (n : ℕ). take n (drop 10 bytes)) (omega arith)
 
-pub returns-in-Ok-Some-canonical_command : goal.returns-in-Ok-Some-canonical_command
-returns-in-Ok-Some-canonical_command c =
+pub returns : goal.returns
+returns c =
     let bytes = c.args.bytes.now in
     let head = c.in-Ok-Some.head in
     let frame = subst (λ (o : Option FrameHead). FindsFrame bytes (Ok o)) c.in-Ok-Some.field-0-is c.in-Ok-Some.ensures.exact in
-    let said = subst (λ (o : Option Command). FindsCanonical c.args.version head.cmd (take (10 + head.len - 10) (drop 10 bytes)) o) c.in-Ok-Some-canonical_command.field-0-is c.in-Ok-Some-canonical_command.ensures.found in
+    let said = c.in-Some.ensures.found in
     record {
-      found = is_in_front c.args.version bytes head frame (take (10 + head.len - 10) (drop 10 bytes)) (body_is head.len bytes) (meaning_of c.in-Ok-Some-canonical_command.command)
+      found = is_in_front c.args.version bytes head frame (take (10 + head.len - 10) (drop 10 bytes)) (body_is head.len bytes) (meaning_of c.in-Some.command)
           (all_take _ (10 + head.len) bytes (slice_bytes bytes c.type_inv.bytes)) said.0.spellable said.1.read said.1.command_is;
     }
 
-pub returns-in-Ok-None-canonical_command : goal.returns-in-Ok-None-canonical_command
-returns-in-Ok-None-canonical_command c =
+pub returns-in_default : goal.returns-in_default
+returns-in_default c =
     let bytes = c.args.bytes.now in
     let head = c.in-Ok-Some.head in
     let frame = subst (λ (o : Option FrameHead). FindsFrame bytes (Ok o)) c.in-Ok-Some.field-0-is c.in-Ok-Some.ensures.exact in
-    let said = subst (λ (o : Option Command). FindsCanonical c.args.version head.cmd (take (10 + head.len - 10) (drop 10 bytes)) o) c.in-Ok-None-canonical_command.field-0-is c.in-Ok-None-canonical_command.ensures.found in
     record {
       found = λ command rest s is.
           let read = body_read c.args.version bytes head frame (take (10 + head.len - 10) (drop 10 bytes)) (body_is head.len bytes) rest command s is in
-          said command (record { read = read.0; command_is = read.1 });
+          c.in_default.ensures.found command (record { read = read.0; command_is = read.1 });
     }

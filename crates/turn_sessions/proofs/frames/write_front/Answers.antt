@@ -1,32 +1,24 @@
-use Rattle.std.specs.Prelude.{◌≡◌, ◌+◌, ◌++◌, ◌∷◌, [], ℕ, List, Option, Err, None, length}
+use Rattle.std.specs.Prelude.{◌≡◌, ◌+◌, ◌++◌, ◌∷◌, [], ℕ, List, Err, None, length}
 use Rattle.std.proofs.Common.{sym, ap, subst, ◌∙◌}
 use Rattle.sx_base.specs.Causes.{Rose}
-use Rattle.sx_base.proofs.DiskMoments.{begins}
 use Rattle.send_model.specs.Command.{Command}
 use Rattle.send_model.specs.Spelling.{canonical}
 use Rattle.send_model.proofs.Fuel.{ok_same}
 use Rattle.store_model.specs.Stored.{IsEdit}
 use Rattle.send_commands.specs.Meaning.{meaning_of}
-use Rattle.group_log.proofs.GatedGroups.{grows_has}
 use Rattle.store_groups.specs.Stopping.{IfLog}
 use Rattle.store_journal.specs.Filling.{first_full, piece_asks, IsStopOf}
-use Rattle.store_journal.specs.Holding.{bodies_of}
 use Rattle.store_journal.proofs.Unpacked.{Builds}
-use Rattle.turn_sessions.specs.declared.frames.Front.{Front}
-use Rattle.turn_sessions.specs.Fronts.{IsInFront, FindsFront}
+use Rattle.turn_sessions.specs.Fronts.{IsInFront}
 use Rattle.turn_sessions.specs.Edits.{IsFront, IsTaken}
 use Rattle.turn_sessions.proofs.FramesLeft.{front_same, no_refusal, stopped_so}
 use Rattle.turn_sessions.proofs.frames.write_front.Given.{Over}
 use Rattle.turn_sessions.proofs.frames.write_front.Goals.{In-Some}
 use Rattle.turn_sessions.proofs.frames.write_front.Goals as goal
 
-pub returns-in_err-front-clause-any_moment : goal.returns-in_err-front-clause-any_moment
-returns-in_err-front-clause-any_moment g c tells header groups commands builds =
-    begins c.args.disk.now (λ image. g.met.D.Disk.only_now c.args.disk.now image tells) (grows_has header (bodies_of groups) _ _ _ _ builds.grows)
-
 module _ (g : Over) (c : In-Some g) where
   front : IsInFront c.args.version c.args.bytes.now (meaning_of c.in-Some.front.command) c.in-Some.front.len
-  front = subst (λ (o : Option Front). FindsFront c.args.version c.args.bytes.now o) c.in-Some.is c.in_ok-front.ensures.found
+  front = c.in-Some.ensures.found
 
   same : (d : Command) (more : List ℕ) → IsFront c.args.version c.args.bytes.now d more → (meaning_of c.in-Some.front.command ≡ d) × (c.in-Some.front.len ≡ length (canonical c.args.version d))
   same d more is = front_same c.args.version c.args.bytes.now (meaning_of c.in-Some.front.command) d c.in-Some.front.len more front is

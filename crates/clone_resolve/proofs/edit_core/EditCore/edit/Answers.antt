@@ -8,29 +8,26 @@ use Rattle.clone_resolve.proofs.edit_core.EditCore.edit.Goals as goal
 
 pub returns-in-Write-clause-edited : goal.returns-in-Write-clause-edited
 returns-in-Write-clause-edited g c =
-    let w = rw (c.as_slice-in-Write.ensures.bytes, c.as_slice.ensures.bytes) at c.write.ensures in
     let part = ap (λ p. p.subvolume) c.part.view_is in
-    let v = rw part at w in
-    rw (c.in-Write.is, write_is g.O.Origin.advanced c.args.origin c.args.self.now c.args.part.now c.in-Write.path c.in-Write.offset c.in-Write.bytes) v
+    let v = rw part at c.write.ensures in
+    rw (c.in-Write.is, write_is g.O.Origin.advanced c.args.origin c.args.self.now c.args.part.now c.in-Write.path.now c.in-Write.offset c.in-Write.bytes.now) v
 
 pub returns-in-Truncate-clause-edited : goal.returns-in-Truncate-clause-edited
 returns-in-Truncate-clause-edited g c =
-    let w = rw (c.as_slice-in-Truncate.ensures.bytes) at c.truncate.ensures in
     let part = ap (λ p. p.subvolume) c.part-in-Truncate.view_is in
-    let v = rw part at w in
-    rw (c.in-Truncate.is, truncate_is None _ c.args.self.now c.args.part.now c.in-Truncate.size c.in-Truncate.path) v
+    let v = rw part at c.truncate.ensures in
+    rw (c.in-Truncate.is, truncate_is None _ c.args.self.now c.args.part.now c.in-Truncate.size c.in-Truncate.path.now) v
 
 pub returns-in-Fallocate-clause-edited : goal.returns-in-Fallocate-clause-edited
 returns-in-Fallocate-clause-edited g c =
-    let w = rw (c.as_slice-in-Fallocate.ensures.bytes) at c.fallocate.ensures in
     let part = ap (λ p. p.subvolume) c.part-in-Fallocate.view_is in
-    let v = rw part at w in
-    rw (c.in-Fallocate.is, fallocate_is None _ c.args.self.now c.args.part.now c.in-Fallocate.size c.in-Fallocate.path c.in-Fallocate.offset c.in-Fallocate.mode) v
+    let v = rw part at c.fallocate.ensures in
+    rw (c.in-Fallocate.is, fallocate_is None _ c.args.self.now c.args.part.now c.in-Fallocate.size c.in-Fallocate.path.now c.in-Fallocate.offset c.in-Fallocate.mode) v
 
 pub returns-in-Clone-clause-edited : goal.returns-in-Clone-clause-edited
 returns-in-Clone-clause-edited g c =
-    let w = rw (c.as_slice-in-Clone.ensures.bytes, c.as_slice-in-Clone-2.ensures.bytes, c.key_with.ensures.uuid, c.key_with.ensures.ctransid) at c.clone_range.ensures.cloned in
-    rw (c.in-Clone.is, clone_is None _ c.args.self.now c.args.part.now c.in-Clone.path c.in-Clone.offset c.in-Clone.clone_uuid c.in-Clone.clone_ctransid c.in-Clone.clone_path c.in-Clone.clone_offset c.in-Clone.clone_len) w
+    let w = rw (c.key_with.ensures.uuid, c.key_with.ensures.ctransid) at c.clone_range.ensures.cloned in
+    rw (c.in-Clone.is, clone_is None _ c.args.self.now c.args.part.now c.in-Clone.path.now c.in-Clone.offset c.in-Clone.clone_uuid c.in-Clone.clone_ctransid c.in-Clone.clone_path.now c.in-Clone.clone_offset c.in-Clone.clone_len) w
 
 pub returns-in_default : goal.returns-in_default
 returns-in_default g c =

@@ -1,6 +1,6 @@
 use Rattle.std.specs.Prelude.{◌≡◌, ◌≤◌, ℕ, List, map, Option, Ok}
 use Rattle.std.specs.String.{string_bytes}
-use Rattle.std.proofs.Common.{refl, sym, ap, ap₂, subst, ◌∙◌, arith}
+use Rattle.std.proofs.Common.{refl, sym, ap, subst, ◌∙◌, arith}
 use Rattle.send_model.specs.Command.{Command, Clone}
 use Rattle.send_model.specs.Spelling.{canonical}
 use Rattle.send_model.specs.Due.{most_literal}
@@ -26,20 +26,20 @@ use Rattle.composer.proofs.composing.Composer.add.Goals as goal
 pub add_own-requires : goal.add_own-requires
 add_own-requires g c =
     let C : List ℕ → List ℕ → Command = λ p q. Clone p c.in-Clone.offset c.in-Clone.clone_uuid c.in-Clone.clone_ctransid q c.in-Clone.clone_offset c.in-Clone.clone_len in
-    let is : meaning_of c.args.edit.now.item.now.command ≡ C c.as_slice.result.now c.as_slice-in-Clone.result.now = ap meaning_of c.in-Clone.is ∙ ap₂ C (sym c.as_slice.ensures.bytes) (sym c.as_slice-in-Clone.ensures.bytes) in
+    let is : meaning_of c.args.edit.now.item.now.command ≡ C c.in-Clone.path.now c.in-Clone.clone_path.now = ap meaning_of c.in-Clone.is in
     record {
-      short = paths_short c.args.edit.now.item.now.version c.as_slice.result.now c.in-Clone.offset c.in-Clone.clone_uuid c.in-Clone.clone_ctransid c.as_slice-in-Clone.result.now c.in-Clone.clone_offset c.in-Clone.clone_len
-          (spellable_is_writable c.args.edit.now.item.now.version (C c.as_slice.result.now c.as_slice-in-Clone.result.now) (subst (λ (m : Command). CanWrite c.args.edit.now.item.now.version m) is c.requires.can_write).spellable);
+      short = paths_short c.args.edit.now.item.now.version c.in-Clone.path.now c.in-Clone.offset c.in-Clone.clone_uuid c.in-Clone.clone_ctransid c.in-Clone.clone_path.now c.in-Clone.clone_offset c.in-Clone.clone_len
+          (spellable_is_writable c.args.edit.now.item.now.version (C c.in-Clone.path.now c.in-Clone.clone_path.now) (subst (λ (m : Command). CanWrite c.args.edit.now.item.now.version m) is c.requires.can_write).spellable);
     }
 
 pub returns-then-is_own-clause-added : goal.returns-then-is_own-clause-added
 returns-then-is_own-clause-added g c tells =
     let C : List ℕ → List ℕ → Command = λ p q. Clone p c.in-Clone.offset c.in-Clone.clone_uuid c.in-Clone.clone_ctransid q c.in-Clone.clone_offset c.in-Clone.clone_len in
-    let is : meaning_of c.args.edit.now.item.now.command ≡ C c.as_slice.result.now c.as_slice-in-Clone.result.now = ap meaning_of c.in-Clone.is ∙ ap₂ C (sym c.as_slice.ensures.bytes) (sym c.as_slice-in-Clone.ensures.bytes) in
+    let is : meaning_of c.args.edit.now.item.now.command ≡ C c.in-Clone.path.now c.in-Clone.clone_path.now = ap meaning_of c.in-Clone.is in
     all_always (g.I.Inputs.told c.args.inputs.now) (map string_bytes c.args.task.now.files.now) _ (λ told.
     subst (λ (m : Command). AddEnd told (g.E.Known.base c.args.task.now.known.now) c.args.task.now.survey.now (key_of c.args.edit.now.last) c.args.self.now c.add_own.new.self m (g.O.Sink.taken c.args.out.now) (g.O.Sink.taken c.add_own.new.out) c.map_err.result) (sym is)
     (own_adds told (g.E.Known.base c.args.task.now.known.now) c.args.task.now.survey.now (key_of c.args.edit.now.last) c.args.self.now c.add_own.new.self (g.O.Sink.taken c.args.out.now) (g.O.Sink.taken c.add_own.new.out)
-    c.as_slice.result.now c.in-Clone.offset c.in-Clone.clone_uuid c.in-Clone.clone_ctransid c.as_slice-in-Clone.result.now c.in-Clone.clone_offset c.in-Clone.clone_len
+    c.in-Clone.path.now c.in-Clone.offset c.in-Clone.clone_uuid c.in-Clone.clone_ctransid c.in-Clone.clone_path.now c.in-Clone.clone_offset c.in-Clone.clone_len
     (g.O.Sink.faults c.args.out.now) (g.O.Sink.faults c.add_own.new.out) c.add_own.result c.map_err.result (answer_is c.add_own.result c.map_err.result c.map_err.ensures.cases) (sym c.is_own.ensures ∙ c.if-is_own.true) c.add_own.ensures.put c.add_own.ensures.sum
     (subst (λ (k : Kept). k.sum ≤ most_literal) c.self-in-Clone.view_is c.self-in-Clone.invariant.1)))
 
@@ -60,12 +60,12 @@ put_item-requires-clause-short g c =
 pub returns-then-not-has_part-clause-added : goal.returns-then-not-has_part-clause-added
 returns-then-not-has_part-clause-added g c tells =
     let C : List ℕ → List ℕ → Command = λ p q. Clone p c.in-Clone.offset c.in-Clone.clone_uuid c.in-Clone.clone_ctransid q c.in-Clone.clone_offset c.in-Clone.clone_len in
-    let is : meaning_of c.args.edit.now.item.now.command ≡ C c.in-Clone.path c.in-Clone.clone_path = ap meaning_of c.in-Clone.is in
+    let is : meaning_of c.args.edit.now.item.now.command ≡ C c.in-Clone.path.now c.in-Clone.clone_path.now = ap meaning_of c.in-Clone.is in
     let new : Kept = record (the_view c.self-in-Clone.inside) { pending = c.put_item.new.pending } in
     all_always (g.I.Inputs.told c.args.inputs.now) (map string_bytes c.args.task.now.files.now) _ (λ told.
     subst (λ (m : Command). AddEnd told (g.E.Known.base c.args.task.now.known.now) c.args.task.now.survey.now (key_of c.args.edit.now.last) c.args.self.now new m (g.O.Sink.taken c.args.out.now) (g.O.Sink.taken c.put_item.new.out) c.map_err-then-not-has_part.result) (sym is)
     (kept_adds told (g.E.Known.base c.args.task.now.known.now) c.args.task.now.survey.now (key_of c.args.edit.now.last) c.args.self.now new (g.O.Sink.taken c.args.out.now) (g.O.Sink.taken c.put_item.new.out)
-    c.in-Clone.path c.in-Clone.offset c.in-Clone.clone_uuid c.in-Clone.clone_ctransid c.in-Clone.clone_path c.in-Clone.clone_offset c.in-Clone.clone_len
+    c.in-Clone.path.now c.in-Clone.offset c.in-Clone.clone_uuid c.in-Clone.clone_ctransid c.in-Clone.clone_path.now c.in-Clone.clone_offset c.in-Clone.clone_len
     (g.O.Sink.faults c.args.out.now) (g.O.Sink.faults c.put_item.new.out) c.put_item.result c.map_err-then-not-has_part.result (answer_is c.put_item.result c.map_err-then-not-has_part.result c.map_err-then-not-has_part.ensures.cases) (sym c.is_own.ensures ∙ c.if-is_own.false) (sym c.has_part.ensures ∙ c.if-not-has_part.true)
     (subst (λ (m : Command). PutEnd (g.O.Sink.taken c.args.out.now) (g.O.Sink.taken c.put_item.new.out) c.args.self.now.pending c.put_item.new.pending (canonical c.args.task.now.survey.now.version m) (g.O.Sink.faults c.args.out.now) (g.O.Sink.faults c.put_item.new.out) c.put_item.result) is
     (subst (λ (v : ℕ). PutEnd (g.O.Sink.taken c.args.out.now) (g.O.Sink.taken c.put_item.new.out) c.args.self.now.pending c.put_item.new.pending (canonical v (meaning_of c.args.edit.now.item.now.command)) (g.O.Sink.faults c.args.out.now) (g.O.Sink.faults c.put_item.new.out) c.put_item.result) c.version.ensures.version
@@ -84,19 +84,19 @@ returns-then-not-has_part-clause-changed g c =
 pub add_redirected-requires-clause-taken : goal.add_redirected-requires-clause-taken
 add_redirected-requires-clause-taken g c =
     let C : List ℕ → List ℕ → Command = λ p q. Clone p c.in-Clone.offset c.in-Clone.clone_uuid c.in-Clone.clone_ctransid q c.in-Clone.clone_offset c.in-Clone.clone_len in
-    let is : meaning_of c.args.edit.now.item.now.command ≡ C c.as_slice.result.now c.as_slice-in-Clone.result.now = ap meaning_of c.in-Clone.is ∙ ap₂ C (sym c.as_slice.ensures.bytes) (sym c.as_slice-in-Clone.ensures.bytes) in
+    let is : meaning_of c.args.edit.now.item.now.command ≡ C c.in-Clone.path.now c.in-Clone.clone_path.now = ap meaning_of c.in-Clone.is in
     let led = c.requires.led in (
       led.0,
-      led_taken led.0 c.args.self.now.state led.1 c.as_slice.result.now c.in-Clone.offset (key_of (record { uuid = c.in-Clone.clone_uuid; ctransid = c.in-Clone.clone_ctransid })) c.as_slice-in-Clone.result.now c.in-Clone.clone_offset c.in-Clone.clone_len
+      led_taken led.0 c.args.self.now.state led.1 c.in-Clone.path.now c.in-Clone.offset (key_of (record { uuid = c.in-Clone.clone_uuid; ctransid = c.in-Clone.clone_ctransid })) c.in-Clone.clone_path.now c.in-Clone.clone_offset c.in-Clone.clone_len
           (subst (λ (m : Command). Led led.0 c.args.self.now.state led.1 m) is led.2) (sym c.is_own.ensures ∙ c.if-is_own.false),
     )
 
 pub add_redirected-requires-clause-short : goal.add_redirected-requires-clause-short
 add_redirected-requires-clause-short g c =
     let C : List ℕ → List ℕ → Command = λ p q. Clone p c.in-Clone.offset c.in-Clone.clone_uuid c.in-Clone.clone_ctransid q c.in-Clone.clone_offset c.in-Clone.clone_len in
-    let is : meaning_of c.args.edit.now.item.now.command ≡ C c.as_slice.result.now c.as_slice-in-Clone.result.now = ap meaning_of c.in-Clone.is ∙ ap₂ C (sym c.as_slice.ensures.bytes) (sym c.as_slice-in-Clone.ensures.bytes) in
-    (paths_short c.args.edit.now.item.now.version c.as_slice.result.now c.in-Clone.offset c.in-Clone.clone_uuid c.in-Clone.clone_ctransid c.as_slice-in-Clone.result.now c.in-Clone.clone_offset c.in-Clone.clone_len
-    (spellable_is_writable c.args.edit.now.item.now.version (C c.as_slice.result.now c.as_slice-in-Clone.result.now) (subst (λ (m : Command). CanWrite c.args.edit.now.item.now.version m) is c.requires.can_write).spellable)).0
+    let is : meaning_of c.args.edit.now.item.now.command ≡ C c.in-Clone.path.now c.in-Clone.clone_path.now = ap meaning_of c.in-Clone.is in
+    (paths_short c.args.edit.now.item.now.version c.in-Clone.path.now c.in-Clone.offset c.in-Clone.clone_uuid c.in-Clone.clone_ctransid c.in-Clone.clone_path.now c.in-Clone.clone_offset c.in-Clone.clone_len
+    (spellable_is_writable c.args.edit.now.item.now.version (C c.in-Clone.path.now c.in-Clone.clone_path.now) (subst (λ (m : Command). CanWrite c.args.edit.now.item.now.version m) is c.requires.can_write).spellable)).0
 
 pub put_item-requires-in_default : goal.put_item-requires-in_default
 put_item-requires-in_default g c =
@@ -112,15 +112,15 @@ returns-in-End-clause-added g c tells =
 pub returns-else-not-has_part-clause-added : goal.returns-else-not-has_part-clause-added
 returns-else-not-has_part-clause-added g c tells =
     let C : List ℕ → List ℕ → Command = λ p q. Clone p c.in-Clone.offset c.in-Clone.clone_uuid c.in-Clone.clone_ctransid q c.in-Clone.clone_offset c.in-Clone.clone_len in
-    let is : meaning_of c.args.edit.now.item.now.command ≡ C c.as_slice.result.now c.as_slice-in-Clone.result.now = ap meaning_of c.in-Clone.is ∙ ap₂ C (sym c.as_slice.ensures.bytes) (sym c.as_slice-in-Clone.ensures.bytes) in
-    let P : List (List ℕ) → Type 0 = λ told. (cells : List (Option Trace)) → IsSourceOf cells c.args.self.now.state (key_of (record { uuid = c.in-Clone.clone_uuid; ctransid = c.in-Clone.clone_ctransid })) c.as_slice-in-Clone.result.now
-    → AddsRange (g.E.Known.base c.args.task.now.known.now) c.args.task.now.survey.now.version c.as_slice.result.now c.in-Clone.offset
+    let is : meaning_of c.args.edit.now.item.now.command ≡ C c.in-Clone.path.now c.in-Clone.clone_path.now = ap meaning_of c.in-Clone.is in
+    let P : List (List ℕ) → Type 0 = λ told. (cells : List (Option Trace)) → IsSourceOf cells c.args.self.now.state (key_of (record { uuid = c.in-Clone.clone_uuid; ctransid = c.in-Clone.clone_ctransid })) c.in-Clone.clone_path.now
+    → AddsRange (g.E.Known.base c.args.task.now.known.now) c.args.task.now.survey.now.version c.in-Clone.path.now c.in-Clone.offset
     (seen_cells told (g.E.Known.base c.args.task.now.known.now) (cells_between c.in-Clone.clone_offset c.in-Clone.clone_len cells))
     c.args.self.now c.add_redirected.new.self (g.O.Sink.taken c.args.out.now) (g.O.Sink.taken c.add_redirected.new.out) c.add_redirected.result in
     all_map (g.I.Inputs.told c.args.inputs.now) (map string_bytes c.args.task.now.files.now) P _ (λ told adds.
     subst (λ (m : Command). AddEnd told (g.E.Known.base c.args.task.now.known.now) c.args.task.now.survey.now (key_of c.args.edit.now.last) c.args.self.now c.add_redirected.new.self m (g.O.Sink.taken c.args.out.now) (g.O.Sink.taken c.add_redirected.new.out) c.add_redirected.result) (sym is)
     (redirected_adds told (g.E.Known.base c.args.task.now.known.now) c.args.task.now.survey.now (key_of c.args.edit.now.last) c.args.self.now c.add_redirected.new.self (g.O.Sink.taken c.args.out.now) (g.O.Sink.taken c.add_redirected.new.out)
-    c.as_slice.result.now c.in-Clone.offset c.in-Clone.clone_uuid c.in-Clone.clone_ctransid c.as_slice-in-Clone.result.now c.in-Clone.clone_offset c.in-Clone.clone_len
+    c.in-Clone.path.now c.in-Clone.offset c.in-Clone.clone_uuid c.in-Clone.clone_ctransid c.in-Clone.clone_path.now c.in-Clone.clone_offset c.in-Clone.clone_len
     c.add_redirected.result (sym c.is_own.ensures ∙ c.if-is_own.false) (sym c.has_part.ensures ∙ c.if-not-has_part.false) adds)) (c.add_redirected.ensures.added tells)
 
 pub returns-in_default : goal.returns-in_default

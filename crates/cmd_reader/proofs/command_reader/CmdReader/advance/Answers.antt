@@ -4,7 +4,7 @@ use Rattle.cmd_reader.proofs.Goings.{begun_at_start, begun_further, begun_ahead,
 use Rattle.cmd_reader.specs.Left.{read_to}
 use Rattle.cmd_reader.proofs.Asked.{reads_nothing, reads_then}
 use Rattle.cmd_reader.proofs.Standing.{halted_over}
-use Rattle.cmd_reader.proofs.command_reader.CmdReader.frame.Goals as goal
+use Rattle.cmd_reader.proofs.command_reader.CmdReader.advance.Goals as goal
 
 pub loop-answer-init : goal.loop-answer-init
 loop-answer-init g c = record { same = refl; steady = refl; ends_steady = refl; asked = reads_nothing g.I.Inputs c.args.inputs.now c.args.self.now.name (read_to c.args.self.now); begun = begun_at_start (g.I.Inputs.told c.args.inputs.now) c.args.self.now c.requires.ahead; ahead = c.requires.ahead }

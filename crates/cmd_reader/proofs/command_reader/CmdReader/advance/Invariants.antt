@@ -4,7 +4,7 @@ use Rattle.sx_base.specs.Later.{ReadsOn}
 use Rattle.cmd_reader.specs.Places.{IfTold}
 use Rattle.cmd_reader.specs.Left.{HasAhead, read_to}
 use Rattle.cmd_reader.specs.Next.{HasBegun, BeginsAt}
-use Rattle.cmd_reader.proofs.command_reader.CmdReader.frame.Given as goal
+use Rattle.cmd_reader.proofs.command_reader.CmdReader.advance.Given as goal
 
 -- Headers were passed, and no frame, and no count rose.
 abbrev pub invariant-loop-answer : goal.invariant-loop-answer
