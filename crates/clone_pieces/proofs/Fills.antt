@@ -10,6 +10,7 @@ use lib.ListN.{replicate}
 use Rattle.send_model.specs.Store as meant
 use Rattle.send_model.proofs.ElementLaws.{all_first, all_drop}
 use Rattle.sx_base.specs.Again.{LiesIn, EarlyEnd}
+use Rattle.sx_base.specs.Asks.{IsData, AreData}
 use Rattle.sx_base.specs.Outside.{file_at}
 use Rattle.sx_base.specs.Calls.{contents, IfAllTold}
 use Rattle.subvol_catalog.specs.declared.key.Key.{Key}
@@ -37,12 +38,15 @@ all_at P (x ∷ xs) zero d lt all = all.0
 all_at P (x ∷ xs) (suc k) d lt all = all_at P xs k d (omega (arith, lt)) all.1
 
 module _ (whole : List (Option Trace)) (have n : ℕ) (rest : List (Option Trace)) (some : 0 < n) where
-  -- The last cell of a run.
-  piece_cell : (P : Option Trace → Type 0) (t : Trace) → drop have whole ≡ piece_cells advanced_by (Some t) n ++ rest → AllByRecursion P whole → P (Some (advanced_by t (n - 1)))
-  piece_cell P t is all =
+  -- A cell of a run, and its last.
+  piece_at : (P : Option Trace → Type 0) (t : Trace) → drop have whole ≡ piece_cells advanced_by (Some t) n ++ rest → AllByRecursion P whole → (k : ℕ) → k < n → P (Some (advanced_by t k))
+  piece_at P t is all k less =
       let cells : List (Option Trace) = piece_cells advanced_by (Some t) n in
       let front : AllByRecursion P cells = all_first P cells rest (subst (λ (l : List (Option Trace)). AllByRecursion P l) is (all_drop P have whole all)) in
-      subst P (get_or-run advanced_by t n (n - 1) (omega (arith, some))) (all_at P cells (n - 1) None (let l = length-piece advanced_by (Some t) n in omega (arith, some, l)) front)
+      subst P (get_or-run advanced_by t n k less) (all_at P cells k None (let l = length-piece advanced_by (Some t) n in omega (arith, less, l)) front)
+
+  piece_cell : (P : Option Trace → Type 0) (t : Trace) → drop have whole ≡ piece_cells advanced_by (Some t) n ++ rest → AllByRecursion P whole → P (Some (advanced_by t (n - 1)))
+  piece_cell P t is all = piece_at P t is all (n - 1) (omega (arith, some))
 
   pub piece_had : (count : ℕ) (held : meant.Key → ℕ → List ℕ) (origin : Option Trace) → drop have whole ≡ piece_cells advanced_by origin n ++ rest → AllByRecursion (IsHadIn count held) whole → PieceHad count held origin n
   piece_had count held None is all = tt
@@ -51,7 +55,9 @@ module _ (whole : List (Option Trace)) (have n : ℕ) (rest : List (Option Trace
 
   pub piece_there : (origin : Option Trace) → drop have whole ≡ piece_cells advanced_by origin n ++ rest → (files : List (List ℕ)) → AllByRecursion (IsInInput files) whole → PieceThere origin n files
   piece_there None is files all = tt
-  piece_there (Some (Fresh file at)) is files all = let last = piece_cell (IsInInput files) (Fresh file at) is all in omega (arith, last, some)
+  piece_there (Some (Fresh file at)) is files all =
+      let last = (piece_cell (IsInInput files) (Fresh file at) is all).0 in
+      (omega (arith, last, some), (λ k less. (piece_at (IsInInput files) (Fresh file at) is all k less).1))
   piece_there (Some (Outside key ino at)) is files all = tt
 
 -- ---- the bytes of a piece
@@ -90,7 +96,7 @@ module _ {Z : Type 0} (names : List (String Z)) (held : meant.Key → ℕ → Li
   file_less = subst (λ (o : Option Trace). PieceHad (length names) held o len) origin_is had
 
   there_is : (table : List (List ℕ × List ℕ)) → PieceThere origin len (contents table (map string_bytes names)) → at + len ≤ length (get_or (contents table (map string_bytes names)) file [])
-  there_is table there = subst (λ (o : Option Trace). PieceThere o len (contents table (map string_bytes names))) origin_is there
+  there_is table there = (subst (λ (o : Option Trace). PieceThere o len (contents table (map string_bytes names))) origin_is there).0
 
   named_bytes : (table : List (List ℕ × List ℕ)) → get_or (contents table (map string_bytes names)) file [] ≡ file_at table spelled
   named_bytes table = told_file table names file name file_less name_is ∙ ap (file_at table) (sym spelling)
@@ -98,6 +104,12 @@ module _ {Z : Type 0} (names : List (String Z)) (held : meant.Key → ℕ → Li
   pub lies_again : (told : Option (List (List ℕ × List ℕ))) → IfAllTold told (map string_bytes names) (PieceThere origin len) → LiesIn told spelled at len
   lies_again None there = tt
   lies_again (Some table) there = subst (λ (l : List ℕ). at + len ≤ length l) (named_bytes table) (there_is table there)
+
+  pub data_again : (told : Option (List (List ℕ × List ℕ))) → IfAllTold told (map string_bytes names) (PieceThere origin len) → AreData told (file + 1) spelled at len
+  data_again None there = tt
+  data_again (Some table) there =
+      let own = (subst (λ (o : Option Trace). PieceThere o len (contents table (map string_bytes names))) origin_is there).1 in
+      λ k less. subst (λ (bytes : List ℕ). IsData (file + 1) bytes (at + k)) (named_bytes table) (own k less)
 
   pub again_filled : (told : Option (List (List ℕ × List ℕ))) (new : List ℕ) (result : Result (Unit {0}) SendStop) → IfAllTold told (map string_bytes names) (PieceThere origin len) → length new ≡ len → AgainEnd told spelled at new result
       → IfAllTold told (map string_bytes names) (FillEnd held (piece_cells advanced_by origin len) new result)

@@ -2,6 +2,7 @@
 use Rattle.std.specs.Prelude.{◌≡◌, ⊤, ℕ, ◌+◌, ◌<◌, ◌≤◌, List, [], map, length, get_or, Option, None, Some, Result, Ok, Err}
 use Rattle.send_model.specs.Store as meant
 use Rattle.sx_base.specs.Again.{FillsFrom}
+use Rattle.sx_base.specs.Asks.{IsData}
 use Rattle.subvol_catalog.specs.Entries.{key_of}
 use Rattle.provenance.specs.declared.trace.Trace.{Trace}
 use Rattle.provenance.specs.declared.trace.Trace.TheVariants.{Fresh, Outside}
@@ -26,10 +27,10 @@ PieceHad count held None len = ⊤
 PieceHad count held (Some (Fresh file at)) len = file < count
 PieceHad count held (Some (Outside key ino at)) len = at + len ≤ length (held (key_of key) ino)
 
--- So many cells from successive places of an input file stand in it.
+-- So many cells from successive places of an input file stand in it, and are of its data.
 abbrev pub PieceThere : Option Trace → ℕ → List (List ℕ) → Type 0
 PieceThere None len files = ⊤
-PieceThere (Some (Fresh file at)) len files = at + len ≤ length (get_or files file [])
+PieceThere (Some (Fresh file at)) len files = (at + len ≤ length (get_or files file [])) × ((k : ℕ) → k < len → IsData (file + 1) (get_or files file []) (at + k))
 PieceThere (Some (Outside key ino at)) len files = ⊤
 
 -- The buffer has the bytes of the cells, or an object of the outside failed. Inputs that tell are not found changed.

@@ -1,9 +1,10 @@
 -- Which byte a traced cell has, and where it lies: in an input file, or in a file of a complete subvolume of the base. This
 -- program's own.
-use Rattle.std.specs.Prelude.{◌≡◌, ℕ, ◌<◌, List, [], length, get_or, Option, None, Some}
+use Rattle.std.specs.Prelude.{◌≡◌, ℕ, ◌+◌, ◌<◌, List, [], length, get_or, Option, None, Some}
 use Rattle.send_model.specs.Clone.{cells_of}
 use Rattle.send_model.specs.Store as meant
 use Rattle.send_model.specs.Store.{Store, find}
+use Rattle.sx_base.specs.Asks.{IsData}
 use Rattle.subvol_catalog.specs.Entries.{key_of}
 use Rattle.provenance.specs.declared.trace.Trace.{Trace}
 use Rattle.provenance.specs.declared.trace.Trace.TheVariants.{Fresh, Outside}
@@ -23,10 +24,10 @@ IsHad count base None = Unit {0}
 IsHad count base (Some (Fresh file at)) = file < count
 IsHad count base (Some (Outside key ino at)) = at < length (outside_cells base (key_of key) ino)
 
--- A cell of an input file stands in it.
+-- A cell of an input file stands in it, and is of its data.
 abbrev pub IsInInput : List (List ℕ) → Option Trace → Type 0
 IsInInput files None = Unit {0}
-IsInInput files (Some (Fresh file at)) = at < length (get_or files file [])
+IsInInput files (Some (Fresh file at)) = (at < length (get_or files file [])) × IsData (file + 1) (get_or files file []) at
 IsInInput files (Some (Outside key ino at)) = Unit {0}
 
 -- As many bytes are held of each file as others are of it.

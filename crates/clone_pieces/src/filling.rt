@@ -3,7 +3,7 @@ ghost use Rattle.std.specs.Prelude.{◌≡◌, ℕ, ◌+◌, ◌<◌, ◌≤◌,
 ghost use Rattle.std.specs.List.{AllByRecursion};
 ghost use Rattle.std.specs.String.{string_bytes};
 ghost use Rattle.sx_base.specs.Again.{LiesIn, FillsFrom};
-ghost use Rattle.sx_base.specs.Asks.{IsAgain};
+ghost use Rattle.sx_base.specs.Asks.{AreData, IsAgain};
 ghost use Rattle.sx_base.specs.Calls.{IfAllTold};
 ghost use Rattle.extent_map.specs.Cells.{cells_between};
 ghost use Rattle.extent_map.specs.Pieces.{piece_cells};
@@ -108,6 +108,7 @@ fn read_part<I: Inputs>(
     buf: &mut [u8],
 ) -> Result<(), SendStop>
     requires range { LiesIn (I.told inputs.old) name.now at (length buf.old) }
+    requires of_data { AreData (I.told inputs.old) (file + 1) name.now at (length buf.old) }
     requires number { file + 1 < 2 ^ 64 }
     ensures inputs { InputsLater I.Inputs inputs.old inputs.new result }
     ensures asked { (names : List (List ℕ)) → file < length names

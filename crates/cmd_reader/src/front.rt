@@ -120,16 +120,17 @@ fn command_in<'a>(at: u64, version: u32, cmd: u16, body: &'a [u8]) -> Result<Fro
     ensures fits { IfOk result (CommandFits version body.now) }
     ensures read { ReadsCommand at version cmd body.now result }
 {
-    let table = match attrs(body, version) {
+    let read = attrs(body, version);
+    let table = match &read {
         Ok(table) => table,
-        Err(refusal) => return Err(refusal),
+        Err(refusal) => return Err(*refusal),
     };
     let data_at = match table.place(DATA) {
         Some(place) => at + FRAME_HEAD_LEN as u64 + place as u64,
         None => 0,
     };
-    let canonical = is_canonical(version, cmd, &table, body.len());
-    match decode(cmd, &table) {
+    let canonical = is_canonical(version, cmd, table, body.len());
+    match decode(cmd, table) {
         Ok(command) => Ok(Front {
             command,
             data_at,
@@ -165,18 +166,19 @@ fn mention_in<'a>(version: u32, cmd: u16, body: &'a [u8]) -> Result<Option<Comma
         (λ mention. IfSome mention (λ command. IsWritable version (meaning_of command))) }
     ensures read { ReadsMention version cmd body.now result }
 {
-    let table = match attrs(body, version) {
+    let read = attrs(body, version);
+    let table = match &read {
         Ok(table) => table,
-        Err(refusal) => return Err(refusal),
+        Err(refusal) => return Err(*refusal),
     };
-    let kind = match lawful_kind(cmd, &table) {
+    let kind = match lawful_kind(cmd, table) {
         Ok(kind) => kind,
         Err(refusal) => return Err(refusal),
     };
     if !is_mention(kind) {
         return Ok(None);
     }
-    match decode(cmd, &table) {
+    match decode(cmd, table) {
         Ok(command) => Ok(Some(command)),
         Err(refusal) => Err(refusal),
     }

@@ -1,8 +1,8 @@
 -- What is asked of inputs while files are composed.
-use Rattle.std.specs.Prelude.{◌≡◌, ℕ, ◌+◌, ◌<◌, List, [], ◌++◌, length, get_or, Option}
+use Rattle.std.specs.Prelude.{◌≡◌, ℕ, ◌+◌, ◌<◌, List, [], length, get_or, Option}
 use Rattle.std.specs.List.{AllByRecursion}
 use Rattle.std.proofs.Common.{refl, sym, subst, append-nil}
-use Rattle.sx_base.specs.Asks.{Ask, IsAgain, AreReadOnce, IsReadOnWithRanges, IsReadWithRanges, AreReadWithRanges, AreReadTwice}
+use Rattle.sx_base.specs.Asks.{IsAgain, AreReadOnce, IsReadOnWithRanges, IsReadWithRanges, AreReadWithRanges, AreReadTwice}
 use Rattle.sx_base.specs.Later.{AskedOnly, ReadsOn}
 use Rattle.sx_base.specs.declared.inputs.Inputs as reading
 use Rattle.sx_base.proofs.Asking.{asked_nothing, asked_then, asked_so, once_none, ranges_none, ranges_read, ranges_again, FrontWithRanges, front_none, front_more, front_all}

@@ -1,5 +1,5 @@
 -- The data of a command that is read stand at the place that its item says, in the file that it is read from.
-use Rattle.std.specs.Prelude.{◌≡◌, ◌⊎◌, ℕ, zero, suc, ◌+◌, ◌-◌, ◌≤◌, ◌==◌, Bool, true, false, ◌&&◌, List, [], ◌∷◌, ◌++◌, length, take, drop, get_or, Option, None, Some, Result, Ok, Err, nat_le, nat_lt, if◌then◌else◌}
+use Rattle.std.specs.Prelude.{◌≡◌, ◌⊎◌, ℕ, zero, suc, ◌+◌, ◌-◌, ◌<◌, ◌≤◌, ◌==◌, Bool, true, false, ◌&&◌, List, [], ◌∷◌, ◌++◌, length, take, drop, get_or, Option, None, Some, Result, Ok, Err, nat_le, nat_lt, if◌then◌else◌}
 use Rattle.std.specs.Option.{unwrap_or}
 use Rattle.std.proofs.Common.{refl, sym, ap, subst, ◌∙◌, arith, inl, inr, ⊎_elim, eqb-true, leb-true, length-drop, length-append, drop-drop}
 use Rattle.std.proofs.lemmas.List.{take-append-drop, take-append-le, drop-append-le, length-take-le}
@@ -10,6 +10,7 @@ use Rattle.send_model.specs.Command.{Kind, SUBVOL, WRITE, Command, command_with}
 use Rattle.send_model.specs.Spelling.{Attribute, value_of, frame_checksum, greatest_body}
 use Rattle.send_model.specs.Receive.{bytes_of}
 use Rattle.send_model.specs.Reading.{Item, Reading, Frame, Front, Due, HeaderDue, CommandDue, ended, faulty, go_on, with_item, header_len, frame_header_len, number16, number32, attribute_head, attribute_len, attribute_end, attribute_in, attributes_from, attributes_at, bytes_at, command_of, place_of, item_at, stream_version, frame_with, frame_at, front_of, reads_from}
+use Rattle.sx_base.specs.Asks.{IsData}
 use Rattle.send_model.proofs.Fuel.{required, not_refused, bound, ok_same, header_there}
 use Rattle.cmd_reader.proofs.CommandFacts.{first_read, unplaced, made_with}
 use Rattle.send_model.proofs.Sorts.{same_inside}
@@ -190,8 +191,13 @@ data_left r file item next less e = by_end ((is_header_due r.fed.due && r.fed.en
     by_end false q = data_from (suc (length (drop r.offset file))) r.file r.fed.due r.number r.offset file item next less q
 
 -- So they stand there in one of several files.
-pub data_stand : (files : List (List ℕ)) (number : ℕ) (item : Item) → item.file ≡ number + 1 → IsThere item.data_at (get_or files number []) (bytes_of item.command) → DataStand files item
-data_stand files number item is t =
+pub data_stand : (files : List (List ℕ)) (number : ℕ) (item : Item) → item.file ≡ number + 1 → IsThere item.data_at (get_or files number []) (bytes_of item.command)
+    → ((k : ℕ) → k < length (bytes_of item.command) → IsData (number + 1) (get_or files number []) (item.data_at + k)) → DataStand files item
+data_stand files number item is t own =
     let same : number ≡ item.file - 1 = omega (arith, is) in
     let u : IsThere item.data_at (get_or files (item.file - 1) []) (bytes_of item.command) = subst (λ (n : ℕ). IsThere item.data_at (get_or files n []) (bytes_of item.command)) same t in
-    record { there = u.there; within = u.within }
+    record {
+      there = u.there;
+      within = u.within;
+      are_data = λ k less. subst (λ (n : ℕ). IsData (n + 1) (get_or files n []) (item.data_at + k)) same (own k less);
+    }

@@ -6,13 +6,14 @@ use Rattle.std.proofs.Math.Seq.{take-append-add}
 use Rattle.std.proofs.lemmas.List.{length-append, map-append}
 use Rattle.std.proofs.KnownBytes.{Appends-nil, Appends-trans}
 use Rattle.send_model.specs.Reading.{Item, Reading, Whole, with_item, reads}
-use Rattle.send_model.specs.Receive.{first_of}
+use Rattle.send_model.specs.Receive.{bytes_of, first_of}
 use Rattle.send_model.specs.Store.{head_of}
 use Rattle.send_model.specs.Order.{heads, last_item}
 use Rattle.send_model.specs.Composed.{last_head}
 use Rattle.send_model.specs.Due.{RefusedAt}
 use Rattle.send_model.specs.Lengths.{limit, only_ends}
 use Rattle.send_model.specs.Renamed.{named_as}
+use Rattle.sx_base.specs.Asks.{IsData}
 use Rattle.sx_base.specs.Causes.{Rose}
 use Rattle.sx_base.specs.Outside.{AppendsPart}
 use Rattle.sx_base.specs.Refusals.{refusal_of}
@@ -109,22 +110,50 @@ alike_after told inputs file name old new f0 f1 o item e same name_is says alike
 
 -- ---- where the cells stand
 
+-- Items of a file, counted from 1, were read, and the others are left to its reader.
+pub record ReadSoFar (file : ℕ) (reader : Reader) (bytes : List ℕ) : Type 0 where
+  pub items : List Item
+  pub read : reads file bytes ≡ then_reading items (left reader bytes)
+
 -- The cells so far stand in the files, and the reader in its own.
 abbrev pub InFiles : (number : ℕ) → Reader → Kept → List (List ℕ) → Type 0
-InFiles number reader now files = AllCells (IsInInput files) now.state × (reader.offset ≤ length (get_or files number []))
+InFiles number reader now files = AllCells (IsInInput files) now.state × (reader.offset ≤ length (get_or files number [])) × ReadSoFar (number + 1) reader (get_or files number [])
 
-pub in_files_at_start : (told : Option (List (List ℕ × List ℕ))) (names : List (List ℕ)) (number file : ℕ) (name : List ℕ) (reader : Reader) (now : Kept) → reader ≡ at_start file name
+-- The data of the next item are so of the file.
+data_next : (file : ℕ) (old : Reader) (bytes : List ℕ) (item : Item) (rest : Reading) → ReadSoFar file old bytes → left old bytes ≡ with_item item rest → (k : ℕ) → k < length (bytes_of item.command) → IsData file bytes (item.data_at + k)
+data_next file old bytes item rest so_far e k less = record {
+  before = so_far.items;
+  item = item;
+  after = rest.items;
+  read = ap (λ (r : Reading). r.items) (so_far.read ∙ ap (then_reading so_far.items) e);
+  from = omega arith;
+  within = omega (arith, less);
+}
+
+pub in_files_at_start : (told : Option (List (List ℕ × List ℕ))) (names : List (List ℕ)) (number file : ℕ) (name : List ℕ) (reader : Reader) (now : Kept) → file ≡ number + 1 → reader ≡ at_start file name
     → IfAllTold told names (λ files. AllCells (IsInInput files) now.state) → IfAllTold told names (InFiles number reader now)
-in_files_at_start told names number file name reader now e there =
+in_files_at_start told names number file name reader now is e there =
     all_map told names (λ files. AllCells (IsInInput files) now.state) (InFiles number reader now) (λ files cells.
-    subst (λ (r : Reader). InFiles number r now files) (sym e) (cells, omega (arith))) there
+    subst (λ (r : Reader). InFiles number r now files) (sym e) (
+      cells,
+      omega (arith),
+      subst (λ (n : ℕ). ReadSoFar n (at_start file name) (get_or files number [])) is (record { items = []; read = sym (left_fresh file name (get_or files number [])) }),
+    )) there
 
 pub in_files_after : (told inputs : Option (List (List ℕ × List ℕ))) (names : List (List ℕ)) (number : ℕ) (old new : Reader) (now next : Kept) (item : read.Item) → inputs ≡ told → IfAllTold told names (λ files. IsNext old new item (get_or files number []))
     → IfAllTold inputs names (λ files. AllCells (IsInInput files) next.state) → IfAllTold told names (InFiles number old now) → IfAllTold told names (InFiles number new next)
 in_files_after told inputs names number old new now next item same next_is there before =
-    all_two told names (λ files. AllCells (IsInInput files) next.state) (λ files. new.offset ≤ length (get_or files number [])) (InFiles number new next) (λ files cells reached. (cells, reached))
+    all_two told names (λ files. AllCells (IsInInput files) next.state) (λ files. (new.offset ≤ length (get_or files number [])) × ReadSoFar (number + 1) new (get_or files number [])) (InFiles number new next)
+    (λ files cells reached. (cells, reached.0, reached.1))
     (all.told_moved told inputs names (λ files. AllCells (IsInInput files) next.state) same there)
-    (all_two told names (λ files. IsNext old new item (get_or files number [])) (InFiles number old now) (λ files. new.offset ≤ length (get_or files number [])) (λ files n b. n.reached b.1) next_is before)
+    (all_two told names (λ files. IsNext old new item (get_or files number [])) (InFiles number old now) (λ files. (new.offset ≤ length (get_or files number [])) × ReadSoFar (number + 1) new (get_or files number []))
+    (λ files n b. (
+      n.reached b.1,
+      record {
+        items = b.2.items ++ item_of old.file item ∷ [];
+        read = b.2.read ∙ ap (then_reading b.2.items) n.left_is ∙ then_item b.2.items (item_of old.file item) (left new (get_or files number []));
+      },
+    )) next_is before)
 
 pub cells_in_files : (told : Option (List (List ℕ × List ℕ))) (names : List (List ℕ)) (number : ℕ) (reader : Reader) (now : Kept) → IfAllTold told names (InFiles number reader now) → IfAllTold told names (λ files. AllCells (IsInInput files) now.state)
 cells_in_files told names number reader now there = all_map told names (InFiles number reader now) (λ files. AllCells (IsInInput files) now.state) (λ files t. t.0) there
@@ -138,8 +167,9 @@ data_there told names number file given old new now item taken_item file_is old_
     (λ files n t. (
       t.0,
       subst (DataStand files) (sym named) (data_stay files given (item_of file item)
-          (data_stand files number (item_of file item) file_is (data_left old (get_or files number []) (item_of file item) (left new (get_or files number [])) t.1
-          (n.left_is ∙ ap (λ (k : ℕ). with_item (item_of k item) (left new (get_or files number []))) old_file)))),
+          (let e = n.left_is ∙ ap (λ (k : ℕ). with_item (item_of k item) (left new (get_or files number []))) old_file in
+          data_stand files number (item_of file item) file_is (data_left old (get_or files number []) (item_of file item) (left new (get_or files number [])) t.1 e)
+          (data_next (number + 1) old (get_or files number []) (item_of file item) (left new (get_or files number [])) t.2 e))),
     )) next there
 
 -- ---- one more item

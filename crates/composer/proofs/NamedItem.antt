@@ -1,6 +1,6 @@
 -- An item with the name that is given for its file, as it is taken in place of the one that was read: it is as long, and its data stand
 -- where they stood.
-use Rattle.std.specs.Prelude.{◌≡◌, ℕ, ◌+◌, ◌-◌, ◌≤◌, true, List, [], ◌∷◌, ◌++◌, length, take, drop, get_or, Option, None, Some}
+use Rattle.std.specs.Prelude.{◌≡◌, ℕ, ◌+◌, ◌-◌, ◌<◌, ◌≤◌, true, List, [], ◌∷◌, ◌++◌, length, take, drop, get_or, Option, None, Some}
 use Rattle.std.proofs.Common.{refl, sym, ap, ap₂, subst, ◌∙◌}
 use Rattle.send_model.specs.Command.{Command, Subvol, Snapshot, End}
 use Rattle.send_model.specs.Spelling.{canonical}
@@ -34,6 +34,7 @@ data_stay files None item d = d
 data_stay files (Some name) item d = record {
   there = subst (λ (b : List ℕ). take (length b) (drop item.data_at (get_or files (item.file - 1) [])) ≡ b) (sym (bytes_stay name item.command)) d.there;
   within = subst (λ (b : List ℕ). item.data_at + length b ≤ length (get_or files (item.file - 1) [])) (sym (bytes_stay name item.command)) d.within;
+  are_data = λ k less. d.are_data k (subst (λ (b : List ℕ). k < length b) (bytes_stay name item.command) less);
 }
 
 -- The one that is taken is the one that was read, with the name that is given.

@@ -375,7 +375,7 @@ put_had count base file at c less = all_range (IsHad count base) (λ k. Some (ad
 -- And stands there.
 pub put_there : (files : List (List ℕ)) (item : Item) → DataStand files item → AllByRecursion (IsInInput files) (cells_put advanced_by (origin_of item) item.command)
 unfolding run_cells
-put_there files item stand = all_range (IsInInput files) (λ k. Some (advanced_by (origin_of item) k)) 0 (data_len item.command) (λ k l. omega (arith, l, stand.within))
+put_there files item stand = all_range (IsInInput files) (λ k. Some (advanced_by (origin_of item) k)) 0 (data_len item.command) (λ k l. (omega (arith, l, stand.within), stand.are_data k (omega (arith, l))))
 
 -- So each property of the cells still holds after a step.
 pub led_cells : (P : Option Trace → Type 0) (put : List (Option Trace)) (before after : State (Option Trace)) (c : Command) → P None → AllByRecursion P put → AllCells P before → Led before after put c → AllCells P after

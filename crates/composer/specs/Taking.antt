@@ -1,11 +1,12 @@
 -- What the composer answers to one item: what it keeps then and what it has written, or why it stops.
-use Rattle.std.specs.Prelude.{◌≡◌, ◌≢◌, ◌⊎◌, ⊤, ℕ, ◌+◌, ◌-◌, ◌≤◌, Bool, false, ◌&&◌, List, [], length, take, drop, get_or, Option, None, Some, Result, Ok, Err}
+use Rattle.std.specs.Prelude.{◌≡◌, ◌≢◌, ◌⊎◌, ⊤, ℕ, ◌+◌, ◌-◌, ◌<◌, ◌≤◌, Bool, false, ◌&&◌, List, [], length, take, drop, get_or, Option, None, Some, Result, Ok, Err}
 use Rattle.std.specs.Io.KnownBytes.{Appends}
 use Rattle.send_model.specs.Refusal as meant
 use Rattle.send_model.specs.Reading.{Item}
 use Rattle.std.specs.Str.{bytes_eq}
 use Rattle.send_model.specs.Store.{Head, head_of, same_key}
 use Rattle.send_model.specs.Receive.{bytes_of, first_of, verdict_of}
+use Rattle.sx_base.specs.Asks.{IsData}
 use Rattle.sx_base.specs.Causes.{Rose}
 use Rattle.sx_base.specs.Outside.{AppendsPart}
 use Rattle.sx_base.specs.Calls.{CausedAgain}
@@ -25,6 +26,7 @@ use Rattle.composer.specs.Reached.{Over, Reached}
 pub record DataStand (files : List (List ℕ)) (item : Item) : Type 0 where
   pub there : take (length (bytes_of item.command)) (drop item.data_at (get_or files (item.file - 1) [])) ≡ bytes_of item.command
   pub within : item.data_at + length (bytes_of item.command) ≤ length (get_or files (item.file - 1) [])
+  pub are_data : (k : ℕ) → k < length (bytes_of item.command) → IsData (item.file - 1 + 1) (get_or files (item.file - 1) []) (item.data_at + k)
 
 -- The item was taken, and of the bytes that are then to be written some were.
 pub record ItemTaken (plan : Plan) (old new : Composing) (item : Item) (out_old out_new : Option (List ℕ)) : Type 0 where

@@ -14,7 +14,7 @@ use Rattle.send_model.specs.Due.{Stop}
 use Rattle.store_model.specs.Image.{Header}
 use Rattle.store_model.specs.Stored.{Group}
 use Rattle.store_model.specs.Dues as dues
-use Rattle.store_model.specs.Dues.{Due, first_full, item_pieces, place_after}
+use Rattle.store_model.specs.Dues.{first_full, item_pieces}
 use Rattle.store_model.specs.Written.{Begun, begun_by, closed_by}
 use Rattle.store_model.proofs.PassedStates.{IsOn}
 use Rattle.auditor.specs.Following.{Followed, beside, follow}

@@ -12,7 +12,7 @@ use Rattle.send_model.specs.Due.{Limited, Stop, stop_due}
 use Rattle.store_model.specs.Stored.{Group}
 use Rattle.store_model.specs.States.{is_complete, complete_line, lines_behind}
 use Rattle.store_model.specs.Dues as dues
-use Rattle.store_model.specs.Dues.{Due, first_full, pieces_from, item_pieces, place_after, left_full, receive_from, left_from, or_due}
+use Rattle.store_model.specs.Dues.{Due, receive_from, left_from, or_due}
 use Rattle.store_model.proofs.PassedStates.{IsOn, run_on, on_way}
 use Rattle.store_model.proofs.Betweens.{between_has_them}
 use Rattle.auditor.specs.Following.{Followed, blank, then_read}

@@ -15,7 +15,7 @@ use Rattle.send_model.specs.Guards.{Guard, Watched, guarded}
 use Rattle.send_model.specs.Due.{Stop, RefusedAt, stop_due}
 use Rattle.store_model.specs.States.{lines_behind}
 use Rattle.store_model.specs.Dues as dues
-use Rattle.store_model.specs.Dues.{Due, first_full, pieces_from, item_pieces, place_after, left_full, receive_from, left_from, or_due}
+use Rattle.store_model.specs.Dues.{Due, first_full, pieces_from, item_pieces, place_after, left_full, or_due}
 use Rattle.store_model.proofs.PassedStates.{IsOn}
 use Rattle.store_model.proofs.WrittenGroups.{head_fact}
 use Rattle.auditor.specs.Following.{Followed, blank, beside, follow}

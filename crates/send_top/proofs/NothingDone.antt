@@ -1,5 +1,5 @@
 -- Where there was no memory for the names of a request over a store nothing was done: what is said of that.
-use Rattle.std.specs.Prelude.{◌≡◌, ⊤, ℕ, ◌≤◌, ◌<◌, List, [], ◌∷◌, ◌++◌, length, Option, Some}
+use Rattle.std.specs.Prelude.{◌≡◌, ℕ, ◌<◌, List, [], ◌∷◌, ◌++◌, length, Option, Some}
 use Rattle.std.proofs.Common.{⊎_elim, inl, refl, arith}
 use Rattle.std.proofs.KnownBytes.{Appends-nil}
 use Rattle.send_model.specs.Answer.{NoMemory}

@@ -9,7 +9,7 @@ use Rattle.sx_base.specs.declared.outcome.Outcome.TheVariants as ended
 use Rattle.store_model.specs.Stored.{StandsFor, StandsForNone}
 use Rattle.store_model.specs.StoreLines.{listed, shown}
 use Rattle.store_model.specs.Dues as dues
-use Rattle.store_model.specs.Dues.{Ends, complete_named, show_due, show_output, unless_missing}
+use Rattle.store_model.specs.Dues.{complete_named, show_output, unless_missing}
 use Rattle.store_model.specs.NamedFiles.{unnamed}
 use Rattle.store_model.specs.Requests.{ListStore, ShowEntry, word_at, at_entry}
 use Rattle.store_model.specs.Answers.{Answers, OfAnyWord, Missing, DueSays}

@@ -1,6 +1,6 @@
 -- The name that a detour takes, as a loop looks for it.
-use Rattle.std.specs.Prelude.{◌≡◌, ℕ, zero, suc, ◌+◌, ◌-◌, ◌<◌, ◌≤◌, List, length, Option, None, Some, is_some, if◌then◌else◌}
-use Rattle.std.proofs.Common.{refl, sym, ap, subst, ◌∙◌, arith}
+use Rattle.std.specs.Prelude.{◌≡◌, ℕ, suc, ◌+◌, ◌-◌, ◌<◌, ◌≤◌, length, Option, None, Some, is_some, if◌then◌else◌}
+use Rattle.std.proofs.Common.{ap, ◌∙◌, arith}
 use Rattle.send_model.specs.Subvolume.{Subvolume, root, named}
 use Rattle.send_model.specs.Separated.{own_name, free_from, free_name}
 

@@ -4,7 +4,7 @@ use Rattle.std.specs.Str.{bytes_eq}
 use Rattle.std.proofs.Common.{refl, sym, ap, subst, ◌∙◌, append_assoc, append-nil}
 use Rattle.std.proofs.KnownBytes.{Appends-nil, Appends-trans}
 use Rattle.send_model.specs.Refusal.{Refusal}
-use Rattle.send_model.specs.Command.{Command, Write, Link, Unlink, Utimes}
+use Rattle.send_model.specs.Command.{Command}
 use Rattle.send_model.specs.Reading.{Item}
 use Rattle.send_model.specs.Counts.{is_end}
 use Rattle.send_model.specs.Store.{Part, State, After}

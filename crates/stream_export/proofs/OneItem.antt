@@ -1,26 +1,22 @@
 -- Exporting one command: each of its ends.
-use Rattle.std.specs.Prelude.{◌≡◌, ℕ, ◌≤◌, Bool, List, [], ◌∷◌, ◌++◌, length, take, Option, None, Some, Result, Ok, Err}
+use Rattle.std.specs.Prelude.{◌≡◌, ℕ, ◌≤◌, Bool, List, [], ◌++◌, length, take, Option, Result, Ok, Err}
 use Rattle.std.specs.Io.KnownBytes.{Appends}
-use Rattle.std.proofs.Common.{refl, sym, ap, subst, ◌∙◌, append-nil, arith}
+use Rattle.std.proofs.Common.{sym, ap, subst, ◌∙◌, append-nil, arith}
 use Rattle.std.proofs.KnownBytes.{Appends-nil}
 use Rattle.send_model.specs.Reading.{Item}
 use Rattle.send_model.specs.Receive.{verdict_of}
 use Rattle.send_model.specs.Counts.{is_end}
-use Rattle.send_model.specs.Headline.{IsFrontOf}
 use Rattle.send_model.specs.Exported.{Exporting}
 use Rattle.send_model.specs.Separated.{IsSmall}
-use Rattle.sx_base.specs.Calls.{Wrote}
 use Rattle.sx_base.specs.Refusals.{refusal_of, verdict_meant}
-use Rattle.sx_base.specs.Outside.{AppendsPart}
 use Rattle.sx_base.specs.declared.refusal.Refusal.{Refusal}
 use Rattle.sx_base.specs.declared.outcome.Verdict.{Verdict}
 use Rattle.sx_base.specs.declared.outcome.Outcome.{Outcome}
-use Rattle.sx_base.specs.declared.outcome.Outcome.TheVariants as ended
 use Rattle.sx_base.specs.declared.stop.Stop.{Stop}
 use Rattle.sx_base.specs.declared.stop.Stop.TheVariants as why
 use Rattle.stream_dump.specs.declared.gathering.Gathered.{Gathered}
 use Rattle.stream_dump.proofs.Unpacked.{Sends}
-use Rattle.stream_export.specs.Exporting.{Blank, blank_does, export_bytes, Point}
+use Rattle.stream_export.specs.Exporting.{Blank, Point}
 use Rattle.stream_export.specs.Steps.{Passes, OneTaken, IsRefused, bytes_at}
 use Rattle.stream_export.proofs.Unpacked.{Takes, ItemEnds}
 use Rattle.stream_export.proofs.Going.{passes_none}

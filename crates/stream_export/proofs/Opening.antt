@@ -1,9 +1,9 @@
 -- The file that is open after a command, and what goes before it, as the code finds them.
-use Rattle.std.specs.Prelude.{◌≡◌, ℕ, ◌≤◌, ◌<◌, ◌^◌, ◌==◌, Bool, true, false, not, ◌&&◌, List, [], ◌∷◌, ◌++◌, length, Option, None, Some, Result, Ok, Err, if◌then◌else◌, nat_le}
+use Rattle.std.specs.Prelude.{◌≡◌, ℕ, ◌≤◌, ◌==◌, Bool, true, false, not, ◌&&◌, List, [], ◌∷◌, length, Option, None, Some, Result, Ok, Err, if◌then◌else◌, nat_le}
 use Rattle.std.specs.Option.{option_map}
 use Rattle.std.specs.List.{list_all}
 use Rattle.std.specs.Str.{bytes_eq}
-use Rattle.std.proofs.Common.{refl, sym, ap, ap₂, subst, ◌∙◌, arith, zero-le, eq-eqb, eqb-true}
+use Rattle.std.proofs.Common.{refl, sym, ap, ap₂, ◌∙◌, zero-le, eq-eqb, eqb-true}
 use Rattle.std.proofs.lemmas.Bool.{leb-true}
 use Rattle.send_model.specs.Refusal.{Refusal, BadPath}
 use Rattle.send_model.specs.Path.{path_names, is_name, between_slashes, longest_path}

@@ -5,7 +5,6 @@ use Rattle.send_model.specs.Command.{Command}
 use Rattle.send_model.specs.Spelling.{stream_header, canonical_all}
 use Rattle.send_model.specs.Generated.{next_number, drawn, number_after, draw, part_uuid, first_part, later_part}
 use Rattle.stream_gen.specs.Parts.{part_of, part_bytes, number_at, nth, first_by, part_by}
-use Rattle.stream_gen.specs.declared.draws.Drawn.{Drawn}
 
 -- A later part by the numbers that are drawn for it, one by one.
 abbrev part_drawn : (uuid before : List ℕ) (part file block byte source source_block goal goal_block : ℕ) → List Command

@@ -1,8 +1,11 @@
 -- What is asked of named files: which file, from which place on, and for how many bytes; and what it means that files are read once, twice
 -- or in turn. This program's own.
-use Rattle.std.specs.Prelude.{◌≡◌, ⊤, ℕ, ◌+◌, ◌<◌, Bool, false, true, not, List, [], ◌∷◌, ◌++◌, length, get_or, set, Option, Result, Ok, Err}
+use Rattle.std.specs.Prelude.{◌≡◌, ⊤, ℕ, ◌+◌, ◌<◌, ◌≤◌, Bool, false, true, not, List, [], ◌∷◌, ◌++◌, length, get_or, set, Option, None, Some, Result, Ok, Err}
 use Rattle.std.specs.List.{AllByRecursion, filter}
+use Rattle.send_model.specs.Reading.{Item, reads}
+use Rattle.send_model.specs.Receive.{bytes_of}
 use Rattle.sx_base.specs.Again.{LiesIn}
+use Rattle.sx_base.specs.Outside.{file_at}
 
 -- A call: the name of the file, the place, how many bytes came of those that had not been read, or were asked for of those that had, and
 -- which of both it was.
@@ -43,15 +46,29 @@ unfoldable pub AreReadOnce : (names : List (List ℕ)) (asks : List Ask) → Typ
 AreReadOnce [] asks = asks ≡ []
 AreReadOnce (name ∷ names) asks = (first rest : List Ask) × (asks ≡ first ++ rest) × IsReadOnce name first × AreReadOnce names rest
 
--- ---- files that are read twice, and of which bytes are read again
+-- ---- files that are read twice, and of which data are read again
 
 -- The calls that ask for bytes that had not been read.
 abbrev pub first_asks : List Ask → List Ask
 first_asks asks = filter (λ a. not a.again) asks
 
--- A range of one of these files, which lies in it where the inputs tell.
+-- A byte of a file, counted from 1, is one of the data of a command that is read of it.
+pub record IsData (file : ℕ) (bytes : List ℕ) (place : ℕ) : Type 0 where
+  pub before : List Item
+  pub item : Item
+  pub after : List Item
+  pub read : (reads file bytes).items ≡ before ++ item ∷ after
+  pub from : item.data_at ≤ place
+  pub within : place < item.data_at + length (bytes_of item.command)
+
+-- So is each byte of a range, where the inputs tell.
+abbrev pub AreData : Option (List (List ℕ × List ℕ)) → (file : ℕ) → List ℕ → ℕ → ℕ → Type 0
+AreData None file name place count = ⊤
+AreData (Some files) file name place count = (k : ℕ) → k < count → IsData file (file_at files name) (place + k)
+
+-- A range of data of one of these files, where the inputs tell.
 abbrev pub IsRangeIn : Option (List (List ℕ × List ℕ)) → (names : List (List ℕ)) → Ask → Type 0
-IsRangeIn told names a = (n : ℕ) × (n < length names) × (a.name ≡ get_or names n []) × LiesIn told a.name a.place a.count
+IsRangeIn told names a = (n : ℕ) × (n < length names) × (a.name ≡ get_or names n []) × LiesIn told a.name a.place a.count × AreData told (n + 1) a.name a.place a.count
 
 -- What is asked for again are such ranges.
 abbrev pub IsIfAgain : Option (List (List ℕ × List ℕ)) → (names : List (List ℕ)) → Ask → Type 0

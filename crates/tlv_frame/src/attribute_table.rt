@@ -72,6 +72,7 @@ impl<'a> AttrTable<'a> {
 /// The attributes of a frame's body. BadAttribute with the attribute's number, 0 where it has none, for the first that
 /// is not whole, has no number of this version, or stands for the second time. Takes no memory. Source: struct
 /// btrfs_tlv_header in send.h of btrfs-progs, and read_cmd in send-stream.c.
+#[inline(always)]
 pub fn attrs(body: &[u8], version: u32) -> Result<AttrTable<'_>, Refusal>
     ensures exact { ReadsTable result (attributes_at version body.now) }
     ensures kept { IfOk result (λ table. table.version ≡ version) }

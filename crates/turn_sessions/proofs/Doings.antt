@@ -11,7 +11,6 @@ use Rattle.sx_base.specs.declared.outcome.Outcome.TheVariants as ended
 use Rattle.store_model.specs.Image.{Header}
 use Rattle.store_model.specs.Stored.{Group}
 use Rattle.store_model.specs.Dues as dues
-use Rattle.store_model.specs.Dues.{Due}
 use Rattle.store_model.specs.Turns.{Event, lines_of, turn_groups}
 use Rattle.turn_model.specs.TurnDues.{gate_after, Fitting, fitting}
 use Rattle.turn_model.proofs.Joining.{lines_joined, gates_joined, fits_behind, fits_first}

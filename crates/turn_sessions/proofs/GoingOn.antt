@@ -21,9 +21,9 @@ use Rattle.send_model.specs.Due as files_due
 use Rattle.send_model.proofs.TooLong.{short_fits, fault_fits, long_is}
 use Rattle.store_model.specs.Stored.{made_all}
 use Rattle.store_model.specs.Dues as dues
-use Rattle.store_model.specs.Dues.{Due, Ends}
+use Rattle.store_model.specs.Dues.{Ends}
 use Rattle.store_model.specs.Turns as meant
-use Rattle.store_model.specs.Turns.{Event, Turn, Turns, after_turn, with_at, one_turn, after_turns, session_turn, lines_of, turn_groups, completed_parts}
+use Rattle.store_model.specs.Turns.{Event, Turn, Turns, after_turn, one_turn, after_turns, session_turn, lines_of, turn_groups, completed_parts}
 use Rattle.store_model.proofs.TurnOrder.{held_of, turn_kept}
 use Rattle.turn_model.specs.TurnDues.{bytes_read, which_long, is_long, is_empty, at_limit, Fitting, fitting, gate_after, room_of, TurnsEnd, turn_events, turns_end}
 use Rattle.turn_model.proofs.Ends.{turn_adds, end_goes, end_full, end_long}

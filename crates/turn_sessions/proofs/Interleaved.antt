@@ -22,7 +22,7 @@ use Rattle.store_model.specs.Image.{Header}
 use Rattle.store_model.specs.Stored.{Group, as_bytes, made_all}
 use Rattle.store_model.specs.Dues.{Ends}
 use Rattle.store_model.specs.Turns as meant
-use Rattle.store_model.specs.Turns.{Event, Turns, at_entry, after_turns, interleaved, to_the_end, turns_of, lines_of, turn_groups, group_of_event}
+use Rattle.store_model.specs.Turns.{Event, Turns, at_entry, after_turns, interleaved, to_the_end, turns_of, lines_of, turn_groups}
 use Rattle.store_model.specs.TurnLaws.{AreOneByOne}
 use Rattle.store_model.proofs.CellRuns.{made_all-cells, all_put_same}
 use Rattle.store_model.proofs.FilesInTurn.{all_new}

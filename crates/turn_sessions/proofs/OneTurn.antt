@@ -10,7 +10,7 @@ use Rattle.sx_base.specs.declared.refusal.Refusal as code
 use Rattle.sx_base.specs.declared.outcome.Outcome.{Outcome}
 use Rattle.sx_base.specs.declared.outcome.Outcome.TheVariants as ended
 use Rattle.send_model.specs.Refusal.{Refusal}
-use Rattle.send_model.specs.Reading.{Item, Whole, Faulty}
+use Rattle.send_model.specs.Reading.{Item}
 use Rattle.send_model.specs.Reading as reading
 use Rattle.send_model.specs.Receive.{verdict_of, fault_of}
 use Rattle.send_model.specs.Guards.{Guard, guarded, looked}

@@ -9,7 +9,7 @@ use Rattle.send_model.specs.Reading.{Whole, Faulty}
 use Rattle.send_model.specs.Store.{Store}
 use Rattle.send_model.specs.Guards.{Guard}
 use Rattle.store_model.specs.Turns as meant
-use Rattle.store_model.specs.Turns.{Receiving, Event, Turns, with_at, one_turn, session_turn}
+use Rattle.store_model.specs.Turns.{Receiving, Turns, with_at, one_turn, session_turn}
 use Rattle.store_model.proofs.TurnOrder.{Kept, held_of, held_at, held_here, turn_kept}
 use Rattle.store_model.proofs.Moves.{Stands}
 use Rattle.turn_model.proofs.Making.{held_makes}

@@ -15,9 +15,9 @@ use Rattle.cmd_reader.specs.Left.{Reader, at_start, left, HasAhead}
 use Rattle.auditor.specs.Following.{blank}
 use Rattle.store_model.specs.Stored.{made_all}
 use Rattle.store_model.specs.Dues as dues
-use Rattle.store_model.specs.Dues.{Due, Ends}
+use Rattle.store_model.specs.Dues.{Ends}
 use Rattle.store_model.specs.Turns as meant
-use Rattle.store_model.specs.Turns.{Event, Turns, after_turns, lines_of, turn_groups}
+use Rattle.store_model.specs.Turns.{Event, Turns, after_turns, turn_groups}
 use Rattle.store_model.proofs.TurnOrder.{Kept}
 use Rattle.turn_model.specs.TurnDues.{bytes_read, which_long, room_of, TurnsEnd, turns_end}
 use Rattle.receiver.specs.declared.outcome.Received.{Received}

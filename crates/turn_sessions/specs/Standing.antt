@@ -10,7 +10,7 @@ use Rattle.send_model.specs.Store.{Store, with_contents}
 use Rattle.send_model.specs.Guards.{Guard}
 use Rattle.send_model.specs.Cells.{recelled_part}
 use Rattle.store_model.specs.Stored.{Putting, IsEdit, made}
-use Rattle.store_model.specs.Turns.{Event, Completes, Receiving, part_uuid, part_line, group_of_event}
+use Rattle.store_model.specs.Turns.{Completes, Receiving, part_uuid, part_line, group_of_event}
 use Rattle.store_model.specs.Turns as meant
 use Rattle.store_model.proofs.TurnOrder.{held_of}
 use Rattle.cmd_reader.specs.Left.{Reader}

@@ -3,12 +3,17 @@ use Rattle.std.proofs.Common.{map, length, ap, ◌∙◌}
 use Rattle.std.specs.String.{string_bytes}
 use Rattle.sx_base.proofs.Asking.{asked_nothing}
 use Rattle.clone_pieces.proofs.Asked.{AskedAgain}
-use Rattle.clone_pieces.proofs.Fills.{zeroed, held_filled, lies_again, again_filled, again_named, again_changed}
+use Rattle.clone_pieces.proofs.Fills.{zeroed, held_filled, lies_again, data_again, again_filled, again_named, again_changed}
 use Rattle.clone_pieces.proofs.filling.fill_piece.Goals as goal
 
 pub read_part-requires-clause-range : goal.read_part-requires-clause-range
 read_part-requires-clause-range g c =
     lies_again c.args.files.now (g.B.OutsideBytes.held c.args.bytes.now) c.args.origin c.in-Some-Fresh.file c.in-Some-Fresh.at (length c.args.buf.now) c.index-files-file.result c.as_str.result.now
+    (c.in-Some-Fresh.is ∙ ap Some c.in-Some-Fresh.field-0-is) c.requires.had c.index-files-file.is c.as_str.ensures.value _ c.requires.there
+
+pub read_part-requires-clause-of_data : goal.read_part-requires-clause-of_data
+read_part-requires-clause-of_data g c =
+    data_again c.args.files.now (g.B.OutsideBytes.held c.args.bytes.now) c.args.origin c.in-Some-Fresh.file c.in-Some-Fresh.at (length c.args.buf.now) c.index-files-file.result c.as_str.result.now
     (c.in-Some-Fresh.is ∙ ap Some c.in-Some-Fresh.field-0-is) c.requires.had c.index-files-file.is c.as_str.ensures.value _ c.requires.there
 
 pub returns-in-None-clause-filled : goal.returns-in-None-clause-filled

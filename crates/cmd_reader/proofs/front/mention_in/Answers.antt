@@ -4,17 +4,18 @@ use Rattle.send_model.specs.Reading.{command_of}
 use Rattle.send_model.proofs.Fuel.{ok_same}
 use Rattle.send_commands.specs.Meaning.{meaning_of, kind_meant}
 use Rattle.send_commands.specs.Values.{bytes_in}
-use Rattle.cmd_reader.proofs.CommandFacts.{slice_bytes, read_can_write}
+use Rattle.cmd_reader.proofs.CommandFacts.{table_read, table_kept, slice_bytes, read_can_write}
 use Rattle.cmd_reader.proofs.MentionFacts.{no_mention, mention_made}
 use Rattle.cmd_reader.proofs.front.mention_in.Goals as goal
 
 -- A kind that neither begins a part nor names a key.
 pub returns-then-not-is_mention-clause-read : goal.returns-then-not-is_mention-clause-read
 returns-then-not-is_mention-clause-read c =
-    let there = c.in-Ok.ensures.exact in
+    let there = table_read c.attrs-read.result c.in-Ok.table c.in-Ok.is _ c.attrs-read.ensures.exact in
+    let kept = table_kept c.attrs-read.result c.in-Ok.table c.in-Ok.is c.args.version c.attrs-read.ensures.kept in
     let attributes = there.0 in
     let kind = kind_meant c.in-Ok-lawful_kind.kind in
-    let command : command_of c.args.version c.args.cmd attributes ≡ Ok (meant.command_with kind (bytes_in c.in-Ok.table)) = ap (λ (v : ℕ). command_of v c.args.cmd attributes) (sym c.in-Ok.ensures.kept) ∙ c.in-Ok-lawful_kind.ensures.exact attributes there.2 in
+    let command : command_of c.args.version c.args.cmd attributes ≡ Ok (meant.command_with kind (bytes_in c.in-Ok.table)) = ap (λ (v : ℕ). command_of v c.args.cmd attributes) (sym kept) ∙ c.in-Ok-lawful_kind.ensures.exact attributes there.2 in
     record {
       attributes = attributes;
       command = meant.command_with kind (bytes_in c.in-Ok.table);
@@ -27,11 +28,12 @@ returns-then-not-is_mention-clause-read c =
 -- One that does.
 pub returns-in-Ok-decode-clause-read : goal.returns-in-Ok-decode-clause-read
 returns-in-Ok-decode-clause-read c =
-    let there = c.in-Ok.ensures.exact in
+    let there = table_read c.attrs-read.result c.in-Ok.table c.in-Ok.is _ c.attrs-read.ensures.exact in
+    let kept = table_kept c.attrs-read.result c.in-Ok.table c.in-Ok.is c.args.version c.attrs-read.ensures.kept in
     let attributes = there.0 in
     let kind = kind_meant c.in-Ok-lawful_kind.kind in
     let made = meaning_of c.in-Ok-decode.command in
-    let command : command_of c.args.version c.args.cmd attributes ≡ Ok made = ap (λ (v : ℕ). command_of v c.args.cmd attributes) (sym c.in-Ok.ensures.kept) ∙ c.in-Ok-decode.ensures.exact attributes there.2 in
+    let command : command_of c.args.version c.args.cmd attributes ≡ Ok made = ap (λ (v : ℕ). command_of v c.args.cmd attributes) (sym kept) ∙ c.in-Ok-decode.ensures.exact attributes there.2 in
     record {
       attributes = attributes;
       command = made;

@@ -1,4 +1,4 @@
-use Rattle.std.specs.Prelude.{◌≡◌, ◌<◌, ◌≤◌, ◌^◌, ◌+◌, ℕ, Bool, true, false, is_some, List, map, drop, length}
+use Rattle.std.specs.Prelude.{◌≡◌, ◌+◌, ℕ, Bool, true, false, is_some, List, map, drop}
 use Rattle.std.specs.String.{string_bytes}
 use Rattle.std.proofs.Common.{sym, ap, subst, ◌∙◌}
 use Rattle.send_model.specs.NamedWords.{is_name_word}

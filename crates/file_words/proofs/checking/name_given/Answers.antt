@@ -1,4 +1,3 @@
-use Rattle.std.specs.Prelude.{ℕ, List, drop}
 use Rattle.std.proofs.Common.{sym, ap, subst, ◌∙◌}
 use Rattle.send_model.specs.Attribute.{IsBytes}
 use Rattle.word_model.specs.EscapedWords.{meant_by}

@@ -1,6 +1,5 @@
 use Rattle.std.proofs.Common.{◌≡◌, sym, ap, subst, ◌∙◌, append-nil, ◌++◌, ℕ, List, OnOk}
-use Rattle.std.specs.Str.{bytes_eq}
-use Rattle.std.specs.Prelude.{not, true, false}
+use Rattle.std.specs.Prelude.{true, false}
 use Rattle.send_model.specs.Separated.{touch, separator_in, detour, free_name}
 use Rattle.send_model.specs.Receivable.{receivable}
 use Rattle.stream_export.specs.Exporting.{all_receivable}

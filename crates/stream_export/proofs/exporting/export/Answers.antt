@@ -1,6 +1,6 @@
 use Rattle.std.specs.Prelude.{map}
 use Rattle.std.specs.String.{string_bytes}
-use Rattle.std.proofs.Common.{ℕ, subst, ◌∙◌}
+use Rattle.std.proofs.Common.{ℕ, subst}
 use Rattle.sx_base.specs.Calls.{SteadyIfDone}
 use Rattle.sx_base.specs.declared.outcome.Outcome.TheVariants as ended
 use Rattle.sx_base.proofs.Ended.{stopped_steady, steady_anyway}

@@ -1,4 +1,4 @@
-use Rattle.std.proofs.Common.{◌≡◌, refl, sym, ap, ◌∙◌, ℕ, List}
+use Rattle.std.proofs.Common.{refl, ap, ◌∙◌}
 use Rattle.std.specs.Prelude.{Err}
 use Rattle.sx_base.specs.declared.stop.Stop.{Stop}
 use Rattle.cmd_reader.specs.Next.{item_of}

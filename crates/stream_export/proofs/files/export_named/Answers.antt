@@ -1,7 +1,6 @@
 use Rattle.std.proofs.Common.{ℕ, sym, subst}
 use Rattle.std.specs.Option.{option_copied}
 use Rattle.send_model.specs.Laws.{CanWrite}
-use Rattle.send_model.specs.Reading as reading
 use Rattle.send_commands.specs.Meaning.{meaning_of}
 use Rattle.send_commands.specs.Writing.{IsWritable}
 use Rattle.part_names.specs.Naming.{IsNamed}

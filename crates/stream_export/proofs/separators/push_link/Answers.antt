@@ -1,6 +1,6 @@
-use Rattle.std.proofs.Common.{[], ◌∷◌, ◌≡◌, ◌++◌, ◌+◌, ℕ, List, length, take, drop, ap, sym, ◌∙◌, arith}
+use Rattle.std.proofs.Common.{[], ◌∷◌, ◌≡◌, ◌++◌, ◌+◌, ℕ, List, length, take, drop, ap, ◌∙◌, arith}
 use Rattle.send_model.specs.Command.{row}
-use Rattle.send_model.specs.Attribute.{PATH, PATH_LINK, FILE_OFFSET, DATA, Number, field_bytes}
+use Rattle.send_model.specs.Attribute.{PATH, PATH_LINK}
 use Rattle.send_model.specs.Spelling.{attribute_bytes, body_of, frame_of}
 use Rattle.tlv_frame.specs.Frame.{Begun, head_room}
 use Rattle.receivable_form.proofs.Frames.{text_of, two_body, by_writer, can_finish, finished}

@@ -1,9 +1,8 @@
-use Rattle.std.specs.Prelude.{◌≡◌, ◌<◌, ◌≤◌, ◌^◌, ◌+◌, ◌-◌, ◌++◌, ◌∷◌, [], ℕ, Bool, true, false, List, map, take, drop, length, Option, None, Some, is_some, IfSome}
+use Rattle.std.specs.Prelude.{◌≡◌, ◌+◌, ◌-◌, ◌++◌, ◌∷◌, [], ℕ, true, false, List, map, drop, Option, None, Some, is_some, IfSome}
 use Rattle.std.specs.String.{string_bytes}
-use Rattle.std.proofs.Common.{sym, ap, subst, ◌∙◌, arith}
+use Rattle.std.proofs.Common.{sym, ap, subst, ◌∙◌}
 use Rattle.std.proofs.lemmas.Bool.{false≢true}
-use Rattle.std.proofs.lemmas.List.{map-append, length-drop, take_all}
-use Rattle.send_model.specs.Attribute.{IsBytes}
+use Rattle.std.proofs.lemmas.List.{map-append}
 use Rattle.send_model.specs.NamedWords.{is_name_word}
 use Rattle.send_model.specs.Renamed.{Names, IsNewName, AreNewNames}
 use Rattle.send_model.proofs.ElementLaws.{all_both}

@@ -4,8 +4,7 @@ use Rattle.send_model.specs.Command.{Command}
 use Rattle.send_model.specs.Subvolume.{Subvolume, root_alone}
 use Rattle.send_model.specs.Store.{Part}
 use Rattle.send_model.specs.Exported.{Exporting}
-use Rattle.send_model.specs.Separated.{touch}
-use Rattle.stream_export.specs.Exporting.{Blank, all_receivable, opened_for}
+use Rattle.stream_export.specs.Exporting.{Blank, all_receivable}
 use Rattle.stream_export.proofs.Opening.{none_elsewhere, not_elsewhere, here_still, elsewhere_now, found_at, again_same, again_astray, separator_tree, short_path}
 use Rattle.stream_export.proofs.Separating.{nothing_added, opened_again}
 use Rattle.stream_export.proofs.exporter.Exporter.open_again.Goals as goal

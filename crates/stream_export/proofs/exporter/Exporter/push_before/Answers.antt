@@ -1,4 +1,4 @@
-use Rattle.std.proofs.Common.{◌≡◌, sym, ap, ◌∙◌, ◌++◌, List, ℕ}
+use Rattle.std.proofs.Common.{sym, ap, ◌∙◌, ◌++◌, List}
 use Rattle.send_model.specs.Command.{Command}
 use Rattle.send_commands.specs.Meaning.{meaning_of}
 use Rattle.stream_export.specs.Exporting.{all_receivable}
