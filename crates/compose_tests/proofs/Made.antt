@@ -1,13 +1,13 @@
 -- Contents that are made of zero bytes and of bytes of the first input file.
 use Rattle.std.specs.Prelude.{◌≡◌, ℕ, zero, suc, ◌+◌, ◌-◌, ◌<◌, List, [], ◌∷◌, ◌++◌, map, length, take, drop, Option, Some, None}
 use Rattle.std.specs.List.{AllByRecursion, range_with_len}
-use Rattle.std.proofs.Common.{refl, sym, subst, ◌∙◌, ap}
+use Rattle.std.proofs.Common.{sym, subst}
 use lib.ListN.{replicate}
 use Rattle.send_model.proofs.ElementLaws.{all_both, all_take, all_drop}
 use Rattle.extent_map.specs.Cells.{resize_cells, put_cells, cells_between}
 use Rattle.extent_map.specs.Pieces.{run_cells, zero_cells}
 use Rattle.provenance.specs.declared.trace.Trace.{Trace}
-use Rattle.provenance.specs.declared.trace.Trace.TheVariants.{Fresh, Outside}
+use Rattle.provenance.specs.declared.trace.Trace.TheVariants.{Fresh}
 use Rattle.provenance.specs.Traces.{advanced_by}
 use Rattle.clone_pieces.specs.Origins.{IsHad}
 

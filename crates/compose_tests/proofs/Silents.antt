@@ -6,7 +6,7 @@ use Rattle.send_model.specs.Command.{Command}
 use Rattle.send_model.specs.Cells.{AllCells}
 use Rattle.send_model.specs.Clone.{cells_of}
 use Rattle.send_model.specs.Store as meant
-use Rattle.send_model.specs.Store.{Store, State, find, step}
+use Rattle.send_model.specs.Store.{State, find, step}
 use Rattle.send_model.proofs.Stores.{same_key_same}
 use Rattle.extent_map.specs.Pieces.{run_cells}
 use Rattle.subvol_catalog.specs.declared.key.Key.{Key}

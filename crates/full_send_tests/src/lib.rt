@@ -4,4 +4,6 @@
 #[cfg(test)]
 mod images;
 #[cfg(test)]
+mod same;
+#[cfg(test)]
 mod stream_tests;

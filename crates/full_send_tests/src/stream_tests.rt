@@ -1,5 +1,6 @@
 // Subvolumes as streams, over images and with streams that another program made.
 use crate::images::{BIG_IMAGE, IMAGE, RESTORED_A, RESTORED_T, SENT_A, SENT_B, SENT_T};
+use crate::same::same;
 use disk_model::{FlakyDisk, MemDisk};
 use full_send::{restore_entry, send_entry};
 use std::alloc::Global;
@@ -48,7 +49,7 @@ fn subvolumes_are_sent(rt: HostRuntime) -> Result<(), Fail> {
         (&IMAGE[..60], b"a", StoreEnd::NotStore { group: 1 }, b""),
     ];
     for (image, name, end, stream) in rows {
-        assert!(rt; sends(alloc, image, name, end, stream)?);
+        same(&rt, sends(alloc, image, name, end, stream)?, true);
     }
     Ok(())
 }
@@ -62,7 +63,7 @@ fn subvolumes_are_restored(rt: HostRuntime) -> Result<(), Fail> {
         (b"zz", StoreEnd::NoName, b""),
     ];
     for (name, end, stream) in rows {
-        assert!(rt; restores(alloc, IMAGE, name, end, stream)?);
+        same(&rt, restores(alloc, IMAGE, name, end, stream)?, true);
     }
     Ok(())
 }
@@ -84,7 +85,11 @@ fn long_contents_are_cut_from_their_start(rt: HostRuntime) -> Result<(), Fail> {
     let alloc = rt.alloc();
     let image = joined(alloc, BIG_IMAGE)?;
     let stream = joined(alloc, SENT_B)?;
-    assert!(rt; sends(alloc, image.as_slice(), b"b", DONE, stream.as_slice())?);
+    same(
+        &rt,
+        sends(alloc, image.as_slice(), b"b", DONE, stream.as_slice())?,
+        true,
+    );
     Ok(())
 }
 
@@ -102,7 +107,7 @@ fn each_call_of_a_disk_fails_once(rt: HostRuntime) -> Result<(), Fail> {
         let end = send_entry(alloc, &mut disk, b"t", &mut out);
         let whole = end == DONE && out.bytes() == SENT_T;
         let cut = end == StoreEnd::StoreFault && out.bytes().is_empty();
-        assert!(rt; whole || cut);
+        same(&rt, whole || cut, true);
     }
     Ok(())
 }
@@ -117,9 +122,13 @@ fn an_output_that_fails_is_said(rt: HostRuntime) -> Result<(), Fail> {
         let mut out = MemSink::new(alloc);
         out.fail_call(call)?;
         let end = send_entry(alloc, &mut disk, b"b", &mut out);
-        assert_eq!(rt; end, StoreEnd::Ends(Outcome::OutputFault));
-        assert!(rt; out.bytes().len() < stream.len());
-        assert!(rt; out.bytes() == &stream.as_slice()[..out.bytes().len()]);
+        same(&rt, end, StoreEnd::Ends(Outcome::OutputFault));
+        same(&rt, out.bytes().len() < stream.len(), true);
+        same(
+            &rt,
+            out.bytes() == &stream.as_slice()[..out.bytes().len()],
+            true,
+        );
     }
     Ok(())
 }

@@ -1,5 +1,6 @@
 // What no clause says: the ways in which a group is at fault, each with its number in its image.
 use crate::image::{header, put_frame, put_group, put_sealed, read};
+use crate::same::same;
 use Piece::{Bytes, Frame};
 use std::alloc::{AllocError, Global};
 use std::test::Fail;
@@ -462,13 +463,25 @@ fn is_last_at_fault(alloc: Global, groups: &[Group]) -> Result<bool, Fail> {
 #[test]
 fn a_group_at_fault_has_its_number(rt: HostRuntime) -> Result<(), Fail> {
     for (what, groups) in HEADS_AT_FAULT {
-        assert!(rt; is_last_at_fault(rt.alloc(), groups)?, "{what}");
+        same(
+            &rt,
+            (what, is_last_at_fault(rt.alloc(), groups)?),
+            (what, true),
+        );
     }
     for (what, groups) in EDITS_AT_FAULT {
-        assert!(rt; is_last_at_fault(rt.alloc(), groups)?, "{what}");
+        same(
+            &rt,
+            (what, is_last_at_fault(rt.alloc(), groups)?),
+            (what, true),
+        );
     }
     for (what, groups) in NAMES_AT_FAULT {
-        assert!(rt; is_last_at_fault(rt.alloc(), groups)?, "{what}");
+        same(
+            &rt,
+            (what, is_last_at_fault(rt.alloc(), groups)?),
+            (what, true),
+        );
     }
     Ok(())
 }
@@ -552,10 +565,14 @@ fn groups_that_are_right_are_taken(rt: HostRuntime) -> Result<(), Fail> {
     for (what, groups, entries) in RIGHT {
         for (format, is_sealed) in [(2, true), (1, true), (1, false)] {
             let found = judged(rt.alloc(), format, is_sealed, groups)?;
-            assert_eq!(rt; found, Ok(entries), "{what}, format {format}");
+            same(&rt, (what, format, found), (what, format, Ok(entries)));
         }
         // Without a checksum there are none in format 2.
-        assert_eq!(rt; judged(rt.alloc(), 2, false, groups)?, Err(1), "{what}");
+        same(
+            &rt,
+            (what, judged(rt.alloc(), 2, false, groups)?),
+            (what, Err(1)),
+        );
     }
     Ok(())
 }

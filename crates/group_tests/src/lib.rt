@@ -6,4 +6,6 @@ mod fault_tests;
 #[cfg(test)]
 mod image;
 #[cfg(test)]
+mod same;
+#[cfg(test)]
 mod taking_tests;

@@ -1,5 +1,6 @@
 // What no clause says: that groups are taken where there is memory, also such as are longer than a window.
 use crate::image::{edits, header, mark, put_attribute, put_frame, put_group, put_sealed, read};
+use crate::same::same;
 use std::alloc::{AllocError, Global};
 use std::test::Fail;
 
@@ -34,14 +35,14 @@ fn groups_of_both_formats_are_taken(rt: HostRuntime) -> Result<(), Fail> {
     let mut image = header(alloc, 1)?;
     put_group(&mut image, &mark(alloc, 1)?)?;
     put_group(&mut image, &edits(alloc, 2, 1)?)?;
-    assert_eq!(rt; read(alloc, &image)?, Ok(1));
+    same(&rt, read(alloc, &image)?, Ok(1));
     put_group(&mut image, b"\x03a")?;
-    assert_eq!(rt; read(alloc, &image)?, Ok(0));
+    same(&rt, read(alloc, &image)?, Ok(0));
     put_sealed(alloc, &mut image, &mark(alloc, 4)?)?;
     put_sealed(alloc, &mut image, &edits(alloc, 5, 2)?)?;
-    assert_eq!(rt; read(alloc, &image)?, Ok(1));
+    same(&rt, read(alloc, &image)?, Ok(1));
     put_sealed(alloc, &mut image, b"\x06a")?;
-    assert_eq!(rt; read(alloc, &image)?, Ok(0));
+    same(&rt, read(alloc, &image)?, Ok(0));
     Ok(())
 }
 
@@ -55,9 +56,9 @@ fn a_group_longer_than_a_window_is_taken(rt: HostRuntime) -> Result<(), Fail> {
     }
     let mut image = marked(alloc)?;
     put_sealed(alloc, &mut image, &group)?;
-    assert_eq!(rt; read(alloc, &image)?, Ok(1));
+    same(&rt, read(alloc, &image)?, Ok(1));
     put_group(&mut image, &group)?;
-    assert_eq!(rt; read(alloc, &image)?, Err(3));
+    same(&rt, read(alloc, &image)?, Err(3));
     Ok(())
 }
 
@@ -75,10 +76,10 @@ fn groups_at_fault_are_none(rt: HostRuntime) -> Result<(), Fail> {
     for group in faults {
         let mut image = marked(alloc)?;
         put_sealed(alloc, &mut image, group)?;
-        assert_eq!(rt; read(alloc, &image)?, Err(2));
+        same(&rt, read(alloc, &image)?, Err(2));
         let mut image = marked(alloc)?;
         put_group(&mut image, group)?;
-        assert_eq!(rt; read(alloc, &image)?, Err(2));
+        same(&rt, read(alloc, &image)?, Err(2));
     }
     Ok(())
 }

@@ -1,5 +1,6 @@
 // Files that are cut, disks that stop or fail, and what of the store is there afterwards.
 use crate::receive_tests::{A, B, DONE, LINE_A, new_store, received};
+use crate::same::same;
 use disk_model::{FlakyDisk, FuseDisk, MemDisk};
 use receiver::Received;
 use std::alloc::Global;
@@ -69,11 +70,11 @@ fn a_file_is_cut_at_each_byte(rt: HostRuntime) -> Result<(), Fail> {
     let alloc = rt.alloc();
     for len in 0..A.len() {
         let others = if len < HEAD_OF_A { 0 } else { 1 };
-        assert!(rt; cut_leaves(alloc, &[&A[..len]], 0, others)?);
+        same(&rt, cut_leaves(alloc, &[&A[..len]], 0, others)?, true);
     }
     for len in 0..B.len() {
         let others = if len < HEAD_OF_B { 0 } else { 1 };
-        assert!(rt; cut_leaves(alloc, &[A, &B[..len]], 1, others)?);
+        same(&rt, cut_leaves(alloc, &[A, &B[..len]], 1, others)?, true);
     }
     Ok(())
 }
@@ -112,7 +113,7 @@ fn stop_is_survived(alloc: Global, calls: u64) -> Result<bool, Fail> {
 fn a_disk_stops_after_each_call(rt: HostRuntime) -> Result<(), Fail> {
     let alloc = rt.alloc();
     for calls in 0..MOST {
-        assert!(rt; stop_is_survived(alloc, calls)?);
+        same(&rt, stop_is_survived(alloc, calls)?, true);
     }
     Ok(())
 }
@@ -136,7 +137,7 @@ fn fault_is_survived(alloc: Global, call: u64) -> Result<bool, Fail> {
 fn each_call_of_a_disk_fails_once(rt: HostRuntime) -> Result<(), Fail> {
     let alloc = rt.alloc();
     for call in 0..MOST {
-        assert!(rt; fault_is_survived(alloc, call)?);
+        same(&rt, fault_is_survived(alloc, call)?, true);
     }
     Ok(())
 }

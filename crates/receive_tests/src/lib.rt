@@ -5,3 +5,5 @@
 mod crash_tests;
 #[cfg(test)]
 mod receive_tests;
+#[cfg(test)]
+mod same;

@@ -1,4 +1,5 @@
 // Files that are received over objects in memory. The frames and the store are from another program.
+use crate::same::same;
 use disk_model::{FuseDisk, MemDisk};
 use guard_rules::{AnyGuard, GuardSpec};
 use part_names::{NamedFiles, PartNames};
@@ -103,12 +104,12 @@ fn a_stream_makes_the_store(rt: HostRuntime) -> Result<(), Fail> {
     let alloc = rt.alloc();
     let mut disk = new_store(alloc)?;
     let mut out = MemSink::new(alloc);
-    assert_eq!(rt; received(alloc, &mut disk, &[A], 100, &mut out)?, DONE);
-    assert_eq!(rt; out.bytes(), LINE_A);
+    same(&rt, received(alloc, &mut disk, &[A], 100, &mut out)?, DONE);
+    same(&rt, out.bytes(), LINE_A);
     let mut image = [0; 188];
-    assert_eq!(rt; disk.size()?, 188);
-    assert_eq!(rt; disk.read(0, &mut image)?, 188);
-    assert_eq!(rt; image.as_slice(), STORE);
+    same(&rt, disk.size()?, 188);
+    same(&rt, disk.read(0, &mut image)?, 188);
+    same(&rt, image.as_slice(), STORE);
     Ok(())
 }
 
@@ -117,10 +118,10 @@ fn each_part_has_its_line(rt: HostRuntime) -> Result<(), Fail> {
     let alloc = rt.alloc();
     let mut disk = new_store(alloc)?;
     let mut out = MemSink::new(alloc);
-    assert_eq!(rt; received(alloc, &mut disk, &[A], 100, &mut out)?, DONE);
+    same(&rt, received(alloc, &mut disk, &[A], 100, &mut out)?, DONE);
     let mut out = MemSink::new(alloc);
-    assert_eq!(rt; received(alloc, &mut disk, &[B], 100, &mut out)?, DONE);
-    assert_eq!(rt; out.bytes(), LINE_B);
+    same(&rt, received(alloc, &mut disk, &[B], 100, &mut out)?, DONE);
+    same(&rt, out.bytes(), LINE_B);
     Ok(())
 }
 
@@ -130,13 +131,13 @@ fn a_refused_part_stays_unfinished(rt: HostRuntime) -> Result<(), Fail> {
     let mut disk = new_store(alloc)?;
     let mut out = MemSink::new(alloc);
     let end = received(alloc, &mut disk, &[A, C], 100, &mut out)?;
-    assert_eq!(rt; end, refusal(Refusal::NoEntry));
-    assert_eq!(rt; out.bytes(), LINE_A);
+    same(&rt, end, refusal(Refusal::NoEntry));
+    same(&rt, out.bytes(), LINE_A);
     let mut disk = new_store(alloc)?;
     let mut out = MemSink::new(alloc);
     let end = received(alloc, &mut disk, &[A, B], 6, &mut out)?;
-    assert_eq!(rt; end, refusal(Refusal::Guarded { guard: 1, used: 6 }));
-    assert_eq!(rt; out.bytes(), LINE_A);
+    same(&rt, end, refusal(Refusal::Guarded { guard: 1, used: 6 }));
+    same(&rt, out.bytes(), LINE_A);
     Ok(())
 }
 
@@ -165,7 +166,7 @@ fn fault_is_told(alloc: Global, calls: u64) -> Result<bool, Fail> {
 fn a_disk_that_fails_is_told(rt: HostRuntime) -> Result<(), Fail> {
     let alloc = rt.alloc();
     for calls in 0..MOST {
-        assert!(rt; fault_is_told(alloc, calls)?);
+        same(&rt, fault_is_told(alloc, calls)?, true);
     }
     Ok(())
 }
@@ -224,7 +225,11 @@ fn a_refused_part_has_begun(rt: HostRuntime) -> Result<(), Fail> {
     let alloc = rt.alloc();
     let mut disk = new_store(alloc)?;
     let end = refusal(Refusal::NoEntry);
-    assert!(rt; leaves(alloc, &mut disk, &[A, C], end, &[groups_a(), MARK_B])?);
+    same(
+        &rt,
+        leaves(alloc, &mut disk, &[A, C], end, &[groups_a(), MARK_B])?,
+        true,
+    );
     Ok(())
 }
 
@@ -242,10 +247,18 @@ fn a_head_without_room_leaves_what_had_room(rt: HostRuntime) -> Result<(), Fail>
     let alloc = rt.alloc();
     let mut disk = store_of(alloc, 188)?;
     let end = no_room(187, 188);
-    assert!(rt; leaves(alloc, &mut disk, &[A, B], end, &[groups_a()])?);
+    same(
+        &rt,
+        leaves(alloc, &mut disk, &[A, B], end, &[groups_a()])?,
+        true,
+    );
     let mut disk = store_of(alloc, 281)?;
     let end = no_room(280, 281);
-    assert!(rt; leaves(alloc, &mut disk, &[A, B], end, &[groups_a(), MARK_B])?);
+    same(
+        &rt,
+        leaves(alloc, &mut disk, &[A, B], end, &[groups_a(), MARK_B])?,
+        true,
+    );
     Ok(())
 }
 
@@ -256,9 +269,9 @@ fn a_part_whose_line_fails_is_complete(rt: HostRuntime) -> Result<(), Fail> {
     let mut out = MemSink::new(alloc);
     out.fail_call(1)?;
     let end = received(alloc, &mut disk, &[A, B], 100, &mut out)?;
-    assert_eq!(rt; end, Received::Files(Outcome::OutputFault));
-    assert!(rt; out.bytes().is_empty());
-    assert!(rt; has_groups(&mut disk, &[groups_a()])?);
+    same(&rt, end, Received::Files(Outcome::OutputFault));
+    same(&rt, out.bytes().is_empty(), true);
+    same(&rt, has_groups(&mut disk, &[groups_a()])?, true);
     Ok(())
 }
 
@@ -281,13 +294,13 @@ fn the_word_opens_the_store_first(rt: HostRuntime) -> Result<(), Fail> {
     let mut disk = new_store(alloc)?;
     let mut out = MemSink::new(alloc);
     let end = word_ends(alloc, &mut disk, &mut out)?;
-    assert_eq!(rt; end, StoreEnd::Ends(Outcome::Done));
-    assert_eq!(rt; out.bytes(), LINE_A);
-    assert!(rt; has_groups(&mut disk, &[groups_a()])?);
+    same(&rt, end, StoreEnd::Ends(Outcome::Done));
+    same(&rt, out.bytes(), LINE_A);
+    same(&rt, has_groups(&mut disk, &[groups_a()])?, true);
     let mut disk = MemDisk::new(alloc, b"sndstore")?;
     let mut out = MemSink::new(alloc);
     let end = word_ends(alloc, &mut disk, &mut out)?;
-    assert_eq!(rt; end, StoreEnd::NotStore { group: 0 });
-    assert!(rt; out.bytes().is_empty());
+    same(&rt, end, StoreEnd::NotStore { group: 0 });
+    same(&rt, out.bytes().is_empty(), true);
     Ok(())
 }

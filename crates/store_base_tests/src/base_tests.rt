@@ -5,6 +5,7 @@ use crate::pieces::{
     OVERLAP, OVERLAP_WRITTEN, OWN_FIRST, OWN_SECOND, OWN_WRITTEN, Piece, SHORT_BASE, SHORT_FIRST,
     SHORT_SECOND, SHORT_WRITTEN, SOURCE_BASE, joined,
 };
+use crate::same::same;
 use disk_model::{FuseDisk, MemDisk};
 use guard_rules::AnyGuard;
 use part_names::{NamedFiles, PartNames};
@@ -62,7 +63,7 @@ fn composed<D: Disk>(
     files: &[&[Piece]],
 ) -> Result<(StoreEnd, Vec<u8>), AllocError> {
     let Files { mut inputs, names } = input_files(alloc, files)?;
-    assert!(rt; !names.is_empty());
+    same(rt, !names.is_empty(), true);
     let mut out = MemSink::new(alloc);
     let own = PartNames::none(alloc);
     let given = NamedFiles {
@@ -98,11 +99,31 @@ fn blocks_are_cloned_from_the_store(rt: HostRuntime) -> Result<(), Fail> {
     let cut: [&[Piece]; 2] = [CUT_FIRST, SHORT_SECOND];
     let moved: [&[Piece]; 4] = [MOVED, CLONED_ONCE, CLONED_TWICE, CLONED_THRICE];
     let parts: [&[Piece]; 3] = [LINKED_BASE, LINKED_FIRST, LINKED_SECOND];
-    assert!(rt; ends(&rt, alloc, &[LINKED_BASE], &linked, DONE, LINKED_WRITTEN)?);
-    assert!(rt; ends(&rt, alloc, &parts, &linked, DONE, LINKED_WRITTEN)?);
-    assert!(rt; ends(&rt, alloc, &[SHORT_BASE], &short, DONE, SHORT_WRITTEN)?);
-    assert!(rt; ends(&rt, alloc, &[CUT_BASE], &cut, DONE, CUT_WRITTEN)?);
-    assert!(rt; ends(&rt, alloc, &[SOURCE_BASE], &moved, DONE, ALL_CLONED)?);
+    same(
+        &rt,
+        ends(&rt, alloc, &[LINKED_BASE], &linked, DONE, LINKED_WRITTEN)?,
+        true,
+    );
+    same(
+        &rt,
+        ends(&rt, alloc, &parts, &linked, DONE, LINKED_WRITTEN)?,
+        true,
+    );
+    same(
+        &rt,
+        ends(&rt, alloc, &[SHORT_BASE], &short, DONE, SHORT_WRITTEN)?,
+        true,
+    );
+    same(
+        &rt,
+        ends(&rt, alloc, &[CUT_BASE], &cut, DONE, CUT_WRITTEN)?,
+        true,
+    );
+    same(
+        &rt,
+        ends(&rt, alloc, &[SOURCE_BASE], &moved, DONE, ALL_CLONED)?,
+        true,
+    );
     Ok(())
 }
 
@@ -127,10 +148,18 @@ fn an_empty_store_is_no_base(rt: HostRuntime) -> Result<(), Fail> {
     let no_parent = refused(1, 1, 17, Refusal::NoParent);
     let hole: [&[Piece]; 2] = [HOLE, HOLE_CLONED];
     let own: [&[Piece]; 2] = [OWN_FIRST, OWN_SECOND];
-    assert!(rt; ends(&rt, alloc, &[], &hole, much, HOLE_WRITTEN)?);
-    assert!(rt; ends(&rt, alloc, &[], &[OVERLAP], overlap, OVERLAP_WRITTEN)?);
-    assert!(rt; ends(&rt, alloc, &[], &own, DONE, OWN_WRITTEN)?);
-    assert!(rt; ends(&rt, alloc, &[], &[LINKED_FIRST], no_parent, &[])?);
+    same(&rt, ends(&rt, alloc, &[], &hole, much, HOLE_WRITTEN)?, true);
+    same(
+        &rt,
+        ends(&rt, alloc, &[], &[OVERLAP], overlap, OVERLAP_WRITTEN)?,
+        true,
+    );
+    same(&rt, ends(&rt, alloc, &[], &own, DONE, OWN_WRITTEN)?, true);
+    same(
+        &rt,
+        ends(&rt, alloc, &[], &[LINKED_FIRST], no_parent, &[])?,
+        true,
+    );
     Ok(())
 }
 
@@ -141,19 +170,25 @@ fn what_is_not_complete_is_no_base(rt: HostRuntime) -> Result<(), Fail> {
     let no_parent = refused(1, 1, 17, Refusal::NoParent);
     let linked: [&[Piece]; 2] = [LINKED_FIRST, LINKED_SECOND];
     let (mut disk, _end) = received(alloc, &[LINKED_BASE])?;
-    assert_eq!(rt; drop_entry(alloc, &mut disk, b"p"), DONE);
+    same(&rt, drop_entry(alloc, &mut disk, b"p"), DONE);
     let (end, _bytes) = composed(&rt, alloc, &mut disk, &linked)?;
-    assert_eq!(rt; end, no_parent);
-    assert!(rt; ends(&rt, alloc, &[OVERLAP], &linked, no_parent, &[])?);
-    assert!(rt;
+    same(&rt, end, no_parent);
+    same(
+        &rt,
+        ends(&rt, alloc, &[OVERLAP], &linked, no_parent, &[])?,
+        true,
+    );
+    same(
+        &rt,
         ends(
             &rt,
             alloc,
             &[LINKED_BASE, CUT_FIRST],
             &linked,
             DONE,
-            LINKED_WRITTEN
-        )?
+            LINKED_WRITTEN,
+        )?,
+        true,
     );
     Ok(())
 }
@@ -180,19 +215,19 @@ fn a_call_of_the_disk_fails(rt: HostRuntime) -> Result<(), Fail> {
         if end == DONE {
             done = true;
         } else {
-            assert_eq!(rt; end, StoreEnd::StoreFault);
-            assert!(rt; !done);
+            same(&rt, end, StoreEnd::StoreFault);
+            same(&rt, !done, true);
         }
-        assert_eq!(rt; whole, end == DONE);
+        same(&rt, whole, end == DONE);
     }
-    assert!(rt; done);
+    same(&rt, done, true);
     Ok(())
 }
 
 // How composing over a disk ends, where nothing is written.
 fn ends_before(rt: &impl Abort, alloc: Global, disk: &mut MemDisk) -> Result<StoreEnd, AllocError> {
     let (end, bytes) = composed(rt, alloc, disk, &[LINKED_FIRST])?;
-    assert!(rt; bytes.is_empty());
+    same(rt, bytes.is_empty(), true);
     Ok(end)
 }
 
@@ -201,17 +236,19 @@ fn ends_before(rt: &impl Abort, alloc: Global, disk: &mut MemDisk) -> Result<Sto
 fn bytes_that_are_no_store(rt: HostRuntime) -> Result<(), Fail> {
     let alloc = rt.alloc();
     let mut disk = MemDisk::new(alloc, b"sndstore")?;
-    assert_eq!(rt;
+    same(
+        &rt,
         ends_before(&rt, alloc, &mut disk)?,
-        StoreEnd::NotStore { group: 0 }
+        StoreEnd::NotStore { group: 0 },
     );
     let (mut disk, _end) = received(alloc, &[LINKED_BASE])?;
     if disk.size()? > 31 {
         disk.write_at(30, b"!")?;
     }
-    assert_eq!(rt;
+    same(
+        &rt,
         ends_before(&rt, alloc, &mut disk)?,
-        StoreEnd::NotStore { group: 1 }
+        StoreEnd::NotStore { group: 1 },
     );
     Ok(())
 }

@@ -5,3 +5,5 @@
 mod base_tests;
 #[cfg(test)]
 mod pieces;
+#[cfg(test)]
+mod same;

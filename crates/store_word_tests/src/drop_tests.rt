@@ -1,5 +1,6 @@
 // Dropping an entry: what is left of a store, also where its disk fails or loses power.
 use crate::images::{BEGUN, DONE, DROPPED, LIST, STORE, TWO};
+use crate::same::same;
 use disk_model::{FlakyDisk, FuseDisk, MemDisk};
 use std::alloc::Global;
 use std::test::Fail;
@@ -43,7 +44,7 @@ fn an_entry_is_dropped(rt: HostRuntime) -> Result<(), Fail> {
         (DROPPED, b"a", StoreEnd::NoName, b""),
     ];
     for (image, name, end, list) in rows {
-        assert!(rt; drops(alloc, image, name, end, list)?);
+        same(&rt, drops(alloc, image, name, end, list)?, true);
     }
     Ok(())
 }
@@ -59,12 +60,12 @@ fn holds<D: Disk>(disk: &mut D, bytes: &[u8]) -> Result<bool, Fail> {
 fn the_group_of_a_drop_stands_as_another_program_writes_it(rt: HostRuntime) -> Result<(), Fail> {
     let alloc = rt.alloc();
     let mut disk = MemDisk::new(alloc, STORE)?;
-    assert_eq!(rt; drop_entry(alloc, &mut disk, b"a"), DONE);
-    assert!(rt; holds(&mut disk, DROPPED)?);
+    same(&rt, drop_entry(alloc, &mut disk, b"a"), DONE);
+    same(&rt, holds(&mut disk, DROPPED)?, true);
     let mut out = MemSink::new(alloc);
     let scrubbed: &[u8] = b"scrub 3 0\n";
-    assert_eq!(rt; scrub_store(alloc, &mut disk, &mut out), DONE);
-    assert!(rt; out.bytes() == scrubbed);
+    same(&rt, scrub_store(alloc, &mut disk, &mut out), DONE);
+    same(&rt, out.bytes() == scrubbed, true);
     Ok(())
 }
 
@@ -74,11 +75,12 @@ fn what_is_no_store_stays_as_it_is(rt: HostRuntime) -> Result<(), Fail> {
     let rows: [(&[u8], u64); 3] = [(b"", 0), (&STORE[..12], 0), (&STORE[..168], 2)];
     for (image, group) in rows {
         let mut disk = MemDisk::new(alloc, image)?;
-        assert_eq!(rt;
+        same(
+            &rt,
             drop_entry(alloc, &mut disk, b"a"),
-            StoreEnd::NotStore { group }
+            StoreEnd::NotStore { group },
         );
-        assert!(rt; holds(&mut disk, image)?);
+        same(&rt, holds(&mut disk, image)?, true);
     }
     Ok(())
 }
@@ -141,7 +143,11 @@ fn a_store_without_room_keeps_its_entry(rt: HostRuntime) -> Result<(), Fail> {
         (203, DONE, b""),
     ];
     for (limit, end, list) in rows {
-        assert!(rt; drops(alloc, &limited(alloc, limit)?, b"a", end, list)?);
+        same(
+            &rt,
+            drops(alloc, &limited(alloc, limit)?, b"a", end, list)?,
+            true,
+        );
     }
     Ok(())
 }
@@ -171,9 +177,9 @@ fn a_drop_is_cut_off_at_each_call(rt: HostRuntime) -> Result<(), Fail> {
     for calls in 0..MOST {
         let mut disk = FuseDisk::new(MemDisk::new(alloc, STORE)?, calls);
         let end = drop_entry(alloc, &mut disk, b"a");
-        assert!(rt; leaves(alloc, &disk.into_inner(), end)?);
-        assert_eq!(rt; calls == 0 && end == DONE, false);
-        assert_eq!(rt; calls + 1 == MOST && end != DONE, false);
+        same(&rt, leaves(alloc, &disk.into_inner(), end)?, true);
+        same(&rt, calls == 0 && end == DONE, false);
+        same(&rt, calls + 1 == MOST && end != DONE, false);
     }
     Ok(())
 }
@@ -186,7 +192,7 @@ fn each_call_of_a_drop_fails_once(rt: HostRuntime) -> Result<(), Fail> {
         failing.push(call)?;
         let mut disk = FlakyDisk::new(MemDisk::new(alloc, STORE)?, failing);
         let end = drop_entry(alloc, &mut disk, b"a");
-        assert!(rt; leaves(alloc, &disk.into_inner(), end)?);
+        same(&rt, leaves(alloc, &disk.into_inner(), end)?, true);
     }
     Ok(())
 }

@@ -6,4 +6,6 @@ mod drop_tests;
 #[cfg(test)]
 mod images;
 #[cfg(test)]
+mod same;
+#[cfg(test)]
 mod word_tests;

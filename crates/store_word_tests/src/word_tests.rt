@@ -1,5 +1,6 @@
 // The words over a store, over images that another program made.
 use crate::images::{BEGUN, BEGUN_LIST, DONE, LIST, STORE};
+use crate::same::same;
 use disk_model::{FuseDisk, MemDisk};
 use part_names::{NamedFiles, PartNames};
 use std::alloc::Global;
@@ -63,7 +64,7 @@ fn words_write_what_is_there(rt: HostRuntime) -> Result<(), Fail> {
         (BEGUN, Word::Show(b"a"), StoreEnd::NoName, b""),
     ];
     for (image, word, end, bytes) in rows {
-        assert_eq!(rt; says(alloc, image, &word, end, bytes)?, true);
+        same(&rt, says(alloc, image, &word, end, bytes)?, true);
     }
     Ok(())
 }
@@ -87,9 +88,9 @@ fn what_is_no_store_is_told(rt: HostRuntime) -> Result<(), Fail> {
         (STORE, Word::Init, StoreEnd::StoreThere { size: 188 }, b""),
     ];
     for (image, word, end, bytes) in rows {
-        assert_eq!(rt; says(alloc, image, &word, end, bytes)?, true);
+        same(&rt, says(alloc, image, &word, end, bytes)?, true);
     }
-    assert_eq!(rt; says(alloc, b"", &Word::Init, DONE, b"")?, true);
+    same(&rt, says(alloc, b"", &Word::Init, DONE, b"")?, true);
     Ok(())
 }
 
@@ -125,7 +126,7 @@ fn a_disk_that_fails_is_told(rt: HostRuntime) -> Result<(), Fail> {
         (Word::Cat(b"a", b"x"), b"\0\0\0hi\0"),
     ];
     for (word, bytes) in rows {
-        assert_eq!(rt; faults_are_told(alloc, &word, bytes)?, true);
+        same(&rt, faults_are_told(alloc, &word, bytes)?, true);
     }
     Ok(())
 }
@@ -144,8 +145,8 @@ fn an_output_that_fails_is_told(rt: HostRuntime) -> Result<(), Fail> {
         let mut out = MemSink::new(alloc);
         out.fail_call(1)?;
         let end = said(alloc, &mut disk, &word, &mut out);
-        assert_eq!(rt; end, StoreEnd::Ends(Outcome::OutputFault));
-        assert_eq!(rt; out.bytes().is_empty(), true);
+        same(&rt, end, StoreEnd::Ends(Outcome::OutputFault));
+        same(&rt, out.bytes().is_empty(), true);
     }
     Ok(())
 }
@@ -175,8 +176,16 @@ fn a_store_that_is_cut_is_none(rt: HostRuntime) -> Result<(), Fail> {
         let end = StoreEnd::NotStore {
             group: cut_group(len),
         };
-        assert!(rt; says(alloc, &STORE[..len], &Word::List, end, b"")?);
-        assert!(rt; says(alloc, &STORE[..len], &Word::Scrub, end, b"")?);
+        same(
+            &rt,
+            says(alloc, &STORE[..len], &Word::List, end, b"")?,
+            true,
+        );
+        same(
+            &rt,
+            says(alloc, &STORE[..len], &Word::Scrub, end, b"")?,
+            true,
+        );
     }
     Ok(())
 }
@@ -213,7 +222,7 @@ fn a_byte_that_has_changed_is_found(rt: HostRuntime) -> Result<(), Fail> {
     for place in 0..image.len() {
         let (end, bytes) = listed_with(place);
         image[place] = image[place] ^ 0xff;
-        assert!(rt; says(alloc, &image, &Word::List, end, bytes)?);
+        same(&rt, says(alloc, &image, &Word::List, end, bytes)?, true);
         image[place] = image[place] ^ 0xff;
     }
     Ok(())
@@ -266,9 +275,13 @@ fn a_stream_is_checked_over_a_store(rt: HostRuntime) -> Result<(), Fail> {
         refusal: Refusal::NoParent,
     }));
     let none = StoreEnd::NotStore { group: 0 };
-    assert!(rt; audits(alloc, STORE, REMOVES_X, DONE, b"accepted 1 3\n")?);
-    assert!(rt; audits(alloc, STORE, REMOVES_Y, refused, b"")?);
-    assert!(rt; audits(alloc, BEGUN, REMOVES_X, no_parent, b"")?);
-    assert!(rt; audits(alloc, b"", REMOVES_X, none, b"")?);
+    same(
+        &rt,
+        audits(alloc, STORE, REMOVES_X, DONE, b"accepted 1 3\n")?,
+        true,
+    );
+    same(&rt, audits(alloc, STORE, REMOVES_Y, refused, b"")?, true);
+    same(&rt, audits(alloc, BEGUN, REMOVES_X, no_parent, b"")?, true);
+    same(&rt, audits(alloc, b"", REMOVES_X, none, b"")?, true);
     Ok(())
 }

@@ -1,5 +1,6 @@
 // Disks that stop or fail, inputs and outputs that fail, and what of the store is there afterwards.
 use crate::places::are_places;
+use crate::same::same;
 use crate::turn_tests::{
     A, C, DONE, Files, LINES_CA, both_guards, input_files, interleaved, new_store,
 };
@@ -80,7 +81,7 @@ fn stop_is_survived(alloc: Global, calls: u64) -> Result<bool, Fail> {
 fn a_disk_stops_after_each_call(rt: HostRuntime) -> Result<(), Fail> {
     let alloc = rt.alloc();
     for calls in 0..MOST {
-        assert!(rt; stop_is_survived(alloc, calls)?);
+        same(&rt, stop_is_survived(alloc, calls)?, true);
     }
     Ok(())
 }
@@ -100,7 +101,7 @@ fn fault_is_survived(alloc: Global, call: u64) -> Result<bool, Fail> {
 fn each_call_of_a_disk_fails_once(rt: HostRuntime) -> Result<(), Fail> {
     let alloc = rt.alloc();
     for call in 0..MOST {
-        assert!(rt; fault_is_survived(alloc, call)?);
+        same(&rt, fault_is_survived(alloc, call)?, true);
     }
     Ok(())
 }
@@ -130,7 +131,7 @@ fn input_is_told(alloc: Global, call: u64) -> Result<bool, Fail> {
 fn each_call_of_the_inputs_fails_once(rt: HostRuntime) -> Result<(), Fail> {
     let alloc = rt.alloc();
     for call in 1..MOST_OF_INPUTS {
-        assert!(rt; input_is_told(alloc, call)?);
+        same(&rt, input_is_told(alloc, call)?, true);
     }
     Ok(())
 }
@@ -154,8 +155,8 @@ fn output_is_told(alloc: Global, call: u64, complete: u64) -> Result<bool, Fail>
 #[test]
 fn each_call_of_the_output_fails_once(rt: HostRuntime) -> Result<(), Fail> {
     let alloc = rt.alloc();
-    assert!(rt; output_is_told(alloc, 1, 1)?);
-    assert!(rt; output_is_told(alloc, 2, 2)?);
+    same(&rt, output_is_told(alloc, 1, 1)?, true);
+    same(&rt, output_is_told(alloc, 2, 2)?, true);
     Ok(())
 }
 
@@ -183,6 +184,6 @@ fn behind_is_done(alloc: Global) -> Result<bool, Fail> {
 
 #[test]
 fn the_tables_reach_each_call(rt: HostRuntime) -> Result<(), Fail> {
-    assert!(rt; behind_is_done(rt.alloc())?);
+    same(&rt, behind_is_done(rt.alloc())?, true);
     Ok(())
 }

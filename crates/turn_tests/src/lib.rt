@@ -6,6 +6,8 @@ mod fault_tests;
 #[cfg(test)]
 mod places;
 #[cfg(test)]
+mod same;
+#[cfg(test)]
 mod schedule_tests;
 #[cfg(test)]
 mod turn_tests;

@@ -1,4 +1,5 @@
 // Every schedule of eight turns over two files, against receiving the completed parts one after the other.
+use crate::same::same;
 use crate::turn_tests::{
     A, B, C, DONE, Files, LINE_A, LINES_AB, LINES_AC, LINES_CA, both_guards, input_files,
     interleaved, new_store, refusal,
@@ -128,9 +129,9 @@ fn guarded_is_right(alloc: Global, number: u32) -> Result<bool, Fail> {
 fn each_schedule_is_one_after_the_other(rt: HostRuntime) -> Result<(), Fail> {
     let alloc = rt.alloc();
     for number in 0..256 {
-        assert!(rt; apart_is_right(alloc, number)?);
-        assert!(rt; behind_is_right(alloc, number)?);
-        assert!(rt; guarded_is_right(alloc, number)?);
+        same(&rt, apart_is_right(alloc, number)?, true);
+        same(&rt, behind_is_right(alloc, number)?, true);
+        same(&rt, guarded_is_right(alloc, number)?, true);
     }
     Ok(())
 }

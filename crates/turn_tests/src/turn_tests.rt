@@ -1,5 +1,6 @@
 // Files that take turns over objects in memory. The frames are from another program.
 use crate::places::are_places;
+use crate::same::same;
 use disk_model::MemDisk;
 use guard_rules::{AnyGuard, GuardSpec};
 use receiver::GuardList;
@@ -134,9 +135,9 @@ fn a_snapshot_that_begins_too_early_is_refused(rt: HostRuntime) -> Result<(), Fa
     let mut disk = new_store(alloc)?;
     let mut out = MemSink::new(alloc);
     let end = interleaved(alloc, &mut disk, b"01", &[A, B], 100, &mut out)?;
-    assert_eq!(rt; end, refusal(2, 1, 17, Refusal::NoParent));
-    assert_eq!(rt; out.bytes(), LINE_A);
-    assert!(rt; lists(alloc, &mut disk, LIST_A)?);
+    same(&rt, end, refusal(2, 1, 17, Refusal::NoParent));
+    same(&rt, out.bytes(), LINE_A);
+    same(&rt, lists(alloc, &mut disk, LIST_A)?, true);
     Ok(())
 }
 
@@ -146,8 +147,8 @@ fn a_snapshot_that_begins_in_time_is_complete(rt: HostRuntime) -> Result<(), Fai
     let mut disk = new_store(alloc)?;
     let mut out = MemSink::new(alloc);
     let end = interleaved(alloc, &mut disk, b"00001", &[A, B], 100, &mut out)?;
-    assert_eq!(rt; end, DONE);
-    assert_eq!(rt; out.bytes(), LINES_AB);
+    same(&rt, end, DONE);
+    same(&rt, out.bytes(), LINES_AB);
     Ok(())
 }
 
@@ -157,9 +158,9 @@ fn lines_come_in_the_order_of_completion(rt: HostRuntime) -> Result<(), Fail> {
     let mut disk = new_store(alloc)?;
     let mut out = MemSink::new(alloc);
     let end = interleaved(alloc, &mut disk, b"01111", &[A, C], 100, &mut out)?;
-    assert_eq!(rt; end, DONE);
-    assert_eq!(rt; out.bytes(), LINES_CA);
-    assert!(rt; lists(alloc, &mut disk, LIST_AC)?);
+    same(&rt, end, DONE);
+    same(&rt, out.bytes(), LINES_CA);
+    same(&rt, lists(alloc, &mut disk, LIST_AC)?, true);
     Ok(())
 }
 
@@ -169,10 +170,11 @@ fn a_guard_is_of_its_own_session(rt: HostRuntime) -> Result<(), Fail> {
     let mut disk = new_store(alloc)?;
     let mut out = MemSink::new(alloc);
     let end = interleaved(alloc, &mut disk, b"01", &[A, C], 1, &mut out)?;
-    assert_eq!(rt;
+    same(
+        &rt,
         end,
-        refusal(1, 3, 79, Refusal::Guarded { guard: 0, used: 0 })
+        refusal(1, 3, 79, Refusal::Guarded { guard: 0, used: 0 }),
     );
-    assert_eq!(rt; out.bytes(), LINE_C);
+    same(&rt, out.bytes(), LINE_C);
     Ok(())
 }

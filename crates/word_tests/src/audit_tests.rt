@@ -1,5 +1,6 @@
 // Files that are audited over objects in memory. The frames and the answers are from other programs.
 
+use crate::same::same;
 use crate::streams::{
     CLONE_Y, END, END_CUT, END_WITHOUT_SUM, FIRST, FLAGS, HEADER, HEADER_OF_VERSION_2, MKDIR_D,
     MKFILE_X, MKFILE_Y, PUNCH, Pieces, SECOND, SNAPSHOT_B, SUBVOL_A, WRITE_MARK_OF_VERSION_2,
@@ -56,13 +57,16 @@ const TWO_WRITES: Pieces = &[HEADER, SUBVOL_A, MKFILE_X, WRITE_EIGHT, WRITE_NINT
 
 const NAMES: [&str; 3] = ["first", "second", "third"];
 
-fn refused(file: u64, command: u64, offset: u64, refusal: Refusal) -> Outcome {
-    Outcome::Refused(Verdict {
-        file,
-        command,
-        offset,
-        refusal,
-    })
+// A refusal at a command of a file, and the offset of that command. A constant calls no function.
+macro_rules! refused {
+    ($file:expr, $command:expr, $offset:expr, $refusal:expr $(,)?) => {
+        Outcome::Refused(Verdict {
+            file: $file,
+            command: $command,
+            offset: $offset,
+            refusal: $refusal,
+        })
+    };
 }
 
 // An audit of up to three files, given by their pieces, where one call of the inputs and one of the output may fail; its outcome, and
@@ -102,105 +106,106 @@ fn expect(
         names: &own,
     };
     let answer = audit(&given, core, Nowhere, &mut inputs, guards, &mut out);
-    assert_eq!(rt; answer, case.outcome);
-    assert_eq!(rt; out.bytes(), case.written);
+    same(rt, answer, case.outcome);
+    same(rt, out.bytes(), case.written);
     Ok(())
 }
 
+const UNGUARDED: &[(&[&[&[u8]]], [u64; 2], Outcome, &[u8])] = &[
+    (&[&[HEADER, END]], [0, 0], Outcome::Done, b"accepted 0 1\n"),
+    (&[FIRST, SECOND], [0, 0], Outcome::Done, b"accepted 2 7\n"),
+    (
+        &[&[HEADER, END_WITHOUT_SUM]],
+        [0, 0],
+        refused!(
+            1,
+            1,
+            17,
+            Refusal::BadChecksum {
+                stored: 0,
+                computed: 0x9dc9_6c50,
+            },
+        ),
+        b"",
+    ),
+    (
+        &[&[HEADER, END_CUT]],
+        [0, 0],
+        refused!(1, 1, 17, Refusal::Truncated),
+        b"",
+    ),
+    (&[&[]], [0, 0], refused!(1, 1, 0, Refusal::Truncated), b""),
+    (
+        &[FIRST, FIRST],
+        [0, 0],
+        refused!(2, 1, 17, Refusal::NameThere),
+        b"",
+    ),
+    (
+        &[FIRST, THIRD],
+        [0, 0],
+        refused!(2, 1, 17, Refusal::NoParent),
+        b"",
+    ),
+    (
+        &[FIRST, SECOND, THIRD],
+        [0, 0],
+        Outcome::Done,
+        b"accepted 3 9\n",
+    ),
+    (
+        &[&[
+            HEADER,
+            SUBVOL_A,
+            MKFILE_X,
+            LINK,
+            RENAME,
+            MKDIR_D,
+            MKDIR_E,
+            MKFILE_F,
+            RENAME_OVER,
+            END,
+        ]],
+        [0, 0],
+        refused!(1, 8, 166, Refusal::NotEmpty),
+        b"",
+    ),
+    (
+        &[&[
+            HEADER,
+            SUBVOL_A,
+            MKFILE_X,
+            LINK,
+            RENAME,
+            MKDIR_D,
+            MKDIR_E,
+            MKFILE_F,
+            RENAME_INTO,
+            END,
+        ]],
+        [0, 0],
+        refused!(1, 8, 166, Refusal::IntoItself),
+        b"",
+    ),
+    (
+        &[&[HEADER, SUBVOL_A, MKFILE_X, LINK, RENAME, MKFILE_X, END]],
+        [0, 0],
+        refused!(1, 5, 119, Refusal::EntryThere),
+        b"",
+    ),
+    (
+        &[&[HEADER, SUBVOL_A, MKFILE_X, LINK, RENAME, MKFILE_Y, END]],
+        [0, 0],
+        refused!(1, 5, 119, Refusal::EntryThere),
+        b"",
+    ),
+    (&[FIRST, SECOND], [2, 0], Outcome::InputFault, b""),
+    (&[FIRST, SECOND], [0, 1], Outcome::OutputFault, b""),
+];
+
 #[test]
 fn files_without_guards(rt: HostRuntime) -> Result<(), Fail> {
-    let table: [(&[&[&[u8]]], [u64; 2], Outcome, &[u8]); 14] = [
-        (&[&[HEADER, END]], [0, 0], Outcome::Done, b"accepted 0 1\n"),
-        (&[FIRST, SECOND], [0, 0], Outcome::Done, b"accepted 2 7\n"),
-        (
-            &[&[HEADER, END_WITHOUT_SUM]],
-            [0, 0],
-            refused(
-                1,
-                1,
-                17,
-                Refusal::BadChecksum {
-                    stored: 0,
-                    computed: 0x9dc9_6c50,
-                },
-            ),
-            b"",
-        ),
-        (
-            &[&[HEADER, END_CUT]],
-            [0, 0],
-            refused(1, 1, 17, Refusal::Truncated),
-            b"",
-        ),
-        (&[&[]], [0, 0], refused(1, 1, 0, Refusal::Truncated), b""),
-        (
-            &[FIRST, FIRST],
-            [0, 0],
-            refused(2, 1, 17, Refusal::NameThere),
-            b"",
-        ),
-        (
-            &[FIRST, THIRD],
-            [0, 0],
-            refused(2, 1, 17, Refusal::NoParent),
-            b"",
-        ),
-        (
-            &[FIRST, SECOND, THIRD],
-            [0, 0],
-            Outcome::Done,
-            b"accepted 3 9\n",
-        ),
-        (
-            &[&[
-                HEADER,
-                SUBVOL_A,
-                MKFILE_X,
-                LINK,
-                RENAME,
-                MKDIR_D,
-                MKDIR_E,
-                MKFILE_F,
-                RENAME_OVER,
-                END,
-            ]],
-            [0, 0],
-            refused(1, 8, 166, Refusal::NotEmpty),
-            b"",
-        ),
-        (
-            &[&[
-                HEADER,
-                SUBVOL_A,
-                MKFILE_X,
-                LINK,
-                RENAME,
-                MKDIR_D,
-                MKDIR_E,
-                MKFILE_F,
-                RENAME_INTO,
-                END,
-            ]],
-            [0, 0],
-            refused(1, 8, 166, Refusal::IntoItself),
-            b"",
-        ),
-        (
-            &[&[HEADER, SUBVOL_A, MKFILE_X, LINK, RENAME, MKFILE_X, END]],
-            [0, 0],
-            refused(1, 5, 119, Refusal::EntryThere),
-            b"",
-        ),
-        (
-            &[&[HEADER, SUBVOL_A, MKFILE_X, LINK, RENAME, MKFILE_Y, END]],
-            [0, 0],
-            refused(1, 5, 119, Refusal::EntryThere),
-            b"",
-        ),
-        (&[FIRST, SECOND], [2, 0], Outcome::InputFault, b""),
-        (&[FIRST, SECOND], [0, 1], Outcome::OutputFault, b""),
-    ];
-    for (files, failing, outcome, written) in table {
+    for &(files, failing, outcome, written) in UNGUARDED {
         let guards: &mut [Box<dyn Guard>] = &mut [];
         let case = Case {
             files,
@@ -213,43 +218,44 @@ fn files_without_guards(rt: HostRuntime) -> Result<(), Fail> {
     Ok(())
 }
 
+const CLONES: &[(&[&[&[u8]]], Outcome, &[u8])] = &[
+    (
+        &[FIRST, &[HEADER, SNAPSHOT_B, MKFILE_Y, CLONE_Y, END]],
+        Outcome::Done,
+        b"accepted 2 8\n",
+    ),
+    (
+        &[
+            FIRST,
+            &[
+                HEADER_OF_VERSION_2,
+                SNAPSHOT_B,
+                MKFILE_Y,
+                CLONE_Y,
+                WRITE_MARK_OF_VERSION_2,
+                PUNCH,
+                FLAGS,
+                END,
+            ],
+        ],
+        Outcome::Done,
+        b"accepted 2 11\n",
+    ),
+    (
+        &[&[HEADER, SUBVOL_A, FALLOCATE_OF_NOTHING, END]],
+        refused!(1, 2, 64, Refusal::UnknownCommand(23)),
+        b"",
+    ),
+    (
+        &[&[HEADER_OF_VERSION_2, SUBVOL_A, FALLOCATE_OF_NOTHING, END]],
+        refused!(1, 2, 64, Refusal::MissingAttribute(4)),
+        b"",
+    ),
+];
+
 #[test]
 fn clones_and_version_two(rt: HostRuntime) -> Result<(), Fail> {
-    let table: [(&[&[&[u8]]], Outcome, &[u8]); 4] = [
-        (
-            &[FIRST, &[HEADER, SNAPSHOT_B, MKFILE_Y, CLONE_Y, END]],
-            Outcome::Done,
-            b"accepted 2 8\n",
-        ),
-        (
-            &[
-                FIRST,
-                &[
-                    HEADER_OF_VERSION_2,
-                    SNAPSHOT_B,
-                    MKFILE_Y,
-                    CLONE_Y,
-                    WRITE_MARK_OF_VERSION_2,
-                    PUNCH,
-                    FLAGS,
-                    END,
-                ],
-            ],
-            Outcome::Done,
-            b"accepted 2 11\n",
-        ),
-        (
-            &[&[HEADER, SUBVOL_A, FALLOCATE_OF_NOTHING, END]],
-            refused(1, 2, 64, Refusal::UnknownCommand(23)),
-            b"",
-        ),
-        (
-            &[&[HEADER_OF_VERSION_2, SUBVOL_A, FALLOCATE_OF_NOTHING, END]],
-            refused(1, 2, 64, Refusal::MissingAttribute(4)),
-            b"",
-        ),
-    ];
-    for (files, outcome, written) in table {
+    for &(files, outcome, written) in CLONES {
         let guards: &mut [Box<dyn Guard>] = &mut [];
         let case = Case {
             files,
@@ -262,26 +268,27 @@ fn clones_and_version_two(rt: HostRuntime) -> Result<(), Fail> {
     Ok(())
 }
 
+const GUARDED: &[(u64, u64, &[&[u8]], Outcome, &[u8])] = &[
+    (
+        8,
+        9,
+        TWO_WRITES,
+        refused!(1, 4, 118, Refusal::Guarded { guard: 0, used: 8 }),
+        b"",
+    ),
+    (
+        8,
+        3,
+        FIRST,
+        refused!(1, 4, 112, Refusal::Guarded { guard: 2, used: 3 }),
+        b"",
+    ),
+    (9, 5, TWO_WRITES, Outcome::Done, b"accepted 1 5\n"),
+];
+
 #[test]
 fn files_under_guards(rt: HostRuntime) -> Result<(), Fail> {
-    let table: [(u64, u64, &[&[u8]], Outcome, &[u8]); 3] = [
-        (
-            8,
-            9,
-            TWO_WRITES,
-            refused(1, 4, 118, Refusal::Guarded { guard: 0, used: 8 }),
-            b"",
-        ),
-        (
-            8,
-            3,
-            FIRST,
-            refused(1, 4, 112, Refusal::Guarded { guard: 2, used: 3 }),
-            b"",
-        ),
-        (9, 5, TWO_WRITES, Outcome::Done, b"accepted 1 5\n"),
-    ];
-    for (bytes, commands, file, outcome, written) in table {
+    for &(bytes, commands, file, outcome, written) in GUARDED {
         let mut guards: Vec<Box<dyn Guard>> = Vec::new(rt.alloc());
         guards.push(Box::new(rt.alloc(), ByteGuard::new(bytes))?)?;
         guards.push(Box::new(rt.alloc(), DeviceGuard::new())?)?;

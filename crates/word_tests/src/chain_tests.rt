@@ -1,5 +1,6 @@
 //! Chains of two parts: their length, and a sum over their bytes that another program took.
 
+use crate::same::same;
 use std::test::Fail;
 use stream_gen::{generate, write_chain};
 use sx_base::{Blob, MemSink, Outcome};
@@ -10,7 +11,7 @@ struct Row {
     sum: u32,
 }
 
-const ROWS: [Row; 3] = [
+const ROWS: &[Row] = &[
     Row {
         seed: 18446744073709551615,
         sum: 2687619496,
@@ -39,14 +40,15 @@ fn sum_of(bytes: &[u8]) -> u32 {
 
 #[test]
 fn chains_of_two_parts(rt: HostRuntime) -> Result<(), Fail> {
-    for row in &ROWS {
+    for row in ROWS {
         let mut out = MemSink::new(rt.alloc());
-        assert_eq!(rt;
+        same(
+            &rt,
             write_chain(rt.alloc(), 2, row.seed, &mut out),
-            Outcome::Done
+            Outcome::Done,
         );
-        assert_eq!(rt; out.bytes().len(), BOTH_LEN);
-        assert_eq!(rt; sum_of(out.bytes()), row.sum);
+        same(&rt, out.bytes().len(), BOTH_LEN);
+        same(&rt, sum_of(out.bytes()), row.sum);
     }
     Ok(())
 }
@@ -54,12 +56,12 @@ fn chains_of_two_parts(rt: HostRuntime) -> Result<(), Fail> {
 #[test]
 fn parts_by_themselves(rt: HostRuntime) -> Result<(), Fail> {
     let mut out = MemSink::new(rt.alloc());
-    assert_eq!(rt; write_chain(rt.alloc(), 2, 7, &mut out), Outcome::Done);
+    same(&rt, write_chain(rt.alloc(), 2, 7, &mut out), Outcome::Done);
     let mut parts = Blob::new(rt.alloc());
     generate(rt.alloc(), 2, 7, 1, &mut parts)?;
-    assert_eq!(rt; parts.as_slice().len(), FIRST_LEN);
+    same(&rt, parts.as_slice().len(), FIRST_LEN);
     generate(rt.alloc(), 2, 7, 2, &mut parts)?;
-    assert_eq!(rt; parts.as_slice(), out.bytes());
+    same(&rt, parts.as_slice(), out.bytes());
     Ok(())
 }
 
@@ -67,10 +69,11 @@ fn parts_by_themselves(rt: HostRuntime) -> Result<(), Fail> {
 fn output_that_fails(rt: HostRuntime) -> Result<(), Fail> {
     let mut out = MemSink::new(rt.alloc());
     out.fail_call(2)?;
-    assert_eq!(rt;
+    same(
+        &rt,
         write_chain(rt.alloc(), 3, 0, &mut out),
-        Outcome::OutputFault
+        Outcome::OutputFault,
     );
-    assert_eq!(rt; out.bytes().len(), FIRST_LEN);
+    same(&rt, out.bytes().len(), FIRST_LEN);
     Ok(())
 }

@@ -1,5 +1,6 @@
 //! Dumps of small files. The files and the lines of the first are from another program; the lines of the others are written by hand.
 
+use crate::same::same;
 use crate::streams::{DUMPED, END, FIRST, HEADER, OF_BOTH_VERSIONS, Pieces, SNAPSHOT_B, joined};
 use std::alloc::Global;
 use std::test::Fail;
@@ -34,9 +35,13 @@ fn dumps_as(alloc: Global, file: Pieces, lines: &[u8]) -> Result<bool, Fail> {
 
 #[test]
 fn whole_files(rt: HostRuntime) -> Result<(), Fail> {
-    assert!(rt; dumps_as(rt.alloc(), FIRST, DUMPED)?);
-    assert!(rt; dumps_as(rt.alloc(), VALUES, VALUE_LINES)?);
-    assert!(rt; dumps_as(rt.alloc(), OF_BOTH_VERSIONS, BOTH_LINES)?);
+    same(&rt, dumps_as(rt.alloc(), FIRST, DUMPED)?, true);
+    same(&rt, dumps_as(rt.alloc(), VALUES, VALUE_LINES)?, true);
+    same(
+        &rt,
+        dumps_as(rt.alloc(), OF_BOTH_VERSIONS, BOTH_LINES)?,
+        true,
+    );
     Ok(())
 }
 
@@ -46,18 +51,20 @@ fn faults_of_the_objects(rt: HostRuntime) -> Result<(), Fail> {
     inputs.add("whole", joined(rt.alloc(), FIRST)?.as_slice())?;
     let mut out = MemSink::new(rt.alloc());
     out.fail_call(1)?;
-    assert_eq!(rt;
+    same(
+        &rt,
         dump(rt.alloc(), &mut inputs, "whole", &mut out),
-        Outcome::OutputFault
+        Outcome::OutputFault,
     );
     let mut failing = MemInputs::new(rt.alloc());
     failing.add("whole", joined(rt.alloc(), FIRST)?.as_slice())?;
     failing.fail_call(2)?;
     let mut unused = MemSink::new(rt.alloc());
-    assert_eq!(rt;
+    same(
+        &rt,
         dump(rt.alloc(), &mut failing, "whole", &mut unused),
-        Outcome::InputFault
+        Outcome::InputFault,
     );
-    assert_eq!(rt; unused.bytes(), b"".as_slice());
+    same(&rt, unused.bytes(), b"".as_slice());
     Ok(())
 }

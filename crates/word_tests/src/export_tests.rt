@@ -1,5 +1,6 @@
 //! Exported files. The files and their receivable spelling are from another program.
 
+use crate::same::same;
 use crate::streams::{
     CLONE_Y, END, FLAGS, HEADER, HEADER_OF_VERSION_2, MKDIR_D, MKFILE_X, MKFILE_X_WITH_INO,
     OF_BOTH_VERSIONS, PUNCH, Pieces, SNAPSHOT_B, SUBVOL_A, WRITE_HI, WRITE_MARK_OF_VERSION_2,
@@ -109,9 +110,13 @@ fn exported(
 
 #[test]
 fn whole_files(rt: HostRuntime) -> Result<(), Fail> {
-    assert!(rt; exports_as(rt.alloc(), FILE, RECEIVABLE)?);
-    assert!(rt; exports_as(rt.alloc(), RECEIVABLE, RECEIVABLE)?);
-    assert!(rt; exports_as(rt.alloc(), OF_BOTH_VERSIONS, BOTH_RECEIVABLE)?);
+    same(&rt, exports_as(rt.alloc(), FILE, RECEIVABLE)?, true);
+    same(&rt, exports_as(rt.alloc(), RECEIVABLE, RECEIVABLE)?, true);
+    same(
+        &rt,
+        exports_as(rt.alloc(), OF_BOTH_VERSIONS, BOTH_RECEIVABLE)?,
+        true,
+    );
     Ok(())
 }
 
@@ -120,20 +125,21 @@ fn output_that_fails(rt: HostRuntime) -> Result<(), Fail> {
     let file = joined(rt.alloc(), FILE)?;
     let mut out = MemSink::new(rt.alloc());
     out.fail_call(1)?;
-    assert_eq!(rt;
+    same(
+        &rt,
         exported(rt.alloc(), file.as_slice(), 0, &mut out)?,
-        Outcome::OutputFault
+        Outcome::OutputFault,
     );
-    assert_eq!(rt; out.bytes(), b"".as_slice());
+    same(&rt, out.bytes(), b"".as_slice());
     Ok(())
 }
 
 #[test]
 fn separators(rt: HostRuntime) -> Result<(), Fail> {
-    for (file, written) in SEPARATED {
+    for &(file, written) in SEPARATED {
         let mut out = MemSink::new(rt.alloc());
-        assert_eq!(rt; exported(rt.alloc(), file, 0, &mut out)?, Outcome::Done);
-        assert_eq!(rt; out.bytes(), written);
+        same(&rt, exported(rt.alloc(), file, 0, &mut out)?, Outcome::Done);
+        same(&rt, out.bytes(), written);
     }
     Ok(())
 }
@@ -145,17 +151,17 @@ fn inputs_that_fail(rt: HostRuntime) -> Result<(), Fail> {
         let mut out = MemSink::new(rt.alloc());
         let answer = exported(rt.alloc(), file, call, &mut out)?;
         if answer == Outcome::Done {
-            assert_eq!(rt; out.bytes(), written);
+            same(&rt, out.bytes(), written);
         } else {
-            assert_eq!(rt; answer, Outcome::InputFault);
-            assert_eq!(rt; out.bytes(), b"".as_slice());
+            same(&rt, answer, Outcome::InputFault);
+            same(&rt, out.bytes(), b"".as_slice());
         }
     }
     Ok(())
 }
 
 // Files, and what is exported of them.
-const SEPARATED: [(&[u8], &[u8]); 11] = [
+const SEPARATED: &[(&[u8], &[u8])] = &[
     // a file that was made anew
     (
         b"btrfs-stream\x00\x01\x00\x00\x00&\x00\x00\x00\x01\x00\xc2\xa0\x9e\x96\x01\x00\x10\x00\"\"\"\"\"\"\"\"\"\"\"\"\"\"\"\"\x02\x00\x08\x00\x02\x00\x00\x00\x00\x00\x00\x00\x0f\x00\x02\x00s2\x05\x00\x00\x00\x03\x00/\x8a6s\x0f\x00\x01\x00x\x18\x00\x00\x00\x0f\x00x\xf6Ra\x0f\x00\x01\x00x\x12\x00\x08\x00\x00\x00\x00\x00\x00\x00\x00\x00\x13\x00\x03\x00old\x05\x00\x00\x00\x0b\x00\xe3\xef\x08\xdf\x0f\x00\x01\x00x\x05\x00\x00\x00\x03\x00/\x8a6s\x0f\x00\x01\x00x\x18\x00\x00\x00\x0f\x00R\x0b\xabI\x0f\x00\x01\x00x\x12\x00\x08\x00\x00\x00\x00\x00\x00\x00\x00\x00\x13\x00\x03\x00new\x00\x00\x00\x00\x15\x00Pl\xc9\x9d",

@@ -1,4 +1,5 @@
 // What a run answers where calls of both the inputs and the output fail: the fault that comes first.
+use crate::same::same;
 use crate::streams::{END, HEADER, MKFILE_X, SUBVOL_A, words_of};
 use host_io::NoDisk;
 use send_top::run;
@@ -73,11 +74,11 @@ fn reads_before(
     for read in 1..=READS {
         let answered = status_with(alloc, file, read, write)?;
         if answered == 3 {
-            assert_eq!(rt; before, read - 1);
+            same(rt, before, read - 1);
             before = read;
             continue;
         }
-        assert_eq!(rt; answered, status);
+        same(rt, answered, status);
     }
     Ok(before)
 }
@@ -88,8 +89,8 @@ fn the_first_fault_decides(rt: HostRuntime) -> Result<(), Fail> {
     let before_first = reads_before(&rt, rt.alloc(), file.as_slice(), 1, 4)?;
     let before_second = reads_before(&rt, rt.alloc(), file.as_slice(), 2, 4)?;
     let in_all = reads_before(&rt, rt.alloc(), file.as_slice(), 3, 0)?;
-    assert!(rt; 0 < before_first && before_first < before_second);
-    assert_eq!(rt; before_second, in_all);
-    assert!(rt; in_all < READS);
+    same(&rt, 0 < before_first && before_first < before_second, true);
+    same(&rt, before_second, in_all);
+    same(&rt, in_all < READS, true);
     Ok(())
 }

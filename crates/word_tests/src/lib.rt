@@ -23,6 +23,8 @@ mod reading_tests;
 #[cfg(test)]
 mod run_tests;
 #[cfg(test)]
+mod same;
+#[cfg(test)]
 mod separator_tests;
 #[cfg(test)]
 mod showing_tests;

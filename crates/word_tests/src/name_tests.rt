@@ -1,4 +1,5 @@
 // Runs with names for the parts of files. The expected bytes and notes are not this program's own.
+use crate::same::same;
 use crate::streams::{
     DUMPED, END, FIRST, HEADER, MKFILE_X, MKFILE_X_WITH_INO, Pieces, SNAPSHOT_A, SNAPSHOT_B,
     SUBVOL_A, SUBVOL_A_LATER, SUBVOL_B, WRITE_HI, joined, words_of,
@@ -11,7 +12,7 @@ use std::test::Fail;
 use sx_base::{MemInputs, MemSink};
 
 // The second file's part has the name of the first one's.
-const FILES: [(&str, Pieces); 4] = [
+const FILES: &[(&str, Pieces)] = &[
     ("first", FIRST),
     ("again", &[HEADER, SNAPSHOT_A, END]),
     ("name:x", FIRST),
@@ -55,7 +56,7 @@ fn ran(
     words: &[&str],
 ) -> Result<(u8, MemSink, MemSink), AllocError> {
     let mut inputs = MemInputs::new(alloc);
-    for (name, pieces) in FILES {
+    for &(name, pieces) in FILES {
         inputs.add(name, joined(alloc, pieces)?.as_slice())?;
     }
     let mut guards: Vec<Box<dyn Guard>> = Vec::new(alloc);
@@ -79,80 +80,81 @@ fn ran(
     Ok((status, out, notes))
 }
 
+const NAMED: &[(&[&str], u8, Pieces, &[u8])] = &[
+    (&["compose", "none", "first", "again"], 1, CUT, NAME_THERE),
+    (
+        &["compose", "none", "first", "name:b", "again"],
+        0,
+        ONE,
+        b"",
+    ),
+    (
+        &["compose", "none", "name:c", "first", "name:b", "again"],
+        0,
+        ONE,
+        b"",
+    ),
+    (
+        &["export", "none", "first", "again"],
+        1,
+        ONE_EXPORTED,
+        NAME_THERE,
+    ),
+    (
+        &["export", "none", "first", "name:b", "again"],
+        0,
+        EXPORTED,
+        b"",
+    ),
+    (&["export", "none", "name:.", "first"], 1, &[], BAD_NAME),
+    (&["export", "none", "first", "name:b"], 2, &[], b"usage\n"),
+    (&["audit", "none", "first", "again"], 1, &[], NAME_THERE),
+    (
+        &["audit", "none", "first", "name:b", "again"],
+        0,
+        &[b"accepted 2 6\n"],
+        b"",
+    ),
+    (
+        &["audit", "guard:nodev", "none", "name:b", "first", "again"],
+        0,
+        &[b"accepted 2 6\n"],
+        b"",
+    ),
+    (&["audit", "none", "name:.", "first"], 1, &[], BAD_NAME),
+    (&["audit", "none", "name:", "first"], 1, &[], BAD_NAME),
+    (&["compose", "none", "name:a/b", "first"], 1, &[], BAD_NAME),
+    // no file, two names for one, and none behind the last
+    (&["audit", "none", "name:b"], 2, &[], b"usage\n"),
+    (
+        &["compose", "none", "name:b", "name:c", "first"],
+        2,
+        &[],
+        b"usage\n",
+    ),
+    (&["receive", "st", "first", "name:b"], 2, &[], b"usage\n"),
+    // words that take no names, and a store and a file that are called so
+    (&["dump", "name:x"], 0, &[DUMPED], b""),
+    (&["audit", "none", "./name:x"], 0, &[b"accepted 1 4\n"], b""),
+    (&["init", "name:x"], 0, &[], b""),
+    (
+        &["receive", "name:x", "first", "name:b", "again"],
+        0,
+        &[LINES],
+        b"",
+    ),
+    (&["list", "name:x"], 0, &[LISTED], b""),
+];
+
 #[test]
 fn parts_have_the_names_that_are_given(rt: HostRuntime) -> Result<(), Fail> {
     let alloc = rt.alloc();
-    let table: [(&[&str], u8, Pieces, &[u8]); 21] = [
-        (&["compose", "none", "first", "again"], 1, CUT, NAME_THERE),
-        (
-            &["compose", "none", "first", "name:b", "again"],
-            0,
-            ONE,
-            b"",
-        ),
-        (
-            &["compose", "none", "name:c", "first", "name:b", "again"],
-            0,
-            ONE,
-            b"",
-        ),
-        (
-            &["export", "none", "first", "again"],
-            1,
-            ONE_EXPORTED,
-            NAME_THERE,
-        ),
-        (
-            &["export", "none", "first", "name:b", "again"],
-            0,
-            EXPORTED,
-            b"",
-        ),
-        (&["export", "none", "name:.", "first"], 1, &[], BAD_NAME),
-        (&["export", "none", "first", "name:b"], 2, &[], b"usage\n"),
-        (&["audit", "none", "first", "again"], 1, &[], NAME_THERE),
-        (
-            &["audit", "none", "first", "name:b", "again"],
-            0,
-            &[b"accepted 2 6\n"],
-            b"",
-        ),
-        (
-            &["audit", "guard:nodev", "none", "name:b", "first", "again"],
-            0,
-            &[b"accepted 2 6\n"],
-            b"",
-        ),
-        (&["audit", "none", "name:.", "first"], 1, &[], BAD_NAME),
-        (&["audit", "none", "name:", "first"], 1, &[], BAD_NAME),
-        (&["compose", "none", "name:a/b", "first"], 1, &[], BAD_NAME),
-        // no file, two names for one, and none behind the last
-        (&["audit", "none", "name:b"], 2, &[], b"usage\n"),
-        (
-            &["compose", "none", "name:b", "name:c", "first"],
-            2,
-            &[],
-            b"usage\n",
-        ),
-        (&["receive", "st", "first", "name:b"], 2, &[], b"usage\n"),
-        // words that take no names, and a store and a file that are called so
-        (&["dump", "name:x"], 0, &[DUMPED], b""),
-        (&["audit", "none", "./name:x"], 0, &[b"accepted 1 4\n"], b""),
-        (&["init", "name:x"], 0, &[], b""),
-        (
-            &["receive", "name:x", "first", "name:b", "again"],
-            0,
-            &[LINES],
-            b"",
-        ),
-        (&["list", "name:x"], 0, &[LISTED], b""),
-    ];
     let mut disk = MemDisk::new(alloc, b"")?;
-    for (words, status, written, note) in table {
+    for &(words, status, written, note) in NAMED {
         let (ended, out, notes) = ran(alloc, &mut disk, words)?;
-        assert_eq!(rt; notes.bytes(), note);
-        assert_eq!(rt; out.bytes(), joined(alloc, written)?.as_slice());
-        assert_eq!(rt; ended, status);
+        same(&rt, notes.bytes(), note);
+        same(&rt, out.bytes(), joined(alloc, written)?.as_slice());
+        same(&rt, ended, status);
     }
     Ok(())
 }

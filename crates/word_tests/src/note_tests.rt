@@ -1,4 +1,5 @@
 // What no clause says: what stands in a note.
+use crate::same::same;
 use send_top::{Answer, write_note};
 use std::process::Abort;
 use std::test::Fail;
@@ -54,7 +55,7 @@ fn notes_are_lines(rt: HostRuntime) -> Result<(), Fail> {
     for (answer, want) in table {
         let mut notes = MemSink::new(rt.alloc());
         write_note(&answer, &mut notes)?;
-        assert_eq!(rt; notes.bytes(), want);
+        same(&rt, notes.bytes(), want);
     }
     Ok(())
 }

@@ -1,5 +1,6 @@
 // Every fault of reading through each word that reads one file to its end: what is written before it, and the note. The files, what is
 // written and the notes are not this program's own.
+use crate::same::same;
 use crate::streams::{
     DUMPED, END, FIRST, HEADER, HEADER_OF_VERSION_2, MKFILE_X, MKFILE_X_WITH_INO, SUBVOL_A,
     WRITE_HI, joined, words_of,
@@ -12,7 +13,7 @@ use std::test::Fail;
 use sx_base::{MemInputs, MemSink};
 
 // Third frames of a stream of version 1 that can't be read, and the notes.
-const FRAMES: [(&[u8], &[u8]); 18] = [
+const FRAMES: &[(&[u8], &[u8])] = &[
     (
         b"\x01\x00\x04\x00\x04\x00\xa5\xbd\xd5\x9c\x0f\x00\x01\x00d",
         b"refused 1 3 79 4 LongCommand 262145\n",
@@ -88,7 +89,7 @@ const FRAMES: [(&[u8], &[u8]); 18] = [
 ];
 
 // Third frames of a stream of version 2 that can't be read, and the notes.
-const FRAMES_OF_VERSION_2: [(&[u8], &[u8]); 4] = [
+const FRAMES_OF_VERSION_2: &[(&[u8], &[u8])] = &[
     (
         b"\x00\x00\x00\x00\x19\x008C:O",
         b"refused 1 3 79 32 Encoded\n",
@@ -108,7 +109,7 @@ const FRAMES_OF_VERSION_2: [(&[u8], &[u8]); 4] = [
 ];
 
 // What follows a whole stream and is no header that can be read, and the notes.
-const HEADERS: [(&[u8], &[u8]); 5] = [
+const HEADERS: &[(&[u8], &[u8])] = &[
     (
         b"btrfs-strean\x00\x01\x00\x00\x00",
         b"refused 1 5 122 1 BadMagic\n",
@@ -164,9 +165,9 @@ fn expect_refused(
             &mut notes,
             &mut NoDisk::new(),
         );
-        assert_eq!(rt; notes.bytes(), note);
-        assert_eq!(rt; status, 1);
-        assert_eq!(rt; out.bytes(), *written);
+        same(rt, notes.bytes(), note);
+        same(rt, status, 1);
+        same(rt, out.bytes(), *written);
     }
     Ok(())
 }
@@ -217,11 +218,11 @@ fn files_that_are_cut(rt: HostRuntime) -> Result<(), Fail> {
 fn frames_that_are_refused(rt: HostRuntime) -> Result<(), Fail> {
     let alloc = rt.alloc();
     for (header, lines, frames) in [
-        (HEADER, &DUMPED[..100], FRAMES.as_slice()),
+        (HEADER, &DUMPED[..100], FRAMES),
         (
             HEADER_OF_VERSION_2,
             DUMPED_OF_VERSION_2,
-            FRAMES_OF_VERSION_2.as_slice(),
+            FRAMES_OF_VERSION_2,
         ),
     ] {
         let exported = joined(alloc, &[header, SUBVOL_A, MKFILE_X_WITH_INO])?;
@@ -247,7 +248,7 @@ fn headers_that_are_refused(rt: HostRuntime) -> Result<(), Fail> {
         (&["dump"], DUMPED),
         (&["export", "none"], exported.as_slice()),
     ];
-    for (header, note) in &HEADERS {
+    for (header, note) in HEADERS {
         let file = joined(alloc, &[HEADER, SUBVOL_A, MKFILE_X, WRITE_HI, END, header])?;
         expect_refused(&rt, alloc, file.as_slice(), note, &words)?;
     }

@@ -1,4 +1,5 @@
 // Runs over objects in memory. The expected bytes and notes are not this program's own.
+use crate::same::same;
 use crate::streams::{
     CLONE_X, DUMPED, END, END_CUT, END_WITHOUT_SUM, FIRST, FRAME_26, FRAME_TOO_LONG, HEADER,
     HEADER_OF_VERSION_3, MKFILE_BELOW_X, MKFILE_NO_PATH, MKFILE_ROOT, MKFILE_UP, MKFILE_X,
@@ -22,7 +23,7 @@ const EMPTY: Pieces = &[];
 const BOTH: Pieces = &[HEADER, SUBVOL_B, MKFILE_X, WRITE_HI, WRITE_MARK, END];
 
 // Files, what is written for them before the refusal, and the note.
-const REFUSED: [(&[Pieces], Pieces, &[u8]); 28] = [
+const REFUSED: &[(&[Pieces], Pieces, &[u8])] = &[
     (
         &[&[HEADER, END]],
         &[],
@@ -188,65 +189,66 @@ fn compose_files(
     ))
 }
 
+const COMPOSED: &[(&[Pieces], Pieces)] = &[
+    (&[FIRST], FIRST),
+    (&[FIRST, SECOND], BOTH),
+    (
+        &[&[
+            HEADER, SUBVOL_A, MKFILE_X, WRITE_HI, SNAPSHOT_B, WRITE_MARK, END,
+        ]],
+        BOTH,
+    ),
+    (
+        &[&[
+            HEADER, SUBVOL_A, MKFILE_X, WRITE_HI, END, HEADER, SNAPSHOT_B, WRITE_MARK, END,
+        ]],
+        BOTH,
+    ),
+    (
+        &[&[HEADER, SUBVOL_A, MKFILE_X, WRITE_NOTHING, WRITE_LAST, END]],
+        &[HEADER, SUBVOL_A, MKFILE_X, WRITE_NOTHING, WRITE_LAST, END],
+    ),
+    (
+        &[
+            &[HEADER, SUBVOL_A, MKFILE_X, TRUNCATE_1, END],
+            &[HEADER, SNAPSHOT_B, UPDATE_EXTENT_X, TRUNCATE_GREATEST, END],
+        ],
+        &[
+            HEADER,
+            SUBVOL_B,
+            MKFILE_X,
+            TRUNCATE_1,
+            UPDATE_EXTENT_X,
+            TRUNCATE_GREATEST,
+            END,
+        ],
+    ),
+];
+
 #[test]
 fn chains_are_composed(rt: HostRuntime) -> Result<(), Fail> {
-    let table: [(&[Pieces], Pieces); 6] = [
-        (&[FIRST], FIRST),
-        (&[FIRST, SECOND], BOTH),
-        (
-            &[&[
-                HEADER, SUBVOL_A, MKFILE_X, WRITE_HI, SNAPSHOT_B, WRITE_MARK, END,
-            ]],
-            BOTH,
-        ),
-        (
-            &[&[
-                HEADER, SUBVOL_A, MKFILE_X, WRITE_HI, END, HEADER, SNAPSHOT_B, WRITE_MARK, END,
-            ]],
-            BOTH,
-        ),
-        (
-            &[&[HEADER, SUBVOL_A, MKFILE_X, WRITE_NOTHING, WRITE_LAST, END]],
-            &[HEADER, SUBVOL_A, MKFILE_X, WRITE_NOTHING, WRITE_LAST, END],
-        ),
-        (
-            &[
-                &[HEADER, SUBVOL_A, MKFILE_X, TRUNCATE_1, END],
-                &[HEADER, SNAPSHOT_B, UPDATE_EXTENT_X, TRUNCATE_GREATEST, END],
-            ],
-            &[
-                HEADER,
-                SUBVOL_B,
-                MKFILE_X,
-                TRUNCATE_1,
-                UPDATE_EXTENT_X,
-                TRUNCATE_GREATEST,
-                END,
-            ],
-        ),
-    ];
-    for (files, want) in table {
+    for &(files, want) in COMPOSED {
         let mut inputs = MemInputs::new(rt.alloc());
         let mut out = MemSink::new(rt.alloc());
         let mut notes = MemSink::new(rt.alloc());
         let status = compose_files(rt.alloc(), files, &mut inputs, &mut out, &mut notes)?;
-        assert_eq!(rt; status, 0);
-        assert_eq!(rt; out.bytes(), joined(rt.alloc(), want)?.as_slice());
-        assert_eq!(rt; notes.bytes(), b"".as_slice());
+        same(&rt, status, 0);
+        same(&rt, out.bytes(), joined(rt.alloc(), want)?.as_slice());
+        same(&rt, notes.bytes(), b"".as_slice());
     }
     Ok(())
 }
 
 #[test]
 fn the_first_unlawful_command_is_named(rt: HostRuntime) -> Result<(), Fail> {
-    for (files, written, note) in REFUSED {
+    for &(files, written, note) in REFUSED {
         let mut inputs = MemInputs::new(rt.alloc());
         let mut out = MemSink::new(rt.alloc());
         let mut notes = MemSink::new(rt.alloc());
         let status = compose_files(rt.alloc(), files, &mut inputs, &mut out, &mut notes)?;
-        assert_eq!(rt; notes.bytes(), note);
-        assert_eq!(rt; status, 1);
-        assert_eq!(rt; out.bytes(), joined(rt.alloc(), written)?.as_slice());
+        same(&rt, notes.bytes(), note);
+        same(&rt, status, 1);
+        same(&rt, out.bytes(), joined(rt.alloc(), written)?.as_slice());
     }
     Ok(())
 }
@@ -267,13 +269,13 @@ fn a_failed_read_is_no_end_of_a_file(rt: HostRuntime) -> Result<(), Fail> {
             &mut notes,
         )?;
         if status == 0 && 2 < call {
-            assert_eq!(rt; out.bytes(), whole.as_slice());
+            same(&rt, out.bytes(), whole.as_slice());
             continue;
         }
-        assert_eq!(rt; status, 3);
-        assert_eq!(rt; notes.bytes(), b"input fault\n".as_slice());
-        assert!(rt; out.bytes().len() < whole.as_slice().len());
-        assert!(rt; whole.as_slice().starts_with(out.bytes()));
+        same(&rt, status, 3);
+        same(&rt, notes.bytes(), b"input fault\n".as_slice());
+        same(&rt, out.bytes().len() < whole.as_slice().len(), true);
+        same(&rt, whole.as_slice().starts_with(out.bytes()), true);
     }
     Ok(())
 }
@@ -291,9 +293,9 @@ fn a_failed_write_ends_a_run(rt: HostRuntime) -> Result<(), Fail> {
         &mut out,
         &mut notes,
     )?;
-    assert_eq!(rt; status, 4);
-    assert_eq!(rt; out.bytes(), b"".as_slice());
-    assert_eq!(rt; notes.bytes(), b"output fault\n".as_slice());
+    same(&rt, status, 4);
+    same(&rt, out.bytes(), b"".as_slice());
+    same(&rt, notes.bytes(), b"output fault\n".as_slice());
     Ok(())
 }
 
@@ -305,56 +307,58 @@ fn a_failed_note_leaves_the_status(rt: HostRuntime) -> Result<(), Fail> {
         let mut notes = MemSink::new(rt.alloc());
         notes.fail_call(1)?;
         let status = compose_files(rt.alloc(), &[file], &mut inputs, &mut out, &mut notes)?;
-        assert_eq!(rt; status, want);
-        assert_eq!(rt; notes.bytes(), b"".as_slice());
+        same(&rt, status, want);
+        same(&rt, notes.bytes(), b"".as_slice());
     }
     Ok(())
 }
 
+const OTHER_WORDS: &[&[&str]] = &[
+    &[],
+    &["compose"],
+    &["compose", "none"],
+    &["Compose", "none", "first"],
+    &["audit", "none"],
+    &["audit", "store"],
+    &["audit", "guard:bits=1", "none", "first"],
+    &["audit", "guard:nodev", "none", "first"],
+    &["dump"],
+    &["dump", "first", "first"],
+    &["export"],
+    &["export", "none"],
+    &["export", "first"],
+    &["gen", "0", "1"],
+    &["gen", "4097", "1"],
+    &["gen", "1"],
+    &["gen", "1", "18446744073709551616"],
+    &["trial", "0", "1"],
+    &["trial", "4097", "1"],
+    &["trial", "1"],
+    &["init"],
+    &["init", "store", "more"],
+    &["drop", "store"],
+    &["drop", "store", "A", "more"],
+    &["receive", "store"],
+    &["receive", "guard:bits=1", "store", "first"],
+    &["receive", "guard:nodev", "store", "first"],
+    &["list"],
+    &["list", "store", "more"],
+    &["show", "store"],
+    &["cat", "store", "A"],
+    &["cat", "store", "A", "x", "more"],
+    &["scrub", "store", "more"],
+];
+
 #[test]
 fn other_words_mean_nothing(rt: HostRuntime) -> Result<(), Fail> {
-    let table: [&[&str]; 33] = [
-        &[],
-        &["compose"],
-        &["compose", "none"],
-        &["Compose", "none", "first"],
-        &["audit", "none"],
-        &["audit", "store"],
-        &["audit", "guard:bits=1", "none", "first"],
-        &["audit", "guard:nodev", "none", "first"],
-        &["dump"],
-        &["dump", "first", "first"],
-        &["export"],
-        &["export", "none"],
-        &["export", "first"],
-        &["gen", "0", "1"],
-        &["gen", "4097", "1"],
-        &["gen", "1"],
-        &["gen", "1", "18446744073709551616"],
-        &["trial", "0", "1"],
-        &["trial", "4097", "1"],
-        &["trial", "1"],
-        &["init"],
-        &["init", "store", "more"],
-        &["drop", "store"],
-        &["drop", "store", "A", "more"],
-        &["receive", "store"],
-        &["receive", "guard:bits=1", "store", "first"],
-        &["receive", "guard:nodev", "store", "first"],
-        &["list"],
-        &["list", "store", "more"],
-        &["show", "store"],
-        &["cat", "store", "A"],
-        &["cat", "store", "A", "x", "more"],
-        &["scrub", "store", "more"],
-    ];
-    for words in table {
+    for &words in OTHER_WORDS {
         let words = words_of(rt.alloc(), words)?;
         let mut inputs = MemInputs::new(rt.alloc());
         inputs.add("first", joined(rt.alloc(), FIRST)?.as_slice())?;
         let mut out = MemSink::new(rt.alloc());
         let mut notes = MemSink::new(rt.alloc());
-        assert_eq!(rt;
+        same(
+            &rt,
             run(
                 rt.alloc(),
                 &words,
@@ -364,50 +368,52 @@ fn other_words_mean_nothing(rt: HostRuntime) -> Result<(), Fail> {
                 &mut notes,
                 &mut NoDisk::new(),
             ),
-            2
+            2,
         );
-        assert_eq!(rt; out.bytes(), b"".as_slice());
-        assert_eq!(rt; notes.bytes(), b"usage\n".as_slice());
+        same(&rt, out.bytes(), b"".as_slice());
+        same(&rt, notes.bytes(), b"usage\n".as_slice());
     }
     Ok(())
 }
 
+const CHECKED: &[(&[&str], u8, Pieces, &[u8])] = &[
+    (&["audit", "none", "first"], 0, &[b"accepted 1 4\n"], b""),
+    (
+        &["audit", "none", "first", "second"],
+        0,
+        &[b"accepted 2 7\n"],
+        b"",
+    ),
+    (
+        &["audit", "none", "second"],
+        1,
+        &[],
+        b"refused 1 1 17 13 NoParent\n",
+    ),
+    (&["dump", "first"], 0, &[DUMPED], b""),
+    (
+        &["export", "none", "first"],
+        0,
+        &[HEADER, SUBVOL_A, MKFILE_X_WITH_INO, WRITE_HI, END],
+        b"",
+    ),
+    (
+        &["export", "none", "second"],
+        1,
+        &[],
+        b"refused 1 1 17 13 NoParent\n",
+    ),
+    (
+        &["trial", "2", "7"],
+        0,
+        &[b"trial 2 24 103130 107061 0 4096\n"],
+        b"",
+    ),
+];
+
 #[test]
 fn files_are_checked_and_printed(rt: HostRuntime) -> Result<(), Fail> {
-    let exported = joined(
-        rt.alloc(),
-        &[HEADER, SUBVOL_A, MKFILE_X_WITH_INO, WRITE_HI, END],
-    )?;
-    let table: [(&[&str], u8, &[u8], &[u8]); 7] = [
-        (&["audit", "none", "first"], 0, b"accepted 1 4\n", b""),
-        (
-            &["audit", "none", "first", "second"],
-            0,
-            b"accepted 2 7\n",
-            b"",
-        ),
-        (
-            &["audit", "none", "second"],
-            1,
-            b"",
-            b"refused 1 1 17 13 NoParent\n",
-        ),
-        (&["dump", "first"], 0, DUMPED, b""),
-        (&["export", "none", "first"], 0, exported.as_slice(), b""),
-        (
-            &["export", "none", "second"],
-            1,
-            b"",
-            b"refused 1 1 17 13 NoParent\n",
-        ),
-        (
-            &["trial", "2", "7"],
-            0,
-            b"trial 2 24 103130 107061 0 4096\n",
-            b"",
-        ),
-    ];
-    for (words, status, written, note) in table {
+    for &(words, status, written, note) in CHECKED {
         let words = words_of(rt.alloc(), words)?;
         let mut inputs = MemInputs::new(rt.alloc());
         inputs.add("first", joined(rt.alloc(), FIRST)?.as_slice())?;
@@ -424,9 +430,9 @@ fn files_are_checked_and_printed(rt: HostRuntime) -> Result<(), Fail> {
             &mut notes,
             &mut NoDisk::new(),
         );
-        assert_eq!(rt; out.bytes(), written);
-        assert_eq!(rt; notes.bytes(), note);
-        assert_eq!(rt; answered, status);
+        same(&rt, out.bytes(), joined(rt.alloc(), written)?.as_slice());
+        same(&rt, notes.bytes(), note);
+        same(&rt, answered, status);
     }
     Ok(())
 }
@@ -449,10 +455,11 @@ fn guards_are_asked(rt: HostRuntime) -> Result<(), Fail> {
         &mut notes,
         &mut NoDisk::new(),
     );
-    assert_eq!(rt;
+    same(
+        &rt,
         notes.bytes(),
-        b"refused 1 4 112 33 Guarded 0 3\n".as_slice()
+        b"refused 1 4 112 33 Guarded 0 3\n".as_slice(),
     );
-    assert_eq!(rt; status, 1);
+    same(&rt, status, 1);
     Ok(())
 }

@@ -2,6 +2,7 @@
 ghost use Rattle.std.specs.Prelude.{⊤, None};
 ghost use Rattle.sx_base.specs.Again.{no_end};
 
+use crate::same::same;
 use disk_model::MemDisk;
 use host_io::{AfterLine, DiskProgress, HowFar, Progress, Screen, end_line, line_of};
 use std::cell::{Cell, RefCell};
@@ -55,53 +56,54 @@ impl Inputs for Silent {
     }
 }
 
+const SHOWN: &[(&str, u64, u64, Option<u64>, &[u8])] = &[
+    (
+        "full",
+        2,
+        1_288_490_189,
+        Some(5_046_586_573),
+        b"\rbtrsend: reading full, pass 2, 1.2 of 4.7 GiB\x1b[K",
+    ),
+    (
+        "a\n",
+        1,
+        1023,
+        None,
+        b"\rbtrsend: reading a\\x0a, pass 1, 0.9 KiB\x1b[K",
+    ),
+    (
+        "a",
+        1,
+        1 << 20,
+        None,
+        b"\rbtrsend: reading a, pass 1, 1.0 MiB\x1b[K",
+    ),
+    (
+        "a",
+        1,
+        0,
+        Some(3 << 39),
+        b"\rbtrsend: reading a, pass 1, 0.0 of 1.5 TiB\x1b[K",
+    ),
+    (
+        "0123456789012345678901234567890123456789",
+        1,
+        0,
+        Some(0),
+        b"\rbtrsend: reading ...345678901234567890123456789, pass 1, 0.0 of 0.0 KiB\x1b[K",
+    ),
+    (
+        "0123456789012345678901234567890123456789",
+        u64::MAX,
+        0,
+        Some(u64::MAX),
+        b"\rbtrsend: reading ...345678901234567890123456789, pass 18446744073709551615, 0.0\x1b[K",
+    ),
+];
+
 #[test]
 fn a_line_says_how_far_a_run_is(rt: HostRuntime) -> Result<(), Fail> {
-    let table: [(&str, u64, u64, Option<u64>, &[u8]); 6] = [
-        (
-            "full",
-            2,
-            1_288_490_189,
-            Some(5_046_586_573),
-            b"\rbtrsend: reading full, pass 2, 1.2 of 4.7 GiB\x1b[K",
-        ),
-        (
-            "a\n",
-            1,
-            1023,
-            None,
-            b"\rbtrsend: reading a\\x0a, pass 1, 0.9 KiB\x1b[K",
-        ),
-        (
-            "a",
-            1,
-            1 << 20,
-            None,
-            b"\rbtrsend: reading a, pass 1, 1.0 MiB\x1b[K",
-        ),
-        (
-            "a",
-            1,
-            0,
-            Some(3 << 39),
-            b"\rbtrsend: reading a, pass 1, 0.0 of 1.5 TiB\x1b[K",
-        ),
-        (
-            "0123456789012345678901234567890123456789",
-            1,
-            0,
-            Some(0),
-            b"\rbtrsend: reading ...345678901234567890123456789, pass 1, 0.0 of 0.0 KiB\x1b[K",
-        ),
-        (
-            "0123456789012345678901234567890123456789",
-            u64::MAX,
-            0,
-            Some(u64::MAX),
-            b"\rbtrsend: reading ...345678901234567890123456789, pass 18446744073709551615, 0.0\x1b[K",
-        ),
-    ];
-    for (name, pass, done, all, want) in table {
+    for &(name, pass, done, all, want) in SHOWN {
         let how_far = HowFar {
             name,
             pass,
@@ -109,10 +111,37 @@ fn a_line_says_how_far_a_run_is(rt: HostRuntime) -> Result<(), Fail> {
             all,
         };
         let line = line_of(rt.alloc(), &how_far)?;
-        assert_eq!(rt; line.as_slice(), want);
+        same(&rt, line.as_slice(), want);
     }
     Ok(())
 }
+
+const LONG_RUN: &[(u64, &str, u64, &[u8])] = &[
+    (2099, "one", 0, b""),
+    (
+        2100,
+        "one",
+        1024,
+        b"\rbtrsend: reading one, pass 1, 2.0 of 4.0 KiB\x1b[K",
+    ),
+    (2299, "one", 2048, b""),
+    (
+        2300,
+        "two",
+        0,
+        b"\rbtrsend: reading two, pass 1, 3.0 of 4.0 KiB\x1b[K",
+    ),
+    (2400, "two", 1024, b""),
+    (2400, "two", 2048, b""),
+    (2400, "one", 0, b""),
+    (
+        9000,
+        "one",
+        1024,
+        b"\rbtrsend: reading one, pass 2, 2.0 of 4.0 KiB\x1b[K",
+    ),
+    (9000, "one", 2048, b""),
+];
 
 #[test]
 fn a_long_run_shows_how_far_it_is(rt: HostRuntime) -> Result<(), Fail> {
@@ -125,43 +154,17 @@ fn a_long_run_shows_how_far_it_is(rt: HostRuntime) -> Result<(), Fail> {
     let mut buf = [0; 1024];
     let mut seen = 0;
     // When, of which file and from where on is read, and what the terminal then takes.
-    let table: [(u64, &str, u64, &[u8]); 9] = [
-        (2099, "one", 0, b""),
-        (
-            2100,
-            "one",
-            1024,
-            b"\rbtrsend: reading one, pass 1, 2.0 of 4.0 KiB\x1b[K",
-        ),
-        (2299, "one", 2048, b""),
-        (
-            2300,
-            "two",
-            0,
-            b"\rbtrsend: reading two, pass 1, 3.0 of 4.0 KiB\x1b[K",
-        ),
-        (2400, "two", 1024, b""),
-        (2400, "two", 2048, b""),
-        (2400, "one", 0, b""),
-        (
-            9000,
-            "one",
-            1024,
-            b"\rbtrsend: reading one, pass 2, 2.0 of 4.0 KiB\x1b[K",
-        ),
-        (9000, "one", 2048, b""),
-    ];
-    for (time, name, at, want) in table {
+    for &(time, name, at, want) in LONG_RUN {
         clock.millis.set(time);
         inputs.read_at(name, at, &mut buf)?;
         seen = has_taken(&rt, &screen, seen, want)?;
     }
     clock.millis.set(9200);
-    assert_eq!(rt; inputs.read_again("two", 0, &mut buf), Ok(()));
+    same(&rt, inputs.read_again("two", 0, &mut buf), Ok(()));
     let line = b"\rbtrsend: reading two, pass 2, 2.0 of 4.0 KiB\x1b[K";
     seen = has_taken(&rt, &screen, seen, line)?;
     let mut notes = AfterLine::new(MemSink::new(rt.alloc()), &screen);
-    assert_eq!(rt; notes.write(b"note\n"), Ok(5));
+    same(&rt, notes.write(b"note\n"), Ok(5));
     seen = has_taken(&rt, &screen, seen, b"\r\x1b[K")?;
     clock.millis.set(99_000);
     inputs.read_at("one", 0, &mut buf)?;
@@ -178,13 +181,28 @@ fn has_taken<R: std::process::Abort>(
     want: &[u8],
 ) -> Result<usize, Fail> {
     let Ok(screen) = screen.try_borrow() else {
-        assert!(rt; false);
+        same(rt, false, true);
         return Ok(seen);
     };
     let bytes = screen.sink().bytes();
-    assert_eq!(rt; bytes.get(seen..), Some(want));
+    same(rt, bytes.get(seen..), Some(want));
     Ok(bytes.len())
 }
+
+const LONG_OPENING: &[(u64, u64, &[u8])] = &[
+    (2099, 0, b""),
+    (
+        2100,
+        512,
+        b"\rbtrsend: reading st, pass 1, 1.5 of 2.0 KiB\x1b[K",
+    ),
+    (2299, 1024, b""),
+    (
+        2300,
+        2048,
+        b"\rbtrsend: reading st, pass 1, 2.0 of 2.0 KiB\x1b[K",
+    ),
+];
 
 #[test]
 fn a_long_opening_shows_how_far_it_is(rt: HostRuntime) -> Result<(), Fail> {
@@ -199,21 +217,7 @@ fn a_long_opening_shows_how_far_it_is(rt: HostRuntime) -> Result<(), Fail> {
     let mut buf = [0; 1024];
     let mut seen = 0;
     // When and from where on is read, and what the terminal then takes.
-    let table: [(u64, u64, &[u8]); 4] = [
-        (2099, 0, b""),
-        (
-            2100,
-            512,
-            b"\rbtrsend: reading st, pass 1, 1.5 of 2.0 KiB\x1b[K",
-        ),
-        (2299, 1024, b""),
-        (
-            2300,
-            2048,
-            b"\rbtrsend: reading st, pass 1, 2.0 of 2.0 KiB\x1b[K",
-        ),
-    ];
-    for (time, at, want) in table {
+    for &(time, at, want) in LONG_OPENING {
         clock.millis.set(time);
         disk.read(at, &mut buf)?;
         seen = has_taken(&rt, &screen, seen, want)?;

@@ -1,4 +1,5 @@
 // Runs over a store that a disk in memory holds. The expected bytes, images and notes are not this program's own.
+use crate::same::same;
 use crate::streams::{
     END, FIRST, HEADER, Pieces, SECOND, SNAPSHOT_B, SNAPSHOT_C_OF_A, SUBVOL_A, SUBVOL_C, UNLINK_X,
     joined, words_of,
@@ -13,7 +14,7 @@ use std::test::Fail;
 use sx_base::{Disk, MemInputs, MemSink};
 
 // The files that words may name.
-const FILES: [(&str, Pieces); 7] = [
+const FILES: &[(&str, Pieces)] = &[
     ("first", FIRST),
     ("other", &[HEADER, SUBVOL_C, END]),
     ("second", SECOND),
@@ -119,7 +120,7 @@ type Row = (&'static [&'static str], u8, &'static [u8], &'static [u8]);
 // The inputs that have all files.
 fn input_files(alloc: Global) -> Result<MemInputs, AllocError> {
     let mut inputs = MemInputs::new(alloc);
-    for (name, pieces) in FILES {
+    for &(name, pieces) in FILES {
         inputs.add(name, joined(alloc, pieces)?.as_slice())?;
     }
     Ok(inputs)
@@ -156,9 +157,9 @@ fn check<D: Disk>(rt: &impl Abort, alloc: Global, disk: &mut D, row: Row) -> Res
     let mut out = MemSink::new(alloc);
     let mut notes = MemSink::new(alloc);
     let answered = status_of(alloc, disk, words, &mut out, &mut notes)?;
-    assert_eq!(rt; notes.bytes(), note);
-    assert_eq!(rt; out.bytes(), written);
-    assert_eq!(rt; answered, status);
+    same(rt, notes.bytes(), note);
+    same(rt, out.bytes(), written);
+    same(rt, answered, status);
     Ok(())
 }
 
@@ -169,159 +170,163 @@ fn has_image(disk: &mut MemDisk, image: &[u8]) -> Result<bool, Fail> {
     Ok(&room[..count] == image)
 }
 
+const FILLED: &[Row] = &[
+    (&["init", "st"], 0, b"", b""),
+    (&["init", "st"], 12, b"", b"store there 21\n"),
+    (&["list", "st"], 0, b"", b""),
+    (&["receive", "st", "no_part"], 0, b"", b""),
+    (&["receive", "st", "first", "second"], 0, LINES, b""),
+    (&["list", "st"], 0, LIST_BOTH, b""),
+    (&["show", "st", "a"], 0, SHOW_A, b""),
+    (&["show", "st", "zz"], 8, b"", b"missing zz\n"),
+    (&["cat", "st", "a", "x"], 0, b"hi", b""),
+    (&["cat", "st", "b", "x"], 0, b"hi!", b""),
+    (&["cat", "st", "b", "nope"], 8, b"", b"missing nope\n"),
+    (&["cat", "st", "z z", "x"], 8, b"", b"missing z\\x20z\n"),
+    (&["scrub", "st"], 0, b"scrub 4 0\n", b""),
+    (&["audit", "st", "third"], 0, b"accepted 1 2\n", b""),
+    (&["compose", "st", "second"], 0, ONLY_B, b""),
+    (&["compose", "st", "third"], 0, ONLY_C, b""),
+    (&["export", "st", "third"], 0, ONLY_C, b""),
+    (
+        &["export", "st", "second"],
+        1,
+        b"",
+        b"refused 1 1 17 11 NameThere\n",
+    ),
+    (
+        &["audit", "st", "first"],
+        1,
+        b"",
+        b"refused 1 1 17 11 NameThere\n",
+    ),
+    (
+        &["receive", "st", "second"],
+        1,
+        b"",
+        b"refused 1 1 17 11 NameThere\n",
+    ),
+    (&["drop", "st", "zz"], 8, b"", b"missing zz\n"),
+    (&["drop", "st", "a"], 0, b"", b""),
+    (&["list", "st"], 0, LIST_B, b""),
+    (
+        &["compose", "st", "third"],
+        1,
+        b"",
+        b"refused 1 1 17 13 NoParent\n",
+    ),
+    (
+        &["receive", "st", "third"],
+        1,
+        b"",
+        b"refused 1 1 17 13 NoParent\n",
+    ),
+    (&["receive", "st", "first"], 0, LINE_A, b""),
+    (&["scrub", "st"], 0, b"scrub 7 0\n", b""),
+];
+
 #[test]
 fn a_store_is_made_filled_and_read(rt: HostRuntime) -> Result<(), Fail> {
-    let table: [Row; 27] = [
-        (&["init", "st"], 0, b"", b""),
-        (&["init", "st"], 12, b"", b"store there 21\n"),
-        (&["list", "st"], 0, b"", b""),
-        (&["receive", "st", "no_part"], 0, b"", b""),
-        (&["receive", "st", "first", "second"], 0, LINES, b""),
-        (&["list", "st"], 0, LIST_BOTH, b""),
-        (&["show", "st", "a"], 0, SHOW_A, b""),
-        (&["show", "st", "zz"], 8, b"", b"missing zz\n"),
-        (&["cat", "st", "a", "x"], 0, b"hi", b""),
-        (&["cat", "st", "b", "x"], 0, b"hi!", b""),
-        (&["cat", "st", "b", "nope"], 8, b"", b"missing nope\n"),
-        (&["cat", "st", "z z", "x"], 8, b"", b"missing z\\x20z\n"),
-        (&["scrub", "st"], 0, b"scrub 4 0\n", b""),
-        (&["audit", "st", "third"], 0, b"accepted 1 2\n", b""),
-        (&["compose", "st", "second"], 0, ONLY_B, b""),
-        (&["compose", "st", "third"], 0, ONLY_C, b""),
-        (&["export", "st", "third"], 0, ONLY_C, b""),
-        (
-            &["export", "st", "second"],
-            1,
-            b"",
-            b"refused 1 1 17 11 NameThere\n",
-        ),
-        (
-            &["audit", "st", "first"],
-            1,
-            b"",
-            b"refused 1 1 17 11 NameThere\n",
-        ),
-        (
-            &["receive", "st", "second"],
-            1,
-            b"",
-            b"refused 1 1 17 11 NameThere\n",
-        ),
-        (&["drop", "st", "zz"], 8, b"", b"missing zz\n"),
-        (&["drop", "st", "a"], 0, b"", b""),
-        (&["list", "st"], 0, LIST_B, b""),
-        (
-            &["compose", "st", "third"],
-            1,
-            b"",
-            b"refused 1 1 17 13 NoParent\n",
-        ),
-        (
-            &["receive", "st", "third"],
-            1,
-            b"",
-            b"refused 1 1 17 13 NoParent\n",
-        ),
-        (&["receive", "st", "first"], 0, LINE_A, b""),
-        (&["scrub", "st"], 0, b"scrub 7 0\n", b""),
-    ];
     let mut disk = MemDisk::new(rt.alloc(), b"")?;
-    for row in table {
+    for &row in FILLED {
         check(&rt, rt.alloc(), &mut disk, row)?;
     }
     Ok(())
 }
+
+const UNFINISHED: &[Row] = &[
+    (
+        &["receive", "st", "removing"],
+        1,
+        b"",
+        b"refused 1 2 64 15 NoEntry\n",
+    ),
+    (&["list", "st"], 0, LIST_BEGUN, b""),
+    (
+        &["receive", "st", "first"],
+        1,
+        b"",
+        b"refused 1 1 17 11 NameThere\n",
+    ),
+    (&["show", "st", "a"], 8, b"", b"missing a\n"),
+    (&["drop", "st", "a"], 0, b"", b""),
+    (
+        &["receive", "guard:bytes=1", "guard:nodev", "st", "first"],
+        1,
+        b"",
+        b"refused 1 3 79 33 Guarded 0 0\n",
+    ),
+    (&["drop", "st", "a"], 0, b"", b""),
+    (
+        &[
+            "receive",
+            "guard:nodev",
+            "guard:commands=5",
+            "st",
+            "first",
+            "cut",
+        ],
+        1,
+        LINE_A,
+        b"refused 2 2 96 3 Truncated\n",
+    ),
+    (&["list", "st"], 0, LIST_CUT, b""),
+    (
+        &["audit", "guard:commands=1", "st", "no_part", "no_part"],
+        1,
+        b"",
+        b"refused 2 1 17 33 Guarded 0 1\n",
+    ),
+];
 
 #[test]
 fn a_refused_part_stays_unfinished(rt: HostRuntime) -> Result<(), Fail> {
-    let table: [Row; 10] = [
-        (
-            &["receive", "st", "removing"],
-            1,
-            b"",
-            b"refused 1 2 64 15 NoEntry\n",
-        ),
-        (&["list", "st"], 0, LIST_BEGUN, b""),
-        (
-            &["receive", "st", "first"],
-            1,
-            b"",
-            b"refused 1 1 17 11 NameThere\n",
-        ),
-        (&["show", "st", "a"], 8, b"", b"missing a\n"),
-        (&["drop", "st", "a"], 0, b"", b""),
-        (
-            &["receive", "guard:bytes=1", "guard:nodev", "st", "first"],
-            1,
-            b"",
-            b"refused 1 3 79 33 Guarded 0 0\n",
-        ),
-        (&["drop", "st", "a"], 0, b"", b""),
-        (
-            &[
-                "receive",
-                "guard:nodev",
-                "guard:commands=5",
-                "st",
-                "first",
-                "cut",
-            ],
-            1,
-            LINE_A,
-            b"refused 2 2 96 3 Truncated\n",
-        ),
-        (&["list", "st"], 0, LIST_CUT, b""),
-        (
-            &["audit", "guard:commands=1", "st", "no_part", "no_part"],
-            1,
-            b"",
-            b"refused 2 1 17 33 Guarded 0 1\n",
-        ),
-    ];
     let mut disk = MemDisk::new(rt.alloc(), NEW)?;
-    for row in table {
+    for &row in UNFINISHED {
         check(&rt, rt.alloc(), &mut disk, row)?;
     }
     Ok(())
 }
+
+const WITHOUT_ROOM: &[Row] = &[
+    (
+        &["receive", "st", "first"],
+        10,
+        b"",
+        b"log full 123 33 160\n",
+    ),
+    (&["list", "st"], 0, LIST_BEGUN, b""),
+    (&["drop", "st", "a"], 0, b"", b""),
+    (&["list", "st"], 0, b"", b""),
+];
 
 #[test]
 fn a_part_without_room_stays_unfinished(rt: HostRuntime) -> Result<(), Fail> {
-    let table: [Row; 4] = [
-        (
-            &["receive", "st", "first"],
-            10,
-            b"",
-            b"log full 123 33 160\n",
-        ),
-        (&["list", "st"], 0, LIST_BEGUN, b""),
-        (&["drop", "st", "a"], 0, b"", b""),
-        (&["list", "st"], 0, b"", b""),
-    ];
     let mut disk = MemDisk::new(rt.alloc(), SMALL)?;
-    for row in table {
+    for &row in WITHOUT_ROOM {
         check(&rt, rt.alloc(), &mut disk, row)?;
     }
     Ok(())
 }
 
+const GOES_ON: &[Row] = &[
+    (&["scrub", "st"], 0, b"scrub 2 2\n", b""),
+    (&["receive", "st", "second"], 0, LINE_B, b""),
+    (&["scrub", "st"], 0, b"scrub 4 2\n", b""),
+    (&["list", "st"], 0, LIST_BOTH, b""),
+];
+
 #[test]
 fn a_store_of_the_first_format_goes_on(rt: HostRuntime) -> Result<(), Fail> {
-    let table: [Row; 4] = [
-        (&["scrub", "st"], 0, b"scrub 2 2\n", b""),
-        (&["receive", "st", "second"], 0, LINE_B, b""),
-        (&["scrub", "st"], 0, b"scrub 4 2\n", b""),
-        (&["list", "st"], 0, LIST_BOTH, b""),
-    ];
     let mut disk = MemDisk::new(rt.alloc(), OF_FORMAT_1)?;
-    for row in table {
+    for &row in GOES_ON {
         check(&rt, rt.alloc(), &mut disk, row)?;
     }
     Ok(())
 }
 
 // Images, and what a word answers over each.
-const IMAGES: [(&[u8], Row); 26] = [
+const IMAGES: &[(&[u8], Row)] = &[
     (b"", (&["list", "st"], 6, b"", b"not a store 0\n")),
     (b"", (&["show", "st", "a"], 6, b"", b"not a store 0\n")),
     (b"", (&["cat", "st", "a", "x"], 6, b"", b"not a store 0\n")),
@@ -390,50 +395,52 @@ const IMAGES: [(&[u8], Row); 26] = [
 
 #[test]
 fn what_a_word_does_not_write_to_stays(rt: HostRuntime) -> Result<(), Fail> {
-    for (image, row) in IMAGES {
+    for &(image, row) in IMAGES {
         let mut disk = MemDisk::new(rt.alloc(), image)?;
         check(&rt, rt.alloc(), &mut disk, row)?;
-        assert!(rt; has_image(&mut disk, image)?);
+        same(&rt, has_image(&mut disk, image)?, true);
     }
     Ok(())
 }
 
+const LENGTHS: &[(usize, &[u8])] = &[
+    (19, b"not a store 0\n"),
+    (20, b"not a store 1\n"),
+    (123, b"not a store 2\n"),
+    (160, b"not a store 3\n"),
+];
+
 #[test]
 fn a_store_that_is_cut_is_none(rt: HostRuntime) -> Result<(), Fail> {
-    let table: [(usize, &[u8]); 4] = [
-        (19, b"not a store 0\n"),
-        (20, b"not a store 1\n"),
-        (123, b"not a store 2\n"),
-        (160, b"not a store 3\n"),
-    ];
-    for (len, note) in table {
+    for &(len, note) in LENGTHS {
         let mut disk = MemDisk::new(rt.alloc(), &STORE[..len])?;
         let mut out = MemSink::new(rt.alloc());
         let mut notes = MemSink::new(rt.alloc());
         let status = status_of(rt.alloc(), &mut disk, &["list", "st"], &mut out, &mut notes)?;
-        assert_eq!(rt; status, 6);
-        assert_eq!(rt; out.bytes(), b"".as_slice());
-        assert_eq!(rt; notes.bytes(), note);
+        same(&rt, status, 6);
+        same(&rt, out.bytes(), b"".as_slice());
+        same(&rt, notes.bytes(), note);
     }
     Ok(())
 }
 
+const RECEIVED: &[(Row, &[u8])] = &[
+    ((&["init", "st"], 0, b"", b""), NEW),
+    ((&["receive", "st", "first"], 0, LINE_A, b""), STORE),
+];
+
 #[test]
 fn received_and_made_stores_are_these_bytes(rt: HostRuntime) -> Result<(), Fail> {
     let mut disk = MemDisk::new(rt.alloc(), b"")?;
-    let steps: [(Row, &[u8]); 2] = [
-        ((&["init", "st"], 0, b"", b""), NEW),
-        ((&["receive", "st", "first"], 0, LINE_A, b""), STORE),
-    ];
-    for (row, image) in steps {
+    for &(row, image) in RECEIVED {
         check(&rt, rt.alloc(), &mut disk, row)?;
-        assert!(rt; has_image(&mut disk, image)?);
+        same(&rt, has_image(&mut disk, image)?, true);
     }
     Ok(())
 }
 
 // Words, and what they write over the store that has the first file where no call of the disk fails.
-const WORDS: [(&[&str], &[u8]); 8] = [
+const WORDS: &[(&[&str], &[u8])] = &[
     (&["list", "st"], LIST_A),
     (&["show", "st", "a"], SHOW_A),
     (&["cat", "st", "a", "x"], b"hi"),
@@ -462,29 +469,29 @@ fn calls_needed(
         let mut notes = MemSink::new(alloc);
         let status = status_of(alloc, &mut disk, words, &mut out, &mut notes)?;
         if status != 5 {
-            assert_eq!(rt; out.bytes(), written);
+            same(rt, out.bytes(), written);
             return Ok(calls);
         }
-        assert_eq!(rt; notes.bytes(), b"store fault\n".as_slice());
-        assert!(rt; written.starts_with(out.bytes()));
+        same(rt, notes.bytes(), b"store fault\n".as_slice());
+        same(rt, written.starts_with(out.bytes()), true);
     }
     Ok(CALLS)
 }
 
 #[test]
 fn a_store_that_fails_is_told(rt: HostRuntime) -> Result<(), Fail> {
-    for (words, written) in WORDS {
+    for &(words, written) in WORDS {
         let needed = calls_needed(&rt, rt.alloc(), STORE, words, written)?;
-        assert!(rt; 1 < needed && needed < CALLS);
+        same(&rt, 1 < needed && needed < CALLS, true);
     }
     let needed = calls_needed(&rt, rt.alloc(), b"", &["init", "st"], b"")?;
-    assert!(rt; 1 < needed && needed < CALLS);
+    same(&rt, 1 < needed && needed < CALLS, true);
     Ok(())
 }
 
 #[test]
 fn without_a_file_the_store_fails(rt: HostRuntime) -> Result<(), Fail> {
-    for (words, _) in WORDS {
+    for &(words, _) in WORDS {
         let row: Row = (words, 5, b"", b"store fault\n");
         check(&rt, rt.alloc(), &mut NoDisk::new(), row)?;
     }
@@ -498,7 +505,7 @@ fn without_a_file_the_store_fails(rt: HostRuntime) -> Result<(), Fail> {
 
 #[test]
 fn an_output_that_fails_is_told(rt: HostRuntime) -> Result<(), Fail> {
-    for (words, written) in WORDS {
+    for &(words, written) in WORDS {
         if written.is_empty() {
             continue;
         }
@@ -507,70 +514,72 @@ fn an_output_that_fails_is_told(rt: HostRuntime) -> Result<(), Fail> {
         out.fail_call(1)?;
         let mut notes = MemSink::new(rt.alloc());
         let status = status_of(rt.alloc(), &mut disk, words, &mut out, &mut notes)?;
-        assert_eq!(rt; status, 4);
-        assert_eq!(rt; out.bytes(), b"".as_slice());
-        assert_eq!(rt; notes.bytes(), b"output fault\n".as_slice());
+        same(&rt, status, 4);
+        same(&rt, out.bytes(), b"".as_slice());
+        same(&rt, notes.bytes(), b"output fault\n".as_slice());
     }
     Ok(())
 }
+
+const STORE_WORDS: &[(&[&str], Option<&str>, Option<StoreUse>)] = &[
+    (&["init", "st"], Some("st"), Some(StoreUse::Make)),
+    (&["drop", "st", "a"], Some("st"), Some(StoreUse::Write)),
+    (
+        &["receive", "guard:nodev", "st", "first"],
+        Some("st"),
+        Some(StoreUse::Write),
+    ),
+    (&["list", "none"], Some("none"), Some(StoreUse::Read)),
+    (&["show", "st", "a"], Some("st"), Some(StoreUse::Read)),
+    (&["cat", "st", "a", "x"], Some("st"), Some(StoreUse::Read)),
+    (&["scrub", "st"], Some("st"), Some(StoreUse::Read)),
+    (&["audit", "st", "first"], Some("st"), Some(StoreUse::Read)),
+    (
+        &["compose", "st", "first"],
+        Some("st"),
+        Some(StoreUse::Read),
+    ),
+    (&["export", "st", "first"], Some("st"), Some(StoreUse::Read)),
+    (&["send", "st", "a"], Some("st"), Some(StoreUse::Read)),
+    (&["restore", "st", "a"], Some("st"), Some(StoreUse::Read)),
+    (
+        &["interleave", "st", "0", "first"],
+        Some("st"),
+        Some(StoreUse::Write),
+    ),
+    (&["audit", "none", "first"], None, None),
+    (&["compose", "none", "first"], None, None),
+    (&["dump", "st"], None, None),
+    (&["init"], None, None),
+    (&[], None, None),
+];
 
 #[test]
 fn the_store_is_named_by_its_word(rt: HostRuntime) -> Result<(), Fail> {
-    let table: [(&[&str], Option<&str>, Option<StoreUse>); 18] = [
-        (&["init", "st"], Some("st"), Some(StoreUse::Make)),
-        (&["drop", "st", "a"], Some("st"), Some(StoreUse::Write)),
-        (
-            &["receive", "guard:nodev", "st", "first"],
-            Some("st"),
-            Some(StoreUse::Write),
-        ),
-        (&["list", "none"], Some("none"), Some(StoreUse::Read)),
-        (&["show", "st", "a"], Some("st"), Some(StoreUse::Read)),
-        (&["cat", "st", "a", "x"], Some("st"), Some(StoreUse::Read)),
-        (&["scrub", "st"], Some("st"), Some(StoreUse::Read)),
-        (&["audit", "st", "first"], Some("st"), Some(StoreUse::Read)),
-        (
-            &["compose", "st", "first"],
-            Some("st"),
-            Some(StoreUse::Read),
-        ),
-        (&["export", "st", "first"], Some("st"), Some(StoreUse::Read)),
-        (&["send", "st", "a"], Some("st"), Some(StoreUse::Read)),
-        (&["restore", "st", "a"], Some("st"), Some(StoreUse::Read)),
-        (
-            &["interleave", "st", "0", "first"],
-            Some("st"),
-            Some(StoreUse::Write),
-        ),
-        (&["audit", "none", "first"], None, None),
-        (&["compose", "none", "first"], None, None),
-        (&["dump", "st"], None, None),
-        (&["init"], None, None),
-        (&[], None, None),
-    ];
-    for (words, named, usage) in table {
+    for &(words, named, usage) in STORE_WORDS {
         let words = words_of(rt.alloc(), words)?;
-        assert_eq!(rt; store_word(&words), named);
-        assert_eq!(rt; store_use(&words), usage);
+        same(&rt, store_word(&words), named);
+        same(&rt, store_use(&words), usage);
     }
     Ok(())
 }
 
+const SENT: &[Row] = &[
+    (&["send", "st", "a"], 0, SENT_A, b""),
+    (&["send", "st", "zz"], 8, b"", b"missing zz\n"),
+    (&["restore", "st", "zz"], 8, b"", b"missing zz\n"),
+    (&["send", "st"], 2, b"", b"usage\n"),
+    (&["restore", "st", "a", "more"], 2, b"", b"usage\n"),
+    (&["send", "st", "b"], 8, b"", b"missing b\n"),
+];
+
 #[test]
 fn a_subvolume_is_sent(rt: HostRuntime) -> Result<(), Fail> {
-    let table: [Row; 6] = [
-        (&["send", "st", "a"], 0, SENT_A, b""),
-        (&["send", "st", "zz"], 8, b"", b"missing zz\n"),
-        (&["restore", "st", "zz"], 8, b"", b"missing zz\n"),
-        (&["send", "st"], 2, b"", b"usage\n"),
-        (&["restore", "st", "a", "more"], 2, b"", b"usage\n"),
-        (&["send", "st", "b"], 8, b"", b"missing b\n"),
-    ];
     let mut disk = MemDisk::new(rt.alloc(), STORE)?;
-    for row in table {
+    for &row in SENT {
         check(&rt, rt.alloc(), &mut disk, row)?;
     }
-    assert!(rt; has_image(&mut disk, STORE)?);
+    same(&rt, has_image(&mut disk, STORE)?, true);
     Ok(())
 }
 
@@ -582,9 +591,10 @@ fn what_is_sent_and_restored_is_received(rt: HostRuntime) -> Result<(), Fail> {
         let mut written = MemSink::new(rt.alloc());
         let mut notes = MemSink::new(rt.alloc());
         let words = [word, "st", "a"];
-        assert_eq!(rt;
+        same(
+            &rt,
             status_of(rt.alloc(), &mut store, &words, &mut written, &mut notes)?,
-            0
+            0,
         );
         let mut inputs = MemInputs::new(rt.alloc());
         inputs.add("stream", written.bytes())?;
@@ -601,8 +611,8 @@ fn what_is_sent_and_restored_is_received(rt: HostRuntime) -> Result<(), Fail> {
             &mut notes,
             &mut disk,
         );
-        assert_eq!(rt; status, 0);
-        assert_eq!(rt; out.bytes(), LINE_A);
+        same(&rt, status, 0);
+        same(&rt, out.bytes(), LINE_A);
         check(
             &rt,
             rt.alloc(),
@@ -613,88 +623,89 @@ fn what_is_sent_and_restored_is_received(rt: HostRuntime) -> Result<(), Fail> {
     Ok(())
 }
 
+const TURNS: &[(Row, &[u8])] = &[
+    (
+        (
+            &["interleave", "st", "01", "first", "second"],
+            1,
+            LINE_A,
+            b"refused 2 1 17 13 NoParent\n",
+        ),
+        LIST_A,
+    ),
+    (
+        (
+            &["interleave", "st", "00001", "first", "second"],
+            0,
+            LINES,
+            b"",
+        ),
+        LIST_BOTH,
+    ),
+    (
+        (
+            &["interleave", "st", "01111", "first", "other"],
+            0,
+            LINES_C_A,
+            b"",
+        ),
+        LIST_A_C,
+    ),
+    (
+        (
+            &["interleave", "st", "2", "first", "other"],
+            2,
+            b"",
+            b"usage\n",
+        ),
+        b"",
+    ),
+    (
+        (&["interleave", "st", "", "first"], 2, b"", b"usage\n"),
+        b"",
+    ),
+    (
+        (
+            &["interleave", "st", "0", "first", "guard:nodev"],
+            2,
+            b"",
+            b"usage\n",
+        ),
+        b"",
+    ),
+    (
+        (
+            &["interleave", "st", "01", "guard:bytes=1", "first", "other"],
+            1,
+            LINE_C,
+            b"refused 1 3 79 33 Guarded 0 0\n",
+        ),
+        LIST_A_BEGUN_C,
+    ),
+    (
+        (
+            &["interleave", "st", "01", "first", "guard:bytes=1", "other"],
+            0,
+            LINES_A_C,
+            b"",
+        ),
+        LIST_A_C,
+    ),
+    (
+        (
+            &["interleave", "st", "0", "first", "nowhere"],
+            1,
+            LINE_A,
+            b"refused 2 1 0 3 Truncated\n",
+        ),
+        LIST_A,
+    ),
+];
+
 // Each schedule over a new store, with what is listed then.
 #[test]
 fn files_take_turns(rt: HostRuntime) -> Result<(), Fail> {
-    let table: [(Row, &[u8]); 9] = [
-        (
-            (
-                &["interleave", "st", "01", "first", "second"],
-                1,
-                LINE_A,
-                b"refused 2 1 17 13 NoParent\n",
-            ),
-            LIST_A,
-        ),
-        (
-            (
-                &["interleave", "st", "00001", "first", "second"],
-                0,
-                LINES,
-                b"",
-            ),
-            LIST_BOTH,
-        ),
-        (
-            (
-                &["interleave", "st", "01111", "first", "other"],
-                0,
-                LINES_C_A,
-                b"",
-            ),
-            LIST_A_C,
-        ),
-        (
-            (
-                &["interleave", "st", "2", "first", "other"],
-                2,
-                b"",
-                b"usage\n",
-            ),
-            b"",
-        ),
-        (
-            (&["interleave", "st", "", "first"], 2, b"", b"usage\n"),
-            b"",
-        ),
-        (
-            (
-                &["interleave", "st", "0", "first", "guard:nodev"],
-                2,
-                b"",
-                b"usage\n",
-            ),
-            b"",
-        ),
-        (
-            (
-                &["interleave", "st", "01", "guard:bytes=1", "first", "other"],
-                1,
-                LINE_C,
-                b"refused 1 3 79 33 Guarded 0 0\n",
-            ),
-            LIST_A_BEGUN_C,
-        ),
-        (
-            (
-                &["interleave", "st", "01", "first", "guard:bytes=1", "other"],
-                0,
-                LINES_A_C,
-                b"",
-            ),
-            LIST_A_C,
-        ),
-        (
-            (
-                &["interleave", "st", "0", "first", "nowhere"],
-                1,
-                LINE_A,
-                b"refused 2 1 0 3 Truncated\n",
-            ),
-            LIST_A,
-        ),
-    ];
-    for (row, listed) in table {
+    for &(row, listed) in TURNS {
         let mut disk = MemDisk::new(rt.alloc(), NEW)?;
         check(&rt, rt.alloc(), &mut disk, row)?;
         check(
@@ -707,59 +718,60 @@ fn files_take_turns(rt: HostRuntime) -> Result<(), Fail> {
     Ok(())
 }
 
+const ESCAPED: &[Row] = &[
+    (
+        &["receive", "st", "name:escaped:\\xff\\x20", "first"],
+        0,
+        LINE_ESCAPED,
+        b"",
+    ),
+    (&["list", "st"], 0, LIST_ESCAPED, b""),
+    (&["show", "st", "escaped:\\xff\\x20"], 0, SHOW_ESCAPED, b""),
+    (&["cat", "st", "escaped:\\xff\\x20", "x"], 0, b"hi", b""),
+    (
+        &["cat", "st", "escaped:\\xff\\x20", "escaped:x"],
+        0,
+        b"hi",
+        b"",
+    ),
+    (
+        &["cat", "st", "escaped:\\xff\\x20", "escaped:\\x0a"],
+        8,
+        b"",
+        b"missing \\x0a\n",
+    ),
+    (
+        &["cat", "st", "escaped:\\xff", "x"],
+        8,
+        b"",
+        b"missing \\xff\n",
+    ),
+    (
+        &["show", "st", "escaped:escaped:a"],
+        8,
+        b"",
+        b"missing escaped:a\n",
+    ),
+    (&["drop", "st", "escaped:"], 8, b"", b"missing \n"),
+    (&["show", "st", "escaped:\\xFF\\x20"], 2, b"", b"usage\n"),
+    (&["show", "st", "escaped:\\x41"], 2, b"", b"usage\n"),
+    (&["send", "st", "escaped:a b"], 2, b"", b"usage\n"),
+    (&["restore", "st", "escaped:\\"], 2, b"", b"usage\n"),
+    (&["cat", "st", "a", "escaped:\\xg0"], 2, b"", b"usage\n"),
+    (
+        &["receive", "st", "name:escaped:\\xFF", "second"],
+        2,
+        b"",
+        b"usage\n",
+    ),
+    (&["drop", "st", "escaped:\\xff\\x20"], 0, b"", b""),
+    (&["list", "st"], 0, b"", b""),
+];
+
 #[test]
 fn names_that_are_no_text_are_asked_for_as_they_are_printed(rt: HostRuntime) -> Result<(), Fail> {
     let mut disk = MemDisk::new(rt.alloc(), NEW)?;
-    let table: [Row; 17] = [
-        (
-            &["receive", "st", "name:escaped:\\xff\\x20", "first"],
-            0,
-            LINE_ESCAPED,
-            b"",
-        ),
-        (&["list", "st"], 0, LIST_ESCAPED, b""),
-        (&["show", "st", "escaped:\\xff\\x20"], 0, SHOW_ESCAPED, b""),
-        (&["cat", "st", "escaped:\\xff\\x20", "x"], 0, b"hi", b""),
-        (
-            &["cat", "st", "escaped:\\xff\\x20", "escaped:x"],
-            0,
-            b"hi",
-            b"",
-        ),
-        (
-            &["cat", "st", "escaped:\\xff\\x20", "escaped:\\x0a"],
-            8,
-            b"",
-            b"missing \\x0a\n",
-        ),
-        (
-            &["cat", "st", "escaped:\\xff", "x"],
-            8,
-            b"",
-            b"missing \\xff\n",
-        ),
-        (
-            &["show", "st", "escaped:escaped:a"],
-            8,
-            b"",
-            b"missing escaped:a\n",
-        ),
-        (&["drop", "st", "escaped:"], 8, b"", b"missing \n"),
-        (&["show", "st", "escaped:\\xFF\\x20"], 2, b"", b"usage\n"),
-        (&["show", "st", "escaped:\\x41"], 2, b"", b"usage\n"),
-        (&["send", "st", "escaped:a b"], 2, b"", b"usage\n"),
-        (&["restore", "st", "escaped:\\"], 2, b"", b"usage\n"),
-        (&["cat", "st", "a", "escaped:\\xg0"], 2, b"", b"usage\n"),
-        (
-            &["receive", "st", "name:escaped:\\xFF", "second"],
-            2,
-            b"",
-            b"usage\n",
-        ),
-        (&["drop", "st", "escaped:\\xff\\x20"], 0, b"", b""),
-        (&["list", "st"], 0, b"", b""),
-    ];
-    for row in table {
+    for &row in ESCAPED {
         check(&rt, rt.alloc(), &mut disk, row)?;
     }
     Ok(())

@@ -1,4 +1,5 @@
 // What no clause says: files that give few bytes at a time, fail in their middle, or are a pipe.
+use crate::same::same;
 use host_io::PathInputs;
 use std::alloc::Allocator;
 use std::fs::{Metadata, OpenFile, OpenOptions};
@@ -142,17 +143,18 @@ fn short_reads_are_gone_on_with(rt: HostRuntime) -> Result<(), Fail> {
     let files = BadFiles { most: 3, bad: 99 };
     let mut inputs = PathInputs::new(&files, rt.alloc());
     let mut buf = [0; 8];
-    assert_eq!(rt; inputs.read_at("short", 0, &mut buf), Ok(3));
-    assert_eq!(rt; &buf[..3], b"012".as_slice());
-    assert_eq!(rt; inputs.read_at("short", 3, &mut buf), Ok(3));
-    assert_eq!(rt; &buf[..3], b"345".as_slice());
-    assert_eq!(rt; inputs.read_again("short", 1, &mut buf), Ok(()));
-    assert_eq!(rt; &buf, b"12345678");
-    assert_eq!(rt;
+    same(&rt, inputs.read_at("short", 0, &mut buf), Ok(3));
+    same(&rt, &buf[..3], b"012".as_slice());
+    same(&rt, inputs.read_at("short", 3, &mut buf), Ok(3));
+    same(&rt, &buf[..3], b"345".as_slice());
+    same(&rt, inputs.read_again("short", 1, &mut buf), Ok(()));
+    same(&rt, &buf, b"12345678");
+    same(
+        &rt,
         inputs.read_again("short", 4, &mut buf),
-        Err(Lost::Ended { place: 10 })
+        Err(Lost::Ended { place: 10 }),
     );
-    assert_eq!(rt; inputs.read_at("short", 10, &mut buf), Ok(0));
+    same(&rt, inputs.read_at("short", 10, &mut buf), Ok(0));
     Ok(())
 }
 
@@ -161,17 +163,21 @@ fn a_file_that_fails_in_its_middle_is_a_fault_there(rt: HostRuntime) -> Result<(
     let files = BadFiles { most: 3, bad: 6 };
     let mut inputs = PathInputs::new(&files, rt.alloc());
     let mut buf = [0; 8];
-    assert_eq!(rt; inputs.read_at("bad", 0, &mut buf), Ok(3));
-    assert_eq!(rt; inputs.read_at("bad", 3, &mut buf), Ok(3));
+    same(&rt, inputs.read_at("bad", 0, &mut buf), Ok(3));
+    same(&rt, inputs.read_at("bad", 3, &mut buf), Ok(3));
     // The place that can not be read, asked for twice, and bytes of which it is among.
-    assert_eq!(rt; inputs.read_at("bad", 6, &mut buf), Err(Failed));
-    assert_eq!(rt; inputs.read_at("bad", 6, &mut buf), Err(Failed));
-    assert_eq!(rt; inputs.read_again("bad", 2, &mut buf), Err(Lost::Failed));
+    same(&rt, inputs.read_at("bad", 6, &mut buf), Err(Failed));
+    same(&rt, inputs.read_at("bad", 6, &mut buf), Err(Failed));
+    same(
+        &rt,
+        inputs.read_again("bad", 2, &mut buf),
+        Err(Lost::Failed),
+    );
     // Others can still be read.
-    assert_eq!(rt; inputs.read_again("bad", 1, &mut buf[..5]), Ok(()));
-    assert_eq!(rt; &buf[..5], b"12345".as_slice());
-    assert_eq!(rt; inputs.read_at("bad", 7, &mut buf), Ok(3));
-    assert_eq!(rt; &buf[..3], b"789".as_slice());
+    same(&rt, inputs.read_again("bad", 1, &mut buf[..5]), Ok(()));
+    same(&rt, &buf[..5], b"12345".as_slice());
+    same(&rt, inputs.read_at("bad", 7, &mut buf), Ok(3));
+    same(&rt, &buf[..3], b"789".as_slice());
     Ok(())
 }
 
@@ -182,16 +188,20 @@ fn a_pipe_is_read_in_order_and_once(rt: HostRuntime) -> Result<(), Fail> {
     let name = format!(in rt.alloc(); "/proc/self/fd/{}", reader.as_raw_fd())?;
     let mut inputs = PathInputs::new(&rt, rt.alloc());
     let mut buf = [0; 4];
-    assert_eq!(rt; inputs.read_at(&name, 0, &mut buf), Ok(4));
-    assert_eq!(rt; &buf, b"0123");
+    same(&rt, inputs.read_at(&name, 0, &mut buf), Ok(4));
+    same(&rt, &buf, b"0123");
     drop(writer);
-    assert_eq!(rt; inputs.read_at(&name, 4, &mut buf), Ok(4));
-    assert_eq!(rt; &buf, b"4567");
-    assert_eq!(rt; inputs.read_at(&name, 8, &mut buf), Ok(2));
-    assert_eq!(rt; &buf[..2], b"89".as_slice());
-    assert_eq!(rt; inputs.read_at(&name, 10, &mut buf), Ok(0));
-    assert_eq!(rt; inputs.read_at(&name, 0, &mut buf), Err(Failed));
-    assert_eq!(rt; inputs.read_again(&name, 2, &mut buf), Err(Lost::Failed));
+    same(&rt, inputs.read_at(&name, 4, &mut buf), Ok(4));
+    same(&rt, &buf, b"4567");
+    same(&rt, inputs.read_at(&name, 8, &mut buf), Ok(2));
+    same(&rt, &buf[..2], b"89".as_slice());
+    same(&rt, inputs.read_at(&name, 10, &mut buf), Ok(0));
+    same(&rt, inputs.read_at(&name, 0, &mut buf), Err(Failed));
+    same(
+        &rt,
+        inputs.read_again(&name, 2, &mut buf),
+        Err(Lost::Failed),
+    );
     Ok(())
 }
 
@@ -203,19 +213,23 @@ fn a_pipe_is_not_opened_again(rt: HostRuntime) -> Result<(), Fail> {
     let other = format!(in rt.alloc(); "/proc/self/./fd/{}", reader.as_raw_fd())?;
     let mut inputs = PathInputs::new(&rt, rt.alloc());
     let mut buf = [0; 4];
-    assert_eq!(rt; inputs.read_at(&other, 0, &mut buf), Ok(4));
+    same(&rt, inputs.read_at(&other, 0, &mut buf), Ok(4));
     // The same pipe by another name, also from where it stands.
-    assert_eq!(rt; inputs.read_at(&name, 0, &mut buf), Err(Failed));
-    assert_eq!(rt; inputs.read_at(&name, 4, &mut buf), Err(Failed));
-    assert_eq!(rt; inputs.read_again(&name, 0, &mut buf), Err(Lost::Failed));
-    assert_eq!(rt; inputs.read_at(&other, 4, &mut buf), Ok(4));
+    same(&rt, inputs.read_at(&name, 0, &mut buf), Err(Failed));
+    same(&rt, inputs.read_at(&name, 4, &mut buf), Err(Failed));
+    same(
+        &rt,
+        inputs.read_again(&name, 0, &mut buf),
+        Err(Lost::Failed),
+    );
+    same(&rt, inputs.read_at(&other, 4, &mut buf), Ok(4));
     // And by its own, once it was closed for sixteen others.
     for number in 0..16 {
         let regular = format!(in rt.alloc(); "trouble.{number}")?;
         fs::write(&rt, &regular, BYTES)?;
-        assert_eq!(rt; inputs.read_at(&regular, 6, &mut buf), Ok(4));
+        same(&rt, inputs.read_at(&regular, 6, &mut buf), Ok(4));
         fs::remove_file(&rt, &regular)?;
     }
-    assert_eq!(rt; inputs.read_at(&other, 8, &mut buf), Err(Failed));
+    same(&rt, inputs.read_at(&other, 8, &mut buf), Err(Failed));
     Ok(())
 }
