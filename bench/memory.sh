@@ -1,7 +1,8 @@
 #!/bin/sh
 # Time and peak memory of what once took too much of either: a file that is cloned onto its own end 50 times; a file of 1,000,000
-# runs, alone and with 100 snapshots of it that write 100 places each; and 200,000 files of one run. Three words may say other numbers
-# of runs, of snapshots, and of files. Proves and builds the program first. Needs python3.
+# runs, alone and with 100 snapshots of it that write 100 places each; and 200,000 files of one run, in one folder by names of 30 bytes,
+# and in folders of 1,000 by paths of 30. Three words may say other numbers of runs, of snapshots, and of files. Proves and builds the
+# program first. Needs python3.
 here=$(CDPATH='' cd -- "$(dirname -- "$0")" && pwd) || exit 2
 runs=${1:-1000000}
 snapshots=${2:-100}
@@ -82,6 +83,9 @@ for number in range(2, snapshots + 2):
     put('s%03d' % number, later(number, b''.join(write(b'f', 16 * at, b'%16d' % number) for at in places)))
 names = (b'%030d' % at for at in range(files))
 put('files', full(b''.join(command(3, path=name) + write(name, 0, b'one run') for name in names)))
+folders = b''.join(command(4, path=b'folder-%06d' % at) for at in range(files // 1000 + 1))
+paths = (b'folder-%06d/%016d' % (at // 1000, at) for at in range(files))
+put('folders', full(folders + b''.join(command(3, path=path) + write(path, 0, b'one run') for path in paths)))
 PYTHON
 
 # WHAT WORDS..: one line of the times and of the memory of these words.
@@ -95,4 +99,5 @@ for word in audit compose; do
     takes "$word, a file of $runs runs" "$word" none image
     takes "$word, the same with $snapshots snapshots" "$word" none image s???
     takes "$word, $files files of one run" "$word" none files
+    takes "$word, as many files in folders" "$word" none folders
 done
