@@ -63,7 +63,7 @@ fn composed<D: Disk>(
     files: &[&[Piece]],
 ) -> Result<(StoreEnd, Vec<u8>), AllocError> {
     let Files { mut inputs, names } = input_files(alloc, files)?;
-    same(rt, !names.is_empty(), true);
+    assert!(rt; !names.is_empty());
     let mut out = MemSink::new(alloc);
     let own = PartNames::none(alloc);
     let given = NamedFiles {
