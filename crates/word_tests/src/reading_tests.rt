@@ -214,29 +214,33 @@ fn files_that_are_cut(rt: HostRuntime) -> Result<(), Fail> {
     Ok(())
 }
 
+// What a file comes to in which each of these frames stands behind a header, a part and a file.
+fn expect_frames(
+    rt: &impl Abort,
+    alloc: Global,
+    header: &[u8],
+    lines: &[u8],
+    frames: &[(&[u8], &[u8])],
+) -> Result<(), Fail> {
+    let exported = joined(alloc, &[header, SUBVOL_A, MKFILE_X_WITH_INO])?;
+    let words: [Written<'_>; 3] = [
+        (&["audit", "none"], b""),
+        (&["dump"], lines),
+        (&["export", "none"], exported.as_slice()),
+    ];
+    for (frame, note) in frames {
+        let file = joined(alloc, &[header, SUBVOL_A, MKFILE_X, frame])?;
+        expect_refused(rt, alloc, file.as_slice(), note, &words)?;
+    }
+    Ok(())
+}
+
 #[test]
 fn frames_that_are_refused(rt: HostRuntime) -> Result<(), Fail> {
     let alloc = rt.alloc();
-    for (header, lines, frames) in [
-        (HEADER, &DUMPED[..100], FRAMES),
-        (
-            HEADER_OF_VERSION_2,
-            DUMPED_OF_VERSION_2,
-            FRAMES_OF_VERSION_2,
-        ),
-    ] {
-        let exported = joined(alloc, &[header, SUBVOL_A, MKFILE_X_WITH_INO])?;
-        let words: [Written<'_>; 3] = [
-            (&["audit", "none"], b""),
-            (&["dump"], lines),
-            (&["export", "none"], exported.as_slice()),
-        ];
-        for (frame, note) in frames {
-            let file = joined(alloc, &[header, SUBVOL_A, MKFILE_X, frame])?;
-            expect_refused(&rt, alloc, file.as_slice(), note, &words)?;
-        }
-    }
-    Ok(())
+    expect_frames(&rt, alloc, HEADER, &DUMPED[..100], FRAMES)?;
+    let frames = FRAMES_OF_VERSION_2;
+    expect_frames(&rt, alloc, HEADER_OF_VERSION_2, DUMPED_OF_VERSION_2, frames)
 }
 
 #[test]
