@@ -124,11 +124,7 @@ fn an_output_that_fails_is_said(rt: HostRuntime) -> Result<(), Fail> {
         let end = send_entry(alloc, &mut disk, b"b", &mut out);
         same(&rt, end, StoreEnd::Ends(Outcome::OutputFault));
         same(&rt, out.bytes().len() < stream.len(), true);
-        same(
-            &rt,
-            out.bytes() == &stream.as_slice()[..out.bytes().len()],
-            true,
-        );
+        same(&rt, stream.as_slice().starts_with(out.bytes()), true);
     }
     Ok(())
 }
