@@ -13,7 +13,7 @@ use std::test::Fail;
 use sx_base::{MemInputs, MemSink};
 
 // Third frames of a stream of version 1 that can't be read, and the notes.
-const FRAMES: &[(&[u8], &[u8])] = &[
+const FRAMES: [(&[u8], &[u8]); 18] = [
     (
         b"\x01\x00\x04\x00\x04\x00\xa5\xbd\xd5\x9c\x0f\x00\x01\x00d",
         b"refused 1 3 79 4 LongCommand 262145\n",
@@ -89,7 +89,7 @@ const FRAMES: &[(&[u8], &[u8])] = &[
 ];
 
 // Third frames of a stream of version 2 that can't be read, and the notes.
-const FRAMES_OF_VERSION_2: &[(&[u8], &[u8])] = &[
+const FRAMES_OF_VERSION_2: [(&[u8], &[u8]); 4] = [
     (
         b"\x00\x00\x00\x00\x19\x008C:O",
         b"refused 1 3 79 32 Encoded\n",
@@ -214,33 +214,29 @@ fn files_that_are_cut(rt: HostRuntime) -> Result<(), Fail> {
     Ok(())
 }
 
-// What a file comes to in which each of these frames stands behind a header, a part and a file.
-fn expect_frames(
-    rt: &impl Abort,
-    alloc: Global,
-    header: &[u8],
-    lines: &[u8],
-    frames: &[(&[u8], &[u8])],
-) -> Result<(), Fail> {
-    let exported = joined(alloc, &[header, SUBVOL_A, MKFILE_X_WITH_INO])?;
-    let words: [Written<'_>; 3] = [
-        (&["audit", "none"], b""),
-        (&["dump"], lines),
-        (&["export", "none"], exported.as_slice()),
-    ];
-    for (frame, note) in frames {
-        let file = joined(alloc, &[header, SUBVOL_A, MKFILE_X, frame])?;
-        expect_refused(rt, alloc, file.as_slice(), note, &words)?;
-    }
-    Ok(())
-}
-
 #[test]
 fn frames_that_are_refused(rt: HostRuntime) -> Result<(), Fail> {
     let alloc = rt.alloc();
-    expect_frames(&rt, alloc, HEADER, &DUMPED[..100], FRAMES)?;
-    let frames = FRAMES_OF_VERSION_2;
-    expect_frames(&rt, alloc, HEADER_OF_VERSION_2, DUMPED_OF_VERSION_2, frames)
+    for (header, lines, frames) in [
+        (HEADER, &DUMPED[..100], FRAMES.as_slice()),
+        (
+            HEADER_OF_VERSION_2,
+            DUMPED_OF_VERSION_2,
+            FRAMES_OF_VERSION_2.as_slice(),
+        ),
+    ] {
+        let exported = joined(alloc, &[header, SUBVOL_A, MKFILE_X_WITH_INO])?;
+        let words: [Written<'_>; 3] = [
+            (&["audit", "none"], b""),
+            (&["dump"], lines),
+            (&["export", "none"], exported.as_slice()),
+        ];
+        for (frame, note) in frames {
+            let file = joined(alloc, &[header, SUBVOL_A, MKFILE_X, frame])?;
+            expect_refused(&rt, alloc, file.as_slice(), note, &words)?;
+        }
+    }
+    Ok(())
 }
 
 #[test]
