@@ -4,7 +4,7 @@ use Rattle.std.specs.Prelude.{map, get_or, slice_index_or, String}
 use Rattle.std.specs.String.{string_bytes}
 use Rattle.std.proofs.Common.{refl, ap, subst, sym, ◌∙◌, arith}
 use Rattle.std.proofs.lemmas.List.{get_or-map, length-map}
-use Rattle.sx_base.specs.Asks.{Adds, ask, IsReadOn, IsReadOnce, AreReadOnce}
+use Rattle.sx_base.specs.Asks.{Adds, ask, IsReadOnce, AreReadOnce}
 use Rattle.sx_base.specs.Later.{AskedOnly, ReadsOn}
 use Rattle.sx_base.proofs.Asking.{asked_nothing, asked_then, read_none, read_one, read_then, once_more}
 use Rattle.sx_base.specs.declared.inputs.Inputs as reading

@@ -1,5 +1,5 @@
 -- Facts of a command that was read from a body.
-use Rattle.std.specs.Prelude.{◌≡◌, map, slice_index_or, ℕ, zero, suc, ◌+◌, ◌-◌, ◌^◌, ◌≤◌, ◌<◌, Bool, true, false, min, ◌==◌, List, [], ◌∷◌, ◌++◌, length, drop, Option, None, Some, Result, Ok, Err, IfOk, if◌then◌else◌}
+use Rattle.std.specs.Prelude.{◌≡◌, ⊤, map, slice_index_or, ℕ, zero, suc, ◌+◌, ◌-◌, ◌^◌, ◌≤◌, ◌<◌, Bool, true, false, min, ◌==◌, List, [], ◌∷◌, ◌++◌, length, drop, Option, None, Some, Result, Ok, Err, if◌then◌else◌}
 use Rattle.std.proofs.Common.{w8, Fits}
 use Rattle.std.proofs.Math.Facts.{Fits-lt-pow}
 use Rattle.std.specs.Option.{unwrap_or}
@@ -20,7 +20,7 @@ use Rattle.send_model.proofs.Canonical.{bytes_append, le2_bytes, le4_bytes, chec
 use Rattle.send_model.proofs.Frames.{frame_read_back}
 use Rattle.send_model.proofs.ReadSpelled.{kind_with, numbered, rules_were_spelled}
 use Rattle.sx_base.specs.declared.refusal.Refusal as code
-use Rattle.tlv_frame.specs.Table.{Table, StandsFor, ReadsTable}
+use Rattle.tlv_frame.specs.Table.{Table, StandsFor, ReadsTable, TakesBody, no_attributes}
 use Rattle.cmd_reader.specs.Alone.{stand, stand_of}
 use Rattle.cmd_reader.proofs.Alone.{Follow, follow_same, stand_follow, alone_stand, kinds_with, body_size, total as size_of}
 use Rattle.send_model.proofs.Fuel.{bound, tested, required, not_refused, ok_same}
@@ -205,10 +205,9 @@ alone_stands version number body attributes c table small short are read e same_
     let sized = subst (λ (n : ℕ). stand table n (map (λ (a : Attribute). a.kind) attributes) 0 ≡ true) (ap (λ (v : ℕ). size_of v attributes) same_version ∙ sym size) here in
     subst (λ (o : Option Kind). stand_of table (length body) o ≡ true) (sym known) (subst (λ (l : List ℕ). stand table (length body) l 0 ≡ true) kinds sized)
 
--- A table that was read, where it stands in the answer.
-module _ (answer : Result Table code.Refusal) (table : Table) (is : answer ≡ Ok table) where
-  pub table_read : (said : Result (List Attribute) Refusal) → ReadsTable answer said → ReadsTable (Ok table) said
-  table_read said reads = subst (λ (r : Result Table code.Refusal). ReadsTable r said) is reads
-
-  pub table_kept : (version : ℕ) → IfOk answer (λ t. t.version ≡ version) → table.version ≡ version
-  table_kept version kept = subst (λ (r : Result Table code.Refusal). IfOk r (λ t. t.version ≡ version)) is kept
+-- A new table that took the attributes of a body.
+pub table_read : (version : ℕ) (first table : Table) (answer : Result ⊤ code.Refusal) (body : List ℕ) → first ≡ no_attributes version → answer ≡ Ok tt
+    → TakesBody first.version table answer (attributes_at first.version body) → (table.version ≡ version) × ReadsTable (Ok table) (attributes_at version body)
+table_read version first table answer body new is takes =
+    subst (λ (t : Table). TakesBody t.version table (Ok tt) (attributes_at t.version body)) new
+    (subst (λ (r : Result ⊤ code.Refusal). TakesBody first.version table r (attributes_at first.version body)) is takes)

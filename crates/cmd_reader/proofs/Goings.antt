@@ -10,7 +10,7 @@ use Rattle.send_model.specs.Command as model
 use Rattle.send_model.specs.Attribute.{IsBytes}
 use Rattle.send_model.specs.Spelling.{Attribute, canonical}
 use Rattle.send_model.specs.Reading as reading
-use Rattle.send_model.specs.Reading.{Reading, Due, HeaderDue, CommandDue, Frame, due_after, ended, with_item, faulty, stream_version, frame_at, attributes_at, command_of, data_place, front_of, is_version, header_len, frame_header_len}
+use Rattle.send_model.specs.Reading.{Reading, Due, HeaderDue, CommandDue, Frame, due_after, ended, with_item, faulty, stream_version, frame_at, attributes_at, command_of, data_place, front_of, is_version}
 use Rattle.send_model.specs.Lengths.{limit, is_truncated}
 use Rattle.send_model.proofs.Fuel.{bound, ok_same, header_there}
 use Rattle.sx_base.specs.Refusals.{refusal_of}

@@ -3,7 +3,7 @@ use Rattle.std.specs.Prelude.{◌≡◌, ◌≢◌, ℕ, ◌+◌, ◌<◌, ◌�
 use Rattle.send_model.specs.Command.{Command, row, kind_of}
 use Rattle.send_model.specs.Receive.{bytes_of}
 use Rattle.send_model.specs.Reading as reading
-use Rattle.send_model.specs.Reading.{Reading, CommandDue, due_after, ended, with_item, is_version}
+use Rattle.send_model.specs.Reading.{CommandDue, due_after, ended, with_item, is_version}
 use Rattle.send_model.specs.Spelling.{canonical}
 use Rattle.send_model.specs.Laws.{CanWrite}
 use Rattle.send_model.specs.Lengths.{limit, only_ends}

@@ -16,7 +16,7 @@ use crate::spelled::is_canonical;
 use send_commands::{Command, Kind, decode, lawful_kind};
 use sx_base::{Refusal, Verdict};
 use tlv_frame::attribute_numbers::DATA;
-use tlv_frame::{FRAME_HEAD_LEN, attrs};
+use tlv_frame::{AttrTable, FRAME_HEAD_LEN};
 
 /// A frame that a reader has gone past, of which nothing but its header was read.
 #[derive(Debug, Clone, Copy)]
@@ -52,6 +52,7 @@ pub(crate) fn body_in(frame: &[u8]) -> &[u8]
 }
 
 // The item that a frame is, by its body.
+#[inline(always)]
 pub(crate) fn item_in<'a>(frame: FrameAt, body: &'a [u8]) -> Result<Item<'a>, Verdict>
     requires place { frame.offset ≤ limit }
     requires short { length body.now ≤ greatest_body }
@@ -113,6 +114,7 @@ pub(crate) fn stop_at(file: u64, number: u64, offset: u64, fault: Fault) -> Read
 
 // The command of a number whose attributes are these, in a frame at the place, and the place of
 // its data.
+#[inline(always)]
 fn command_in<'a>(at: u64, version: u32, cmd: u16, body: &'a [u8]) -> Result<Front<'a>, Refusal>
     requires place { at ≤ limit }
     requires short { length body.now ≤ greatest_body }
@@ -120,17 +122,17 @@ fn command_in<'a>(at: u64, version: u32, cmd: u16, body: &'a [u8]) -> Result<Fro
     ensures fits { IfOk result (CommandFits version body.now) }
     ensures read { ReadsCommand at version cmd body.now result }
 {
-    let read = attrs(body, version);
-    let table = match &read {
-        Ok(table) => table,
-        Err(refusal) => return Err(*refusal),
-    };
+    let mut table = AttrTable::new(version);
+    match table.read(body) {
+        Ok(()) => {}
+        Err(refusal) => return Err(refusal),
+    }
     let data_at = match table.place(DATA) {
         Some(place) => at + FRAME_HEAD_LEN as u64 + place as u64,
         None => 0,
     };
-    let canonical = is_canonical(version, cmd, table, body.len());
-    match decode(cmd, table) {
+    let canonical = is_canonical(version, cmd, &table, body.len());
+    match decode(cmd, &table) {
         Ok(command) => Ok(Front {
             command,
             data_at,
@@ -166,19 +168,19 @@ fn mention_in<'a>(version: u32, cmd: u16, body: &'a [u8]) -> Result<Option<Comma
         (λ mention. IfSome mention (λ command. IsWritable version (meaning_of command))) }
     ensures read { ReadsMention version cmd body.now result }
 {
-    let read = attrs(body, version);
-    let table = match &read {
-        Ok(table) => table,
-        Err(refusal) => return Err(*refusal),
-    };
-    let kind = match lawful_kind(cmd, table) {
+    let mut table = AttrTable::new(version);
+    match table.read(body) {
+        Ok(()) => {}
+        Err(refusal) => return Err(refusal),
+    }
+    let kind = match lawful_kind(cmd, &table) {
         Ok(kind) => kind,
         Err(refusal) => return Err(refusal),
     };
     if !is_mention(kind) {
         return Ok(None);
     }
-    match decode(cmd, table) {
+    match decode(cmd, &table) {
         Ok(command) => Ok(Some(command)),
         Err(refusal) => Err(refusal),
     }

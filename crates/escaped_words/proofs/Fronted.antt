@@ -1,7 +1,7 @@
 -- Escaped forms, as a loop goes over them byte by byte.
 use Rattle.std.specs.Prelude.{◌≡◌, ◌≢◌, ℕ, ◌<◌, ◌≤◌, ◌+◌, ◌-◌, Bool, true, false, List, [], ◌∷◌, ◌++◌, take, drop, length, Option, None, Some, slice_get, slice_index_or, if◌then◌else◌}
 use Rattle.std.specs.Option.{option_map}
-use Rattle.std.proofs.Common.{refl, sym, ap, subst, suc, ◌∙◌, arith, append_assoc, append-nil, drop-drop}
+use Rattle.std.proofs.Common.{refl, sym, ap, subst, ◌∙◌, arith, append_assoc, append-nil, drop-drop}
 use Rattle.std.proofs.lemmas.List.{length-append, length-drop, take_all, drop_all}
 use Rattle.send_model.specs.Printed.{is_plain}
 use Rattle.word_model.specs.EscapedWords.{escape_of, onto, plain_byte, unescaped, is_escaped_word, meant_by}

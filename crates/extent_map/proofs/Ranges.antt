@@ -1,7 +1,7 @@
 -- Parts of two lists that stand one after the other, and of runs.
 use Rattle.std.proofs.Common.{◌≡◌, ℕ, ◌+◌, ◌-◌, ◌≤◌, Option, Some, None, List, [], ◌++◌, length, take, drop, refl, sym, ap, ap₂, ◌∙◌, arith, append_assoc}
 use Rattle.std.proofs.Math.Seq.{take-append-add, drop-append-add, take-add}
-use Rattle.std.proofs.lemmas.List.{take-append-le, drop-append-le, length-drop, drop-drop, take-append-drop, take-replicate, drop-replicate, replicate-append-replicate, ext_get_or, get_or-drop, nil_from_length}
+use Rattle.std.proofs.lemmas.List.{take-append-le, drop-append-le, length-drop, drop-drop, take-append-drop, take-replicate, drop-replicate, replicate-append-replicate, ext_get_or, get_or-drop}
 use Rattle.std.proofs.lemmas.List.FromFn.{take-map-range_with_len}
 use Rattle.extent_map.specs.Cells.{cells_between}
 use Rattle.extent_map.specs.Pieces.{run_cells, zero_cells, piece_cells, RunsOn, AreOne}

@@ -1,5 +1,5 @@
 -- Where a path leads in a tree. Source: this program's own; the walks are those of the definitions.
-use Rattle.std.specs.Prelude.{◌≡◌, ℕ, Bool, true, false, List, [], ◌∷◌, Option, None, Some, Result, Ok, Err}
+use Rattle.std.specs.Prelude.{◌≡◌, ℕ, Bool, true, false, List, [], ◌∷◌, Option, None, Some, Result, Ok}
 use Rattle.send_model.specs.Refusal as meant
 use Rattle.send_model.specs.Chain.{◌>>=◌, ◌>>◌, require, refuse_if, found}
 use Rattle.send_model.specs.Subvolume.{Subvolume, Spot, named, is_directory, walk_names, all_but_last}

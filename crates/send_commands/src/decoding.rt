@@ -56,7 +56,7 @@ pub fn lawful_kind(cmd: u16, table: &AttrTable<'_>) -> Result<Kind, Refusal>
         Ok(()) => {}
         Err(refusal) => return Err(refusal),
     }
-    if !times_lawful(table, kind.wanted()) {
+    if !times_lawful(table, kind) {
         return Err(Refusal::BadTime);
     }
     Ok(kind)

@@ -4,12 +4,16 @@ ghost use Rattle.send_model.specs.Spelling.{Attribute};
 ghost use Rattle.send_model.specs.Reading.{wanted_there};
 ghost use Rattle.tlv_frame.specs.Table.{StandsFor};
 ghost use Rattle.sx_base.specs.Answers.{Reads};
+ghost use Rattle.send_model.specs.Command.{row};
+ghost use Rattle.send_commands.specs.Meaning.{kind_meant};
 ghost use Rattle.send_commands.specs.Values.{HaveForms, are_timely};
 
 use crate::form::Form;
+use crate::kind::Kind;
 use crate::values::moment;
 use sx_base::Refusal;
 use tlv_frame::AttrTable;
+use tlv_frame::attribute_numbers::{ATIME, MTIME};
 
 // Nanoseconds in a second.
 const SECOND: u32 = 1_000_000_000;
@@ -34,18 +38,17 @@ pub(crate) fn find_wanted(table: &AttrTable<'_>, wanted: &[u16]) -> Result<(), R
     Ok(())
 }
 
-// Whether the moments among attributes, which have their forms, have less than a second of nanoseconds.
-pub(crate) fn times_lawful(table: &AttrTable<'_>, wanted: &[u16]) -> bool
-    requires forms { HaveForms table.now wanted.now }
-    ensures { result ≡ are_timely table.now wanted.now }
+// Whether the moments among the attributes that a command wants, which have their forms, have less than a second of nanoseconds.
+// One command alone wants moments.
+#[tactic(auto, unfolding(send_model::specs::Command::row, send_model::specs::Attribute::form_of))]
+pub(crate) fn times_lawful(table: &AttrTable<'_>, kind: Kind) -> bool
+    requires forms { HaveForms table.now (row (kind_meant kind)).wanted }
+    ensures { result ≡ are_timely table.now (row (kind_meant kind)).wanted }
 {
-    for i in 0..wanted.len() {
-        let kind = wanted[i];
-        if let Form::Moment = Form::of(kind) {
-            if moment(table, kind).nanos >= SECOND {
-                return false;
-            }
+    match kind {
+        Kind::Utimes => {
+            moment(table, MTIME).nanos < SECOND && moment(table, ATIME).nanos < SECOND
         }
+        _ => true,
     }
-    true
 }

@@ -9,7 +9,7 @@ use Rattle.word_model.specs.AllRequests.{Request, OfStore, SendEntry, RestoreEnt
 use Rattle.sx_base.specs.Asks.{Ask, AreReadOnce, AreReadTwice}
 use Rattle.turn_sessions.specs.Asked.{AreReadInTurns}
 
--- Composing reads its files twice, in their order, and ranges of them again; each other request reads its files once, in their order.
+-- Composing reads its files twice, in their order, and ranges of their data again; each other request reads its files once, in their order.
 abbrev pub StreamsRead : (told : Option (List (List ℕ × List ℕ))) → streams.Request → (words : List (List ℕ)) → List Ask → Type 0
 StreamsRead told (Compose store files) words = AreReadTwice told (files_in (drop files words))
 StreamsRead told (Audit guards store files) words = AreReadOnce (files_in (drop files words))

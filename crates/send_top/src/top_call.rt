@@ -44,7 +44,7 @@ use sx_base::{Disk, Inputs, Sink};
 /// other words over a store that name no file ask nothing of `inputs`, and `drop` asks nothing of `out`.
 ///
 /// Files are read once, from their fronts on and in their order, so a pipe serves; `interleave` reads each of its files once, in turns.
-/// `compose` reads its files twice, and ranges of them again.
+/// `compose` reads its files twice, and ranges of their data again.
 pub fn run<I: Inputs, O: Sink, N: Sink, D: Disk>(
     alloc: Global,
     words: &[String],

@@ -9,7 +9,7 @@ use Rattle.send_model.specs.Reading.{data_place}
 use Rattle.send_model.specs.Receive.{bytes_of}
 use Rattle.send_model.specs.Store.{Store}
 use Rattle.send_model.specs.Cells.{recelled_store}
-use Rattle.store_model.specs.Stored.{Content, Mark, Body, Drop, Group, body_bytes, as_bytes, as_places, frames_at, body_at, first_gate, made_all, Makes}
+use Rattle.store_model.specs.Stored.{Content, Mark, Body, Drop, Group, body_bytes, as_bytes, as_places, frames_at, body_at, first_gate, made_all}
 use Rattle.store_model.specs.Stored as stored
 use Rattle.sent_model.specs.Listing.{byte_of, held}
 use Rattle.sent_model.specs.HeldStores.{as_held, StandsHeld, held_at}

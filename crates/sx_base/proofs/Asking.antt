@@ -1,13 +1,12 @@
 -- Calls that ask inputs, one list of them after another.
-use Rattle.std.proofs.Common.{◌≡◌, ℕ, ◌+◌, ◌<◌, ◌≤◌, Bool, true, false, not, if◌then◌else◌, List, [], ◌∷◌, ◌++◌, length, take, drop, set, get_or, Option, refl, sym, ap, subst, ◌∙◌, append_assoc, append-nil, take-append-drop, length-set}
+use Rattle.std.proofs.Common.{◌≡◌, ℕ, ◌+◌, ◌<◌, Bool, true, false, not, if◌then◌else◌, List, [], ◌∷◌, ◌++◌, length, take, drop, set, get_or, Option, refl, sym, ap, subst, ◌∙◌, append_assoc, append-nil, take-append-drop, length-set}
 use Rattle.std.proofs.lemmas.Bool.{false≢true}
 use Rattle.std.proofs.lemmas.Grind.{take_at_read}
 use Rattle.std.proofs.lemmas.List.{get_or-set_same, set-get_or, set-set}
 use Rattle.std.proofs.lemmas.List.Elements.{filter-append}
 use Rattle.std.specs.List.{AllByRecursion, filter}
-use Rattle.std.specs.Bool.{⊤}
-use Rattle.sx_base.specs.Asks.{Ask, ask, IsReadOn, IsReadOnce, AreReadOnce, first_asks, IsRangeIn, IsIfAgain, IsAgain, IsReadOnWithRanges, IsReadWithRanges, AreReadWithRanges, ReadTo, nowhere, AreReadInTurn}
-use Rattle.sx_base.specs.Later.{AskedOnly, ReadsOn}
+use Rattle.sx_base.specs.Asks.{Ask, ask, IsReadOn, IsReadOnce, AreReadOnce, first_asks, IsIfAgain, IsAgain, IsReadOnWithRanges, IsReadWithRanges, AreReadWithRanges, ReadTo, nowhere, AreReadInTurn}
+use Rattle.sx_base.specs.Later.{AskedOnly}
 use Rattle.sx_base.specs.declared.inputs.Inputs as reading
 
 -- ---- between moments

@@ -78,21 +78,21 @@ IsIfAgain told names a = a.again ≡ true → IsRangeIn told names a
 abbrev pub IsAgain : Option (List (List ℕ × List ℕ)) → (names : List (List ℕ)) → Ask → Type 0
 IsAgain told names a = (a.again ≡ true) × IsRangeIn told names a
 
--- A file is read on from one place to another, and in between only ranges are read again.
+-- A file is read on from one place to another, and in between only ranges of data are read again.
 pub record IsReadOnWithRanges (told : Option (List (List ℕ × List ℕ))) (names : List (List ℕ)) (name : List ℕ) (from : ℕ) (asks : List Ask) (to : ℕ) : Type 0 where
   pub on : IsReadOn name from (first_asks asks) to
   pub ranges : AllByRecursion (IsIfAgain told names) asks
 
--- A file is read once, with ranges.
+-- A file is read once, with ranges of data.
 abbrev pub IsReadWithRanges : Option (List (List ℕ × List ℕ)) → (names : List (List ℕ)) (name : List ℕ) (asks : List Ask) → Type 0
 IsReadWithRanges told names name asks = (to : ℕ) × IsReadOnWithRanges told names name 0 asks to
 
--- Files are read once, and in between only ranges of them are read again.
+-- Files are read once, and in between only ranges of their data are read again.
 pub record AreReadWithRanges (told : Option (List (List ℕ × List ℕ))) (names : List (List ℕ)) (asks : List Ask) : Type 0 where
   pub once : AreReadOnce names (first_asks asks)
   pub ranges : AllByRecursion (IsIfAgain told names) asks
 
--- Files are read once, and then once more with ranges.
+-- Files are read once, and then once more with ranges of data.
 abbrev pub AreReadTwice : Option (List (List ℕ × List ℕ)) → (names : List (List ℕ)) (asks : List Ask) → Type 0
 AreReadTwice told names asks = (first then : List Ask) × (asks ≡ first ++ then) × AreReadOnce names first × AreReadWithRanges told names then
 

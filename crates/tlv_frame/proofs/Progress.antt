@@ -1,6 +1,5 @@
 -- Reading a body attribute by attribute: what was read, and what is left, are all that is read.
-use Rattle.std.proofs.Common.{◌≡◌, ℕ, zero, suc, ◌+◌, ◌-◌, ◌<◌, ◌≤◌, Bool, true, false, not, ◌&&◌, List, [], ◌∷◌, ◌++◌, length, take, drop, set, Option, None, Some, Result, Ok, Err, refl, sym, ap, subst, ◌∙◌, arith, append_assoc, inl, inr, if◌then◌else◌, ◌==◌, nat_le, nat_lt}
-use Rattle.std.specs.List.{AllByRecursion}
+use Rattle.std.proofs.Common.{◌≡◌, ℕ, zero, suc, ◌+◌, ◌-◌, ◌<◌, ◌≤◌, Bool, true, false, not, ◌&&◌, List, [], ◌∷◌, ◌++◌, length, map, take, drop, set, replicate, Option, None, Some, Result, Ok, Err, refl, sym, ap, subst, ◌∙◌, arith, append_assoc, inl, inr, if◌then◌else◌, ◌==◌, nat_le, nat_lt}
 use Rattle.std.specs.Option.{is_some}
 use Rattle.std.proofs.lemmas.Bool.{cases_eq, eqb-true, leb-true, false_from_ne_true, eq-eqb, le-ltb}
 use Rattle.std.proofs.lemmas.List.{append-nil, drop-drop, length-set, get_or-set_same, get_or-set_other, length-take, length-drop, take_all}
@@ -10,7 +9,8 @@ use Rattle.send_model.specs.Chain.{◌>>=◌, ◌>>◌, require}
 use Rattle.send_model.specs.Attribute.{is_one_of, last_attribute, takes_rest, HasRoom}
 use Rattle.send_model.specs.Spelling.{Attribute, value_of}
 use Rattle.send_model.specs.Reading.{number16, attribute_head, attribute_len, attribute_end, attribute_in, attribute_number, attribute_lawful, attributes_from, attributes_at, place_of}
-use Rattle.tlv_frame.specs.Table.{Slot, slot_at, value_in, place_in, IsShort, IsWhole, StandsFor}
+use Rattle.tlv_frame.specs.Table.{Slot, absent, slot_in, slot_at, value_in, place_in, IsShort, IsWhole, StandsFor}
+use Rattle.tlv_frame.proofs.Slots.{has_bytes, none_absent}
 use Rattle.tlv_frame.specs.Front.{front_lawful, front_at}
 
 -- ---- lists with one attribute more
@@ -275,6 +275,24 @@ goes_on version body at slots a p more e free short =
     let kept = keeps_on version slots p.read p.seen a p.kept (omega (arith, below, last_below version)) short free in
     record { read = p.read ++ a ∷ []; seen = a.kind ∷ p.seen; fuel = next.0; bytes = next.1; kept = subst (λ (n : ℕ). Kept version (set slots a.kind (Some (record { place = n + attribute_head version a.kind; bytes = a.bytes }))) (p.read ++ a ∷ []) (a.kind ∷ p.seen)) p.bytes.spent kept }
 
+-- The slot of an attribute in front is seen as that attribute.
+pub slot_made : (version : ℕ) (body : List ℕ) (at : ℕ) (a : Attribute) → front_at version (drop at body) ≡ Ok a
+    → slot_in body (record { place = at + attribute_head version a.kind; len = length a.bytes }) ≡ Some (record { place = at + attribute_head version a.kind; bytes = a.bytes })
+slot_made version body at a e = has_bytes body (at + head) (length a.bytes) a.bytes (omega (arith, head_at_least_two version a.kind)) bytes
+  where
+    head : ℕ
+    head = attribute_head version a.kind
+
+    rest : List ℕ
+    rest = drop at body
+
+    f : Fronted version rest a
+    f = fronted version rest a e
+
+    bytes : take (length a.bytes) (drop (at + head) body) ≡ a.bytes
+    bytes = ap (take (length a.bytes)) (sym (drop-drop head at body)) ∙ ap (λ (n : ℕ). take n (drop head rest)) (sym (len_of_front version rest a f))
+        ∙ ap (λ (k : ℕ). take (attribute_len version rest) (drop (attribute_head version k) rest)) (sym (kind_of_front version rest a f)) ∙ ap (λ (x : Attribute). x.bytes) f.is
+
 -- The number of an attribute in front has a slot.
 pub has_slot : (version : ℕ) (body : List ℕ) (at : ℕ) (slots : List (Option Slot)) (a : Attribute) → Progress version body at slots → front_at version (drop at body) ≡ Ok a → a.kind < 32
 has_slot version body at slots a p e =
@@ -318,14 +336,9 @@ is_done version body at slots p past = (p.read, all, record { values = p.kept.va
     all : attributes_at version body ≡ Ok p.read
     all = sym p.bytes.total ∙ ap (λ (l : List ℕ). with_front p.read (attributes_from p.fuel version p.seen l)) empty ∙ ap (with_front p.read) (nothing_left p.fuel version p.seen) ∙ ap (λ (l : List Attribute). Ok l) (append-nil p.read)
 
-none_among : (slots : List (Option Slot)) → AllByRecursion (λ s. s ≡ None) slots → (kind : ℕ) → slot_at slots kind ≡ None
-none_among [] none kind = refl
-none_among (s ∷ slots) none zero = none.0
-none_among (s ∷ slots) none (suc kind) = none_among slots none.1 kind
-
 -- Before any attribute there is no slot with one.
-pub begins_empty : (version : ℕ) (body : List ℕ) (slots : List (Option Slot)) → length slots ≡ 32 → AllByRecursion (λ s. s ≡ None) slots → Progress version body 0 slots
-begins_empty version body slots count none = begins version body slots count (none_among slots none)
+pub begins_absent : (version : ℕ) (body : List ℕ) → Progress version body 0 (map (slot_in body) (replicate 32 absent))
+begins_absent version body = begins version body (map (slot_in body) (replicate 32 absent)) refl (none_absent body 32)
 
 -- A slice from a place on is what is left there.
 pub left_at : (body : List ℕ) (at : ℕ) → take (length body - at) (drop at body) ≡ drop at body

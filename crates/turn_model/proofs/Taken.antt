@@ -3,7 +3,6 @@ use Rattle.std.specs.Prelude.{◌≡◌, ℕ, List, length, map}
 use Rattle.std.proofs.Common.{refl, sym, ap, subst, ◌∙◌, inl, inr}
 use Rattle.send_model.specs.Store.{Store}
 use Rattle.send_model.specs.Due as files_due
-use Rattle.send_model.specs.Due.{TooLong, refused_due}
 use Rattle.send_model.proofs.Sorts.{same_inside}
 use Rattle.store_model.specs.Image.{limit_of, front_of}
 use Rattle.store_model.specs.Stored.{as_bytes, body_bytes, made_all, first_gate, StandsFor}

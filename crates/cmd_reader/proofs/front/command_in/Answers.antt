@@ -5,21 +5,23 @@ use Rattle.send_commands.specs.Writing.{IsWritable}
 use Rattle.send_model.specs.Attribute.{DATA}
 use Rattle.send_model.proofs.Fuel.{ok_same}
 use Rattle.std.proofs.lemmas.Bool.{true≢false}
-use Rattle.cmd_reader.proofs.CommandFacts.{table_read, table_kept, stands_alone, alone_stands, place_in_body, slice_bytes, read_can_write}
+use Rattle.cmd_reader.proofs.CommandFacts.{table_read, stands_alone, alone_stands, place_in_body, slice_bytes, read_can_write}
 use Rattle.cmd_reader.proofs.front.command_in.Goals as goal
 
 pub overflow_add-data_at-in-Some : goal.overflow_add-data_at-in-Some
 overflow_add-data_at-in-Some c =
-    let there = table_read c.attrs-read.result c.in-Ok.table c.in-Ok.is _ c.attrs-read.ensures.exact in
-    let kept = table_kept c.attrs-read.result c.in-Ok.table c.in-Ok.is c.args.version c.attrs-read.ensures.kept in
+    let taken = table_read c.args.version _ _ c.read.result c.args.body.now c.new-table.ensures.none c.in-Ok.is c.read.ensures.exact in
+    let kept = taken.0 in
+    let there = taken.1 in
     let place = ap (λ (v : ℕ). place_of v DATA there.0) (sym kept) ∙ sym (there.2.places DATA) ∙ sym c.place.ensures.place ∙ c.in-Some.is in
     let within = place_in_body c.args.version c.args.body.now there.0 c.in-Some.place there.1 place in
     omega (arith, within, c.requires.place, c.requires.short)
 
 pub returns-in-Ok-decode-clause-fits : goal.returns-in-Ok-decode-clause-fits
 returns-in-Ok-decode-clause-fits c =
-    let there = table_read c.attrs-read.result c.in-Ok.table c.in-Ok.is _ c.attrs-read.ensures.exact in
-    let kept = table_kept c.attrs-read.result c.in-Ok.table c.in-Ok.is c.args.version c.attrs-read.ensures.kept in
+    let taken = table_read c.args.version _ _ c.read.result c.args.body.now c.new-table.ensures.none c.in-Ok.is c.read.ensures.exact in
+    let kept = taken.0 in
+    let there = taken.1 in
     let attributes = there.0 in
     let command : command_of c.args.version c.args.cmd attributes ≡ Ok (meaning_of c.in-Ok-decode.command) = ap (λ (v : ℕ). command_of v c.args.cmd attributes) (sym kept) ∙ c.in-Ok-decode.ensures.exact attributes there.2 in
     record {

@@ -1,4 +1,4 @@
-use Rattle.std.specs.Prelude.{◌≡◌, ◌≢◌, ℕ, [], List, Option, None, IfNone}
+use Rattle.std.specs.Prelude.{◌≡◌, ◌≢◌, [], None, IfNone}
 use Rattle.std.proofs.Common.{sym, subst, ◌∙◌, arith}
 use Rattle.send_model.specs.Printed.{is_plain}
 use Rattle.word_model.specs.EscapedWords.{unescaped}

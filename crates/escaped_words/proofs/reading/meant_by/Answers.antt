@@ -1,4 +1,4 @@
-use Rattle.std.specs.Prelude.{◌≡◌, Some}
+use Rattle.std.specs.Prelude.{Some}
 use Rattle.std.proofs.Common.{sym}
 use Rattle.escaped_words.proofs.Fronted.{all_read, escaped_word}
 use Rattle.escaped_words.proofs.reading.meant_by.Goals as goal

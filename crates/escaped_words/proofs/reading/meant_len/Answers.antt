@@ -1,5 +1,4 @@
-use Rattle.std.specs.Prelude.{◌≡◌, ◌+◌, ◌≤◌, ℕ, length}
-use Rattle.std.proofs.Common.{sym, subst, ◌∙◌, arith}
+use Rattle.std.proofs.Common.{arith}
 use Rattle.escaped_words.proofs.Fronted.{counts_on, counted}
 use Rattle.escaped_words.proofs.reading.meant_len.Goals as goal
 

@@ -1,4 +1,4 @@
-use Rattle.std.proofs.Common.{ℕ, ◌+◌, ◌++◌, List, ◌∷◌, [], take, sym, ◌∙◌, ap, subst, inl, inr, ⊎_elim, ◌≡◌}
+use Rattle.std.proofs.Common.{ℕ, ◌+◌, ◌++◌, List, ◌∷◌, [], take, sym, ◌∙◌, ap, subst, ⊎_elim, ◌≡◌}
 use Rattle.std.proofs.lemmas.List.{append-nil}
 use Rattle.sx_base.proofs.DiskMoments.{begins, joins, weakens, leaves_now}
 use Rattle.store_model.specs.Image.{HasGroups, sealed}

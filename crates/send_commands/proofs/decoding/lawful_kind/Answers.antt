@@ -2,7 +2,6 @@ use Rattle.std.proofs.Common.{ap, sym, ◌∙◌, List, ℕ}
 use Rattle.send_model.specs.Command.{is_encoded}
 use Rattle.send_model.specs.Reading.{wanted_there}
 use Rattle.send_commands.specs.Meaning.{kind_meant}
-use Rattle.send_commands.specs.Values.{are_timely}
 use Rattle.send_commands.proofs.LawfulKinds.{plainly, known_as, command_encoded, command_unknown, command_lacking, command_untimely, command_lawful}
 use Rattle.send_commands.proofs.decoding.lawful_kind.Goals as goal
 
@@ -23,10 +22,10 @@ pub returns-then-not-times_lawful-clause-exact : goal.returns-then-not-times_law
 returns-then-not-times_lawful-clause-exact c = λ attributes stands.
     command_untimely c.args.table.now c.args.table.now.version c.args.cmd (kind_meant c.in-Some.kind) (plainly c.args.cmd c.version.ensures.version c.is_compressed_write.ensures c.if-is_compressed_write.false) (known_as c.args.cmd c.version-2.ensures.version c.in-Some.ensures.kind) attributes stands
     (ap (λ (kinds : List ℕ). wanted_there kinds attributes) (sym c.wanted.ensures.wanted) ∙ c.in-Ok.ensures.exact attributes stands)
-    (ap (are_timely c.args.table.now) (sym c.wanted-2.ensures.wanted) ∙ sym c.times_lawful.ensures ∙ c.if-not-times_lawful.true)
+    (sym c.times_lawful.ensures ∙ c.if-not-times_lawful.true)
 
 pub returns-clause-exact : goal.returns-clause-exact
 returns-clause-exact c = λ attributes stands.
     command_lawful c.args.table.now c.args.table.now.version c.args.cmd (kind_meant c.in-Some.kind) (plainly c.args.cmd c.version.ensures.version c.is_compressed_write.ensures c.if-is_compressed_write.false) (known_as c.args.cmd c.version-2.ensures.version c.in-Some.ensures.kind) attributes stands
     (ap (λ (kinds : List ℕ). wanted_there kinds attributes) (sym c.wanted.ensures.wanted) ∙ c.in-Ok.ensures.exact attributes stands)
-    (ap (are_timely c.args.table.now) (sym c.wanted-2.ensures.wanted) ∙ sym c.times_lawful.ensures ∙ c.if-not-times_lawful.false)
+    (sym c.times_lawful.ensures ∙ c.if-not-times_lawful.false)

@@ -1,4 +1,4 @@
-use Rattle.std.proofs.Common.{ℕ, ◌-◌, List, sym, ap, ◌∙◌, arith, zero-le}
+use Rattle.std.proofs.Common.{ℕ, List, sym, ap, ◌∙◌, arith, zero-le}
 use Rattle.send_model.specs.Subvolume.{named, root}
 use Rattle.stream_export.proofs.FreeNames.{from_first, goes_on, is_free, is_last}
 use Rattle.stream_export.proofs.separators.free_name.Goals as goal
