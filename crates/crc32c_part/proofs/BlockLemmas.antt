@@ -1,4 +1,4 @@
--- A block of sixteen bytes as the parts of its bytes, and a list as its blocks.
+-- A block of sixteen bytes, and one of four, as the parts of its bytes, and a list as its blocks.
 use Rattle.std.proofs.Common.{◌≡◌, ℕ, zero, suc, ◌+◌, ◌*◌, ◌/◌, ◌%◌, ◌^◌, ◌<◌, List, length, take, drop, get_or, bit_xor, bit_and, refl, sym, ap, ◌∙◌, arith, drop-cons, length-drop, zero-mul}
 use Rattle.std.proofs.lemmas.List.{take-append-drop, drop-drop}
 use Rattle.std.proofs.lemmas.Nat.{xor_comm, and_mask, shr-shr}
@@ -36,9 +36,9 @@ take_in sum bytes i k long =
     ap (bit_xor sum) (zero_at_place bytes i k long)
     ∙ sym (xor_assoc sum (shifts (8 * suc k) (get_or bytes i 0)) (crc_of 0 (drop (suc i) bytes)))
 
-nothing_left : (sum : ℕ) (bytes : List ℕ) → length bytes ≡ 16 → bit_xor sum (crc_of 0 (drop 16 bytes)) ≡ sum
+nothing_left : (size sum : ℕ) (bytes : List ℕ) → length bytes ≡ size → bit_xor sum (crc_of 0 (drop size bytes)) ≡ sum
 unfolding crc_of
-nothing_left sum bytes long =
+nothing_left size sum bytes long =
     ap (λ (n : ℕ). bit_xor sum (crc_of 0 (drop n bytes))) (sym long)
     ∙ ap (λ (rest : List ℕ). bit_xor sum (crc_of 0 rest)) (drop-length bytes) ∙ xor_zero_r sum
 
@@ -70,7 +70,7 @@ last_twelve_parts b long =
     ∙ take_in to_12 b 13 2 (omega arith)
     ∙ take_in to_13 b 14 1 (omega arith)
     ∙ take_in to_14 b 15 0 (omega arith)
-    ∙ nothing_left to_15 b long)
+    ∙ nothing_left 16 to_15 b long)
 
 -- The byte at place i, as the code masks it.
 masked_at_place : (crc next : ℕ) (b : List ℕ) (i k : ℕ) → length b ≡ i + suc k → get_or b i 0 < 256 → crc / 256 ≡ next →
@@ -108,6 +108,30 @@ first_four_parts crc b is_word long are_bytes =
     ∙ ap (λ (n : ℕ). bit_xor w n)
     (masked_at_place (crc / 2 ^ 8) (crc / 2 ^ 16) b 1 14 (omega arith) (are_bytes 1) (shr-shr crc 8 8))
     ∙ masked_at_place crc (crc / 2 ^ 8) b 0 15 (omega arith) (are_bytes 0) refl
+
+-- Four bytes, into which the 32 bits of the checksum go.
+pub four_parts : (crc : ℕ) (b : List ℕ) → crc < 2 ^ 32 → length b ≡ 4 → ((i : ℕ) → get_or b i 0 < 256) →
+    bit_xor
+    (bit_xor
+    (bit_xor (shifts 32 (bit_and (bit_xor crc (get_or b 0 0)) 255))
+    (shifts 24 (bit_and (bit_xor (crc / 2 ^ 8) (get_or b 1 0)) 255)))
+    (shifts 16 (bit_and (bit_xor (crc / 2 ^ 16) (get_or b 2 0)) 255)))
+    (shifts 8 (bit_and (bit_xor (crc / 2 ^ 24) (get_or b 3 0)) 255))
+    ≡ crc_of crc b
+four_parts crc b is_word long are_bytes =
+    let w : ℕ = shifts 32 (bit_and (bit_xor crc (get_or b 0 0)) 255) in
+    let x : ℕ = shifts 24 (bit_and (bit_xor (crc / 2 ^ 8) (get_or b 1 0)) 255) in
+    let y : ℕ = shifts 16 (bit_and (bit_xor (crc / 2 ^ 16) (get_or b 2 0)) 255) in
+    let z : ℕ = shifts 8 (bit_and (bit_xor (crc / 2 ^ 24) (get_or b 3 0)) 255) in
+    sym (nothing_left 4 (bit_xor (bit_xor (bit_xor w x) y) z) b long)
+    ∙ from_the_right w x y z (crc_of 0 (drop 4 b))
+    ∙ ap (λ (n : ℕ). bit_xor w (bit_xor x (bit_xor y n)))
+    (masked_at_place (crc / 2 ^ 24) 0 b 3 0 (omega arith) (are_bytes 3) (omega arith))
+    ∙ ap (λ (n : ℕ). bit_xor w (bit_xor x n))
+    (masked_at_place (crc / 2 ^ 16) (crc / 2 ^ 24) b 2 1 (omega arith) (are_bytes 2) (shr-shr crc 16 8))
+    ∙ ap (λ (n : ℕ). bit_xor w n)
+    (masked_at_place (crc / 2 ^ 8) (crc / 2 ^ 16) b 1 2 (omega arith) (are_bytes 1) (shr-shr crc 8 8))
+    ∙ masked_at_place crc (crc / 2 ^ 8) b 0 3 (omega arith) (are_bytes 0) refl
 
 -- One byte, as the code masks it.
 pub one_byte_parts : (crc byte : ℕ) → byte < 256 →

@@ -73,6 +73,20 @@ fn attributes_are_found(rt: HostRuntime) -> Result<(), Fail> {
     Ok(())
 }
 
+#[test]
+fn a_table_keeps_nothing_of_the_body_before(rt: HostRuntime) {
+    let mut table = AttrTable::new(1);
+    same(&rt, table.get(15), None);
+    same(&rt, table.read(WRITE_BODY), Ok(()));
+    same(&rt, table.get(19), Some(b"hi".as_slice()));
+    same(&rt, table.read(b"\x0f\x00\x01\x00y"), Ok(()));
+    same(&rt, table.get(15), Some(b"y".as_slice()));
+    same(&rt, table.get(19), None);
+    let twice = table.read(b"\x0f\x00\x01\x00x\x0f\x00\x01\x00y");
+    same(&rt, twice, Err(Refusal::BadAttribute(15)));
+    same(&rt, table.get(15), None);
+}
+
 // The number that the refusal of these attributes keeps, if they are refused.
 fn bad_attribute(read: Result<AttrTable<'_>, Refusal>) -> Option<u16> {
     match read {

@@ -7,5 +7,8 @@ use Rattle.crc32c_part.proofs.update.Given as goal
 abbrev pub invariant-loop-block : goal.invariant-loop-block
 invariant-loop-block l = crc_of (fold crc_of l.sum (drop l.block-index l.blocks)) l.rest ≡ crc_of l.fn.crc l.fn.bytes
 
+abbrev pub invariant-loop-four : goal.invariant-loop-four
+invariant-loop-four l = crc_of (fold crc_of l.sum (drop l.four-index l.fours)) l.rest ≡ crc_of l.fn.crc l.fn.bytes
+
 abbrev pub invariant-loop-byte : goal.invariant-loop-byte
 invariant-loop-byte l = crc_of l.sum (drop l.byte-index l.rest) ≡ crc_of l.fn.crc l.fn.bytes
