@@ -376,6 +376,31 @@ fn other_words_mean_nothing(rt: HostRuntime) -> Result<(), Fail> {
     Ok(())
 }
 
+// A chain of two parts, which begins with a header and is as long as `trial` says.
+#[test]
+fn a_chain_is_written(rt: HostRuntime) -> Result<(), Fail> {
+    let words = words_of(rt.alloc(), &["gen", "2", "7"])?;
+    let mut out = MemSink::new(rt.alloc());
+    let mut notes = MemSink::new(rt.alloc());
+    same(
+        &rt,
+        run(
+            rt.alloc(),
+            &words,
+            Vec::new(rt.alloc()),
+            &mut MemInputs::new(rt.alloc()),
+            &mut out,
+            &mut notes,
+            &mut NoDisk::new(),
+        ),
+        0,
+    );
+    same(&rt, out.bytes().starts_with(HEADER), true);
+    same(&rt, out.bytes().len(), 103_130);
+    same(&rt, notes.bytes(), b"".as_slice());
+    Ok(())
+}
+
 const CHECKED: &[(&[&str], u8, Pieces, &[u8])] = &[
     (&["audit", "none", "first"], 0, &[b"accepted 1 4\n"], b""),
     (
