@@ -130,10 +130,10 @@ module _ (version : ℕ) (path : List ℕ) (offset : ℕ) (bytes : List ℕ) (do
         rest = after_one ∙ sym (append_assoc w.sofar one (canonical_all version (writes_from (length bytes - (done + count)) path (offset + (done + count)) (drop (done + count) bytes))));
       }
 
-  pub written_stops : (out_next : Option (List ℕ)) (next other : List ℕ) (why : SendStop) → RedirectEnd out_now out_next now next (canonical version (Write path (offset + done) (take count (drop done bytes)))) (Err why)
-      → RedirectEnd out_old out_next old other (canonical_all version (writes_from (length bytes) path offset bytes)) (Err why)
-  written_stops out_next next other why ends =
-      stops_then out_old out_now out_next old now next other w.sofar (canonical version (Write path (offset + done) (take count (drop done bytes))))
+  pub written_stops : (out_next : Option (List ℕ)) (next : List ℕ) (why : SendStop) → RedirectEnd out_now out_next now next (canonical version (Write path (offset + done) (take count (drop done bytes)))) (Err why)
+      → RedirectEnd out_old out_next old next (canonical_all version (writes_from (length bytes) path offset bytes)) (Err why)
+  written_stops out_next next why ends =
+      stops_then out_old out_now out_next old now next w.sofar (canonical version (Write path (offset + done) (take count (drop done bytes))))
       (canonical_all version (writes_from (length bytes - (done + count)) path (offset + (done + count)) (drop (done + count) bytes)))
       (canonical_all version (writes_from (length bytes) path offset bytes)) why after_one w.goes ends
 

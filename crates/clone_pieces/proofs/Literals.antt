@@ -13,9 +13,12 @@ use Rattle.extent_map.specs.Cells.{cells_between}
 use Rattle.extent_map.proofs.CellLists.{length-between}
 use Rattle.provenance.specs.declared.trace.Trace.{Trace}
 use Rattle.clone_pieces.specs.Origins.{IsInInput, AreAsLong}
-use Rattle.clone_pieces.specs.Filling.{byte_in, IsHadIn}
+use Rattle.clone_pieces.specs.Filling.{byte_in, IsHadIn, FillEnd}
+use Rattle.clone_pieces.specs.Sending.{Output, PutEnd}
 use Rattle.clone_pieces.specs.Redirecting.{RedirectEnd}
 use Rattle.clone_pieces.specs.declared.stops.SendStop.{SendStop}
+use Rattle.clone_pieces.specs.declared.stops.SendStop.TheVariants as stop
+use Rattle.clone_pieces.proofs.Flow.{part_none, put_ends}
 use Rattle.clone_pieces.proofs.Told.{all_always, all_map, all_two, told_moved}
 use Rattle.clone_pieces.proofs.Lengths.{cells_as_long}
 use Rattle.clone_pieces.proofs.Chunks.{Written, written_none, written_more, written_stops, written_all, between_within, bytes_within}
@@ -68,11 +71,32 @@ module _ (told : Option (List (List ℕ × List ℕ))) (names : List (List ℕ))
           written_more version path offset (map (byte_in held files) (cells_between from len contents)) done count out_old out_now old now s (omega (arith, l, more)) (omega (arith, l, is)) out_next next (here (Ok tt) files n))
           stands (told_moved told now_told names (Next (Ok tt)) same goes)
 
-      pub stand_stops : (other : List ℕ) (why : SendStop) → IfAllTold told names (Stand done out_old out_now old now) → IfAllTold now_told names (Next (Err why))
-          → IfAllTold told names (λ files. RedirectEnd out_old out_next old other (canonical_all version (writes_from len path offset (map (byte_in held files) (cells_between from len contents)))) (Err why))
-      stand_stops other why stands ends = all_two told names (Stand done out_old out_now old now) (Next (Err why))
-          (λ files. RedirectEnd out_old out_next old other (canonical_all version (writes_from len path offset (map (byte_in held files) (cells_between from len contents)))) (Err why))
+      pub stand_stops : (why : SendStop) → IfAllTold told names (Stand done out_old out_now old now) → IfAllTold now_told names (Next (Err why))
+          → IfAllTold told names (λ files. RedirectEnd out_old out_next old next (canonical_all version (writes_from len path offset (map (byte_in held files) (cells_between from len contents)))) (Err why))
+      stand_stops why stands ends = all_two told names (Stand done out_old out_now old now) (Next (Err why))
+          (λ files. RedirectEnd out_old out_next old next (canonical_all version (writes_from len path offset (map (byte_in held files) (cells_between from len contents)))) (Err why))
           (λ files s n. let l = long_is files in
-          subst (λ (m : ℕ). RedirectEnd out_old out_next old other (canonical_all version (writes_from m path offset (map (byte_in held files) (cells_between from len contents)))) (Err why)) l
-          (written_stops version path offset (map (byte_in held files) (cells_between from len contents)) done count out_old out_now old now s (omega (arith, l, more)) (omega (arith, l, is)) out_next next other why (here (Err why) files n)))
+          subst (λ (m : ℕ). RedirectEnd out_old out_next old next (canonical_all version (writes_from m path offset (map (byte_in held files) (cells_between from len contents)))) (Err why)) l
+          (written_stops version path offset (map (byte_in held files) (cells_between from len contents)) done count out_old out_now old now s (omega (arith, l, more)) (omega (arith, l, is)) out_next next why (here (Err why) files n)))
           stands (told_moved told now_told names (Next (Err why)) same ends)
+
+-- ---- one WRITE
+
+-- The cells were not read, and nothing was touched.
+pub unread_stops : (told : Option (List (List ℕ × List ℕ))) (names : List (List ℕ)) (held : meant.Key → ℕ → List ℕ) (cells : List (Option Trace)) (row : List ℕ) (why : SendStop) (bytes : List (List ℕ) → List ℕ) (out : Option (List ℕ)) (pending : List ℕ)
+    → IfAllTold told names (FillEnd held cells row (Err why)) → IfAllTold told names (λ files. RedirectEnd out out pending pending (bytes files) (Err why))
+unread_stops told names held cells row why bytes out pending ends = all_map told names (FillEnd held cells row (Err why)) (λ files. RedirectEnd out out pending pending (bytes files) (Err why)) (λ files. one files why) ends
+  where
+    one : (files : List (List ℕ)) (w : SendStop) → FillEnd held cells row (Err w) files → RedirectEnd out out pending pending (bytes files) (Err w)
+    one files stop.InputFault e = part_none out pending (bytes files)
+    one files stop.OutputFault e = absurd e
+    one files stop.NoMemory e = absurd e
+    one files (stop.InputChanged file place) e = absurd e
+
+-- The cells were read, and their bytes put.
+pub row_put : (told : Option (List (List ℕ × List ℕ))) (names : List (List ℕ)) (held : meant.Key → ℕ → List ℕ) (cells : List (Option Trace)) (version : ℕ) (path : List ℕ) (offset : ℕ) (row bytes : List ℕ) (old new : Output) (result : Result (Unit {0}) SendStop)
+    → bytes ≡ row → IfAllTold told names (FillEnd held cells row (Ok tt)) → PutEnd old new (canonical version (Write path offset bytes)) result
+    → IfAllTold told names (λ files. RedirectEnd old.taken new.taken old.pending new.pending (canonical version (Write path offset (map (byte_in held files) cells))) result)
+row_put told names held cells version path offset row bytes old new result same filled put =
+    all_map told names (FillEnd held cells row (Ok tt)) (λ files. RedirectEnd old.taken new.taken old.pending new.pending (canonical version (Write path offset (map (byte_in held files) cells))) result)
+    (λ files is. subst (λ (l : List ℕ). RedirectEnd old.taken new.taken old.pending new.pending (canonical version (Write path offset l)) result) (same ∙ is) (put_ends old new (canonical version (Write path offset bytes)) result put)) filled

@@ -164,8 +164,8 @@ module _ (told : Option (List (List ℕ × List ℕ))) (names : List (List ℕ))
           rest = after_cut files s ∙ sym (append_assoc s.sofar one (canonical_all version (all_commands base (byte_in held files) contents path (offset + (done + cut_len cut)) cuts)));
         }) stands (told_moved told now_told names (Next (Ok tt)) same goes)
 
-    pub stands_stop : (other : List ℕ) (why : SendStop) → IfAllTold told names (Stands done left out_old out_now old now) → IfAllTold now_told names (Next (Err why)) → IfAllTold told names (λ files. RedirectEnd out_old out_next old other (Whole files) (Err why))
-    stands_stop other why stands ends = all_two told names (Stands done left out_old out_now old now) (Next (Err why)) (λ files. RedirectEnd out_old out_next old other (Whole files) (Err why))
-        (λ files s n. stops_then out_old out_now out_next old now next other s.sofar (canonical_all version (cut_commands base (byte_in held files) contents path (offset + done) cut))
+    pub stands_stop : (why : SendStop) → IfAllTold told names (Stands done left out_old out_now old now) → IfAllTold now_told names (Next (Err why)) → IfAllTold told names (λ files. RedirectEnd out_old out_next old next (Whole files) (Err why))
+    stands_stop why stands ends = all_two told names (Stands done left out_old out_now old now) (Next (Err why)) (λ files. RedirectEnd out_old out_next old next (Whole files) (Err why))
+        (λ files s n. stops_then out_old out_now out_next old now next s.sofar (canonical_all version (cut_commands base (byte_in held files) contents path (offset + done) cut))
         (canonical_all version (all_commands base (byte_in held files) contents path (offset + (done + cut_len cut)) cuts)) (Whole files) why (after_cut files s) s.goes (here (Err why) files n))
         stands (told_moved told now_told names (Next (Err why)) same ends)

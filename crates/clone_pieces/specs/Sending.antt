@@ -14,6 +14,18 @@ pub record GoesOut (out_old out_new : Option (List ℕ)) (old new bytes : List �
   pub appends : Appends out_old out_new sent
   pub rest : old ++ bytes ≡ sent ++ new
 
+-- Of the bytes a front part came behind what was pending: of both a front part was written, and the rest is pending.
+pub record GoesPart (out_old out_new : Option (List ℕ)) (old new bytes : List ℕ) : Type 0 where
+  pub count : ℕ
+  pub within : count ≤ length bytes
+  pub goes : GoesOut out_old out_new old new (take count bytes)
+
+-- The same, and then the output failed: of what is pending a proper front part was written as well.
+pub record BreaksOff (out_old out_new : Option (List ℕ)) (old new bytes : List ℕ) : Type 0 where
+  pub before : Option (List ℕ)
+  pub goes : GoesPart out_old before old new bytes
+  pub failed : AppendsPart before out_new new
+
 -- A front part of the bytes was written.
 pub record AppendsFront (old new : Option (List ℕ)) (bytes : List ℕ) : Type 0 where
   pub count : ℕ
@@ -29,11 +41,12 @@ pub record Output : Type 0 where
 abbrev pub output : {O : Type 0} → writing.Ghosts O → O → List ℕ → Output
 output out now pending = record { taken = out.taken now; pending = pending; faults = out.faults now }
 
--- Bytes go out, or the output failed, or there is no memory; then a front part of what was pending and of them was written.
+-- Bytes go out; or the output failed, and a proper front part of what was pending and of them was written, and all of it is pending;
+-- or there is no memory, and nothing changed.
 abbrev pub PutEnd : (old new : Output) (bytes : List ℕ) → Result (Unit {0}) SendStop → Type 0
 PutEnd old new bytes (Ok done) = GoesOut old.taken new.taken old.pending new.pending bytes
-PutEnd old new bytes (Err stop.OutputFault) = Rose old.faults new.faults × AppendsFront old.taken new.taken (old.pending ++ bytes)
-PutEnd old new bytes (Err stop.NoMemory) = AppendsFront old.taken new.taken (old.pending ++ bytes)
+PutEnd old new bytes (Err stop.OutputFault) = Rose old.faults new.faults × AppendsPart old.taken new.taken (old.pending ++ bytes) × (new.pending ≡ old.pending ++ bytes)
+PutEnd old new bytes (Err stop.NoMemory) = (new.taken ≡ old.taken) × (new.pending ≡ old.pending) × (new.faults ≡ old.faults)
 PutEnd old new bytes (Err stop.InputFault) = ⊥
 PutEnd old new bytes (Err (stop.InputChanged file place)) = ⊥
 

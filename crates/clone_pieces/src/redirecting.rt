@@ -232,8 +232,11 @@ fn clone_run<E: Known, O: Sink>(
         (record { key = key_of run.now.key; ino = run.now.ino; offset = run.now.from }))
         run.now.from run.now.len)) result }
 {
-    let Ok(Some(clone_path)) = sources.known.first_path(sources.alloc, run.key, run.ino) else {
+    let Ok(found) = sources.known.first_path(sources.alloc, run.key, run.ino) else {
         return Err(SendStop::NoMemory);
+    };
+    let Some(clone_path) = found else {
+        unreachable!()
     };
     put_clone(to.path, clone_path.as_slice(), to, run, pending, out)
 }

@@ -1,5 +1,5 @@
 -- What a command adds whose step was taken: itself, or what stands for a clone.
-use Rattle.std.specs.Prelude.{◌≡◌, ◌<◌, ◌≤◌, ℕ, ◌+◌, Bool, true, false, not, ◌&&◌, List, [], ◌∷◌, map, Option, None, Some, Result, Ok, Err, OnOk, if◌then◌else◌}
+use Rattle.std.specs.Prelude.{◌≡◌, ◌≢◌, ◌<◌, ◌≤◌, ℕ, ◌+◌, Bool, true, false, not, ◌&&◌, List, [], ◌∷◌, map, Option, None, Some, Result, Ok, Err, OnOk, if◌then◌else◌}
 use Rattle.std.specs.Option.{option_map}
 use Rattle.std.specs.List.{AllByRecursion, sum_by, flat_map}
 use Rattle.std.proofs.Common.{refl, sym, ap, ap₂, subst, ◌∙◌, arith, append-nil, inl, inr, ⊎_elim}
@@ -29,6 +29,7 @@ use Rattle.clone_resolve.proofs.TakenStates.{part_after_step, cells_found, cells
 use Rattle.clone_pieces.specs.Origins.{byte_of_trace}
 use Rattle.clone_pieces.specs.Seen.{seen}
 use Rattle.clone_pieces.specs.Redirecting.{seen_cells, pieces_spelled, RedirectEnd}
+use Rattle.clone_pieces.proofs.Flow.{all_breaks, none_breaks, none_came}
 use Rattle.clone_pieces.specs.declared.stops.SendStop.{SendStop}
 use Rattle.clone_pieces.specs.declared.stops.SendStop.TheVariants as stopped
 use Rattle.file_survey.specs.Findings.{Surveyed}
@@ -80,15 +81,15 @@ abbrev pub IsCount : Store ℕ → List (Option Trace) → ℕ → Type 0
 IsCount base cells count = (range : List Traced) → map (λ c. c.place) range ≡ map place_in cells → count ≡ sum_by literal_len (pieces_of base range)
 
 -- There is too much.
-pub range_exceeds : {still : List ℕ} (files : List (List ℕ)) (base : Store ℕ) (version : ℕ) (path : List ℕ) (offset : ℕ) (cells : List (Option Trace)) (count sum : ℕ) (old new : Kept) (out_old out_new : Option (List ℕ)) (before now : ℕ) (result : Outcome)
-    → IsCount base cells count → sum ≡ old.sum + count → most_literal < sum → StopEnd old.pending still out_old out_new before now (ended.TooMuch sum) result
+pub range_exceeds : (files : List (List ℕ)) (base : Store ℕ) (version : ℕ) (path : List ℕ) (offset : ℕ) (cells : List (Option Trace)) (count sum : ℕ) (old new : Kept) (out_old out_new : Option (List ℕ)) (before now : ℕ) (result : Outcome)
+    → IsCount base cells count → sum ≡ old.sum + count → most_literal < sum → StopEnd old.pending new.pending out_old out_new before now (ended.TooMuch sum) result
     → AddsRange base version path offset (seen_cells files base cells) old new out_old out_new (Err result)
 range_exceeds files base version path offset cells count sum old new out_old out_new before now result is sum_is high stop =
     let range : List Traced = seen_cells files base cells in
     let A : Outcome → Type 0 = λ o. AddsRange base version path offset range old new out_old out_new (Err o) in
     ⊎_elim
-    (λ sent. subst A (sym sent.0) (sum_is ∙ ap (λ (n : ℕ). old.sum + n) (is range (places_seen files base cells)), (high, sent.1.appends)))
-    (λ failed. subst A (sym failed.0) (inl stop.front))
+    (λ sent. subst A (sym sent.0) (sum_is ∙ ap (λ (n : ℕ). old.sum + n) (is range (places_seen files base cells)), (high, sent.1.appends, sent.1.none)))
+    (λ failed. subst A (sym failed.0) (inl (none_breaks out_old out_new old.pending new.pending failed.3 failed.1)))
     (stop.sent (λ e. cc) (λ e. cc))
 
 -- It is written, or an object of the outside failed.
@@ -120,13 +121,23 @@ pub source_cells : (contents cells : List (Option Trace)) (state : State (Option
     → IsSourceOf cells state key path → contents ≡ cells
 source_cells contents cells state key path found s = some_is contents (cells_of s.source s.ino) (found s.source s.ino s.found s.walked s.file) ∙ sym s.cells_are
 
+-- A source that a step took is found.
+pub source_there : (before after : State (Option Trace)) (offset : ℕ) (key : Key) (clone_path : List ℕ) (from len : ℕ) (found : Option (List (Option Trace))) → TakenFrom before after offset (taken_range key clone_path from len)
+    → ((source : Subvolume (Option Trace)) (ino : ℕ) → find after.store key ≡ Some source → walk source clone_path ≡ Ok ino → is_file source ino ≡ true → found ≡ Some (cells_of source ino)) → found ≢ None
+source_there before after offset key clone_path from len found t said none =
+    let there : find after.store key ≡ Some t.source = ap (λ (s : Store (Option Trace)). find s key) t.same_store ∙ t.found in
+    not_none (cells_of t.source t.ino) (sym none ∙ said t.source t.ino there t.walked t.file)
+  where
+    not_none : (cells : List (Option Trace)) → ◌≡◌ {A = Option (List (Option Trace))} None (Some cells) → ⊥
+    not_none cells e = cc
+
 -- ---- what a command adds
 
 adds_put : (bytes : List ℕ) (old new : Kept) (out_old out_new : Option (List ℕ)) (before now : ℕ) (result : Result (Unit {0}) SendStop) → PutEnd out_old out_new old.pending new.pending bytes before now result → new.sum ≡ old.sum → old.sum ≤ most_literal
     → Adds 0 bytes old new out_old out_new (answer_with result)
 adds_put bytes old new out_old out_new before now (Ok done) put same low = (put, (omega (arith, same), omega (arith, same, low)))
-adds_put bytes old new out_old out_new before now (Err stopped.OutputFault) put same low = inr (omega (arith, low), put.1)
-adds_put bytes old new out_old out_new before now (Err stopped.NoMemory) put same low = inr (omega (arith, low), put)
+adds_put bytes old new out_old out_new before now (Err stopped.OutputFault) put same low = inr (omega (arith, low), all_breaks out_old out_new old.pending new.pending bytes put.1 put.2)
+adds_put bytes old new out_old out_new before now (Err stopped.NoMemory) put same low = inr (omega (arith, low), none_came out_old out_new old.pending new.pending bytes put.0 put.1)
 adds_put bytes old new out_old out_new before now (Err stopped.InputFault) put same low = elim put [ ]
 adds_put bytes old new out_old out_new before now (Err (stopped.InputChanged file place)) put same low = elim put [ ]
 
@@ -267,8 +278,8 @@ range_had P before after offset key clone_path from len contents t found all =
     subst (λ (cells : List (Option Trace)). AllByRecursion P (cells_between from len cells)) (sym same) (cells_of_found P t.source t.ino from len (cells_found P after key t.source all there))
 
 -- The same for the cells of the source, whichever they are.
-pub source_exceeds : {still : List ℕ} (files : List (List ℕ)) (base : Store ℕ) (version : ℕ) (path : List ℕ) (offset from len : ℕ) (contents cells : List (Option Trace)) (count sum : ℕ) (old new : Kept) (out_old out_new : Option (List ℕ)) (before now : ℕ) (result : Outcome)
-    → contents ≡ cells → IsCount base (cells_between from len contents) count → sum ≡ old.sum + count → most_literal < sum → StopEnd old.pending still out_old out_new before now (ended.TooMuch sum) result
+pub source_exceeds : (files : List (List ℕ)) (base : Store ℕ) (version : ℕ) (path : List ℕ) (offset from len : ℕ) (contents cells : List (Option Trace)) (count sum : ℕ) (old new : Kept) (out_old out_new : Option (List ℕ)) (before now : ℕ) (result : Outcome)
+    → contents ≡ cells → IsCount base (cells_between from len contents) count → sum ≡ old.sum + count → most_literal < sum → StopEnd old.pending new.pending out_old out_new before now (ended.TooMuch sum) result
     → AddsRange base version path offset (seen_cells files base (cells_between from len cells)) old new out_old out_new (Err result)
 source_exceeds files base version path offset from len contents cells count sum old new out_old out_new before now result same is sum_is high stop =
     subst (λ (cs : List (Option Trace)). AddsRange base version path offset (seen_cells files base (cells_between from len cs)) old new out_old out_new (Err result)) same

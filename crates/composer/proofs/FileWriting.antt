@@ -2,7 +2,7 @@
 use Rattle.std.specs.Prelude.{◌≡◌, ◌⊎◌, ℕ, ◌+◌, ◌≤◌, ◌<◌, List, [], ◌∷◌, ◌++◌, length, map, take, get_or, Option, None, Some, Ok, Err}
 use Rattle.std.specs.Io.KnownBytes.{Appends}
 use Rattle.std.proofs.Common.{refl, sym, ap, subst, ◌∙◌, append-nil, arith, inl, inr, ⊎_elim}
-use Rattle.std.proofs.Math.Seq.{take-append-add}
+use Rattle.std.proofs.Math.Seq.{take-append-add, take-length}
 use Rattle.std.proofs.lemmas.List.{length-append, map-append}
 use Rattle.std.proofs.KnownBytes.{Appends-nil, Appends-trans}
 use Rattle.send_model.specs.Reading.{Item, Reading, Whole, with_item, reads}
@@ -40,10 +40,11 @@ use Rattle.clone_pieces.specs.Sending.{AppendsFront}
 use Rattle.composer.specs.OverBase.{Plan, Composing, Halt, Refuses, Exceeds, advance, advance_all, unsent}
 use Rattle.send_model.specs.Cells.{AllCells}
 use Rattle.composer.specs.Kept.{Kept, composing_of}
-use Rattle.composer.specs.Taking.{DataStand, ItemTaken, ItemWhy, AllWhereEnded, ItemStops, ItemKept}
+use Rattle.composer.specs.Taking.{DataStand, ItemTaken, ItemWhy, AllWhereEnded, LeftBy, ItemStops, ItemKept}
 use Rattle.composer.specs.Files.{IsPlace, IsLastPlace, NextHalts}
 use Rattle.clone_pieces.proofs.Told.{all_always, all_map, all_two}
 use Rattle.clone_pieces.proofs.Told as all
+use Rattle.clone_pieces.proofs.Flow.{part_front, breaks_front}
 use Rattle.composer.proofs.Unpacked.{AllOut, ItemEnd, StopEnd, FileTaken, FileWhy, FileStops}
 use Rattle.composer.proofs.AllTold.{told_file}
 use Rattle.composer.proofs.LastHeads.{latest_none, latest_more}
@@ -449,6 +450,36 @@ module _ (files : List (List ℕ)) (plan : Plan) (file : ℕ) (given : Option (L
   item_ends (over.InputTooLong number) next why front whole = elim why [ ]
   item_ends (over.InputChanged number at) next why front whole = elim why [ ]
 
+-- ---- what was written where an item ends composing
+
+-- All bytes are a front part of them.
+all_front : (out_old out_new : Option (List ℕ)) (bytes : List ℕ) → Appends out_old out_new bytes → AppendsFront out_old out_new bytes
+all_front out_old out_new bytes a = record {
+  count = length bytes;
+  within = omega arith;
+  appends = subst (λ (bs : List ℕ). Appends out_old out_new bs) (sym (take-length bytes)) a;
+}
+
+left_front : (outcome : Outcome) (out_old out_new : Option (List ℕ)) (left bytes : List ℕ) → LeftBy outcome out_old out_new left bytes → AppendsFront out_old out_new bytes
+left_front (over.Refused verdict) out_old out_new left bytes l = all_front out_old out_new bytes l.0
+left_front (over.TooMuch sum) out_old out_new left bytes l = all_front out_old out_new bytes l.0
+left_front over.OutputFault out_old out_new left bytes l = breaks_front out_old out_new [] left bytes l
+left_front over.InputFault out_old out_new left bytes l = part_front out_old out_new [] left bytes l
+left_front over.NoMemory out_old out_new left bytes l = part_front out_old out_new [] left bytes l
+left_front (over.InputTooLong number) out_old out_new left bytes l = elim l [ ]
+left_front (over.InputChanged number at) out_old out_new left bytes l = elim l [ ]
+left_front over.Done out_old out_new left bytes l = elim l [ ]
+
+left_whole : (outcome : Outcome) (out_old out_new : Option (List ℕ)) (left bytes : List ℕ) → LeftBy outcome out_old out_new left bytes → AllWhereEnded outcome out_old out_new bytes
+left_whole (over.Refused verdict) out_old out_new left bytes l = l.0
+left_whole (over.TooMuch sum) out_old out_new left bytes l = l.0
+left_whole over.OutputFault out_old out_new left bytes l = tt
+left_whole over.InputFault out_old out_new left bytes l = tt
+left_whole over.NoMemory out_old out_new left bytes l = tt
+left_whole (over.InputTooLong number) out_old out_new left bytes l = elim l [ ]
+left_whole (over.InputChanged number at) out_old out_new left bytes l = elim l [ ]
+left_whole over.Done out_old out_new left bytes l = elim l [ ]
+
 pub item_stops : (told inputs : Option (List (List ℕ × List ℕ))) (names : List (List ℕ)) (plan : Plan) (number file : ℕ) (given : Option (List ℕ)) (c0 : Kept) (out0 : Option (List ℕ)) (old new : Reader) (now next : Kept) (out_now out_next : Option (List ℕ)) (before place : Place)
     (item taken_item : read.Item) (outcome : Outcome) → old.file ≡ file → item_of file taken_item ≡ named_as given (item_of file item) → inputs ≡ told
     → IfAllTold told names (λ files. IsNext old new item (get_or files number []))
@@ -457,12 +488,12 @@ pub item_stops : (told inputs : Option (List (List ℕ × List ℕ))) (names : L
     → IfAllTold told names (λ files. FileStops files plan file given c0 out0 out_next outcome (get_or files number []))
 unfolding so_far
 item_stops told inputs names plan number file given c0 out0 old new now next out_now out_next before place item taken_item outcome old_file named same next_is stops stands =
-    all_two told names (λ files. IsNext old new item (get_or files number []) × ItemStops plan (composing_of files plan.base now) (item_of file taken_item) outcome out_now out_next)
+    all_two told names (λ files. IsNext old new item (get_or files number []) × ItemStops plan (composing_of files plan.base now) (item_of file taken_item) outcome out_now out_next next.pending)
     (λ files. Stands files plan file given c0 out0 old now out_now before place (get_or files number [])) (λ files. FileStops files plan file given c0 out0 out_next outcome (get_or files number []))
-    (λ files p s. (let t : ItemStops plan (composing_of files plan.base now) (named_as given (item_of file item)) outcome out_now out_next = subst (λ (x : Item). ItemStops plan (composing_of files plan.base now) x outcome out_now out_next) named p.1 in
+    (λ files p s. (let t : ItemStops plan (composing_of files plan.base now) (named_as given (item_of file item)) outcome out_now out_next next.pending = subst (λ (x : Item). ItemStops plan (composing_of files plan.base now) x outcome out_now out_next next.pending) named p.1 in
     item_ends files plan file given c0 out0 old new now out_now out_next before place (item_of file item) (get_or files number []) s
-    (left_next file old new item (get_or files number []) old_file p.0) outcome t.next t.why t.front t.whole))
-    (all_two told names (λ files. IsNext old new item (get_or files number [])) (λ files. ItemStops plan (composing_of files plan.base now) (item_of file taken_item) outcome out_now out_next)
-    (λ files. IsNext old new item (get_or files number []) × ItemStops plan (composing_of files plan.base now) (item_of file taken_item) outcome out_now out_next) (λ files a b. (a, b)) next_is
-    (all.told_moved told inputs names (λ files. ItemStops plan (composing_of files plan.base now) (item_of file taken_item) outcome out_now out_next) same stops))
+    (left_next file old new item (get_or files number []) old_file p.0) outcome t.next t.why (left_front outcome out_now out_next next.pending t.next.pending t.goes) (left_whole outcome out_now out_next next.pending t.next.pending t.goes)))
+    (all_two told names (λ files. IsNext old new item (get_or files number [])) (λ files. ItemStops plan (composing_of files plan.base now) (item_of file taken_item) outcome out_now out_next next.pending)
+    (λ files. IsNext old new item (get_or files number []) × ItemStops plan (composing_of files plan.base now) (item_of file taken_item) outcome out_now out_next next.pending) (λ files a b. (a, b)) next_is
+    (all.told_moved told inputs names (λ files. ItemStops plan (composing_of files plan.base now) (item_of file taken_item) outcome out_now out_next next.pending) same stops))
     stands

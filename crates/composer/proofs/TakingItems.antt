@@ -1,11 +1,9 @@
 -- One item that the composer takes or does not take, from the step of its command, and from what it adds.
-use Rattle.std.specs.Prelude.{◌≡◌, ◌⊎◌, ◌<◌, ◌≤◌, ℕ, zero, suc, ◌+◌, ◌-◌, ◌||◌, ◌&&◌, not, Bool, true, false, map, List, [], ◌++◌, length, get_or, Option, None, Some, Result, Ok, Err, is_some, nat_lt, if◌then◌else◌}
+use Rattle.std.specs.Prelude.{◌≡◌, ◌⊎◌, ◌<◌, ◌≤◌, ℕ, zero, suc, ◌+◌, ◌-◌, ◌||◌, ◌&&◌, not, Bool, true, false, map, List, [], ◌++◌, get_or, Option, None, Some, Result, Ok, Err, is_some, nat_lt, if◌then◌else◌}
 use Rattle.std.specs.Option.{option_map}
 use Rattle.std.specs.List.{AllByRecursion, range_with_len}
 use Rattle.std.proofs.Common.{refl, sym, ap, ap₂, subst, ◌∙◌, arith, inl, inr, ⊎_elim, append-nil}
-use Rattle.std.specs.Io.KnownBytes.{Appends}
 use Rattle.std.proofs.KnownBytes.{Appends-nil}
-use Rattle.std.proofs.Math.Seq.{take-length}
 use Rattle.std.proofs.lemmas.Bool.{ltb-true, ltb-false}
 use Rattle.send_model.specs.Refusal.{Refusal, NotConsecutive}
 use Rattle.send_model.specs.Command.{Command, Subvol, Snapshot, Clone}
@@ -31,14 +29,15 @@ use Rattle.provenance.specs.declared.trace.Trace.{Trace}
 use Rattle.provenance.specs.declared.trace.Trace.TheVariants.{Fresh}
 use Rattle.provenance.specs.Traces.{advanced_by, place_of}
 use Rattle.clone_pieces.specs.Origins.{byte_of_trace, IsHad, IsInInput}
-use Rattle.clone_pieces.specs.Sending.{GoesOut, AppendsFront}
+use Rattle.clone_pieces.specs.Sending.{GoesOut, GoesPart, BreaksOff}
+use Rattle.clone_pieces.proofs.Flow.{none_came, all_breaks, part_joined, breaks_joined}
 use Rattle.file_survey.specs.Findings.{Surveyed}
 use Rattle.clone_pieces.specs.Seen.{seen, seen_state}
 use Rattle.composer.specs.OverBase.{Plan, Composing, Halt, Refuses, Exceeds, begin_bytes, added_with, after_item, is_unforeseen, then_kept, advance, unsent}
 use Rattle.composer.specs.Kept.{Kept, composing_of}
 use Rattle.composer.specs.Files.{plan_with}
 use Rattle.composer.specs.Adding.{Led, stands_out, begun_with, uncarried_by}
-use Rattle.composer.specs.Taking.{DataStand, ItemTaken, ItemWhy, AllWhereEnded, ItemStops}
+use Rattle.composer.specs.Taking.{DataStand, ItemTaken, ItemWhy, LeftBy, ItemStops}
 use Rattle.composer.proofs.Unpacked.{AddsCommand, AddEnd, ItemEnd, StopEnd}
 use Rattle.composer.proofs.OverBaseAdds.{adds_head, sum_same}
 use Rattle.composer.proofs.OverBaseSeen.{IsSeenAs, answers_seen, put_seen, data_there, goes_on, stops_there}
@@ -156,15 +155,15 @@ item_taken files plan old new item out_old out_new g sum low bytes = record {
   appends = bytes.appends;
 }
 
--- It would be taken, and a front part of the bytes was written that are then to be written.
-pub item_cut : (files : List (List ℕ)) (plan : Plan) (old new : Kept) (item : Item) (out_old out_new : Option (List ℕ)) → GoesOn files plan old new item
-    → old.sum + more_of files plan old item ≤ most_literal → AppendsFront out_old out_new (old.pending ++ bytes_added files plan old item)
-    → (next : Composing) × (advance plan (composing_of files plan.base old) item ≡ Ok next) × AppendsFront out_old out_new next.pending
-item_cut files plan old new item out_old out_new g low front =
+-- It would be taken, and something is so of the bytes that are then to be written.
+pub item_cut : (files : List (List ℕ)) (plan : Plan) (old new : Kept) (item : Item) (P : List ℕ → Type 0) → GoesOn files plan old new item
+    → old.sum + more_of files plan old item ≤ most_literal → P (old.pending ++ bytes_added files plan old item)
+    → (next : Composing) × (advance plan (composing_of files plan.base old) item ≡ Ok next) × P next.pending
+item_cut files plan old new item P g low so =
     let full : Kept = record new { sum = old.sum + more_of files plan old item; pending = old.pending ++ bytes_added files plan old item } in (
       unsent [] (composing_of files plan.base full),
       advances_ok files plan old full item [] (record { stepped = g.stepped; ordered = g.ordered; latest = g.latest }) refl low refl,
-      front,
+      so,
     )
 
 -- With it there is too much.
@@ -178,24 +177,16 @@ item_exceeds files plan old new item sum g sum_is high =
 -- ---- an item that is refused
 
 -- What is pending is written first, and the output may fail at that.
-pub refused_ends : {still : List ℕ} (files : List (List ℕ)) (plan : Plan) (old new : Kept) (item : Item) (refusal : Refusal) (verdict : Verdict) (result : Outcome) (out_old out_new : Option (List ℕ)) (before now : ℕ)
+pub refused_ends : (files : List (List ℕ)) (plan : Plan) (old new : Kept) (item : Item) (refusal : Refusal) (verdict : Verdict) (result : Outcome) (out_old out_new : Option (List ℕ)) (before now : ℕ)
     → advance plan (composing_of files plan.base old) item ≡ Err (Refuses refusal) → verdict_meant verdict ≡ verdict_of item refusal
-    → StopEnd old.pending still out_old out_new before now (ended.Refused verdict) result → ItemEnd files plan old new item out_old out_new (Err result)
+    → StopEnd old.pending new.pending out_old out_new before now (ended.Refused verdict) result → ItemEnd files plan old new item out_old out_new (Err result)
 refused_ends files plan old new item refusal verdict result out_old out_new before now refused verdict_is stop =
     ⊎_elim
-    (λ sent. subst (λ (o : Outcome). ItemStops plan (composing_of files plan.base old) item o out_old out_new) (sym sent.0)
-    (record { next = composing_of files plan.base old; why = (refl, record { refusal = refusal; refused = refused; verdict_is = verdict_is }); front = stop.front; whole = sent.1.appends }))
-    (λ failed. subst (λ (o : Outcome). ItemStops plan (composing_of files plan.base old) item o out_old out_new) (sym failed.0)
-    (record { next = composing_of files plan.base old; why = inl refl; front = stop.front; whole = tt }))
+    (λ sent. subst (λ (o : Outcome). ItemStops plan (composing_of files plan.base old) item o out_old out_new new.pending) (sym sent.0)
+    (record { next = composing_of files plan.base old; why = (refl, record { refusal = refusal; refused = refused; verdict_is = verdict_is }); goes = (sent.1.appends, sent.1.none) }))
+    (λ failed. subst (λ (o : Outcome). ItemStops plan (composing_of files plan.base old) item o out_old out_new new.pending) (sym failed.0)
+    (record { next = composing_of files plan.base old; why = inl refl; goes = all_breaks out_old out_new [] new.pending old.pending failed.3 failed.1 }))
     (stop.sent (λ e. cc) (λ e. cc))
-
--- All bytes are a front part of them.
-all_front : (out_old out_new : Option (List ℕ)) (bytes : List ℕ) → Appends out_old out_new bytes → AppendsFront out_old out_new bytes
-all_front out_old out_new bytes a = record {
-  count = length bytes;
-  within = omega arith;
-  appends = subst (λ (bs : List ℕ). Appends out_old out_new bs) (sym (take-length bytes)) a;
-}
 
 -- The step is refused.
 pub step_refused : (files : List (List ℕ)) (plan : Plan) (old : Kept) (after : State (Option Trace)) (item : Item) (refusal : Refusal)
@@ -215,12 +206,11 @@ head_refused files plan old after item e out =
 -- ---- memory
 
 -- There is no memory before a byte is added.
-pub no_memory : (files : List (List ℕ)) (plan : Plan) (old new : Kept) (item : Item) (out : Option (List ℕ)) → ItemEnd files plan old new item out out (Err ended.NoMemory)
-no_memory files plan old new item out = record {
+pub no_memory : (files : List (List ℕ)) (plan : Plan) (old new : Kept) (item : Item) (out : Option (List ℕ)) → new.pending ≡ old.pending → ItemEnd files plan old new item out out (Err ended.NoMemory)
+no_memory files plan old new item out same = record {
   next = composing_of files plan.base old;
   why = inl refl;
-  front = record { count = 0; within = omega arith; appends = Appends-nil out };
-  whole = tt;
+  goes = subst (GoesPart out out [] new.pending) (append-nil old.pending) (part_joined out out old.pending new.pending [] (none_came out out old.pending new.pending [] refl same));
 }
 
 -- ---- an edit or END
@@ -266,24 +256,32 @@ edit_ends files base survey last old after put new item out_old out_new result k
         no_head (Some k) None = refl
         no_head (Some k) (Some h) = refl
 
-    cut : (o : Outcome) → ((bs : List ℕ) → AllWhereEnded o out_old out_new bs) → ((next : Composing) → ((next ≡ composing_of files base old) ⊎ (advance plan (composing_of files base old) item ≡ Ok next)) → ItemWhy plan (composing_of files base old) next item o)
-        → AppendsFront out_old out_new old.pending ⊎ ((old.sum + uncarried_by base survey.parts now.state now.current item.command ≤ most_literal) × AppendsFront out_old out_new (old.pending ++ bytes))
-        → ItemStops plan (composing_of files base old) item o out_old out_new
-    cut o whole why ends = ⊎_elim
-        (λ front. record { next = composing_of files base old; why = why (composing_of files base old) (inl refl); front = front; whole = whole old.pending })
-        (λ more. let c = item_cut files plan old new item out_old out_new goes more.0 (subst (λ (bs : List ℕ). AppendsFront out_old out_new (old.pending ++ bs)) (sym is_bytes) more.1) in
-        record { next = c.0; why = why c.0 (inr c.1); front = c.2; whole = whole c.0.pending })
+    cut : (o : Outcome) → ((next : Composing) → ((next ≡ composing_of files base old) ⊎ (advance plan (composing_of files base old) item ≡ Ok next)) → ItemWhy plan (composing_of files base old) next item o)
+        → LeftBy o out_old out_new new.pending (old.pending ++ []) ⊎ ((old.sum + uncarried_by base survey.parts now.state now.current item.command ≤ most_literal) × LeftBy o out_old out_new new.pending (old.pending ++ bytes))
+        → ItemStops plan (composing_of files base old) item o out_old out_new new.pending
+    cut o why ends = ⊎_elim
+        (λ none. record { next = composing_of files base old; why = why (composing_of files base old) (inl refl); goes = subst (LeftBy o out_old out_new new.pending) (append-nil old.pending) none })
+        (λ more. let c = item_cut files plan old new item (LeftBy o out_old out_new new.pending) goes more.0 (subst (λ (bs : List ℕ). LeftBy o out_old out_new new.pending (old.pending ++ bs)) (sym is_bytes) more.1) in
+        record { next = c.0; why = why c.0 (inr c.1); goes = c.2 })
         ends
+
+    parts : {L : Type 0} → GoesPart out_old out_new old.pending new.pending [] ⊎ (L × GoesPart out_old out_new old.pending new.pending bytes)
+        → GoesPart out_old out_new [] new.pending (old.pending ++ []) ⊎ (L × GoesPart out_old out_new [] new.pending (old.pending ++ bytes))
+    parts either = ⊎_elim (λ none. inl (part_joined out_old out_new old.pending new.pending [] none)) (λ more. inr (more.0, part_joined out_old out_new old.pending new.pending bytes more.1)) either
+
+    breaks : {L : Type 0} → BreaksOff out_old out_new old.pending new.pending [] ⊎ (L × BreaksOff out_old out_new old.pending new.pending bytes)
+        → BreaksOff out_old out_new [] new.pending (old.pending ++ []) ⊎ (L × BreaksOff out_old out_new [] new.pending (old.pending ++ bytes))
+    breaks either = ⊎_elim (λ none. inl (breaks_joined out_old out_new old.pending new.pending [] none)) (λ more. inr (more.0, breaks_joined out_old out_new old.pending new.pending bytes more.1)) either
 
     by_result : (r : Result (Unit {0}) Outcome) → AddsCommand base survey last.key now item.command (record old { state = after }) new out_old out_new r → ItemEnd files plan old new item out_old out_new r
     by_result (Ok done) a = (
       item_taken files plan old new item out_old out_new goes (sym a.1.0) a.1.1 (subst (GoesOut out_old out_new old.pending new.pending) (sym is_bytes) a.0),
       goes.latest,
     )
-    by_result (Err (ended.TooMuch sum)) a = record { next = composing_of files base old; why = (refl, item_exceeds files plan old new item sum goes a.0 a.1.0); front = all_front out_old out_new old.pending a.1.1; whole = a.1.1 }
-    by_result (Err ended.OutputFault) a = cut ended.OutputFault (λ bs. tt) (λ next w. w) a
-    by_result (Err ended.InputFault) a = cut ended.InputFault (λ bs. tt) (λ next w. w) a
-    by_result (Err ended.NoMemory) a = cut ended.NoMemory (λ bs. tt) (λ next w. w) a
+    by_result (Err (ended.TooMuch sum)) a = record { next = composing_of files base old; why = (refl, item_exceeds files plan old new item sum goes a.0 a.1.0); goes = (a.1.1, a.1.2) }
+    by_result (Err ended.OutputFault) a = cut ended.OutputFault (λ next w. w) (breaks a)
+    by_result (Err ended.InputFault) a = cut ended.InputFault (λ next w. w) (parts a)
+    by_result (Err ended.NoMemory) a = cut ended.NoMemory (λ next w. w) (parts a)
     by_result (Err (ended.InputChanged file place)) a = elim a [ ]
     by_result (Err ended.Done) a = elim a [ ]
     by_result (Err (ended.Refused verdict)) a = elim a [ ]

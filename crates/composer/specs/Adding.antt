@@ -1,5 +1,5 @@
 -- What an item adds whose step was taken: where a head stands out of order, and what is written for edits.
-use Rattle.std.specs.Prelude.{◌≡◌, ◌⊎◌, ℕ, ◌+◌, ◌<◌, ◌≤◌, Bool, true, ◌||◌, List, [], ◌∷◌, ◌++◌, Option, None, Some, Result, Ok, Err, if◌then◌else◌}
+use Rattle.std.specs.Prelude.{◌≡◌, ◌⊎◌, ℕ, ◌+◌, ◌<◌, ◌≤◌, Bool, true, ◌||◌, List, [], ◌∷◌, Option, None, Some, Result, Ok, Err, if◌then◌else◌}
 use Rattle.send_model.specs.Command.{Command}
 use Rattle.send_model.specs.Spelling.{canonical_all}
 use Rattle.send_model.specs.Subvolume.{Subvolume, walk, is_file}
@@ -14,7 +14,7 @@ use Rattle.std.specs.Io.KnownBytes.{Appends}
 use Rattle.sx_base.specs.declared.outcome.Outcome.{Outcome}
 use Rattle.sx_base.specs.declared.outcome.Outcome.TheVariants as ended
 use Rattle.provenance.specs.declared.trace.Trace.{Trace}
-use Rattle.clone_pieces.specs.Sending.{GoesOut, AppendsFront}
+use Rattle.clone_pieces.specs.Sending.{GoesOut, GoesPart, BreaksOff}
 use Rattle.clone_pieces.specs.Redirecting.{pieces_spelled}
 use Rattle.composer.specs.OverBase.{Plan, begin_bytes, is_unforeseen, Composing}
 use Rattle.composer.specs.Kept.{composing_of}
@@ -42,14 +42,17 @@ pub record Addition : Type 0 where
   pub uncarried : ℕ
   pub bytes : List ℕ
 
--- It goes out, and the sum of uncarried bytes is not too great; or it is, and only what was pending is written; or an
--- object of the outside failed or there is no memory, before a byte of it or in its middle.
+-- It goes out, and the sum of uncarried bytes is not too great; or it is, and only what was pending is written, and nothing is pending any
+-- more; or an object of the outside failed or there is no memory, before a byte of it or in its middle, and what did not go out is pending.
 abbrev pub Adds : Addition → (old new : Reached) → Result (Unit {0}) Outcome → Type 0
 Adds it old new (Ok done) = GoesOut old.taken new.taken old.kept.pending new.kept.pending it.bytes × ((new.kept.sum ≡ old.kept.sum + it.uncarried) × (new.kept.sum ≤ most_literal))
-Adds it old new (Err (ended.TooMuch sum)) = (sum ≡ old.kept.sum + it.uncarried) × ((most_literal < sum) × Appends old.taken new.taken old.kept.pending)
-Adds it old new (Err ended.OutputFault) = AppendsFront old.taken new.taken old.kept.pending ⊎ ((old.kept.sum + it.uncarried ≤ most_literal) × AppendsFront old.taken new.taken (old.kept.pending ++ it.bytes))
-Adds it old new (Err ended.InputFault) = AppendsFront old.taken new.taken old.kept.pending ⊎ ((old.kept.sum + it.uncarried ≤ most_literal) × AppendsFront old.taken new.taken (old.kept.pending ++ it.bytes))
-Adds it old new (Err ended.NoMemory) = AppendsFront old.taken new.taken old.kept.pending ⊎ ((old.kept.sum + it.uncarried ≤ most_literal) × AppendsFront old.taken new.taken (old.kept.pending ++ it.bytes))
+Adds it old new (Err (ended.TooMuch sum)) = (sum ≡ old.kept.sum + it.uncarried) × ((most_literal < sum) × Appends old.taken new.taken old.kept.pending × (new.kept.pending ≡ []))
+Adds it old new (Err ended.OutputFault) =
+    BreaksOff old.taken new.taken old.kept.pending new.kept.pending [] ⊎ ((old.kept.sum + it.uncarried ≤ most_literal) × BreaksOff old.taken new.taken old.kept.pending new.kept.pending it.bytes)
+Adds it old new (Err ended.InputFault) =
+    GoesPart old.taken new.taken old.kept.pending new.kept.pending [] ⊎ ((old.kept.sum + it.uncarried ≤ most_literal) × GoesPart old.taken new.taken old.kept.pending new.kept.pending it.bytes)
+Adds it old new (Err ended.NoMemory) =
+    GoesPart old.taken new.taken old.kept.pending new.kept.pending [] ⊎ ((old.kept.sum + it.uncarried ≤ most_literal) × GoesPart old.taken new.taken old.kept.pending new.kept.pending it.bytes)
 Adds it old new (Err (ended.InputChanged file place)) = ⊥
 Adds it old new (Err ended.Done) = ⊥
 Adds it old new (Err (ended.Refused verdict)) = ⊥

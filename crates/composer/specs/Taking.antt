@@ -1,7 +1,9 @@
 -- What the composer answers to one item: what it keeps then and what it has written, or why it stops.
-use Rattle.std.specs.Prelude.{◌≡◌, ◌≢◌, ◌⊎◌, ⊤, ℕ, ◌+◌, ◌-◌, ◌<◌, ◌≤◌, Bool, false, ◌&&◌, List, [], length, take, drop, get_or, Option, None, Some, Result, Ok, Err}
+use Rattle.std.specs.Prelude.{◌≡◌, ◌≢◌, ◌⊎◌, ⊤, ℕ, ◌+◌, ◌-◌, ◌<◌, ◌≤◌, Bool, false, ◌&&◌, List, [], ◌++◌, length, take, drop, get_or, Option, None, Some, Result, Ok, Err}
 use Rattle.std.specs.Io.KnownBytes.{Appends}
 use Rattle.send_model.specs.Refusal as meant
+use Rattle.send_model.specs.Command.{End}
+use Rattle.send_model.specs.Spelling.{canonical}
 use Rattle.send_model.specs.Reading.{Item}
 use Rattle.std.specs.Str.{bytes_eq}
 use Rattle.send_model.specs.Store.{Head, head_of, same_key}
@@ -15,7 +17,7 @@ use Rattle.sx_base.specs.declared.outcome.Verdict.{Verdict}
 use Rattle.sx_base.specs.declared.outcome.Outcome.{Outcome}
 use Rattle.sx_base.specs.declared.outcome.Outcome.TheVariants as ended
 use Rattle.sx_base.specs.Causes.{Counts}
-use Rattle.clone_pieces.specs.Sending.{AppendsFront, Output}
+use Rattle.clone_pieces.specs.Sending.{AppendsFront, GoesPart, BreaksOff, Output}
 use Rattle.clone_pieces.specs.declared.stops.SendStop.{SendStop}
 use Rattle.clone_pieces.specs.declared.stops.SendStop.TheVariants as stop
 use Rattle.composer.specs.OverBase.{Plan, Composing, Refuses, Exceeds, advance, unsent}
@@ -65,13 +67,24 @@ AllWhereEnded ended.InputFault out_old out_new bytes = ⊤
 AllWhereEnded ended.OutputFault out_old out_new bytes = ⊤
 AllWhereEnded ended.Done out_old out_new bytes = ⊤
 
--- A front part of the bytes was written that were then to be written; all of them, where an object of the outside did not fail and there was
--- memory.
-pub record ItemStops (plan : Plan) (old : Composing) (item : Item) (outcome : Outcome) (out_old out_new : Option (List ℕ)) : Type 0 where
+-- What became of the bytes that were then to be written. Where the item is refused, or there is too much, all of them were written, and
+-- nothing is pending. Where an object of the outside failed or there was no memory, a front part of them had come; of that a front part was written, and
+-- the rest is pending.
+abbrev pub LeftBy : Outcome → (out_old out_new : Option (List ℕ)) → (left bytes : List ℕ) → Type 0
+LeftBy (ended.Refused verdict) out_old out_new left bytes = Appends out_old out_new bytes × (left ≡ [])
+LeftBy (ended.TooMuch sum) out_old out_new left bytes = Appends out_old out_new bytes × (left ≡ [])
+LeftBy ended.OutputFault out_old out_new left bytes = BreaksOff out_old out_new [] left bytes
+LeftBy ended.InputFault out_old out_new left bytes = GoesPart out_old out_new [] left bytes
+LeftBy ended.NoMemory out_old out_new left bytes = GoesPart out_old out_new [] left bytes
+LeftBy (ended.InputTooLong file) out_old out_new left bytes = ⊥
+LeftBy (ended.InputChanged file place) out_old out_new left bytes = ⊥
+LeftBy ended.Done out_old out_new left bytes = ⊥
+
+-- The item is not taken, or nothing follows it; what became of the bytes that were then to be written.
+pub record ItemStops (plan : Plan) (old : Composing) (item : Item) (outcome : Outcome) (out_old out_new : Option (List ℕ)) (left : List ℕ) : Type 0 where
   pub next : Composing
   pub why : ItemWhy plan old next item outcome
-  pub front : AppendsFront out_old out_new next.pending
-  pub whole : AllWhereEnded outcome out_old out_new next.pending
+  pub goes : LeftBy outcome out_old out_new left next.pending
 
 -- After an item that is taken the head that came last is the item's, if it is one.
 abbrev pub ItemKept : Kept → Kept → Item → Type 0
@@ -79,7 +92,7 @@ ItemKept old new item = new.latest ≡ first_of (head_of item.command) old.lates
 
 abbrev pub ItemEnd : Over → Item → (old new : Reached) → Result (Unit {0}) Outcome → Type 0
 ItemEnd o item old new (Ok done) = ItemTaken o.plan (composing_of o.files o.plan.base old.kept) (composing_of o.files o.plan.base new.kept) item old.taken new.taken × ItemKept old.kept new.kept item
-ItemEnd o item old new (Err outcome) = ItemStops o.plan (composing_of o.files o.plan.base old.kept) item outcome old.taken new.taken
+ItemEnd o item old new (Err outcome) = ItemStops o.plan (composing_of o.files o.plan.base old.kept) item outcome old.taken new.taken new.kept.pending
 
 -- ---- causes
 
@@ -113,6 +126,14 @@ EndEnd bytes out_old out_new before now (Err stop.OutputFault) = Rose before now
 EndEnd bytes out_old out_new before now (Err stop.NoMemory) = Appends out_old out_new []
 EndEnd bytes out_old out_new before now (Err stop.InputFault) = ⊥
 EndEnd bytes out_old out_new before now (Err (stop.InputChanged file place)) = ⊥
+
+-- Where END did not go out, all else stays: END is pending where the output failed, and not where there was no memory for it.
+abbrev pub EndStands : ℕ → Kept → Kept → Result (Unit {0}) SendStop → Type 0
+EndStands version old new (Ok done) = ⊤
+EndStands version old new (Err stop.OutputFault) = new ≡ record old { pending = old.pending ++ canonical version End }
+EndStands version old new (Err stop.NoMemory) = new ≡ old
+EndStands version old new (Err stop.InputFault) = ⊥
+EndStands version old new (Err (stop.InputChanged file place)) = ⊥
 
 -- The head that came last is the last of all: it has its name and its key.
 abbrev pub is_at_last : Option Head → Option Head → Bool

@@ -1,5 +1,5 @@
 // Composing, item by item.
-ghost use Rattle.std.specs.Prelude.{◌≡◌, ◌⊎◌, ℕ, ◌+◌, ◌≤◌, ◌<◌, ◌^◌, List, [], ◌++◌, length, map, not, true, Option, None, Some, is_some, Ok, OnOk, IfErr};
+ghost use Rattle.std.specs.Prelude.{◌≡◌, ◌⊎◌, ℕ, ◌+◌, ◌≤◌, ◌<◌, ◌^◌, List, [], ◌++◌, length, map, not, true, Option, None, Some, is_some, Ok, OnOk, OnErr, IfErr};
 ghost use Rattle.std.specs.Option.{option_map, option_copied};
 ghost use Rattle.std.specs.List.{AllByRecursion};
 ghost use Rattle.std.specs.String.{string_bytes};
@@ -33,7 +33,7 @@ ghost use Rattle.clone_pieces.specs.Redirecting.{seen_cells};
 ghost use Rattle.composer.specs.Kept.{kept_at_start};
 ghost use Rattle.composer.specs.Reached.{over, reached};
 ghost use Rattle.composer.specs.Files.{plan_with};
-ghost use Rattle.composer.specs.Taking.{DataStand, ItemEnd, ErrCausedAgain, StopEnd, EndEnd, is_at_last};
+ghost use Rattle.composer.specs.Taking.{DataStand, ItemEnd, ErrCausedAgain, StopEnd, EndEnd, EndStands, is_at_last};
 ghost use Rattle.composer.specs.Adding.{Led, stands_out, begun_with, AddEnd, IsSourceOf, Adds, range_addition};
 
 use crate::task::{ReadItem, Task};
@@ -75,9 +75,10 @@ struct Range<'a> {
 }
 
 /// Composes consecutive parts into one stream that stands for them: the first part's head with the name and the key of the
-/// last, then what stands for the edits of all, then END. It keeps no byte of a file.
+/// last, then what stands for the edits of all, then END. It keeps no byte of a file. Only the calls of this crate have one, and they
+/// ask nothing more of it once it has answered an error.
 #[derive(Debug, Drop)]
-pub struct Composer {
+pub(crate) struct Composer {
     alloc: Global,
     core: EditCore<Trace>,
     part: Option<Part<Trace>>,
@@ -232,7 +233,7 @@ impl Composer {
         }
     }
 
-    // A head whose part has begun: the first begins the stream.
+    // A head whose part has begun: the first begins the stream. Where there is no memory nothing changes.
     fn begin_part(
         &mut self,
         c: &Command<'_>,
@@ -249,13 +250,15 @@ impl Composer {
               pending = self.old.pending
                   ++ begun_with survey.now.version (is_some self.old.latest) head survey.now.last;
             }) }
+        ensures same { OnErr result (self.new ≡ self.old) }
     {
+        let head = PartHead::of(self.alloc, c, version)?;
         if self.latest.is_none() {
             if let Some(last) = survey.last() {
                 last.begin_stream(parent, survey.version(), &mut self.pending)?;
             }
         }
-        self.latest = PartHead::of(self.alloc, c, version)?;
+        self.latest = head;
         Ok(())
     }
 
@@ -444,7 +447,7 @@ impl Composer {
             (reached self.old (O.taken out.old)) (reached self.new (O.taken out.new)) result) }
     {
         let Some(contents) = contents_of(&self.core, range.source, range.source_path) else {
-            return Err(Outcome::NoMemory);
+            unreachable!()
         };
         let sum = self.sum + uncarried(contents, range.from, range.len, task.known);
         if sum > MOST_LITERAL {

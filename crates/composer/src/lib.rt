@@ -5,6 +5,5 @@ mod composing;
 mod task;
 mod whole;
 
-pub use composing::Composer;
-pub use task::{ReadItem, Task};
+pub use task::Task;
 pub use whole::{compose, compose_over};

@@ -22,7 +22,7 @@ pub struct Task<'a, E> {
 
 /// An item that was read of the input file with this number, counted from 1, and the bytes of its frame as they came.
 #[derive(Debug, Clone, Copy)]
-pub struct ReadItem<'a, 'b> {
+pub(crate) struct ReadItem<'a, 'b> {
     /// The item.
     pub item: &'a Item<'b>,
     /// The bytes of its frame.

@@ -25,6 +25,9 @@ const LETTERS: &[u8] = b"aaaaaaaaaaaaaaaaaaaaaaaaaaaaaaaaaaaaaaaaaaaaaaaaaaaaaaa
 // More reads than there are in a run.
 const READS: u64 = 60;
 
+// More writes than there are in a run.
+const WRITES: u64 = 1_000;
+
 // A stream that is written in two calls of the output: one after its second WRITE, when enough has gathered, and one at
 // its end.
 fn long_stream(alloc: Global) -> Result<Blob, AllocError> {
@@ -42,9 +45,27 @@ fn long_stream(alloc: Global) -> Result<Blob, AllocError> {
     Ok(stream)
 }
 
-// Composes a file where one call of the inputs and one of the output fails, and gives the exit status.
-fn status_with(alloc: Global, file: &[u8], read: u64, write: u64) -> Result<u8, AllocError> {
-    let words = words_of(alloc, &["compose", "none", "file"])?;
+// Short commands, so many that both the stream and its lines are longer than what is read or written at once.
+fn many_commands(alloc: Global) -> Result<Blob, AllocError> {
+    let mut stream = Blob::new(alloc);
+    stream.push_all(HEADER)?;
+    stream.push_all(SUBVOL_A)?;
+    for _ in 0..20_000 {
+        stream.push_all(MKFILE_X)?;
+    }
+    stream.push_all(END)?;
+    Ok(stream)
+}
+
+// Runs the words over a file where one call of the inputs and one of the output fails, and gives the exit status.
+fn status_with(
+    alloc: Global,
+    words: &[&str],
+    file: &[u8],
+    read: u64,
+    write: u64,
+) -> Result<u8, AllocError> {
+    let words = words_of(alloc, words)?;
     let mut inputs = MemInputs::new(alloc);
     inputs.add("file", file)?;
     inputs.fail_call(read)?;
@@ -66,13 +87,14 @@ fn status_with(alloc: Global, file: &[u8], read: u64, write: u64) -> Result<u8, 
 fn reads_before(
     rt: &impl Abort,
     alloc: Global,
+    words: &[&str],
     file: &[u8],
     write: u64,
     status: u8,
 ) -> Result<u64, Fail> {
     let mut before = 0;
     for read in 1..=READS {
-        let answered = status_with(alloc, file, read, write)?;
+        let answered = status_with(alloc, words, file, read, write)?;
         if answered == 3 {
             same(rt, before, read - 1);
             before = read;
@@ -80,17 +102,48 @@ fn reads_before(
         }
         same(rt, answered, status);
     }
+    same(rt, before < READS, true);
     Ok(before)
 }
 
 #[test]
 fn the_first_fault_decides(rt: HostRuntime) -> Result<(), Fail> {
     let file = long_stream(rt.alloc())?;
-    let before_first = reads_before(&rt, rt.alloc(), file.as_slice(), 1, 4)?;
-    let before_second = reads_before(&rt, rt.alloc(), file.as_slice(), 2, 4)?;
-    let in_all = reads_before(&rt, rt.alloc(), file.as_slice(), 3, 0)?;
+    let words = &["compose", "none", "file"];
+    let before_first = reads_before(&rt, rt.alloc(), words, file.as_slice(), 1, 4)?;
+    let before_second = reads_before(&rt, rt.alloc(), words, file.as_slice(), 2, 4)?;
+    let in_all = reads_before(&rt, rt.alloc(), words, file.as_slice(), 3, 0)?;
     same(&rt, 0 < before_first && before_first < before_second, true);
     same(&rt, before_second, in_all);
-    same(&rt, in_all < READS, true);
+    Ok(())
+}
+
+// What is written goes out while the file is still read: no word gathers all of it first.
+#[test]
+fn output_goes_out_in_pieces(rt: HostRuntime) -> Result<(), Fail> {
+    let long = long_stream(rt.alloc())?;
+    let many = many_commands(rt.alloc())?;
+    let exported: (&[&str], &[u8]) = (&["export", "none", "file"], long.as_slice());
+    let dumped: (&[&str], &[u8]) = (&["dump", "file"], many.as_slice());
+    for (words, file) in [exported, dumped] {
+        let before_first = reads_before(&rt, rt.alloc(), words, file, 1, 4)?;
+        let before_second = reads_before(&rt, rt.alloc(), words, file, 2, 4)?;
+        let in_all = reads_before(&rt, rt.alloc(), words, file, WRITES, 0)?;
+        same(&rt, 0 < before_first && before_first < in_all, true);
+        same(&rt, before_first <= before_second, true);
+    }
+    Ok(())
+}
+
+// An audit has one line to write, at the end of all that is read, and reads the file once.
+#[test]
+fn an_audit_reads_once(rt: HostRuntime) -> Result<(), Fail> {
+    let file = long_stream(rt.alloc())?;
+    let words = &["audit", "none", "file"];
+    let in_all = reads_before(&rt, rt.alloc(), words, file.as_slice(), WRITES, 0)?;
+    let before_line = reads_before(&rt, rt.alloc(), words, file.as_slice(), 1, 4)?;
+    same(&rt, before_line, in_all);
+    // As often as it takes to read 147,599 bytes once, and to find its end.
+    same(&rt, in_all, 4);
     Ok(())
 }

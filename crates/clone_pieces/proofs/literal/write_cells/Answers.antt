@@ -62,7 +62,7 @@ returns-in-Err-clause-written g c tells =
     let is : c.min-count.result ≡ min (c.args.range.now.len - c.loop-done.done) 49_152 = omega arith in
     stand_stops (g.I.Inputs.told c.args.inputs.now) (map string_bytes c.args.sources.now.files.now) (g.B.OutsideBytes.held c.args.bytes.now) c.args.range.now.contents.now c.args.range.now.from c.args.range.now.len c.requires.within c.args.range.now.to.version c.args.range.now.to.path.now c.args.range.now.to.offset
     (g.I.Inputs.told c.loop-done.inputs) (g.B.OutsideBytes.held c.loop-done.bytes) i.same c.loop-done.done c.min-count.result c.loop-done-test.true is (i.held tells)
-    (g.O.Sink.taken c.args.out.now) (g.O.Sink.taken c.loop-done.out) (g.O.Sink.taken c.write_some.new.out) c.args.pending.now c.loop-done.pending c.write_some.new.pending c.write_some.new.pending c.in-Err.stop (i.written tells) (c.in-Err.ensures.written tells)
+    (g.O.Sink.taken c.args.out.now) (g.O.Sink.taken c.loop-done.out) (g.O.Sink.taken c.write_some.new.out) c.args.pending.now c.loop-done.pending c.write_some.new.pending c.in-Err.stop (i.written tells) (c.in-Err.ensures.written tells)
 
 pub returns-clause-written : goal.returns-clause-written
 returns-clause-written g c tells =

@@ -4,5 +4,5 @@ use Rattle.clone_pieces.proofs.redirecting.clone_run.Goals as goal
 
 pub put_clone-requires-clause-clone_path : goal.put_clone-requires-clause-clone_path
 put_clone-requires-clause-clone_path g c =
-    let short = subst (λ o. IfSome o (λ path. length path < 2 ^ 16)) c.in-Ok-Some.field-0-is c.in-Ok-Some.ensures.short in
+    let short = subst (λ o. IfSome o (λ path. length path < 2 ^ 16)) c.in-Some.is c.in-Ok.ensures.short in
     omega (arith, short, ap length c.as_slice.ensures.bytes)

@@ -119,7 +119,7 @@ returns-in-Err-clause-redirected g c tells =
     let i = c.loop-plan.invariant in
     stands_stop (g.I.Inputs.told c.args.inputs.now) (map string_bytes c.args.sources.now.files.now) (g.E.Known.base c.args.sources.now.known.now) (g.B.OutsideBytes.held c.args.bytes.now) c.args.range.now.contents.now c.args.range.now.from c.args.range.now.len c.args.range.now.to.version c.args.range.now.to.path.now c.args.range.now.to.offset
     (g.I.Inputs.told c.loop-plan.inputs) (g.B.OutsideBytes.held c.loop-plan.bytes) i.same (i.held tells) c.loop-plan.done c.loop-plan.plan-iterator (planned c.in-Some.plan) c.next.new.self c.in-Some.ensures.steps
-    (g.O.Sink.taken c.args.out.now) (g.O.Sink.taken c.loop-plan.out) (g.O.Sink.taken c.write_piece.new.out) c.args.pending.now c.loop-plan.pending c.write_piece.new.pending c.write_piece.new.pending c.in-Err.stop (i.stands tells) (c.in-Err.ensures.written tells)
+    (g.O.Sink.taken c.args.out.now) (g.O.Sink.taken c.loop-plan.out) (g.O.Sink.taken c.write_piece.new.out) c.args.pending.now c.loop-plan.pending c.write_piece.new.pending c.in-Err.stop (i.stands tells) (c.in-Err.ensures.written tells)
 
 pub returns-clause-redirected : goal.returns-clause-redirected
 returns-clause-redirected g c tells =

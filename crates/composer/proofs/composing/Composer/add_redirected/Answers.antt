@@ -1,4 +1,4 @@
-use Rattle.std.specs.Prelude.{ℕ, ◌+◌, List, map, length}
+use Rattle.std.specs.Prelude.{ℕ, ◌+◌, List, map, length, None}
 use Rattle.std.specs.String.{string_bytes}
 use Rattle.std.proofs.Common.{refl, ap, subst, ◌∙◌, arith}
 use Rattle.send_model.specs.Store.{find}
@@ -13,7 +13,7 @@ use Rattle.composer.specs.Kept.{Kept}
 use Rattle.composer.specs.contracts.composing.Composer.{the_view}
 use Rattle.clone_pieces.proofs.Told.{all_always, all_map}
 use Rattle.composer.proofs.Unpacked.{StopEnd}
-use Rattle.composer.proofs.AddingItems.{source_cells, source_exceeds, source_added, range_had}
+use Rattle.composer.proofs.AddingItems.{source_there, source_cells, source_exceeds, source_added, range_had}
 use Rattle.composer.proofs.HandedOn.{answer_is, redirect_caused, redirect_changed, handed_steady, handed_stops}
 use Rattle.composer.proofs.composing.Composer.add_redirected.Goals as goal
 
@@ -92,8 +92,11 @@ returns-clause-out g c =
 pub returns-clause-stops : goal.returns-clause-stops
 returns-clause-stops g c = handed_stops c.redirect.result c.map_err.result (answer_is c.redirect.result c.map_err.result c.map_err.ensures.cases)
 
-pub returns-in_default-clause-asked : goal.returns-in_default-clause-asked
-returns-in_default-clause-asked g c = asked_nothing g.I.Inputs c.args.inputs.now tt
+pub unreachable-requires : goal.unreachable-requires
+unreachable-requires g c =
+    let t = c.requires.taken in
+    source_there t.0 c.args.self.now.state c.args.range.now.offset (key_of c.args.range.now.source) c.args.range.now.source_path.now c.args.range.now.from c.args.range.now.len None t.1
+    (λ source at f w file. c.in_default.ensures source at (ap (λ (k : Kept). find k.state.store (key_of c.args.range.now.source)) c.self.view_is ∙ f) w file) refl
 
 pub returns-then-sum-gt-MOST_LITERAL-clause-asked : goal.returns-then-sum-gt-MOST_LITERAL-clause-asked
 returns-then-sum-gt-MOST_LITERAL-clause-asked g c = asked_nothing g.I.Inputs c.args.inputs.now tt

@@ -9,6 +9,7 @@ use Rattle.send_commands.specs.Meaning.{meaning_of}
 use Rattle.send_commands.proofs.Writable.{spellable_is_writable}
 use Rattle.sx_base.specs.declared.stop.Stop.{Stop}
 use Rattle.sx_base.specs.declared.stop.Stop.TheVariants as stop
+use Rattle.sx_base.specs.declared.outcome.Outcome.TheVariants as ended
 use Rattle.sx_base.specs.Refusals.{refusal_of, verdict_meant}
 use Rattle.sx_base.specs.contracts.stop.Stop.{enum}
 use Rattle.sx_base.specs.declared.refusal.Refusal.TheVariants.{BadMagic}
@@ -36,15 +37,17 @@ use Rattle.composer.proofs.composing.Composer.take.Goals as goal
 
 pub returns-in-Err-NoMemory-clause-taken : goal.returns-in-Err-NoMemory-clause-taken
 returns-in-Err-NoMemory-clause-taken g c tells =
-    all_always (g.I.Inputs.told c.args.inputs.now) (map string_bytes c.args.task.now.files.now) _ (λ told. no_memory told (plan_with (g.E.Known.base c.args.task.now.known.now) c.args.task.now.survey.now) c.args.self.now c.args.self.now (item_of c.args.read.now.file c.args.read.now.item.now) (g.O.Sink.taken c.args.out.now))
+    all_always (g.I.Inputs.told c.args.inputs.now) (map string_bytes c.args.task.now.files.now) _ (λ told.
+    subst (λ (k : Kept). ItemEnd told (plan_with (g.E.Known.base c.args.task.now.known.now) c.args.task.now.survey.now) k (record (the_view c.self.inside) { state = record { store = c.step.new.self; part = c.step.new.part } }) (item_of c.args.read.now.file c.args.read.now.item.now) (g.O.Sink.taken c.args.out.now) (g.O.Sink.taken c.args.out.now) (Err ended.NoMemory)) c.self.view_is
+    (no_memory told (plan_with (g.E.Known.base c.args.task.now.known.now) c.args.task.now.survey.now) (the_view c.self.inside) (record (the_view c.self.inside) { state = record { store = c.step.new.self; part = c.step.new.part } }) (item_of c.args.read.now.file c.args.read.now.item.now) (g.O.Sink.taken c.args.out.now) refl))
 
 -- The refusal in the stop is the one that was found there.
 pub returns-in-Err-Refused-clause-taken : goal.returns-in-Err-Refused-clause-taken
 returns-in-Err-Refused-clause-taken g c tells =
     let Said : Stop → Type 0 = λ w. verdict_meant c.refused.ensures.refused.0 ≡ record { file = c.args.read.now.file; command = c.args.read.now.item.now.number; offset = c.args.read.now.item.now.offset; refusal = refusal_of (values_d enum 0 (BadMagic, tt) w).0 } in
     all_map (g.I.Inputs.told c.args.inputs.now) (map string_bytes c.args.task.now.files.now) (λ told. AllCells (IsInInput told) c.args.self.now.state × DataStand told (item_of c.args.read.now.file c.args.read.now.item.now)) _ (λ told there.
-    subst (λ (k : Kept). ItemEnd told (plan_with (g.E.Known.base c.args.task.now.known.now) c.args.task.now.survey.now) k k (item_of c.args.read.now.file c.args.read.now.item.now) (g.O.Sink.taken c.args.out.now) (g.O.Sink.taken c.refused.new.out) (Err c.refused.result)) c.self.view_is
-    (refused_ends told (plan_with (g.E.Known.base c.args.task.now.known.now) c.args.task.now.survey.now) (the_view c.self.inside) (the_view c.self.inside) (item_of c.args.read.now.file c.args.read.now.item.now) (refusal_of c.in-Err-Refused.refusal) c.refused.ensures.refused.0 c.refused.result (g.O.Sink.taken c.args.out.now) (g.O.Sink.taken c.refused.new.out) (g.O.Sink.faults c.args.out.now) (g.O.Sink.faults c.refused.new.out)
+    subst (λ (k : Kept). ItemEnd told (plan_with (g.E.Known.base c.args.task.now.known.now) c.args.task.now.survey.now) k c.refused.new.self (item_of c.args.read.now.file c.args.read.now.item.now) (g.O.Sink.taken c.args.out.now) (g.O.Sink.taken c.refused.new.out) (Err c.refused.result)) c.self.view_is
+    (refused_ends told (plan_with (g.E.Known.base c.args.task.now.known.now) c.args.task.now.survey.now) (the_view c.self.inside) c.refused.new.self (item_of c.args.read.now.file c.args.read.now.item.now) (refusal_of c.in-Err-Refused.refusal) c.refused.ensures.refused.0 c.refused.result (g.O.Sink.taken c.args.out.now) (g.O.Sink.taken c.refused.new.out) (g.O.Sink.faults c.args.out.now) (g.O.Sink.faults c.refused.new.out)
     (step_refused told (plan_with (g.E.Known.base c.args.task.now.known.now) c.args.task.now.survey.now) (the_view c.self.inside) (record { store = c.step.new.self; part = c.step.new.part }) (item_of c.args.read.now.file c.args.read.now.item.now) (refusal_of c.in-Err-Refused.refusal)
     (stepped_seen {A = Done} (Err (stop.Refused c.in-Err-Refused.refusal)) told (g.E.Known.base c.args.task.now.known.now) (the_view c.self.inside).state (record { store = c.step.new.self; part = c.step.new.part }) (item_of c.args.read.now.file c.args.read.now.item.now) there.1
     (subst (λ (w : Stop). Answers {A = Done} (Err w) (record { store = c.step.new.self; part = c.step.new.part }) (step None (cells_put advanced_by (Fresh (c.args.read.now.file - 1) c.args.read.now.item.now.data_at) (meaning_of c.args.read.now.item.now.command)) (the_view c.self.inside).state (meaning_of c.args.read.now.item.now.command))) c.in-Err-Refused.field-0-is c.in-Err-Refused.ensures.stepped)))
@@ -54,8 +57,8 @@ pub returns-then-not-in_order-clause-taken : goal.returns-then-not-in_order-clau
 returns-then-not-in_order-clause-taken g c tells =
     let order = c.in_order.ensures c.in-Some.head.name.now c.in-Some.head.key in
     all_map (g.I.Inputs.told c.args.inputs.now) (map string_bytes c.args.task.now.files.now) (λ told. AllCells (IsInInput told) c.args.self.now.state × DataStand told (item_of c.args.read.now.file c.args.read.now.item.now)) _ (λ told there.
-    subst (λ (k : Kept). ItemEnd told (plan_with (g.E.Known.base c.args.task.now.known.now) c.args.task.now.survey.now) k k (item_of c.args.read.now.file c.args.read.now.item.now) (g.O.Sink.taken c.args.out.now) (g.O.Sink.taken c.refused-then-not-in_order.new.out) (Err c.refused-then-not-in_order.result)) c.self.view_is
-    (refused_ends told (plan_with (g.E.Known.base c.args.task.now.known.now) c.args.task.now.survey.now) (the_view c.self.inside) (the_view c.self.inside) (item_of c.args.read.now.file c.args.read.now.item.now) _ c.refused-then-not-in_order.ensures.refused.0 c.refused-then-not-in_order.result (g.O.Sink.taken c.args.out.now) (g.O.Sink.taken c.refused-then-not-in_order.new.out) (g.O.Sink.faults c.args.out.now) (g.O.Sink.faults c.refused-then-not-in_order.new.out)
+    subst (λ (k : Kept). ItemEnd told (plan_with (g.E.Known.base c.args.task.now.known.now) c.args.task.now.survey.now) k c.refused-then-not-in_order.new.self (item_of c.args.read.now.file c.args.read.now.item.now) (g.O.Sink.taken c.args.out.now) (g.O.Sink.taken c.refused-then-not-in_order.new.out) (Err c.refused-then-not-in_order.result)) c.self.view_is
+    (refused_ends told (plan_with (g.E.Known.base c.args.task.now.known.now) c.args.task.now.survey.now) (the_view c.self.inside) c.refused-then-not-in_order.new.self (item_of c.args.read.now.file c.args.read.now.item.now) _ c.refused-then-not-in_order.ensures.refused.0 c.refused-then-not-in_order.result (g.O.Sink.taken c.args.out.now) (g.O.Sink.taken c.refused-then-not-in_order.new.out) (g.O.Sink.faults c.args.out.now) (g.O.Sink.faults c.refused-then-not-in_order.new.out)
     (head_refuses told (plan_with (g.E.Known.base c.args.task.now.known.now) c.args.task.now.survey.now) (the_view c.self.inside) (record { store = c.step.new.self; part = c.step.new.part }) (item_of c.args.read.now.file c.args.read.now.item.now) (head_meant c.in-Some.head) (stepped_seen {A = Done} (Ok c.in-Ok.field-0) told (g.E.Known.base c.args.task.now.known.now) (the_view c.self.inside).state (record { store = c.step.new.self; part = c.step.new.part }) (item_of c.args.read.now.file c.args.read.now.item.now) there.1 c.in-Ok.ensures.stepped) (sym c.in-Some.ensures) (not_false _ (sym order ∙ c.if-not-in_order.true)))
     c.refused-then-not-in_order.ensures.refused.1 c.refused-then-not-in_order.ensures.refused.2)) c.requires.there
 
@@ -92,7 +95,9 @@ returns-in-Ok-begin_part-clause-latest g c =
 
 pub returns-in-Err-clause-taken : goal.returns-in-Err-clause-taken
 returns-in-Err-clause-taken g c tells =
-    all_always (g.I.Inputs.told c.args.inputs.now) (map string_bytes c.args.task.now.files.now) _ (λ told. no_memory told (plan_with (g.E.Known.base c.args.task.now.known.now) c.args.task.now.survey.now) c.args.self.now c.args.self.now (item_of c.args.read.now.file c.args.read.now.item.now) (g.O.Sink.taken c.args.out.now))
+    all_always (g.I.Inputs.told c.args.inputs.now) (map string_bytes c.args.task.now.files.now) _ (λ told.
+    subst (λ (k : Kept). ItemEnd told (plan_with (g.E.Known.base c.args.task.now.known.now) c.args.task.now.survey.now) k c.begin_part.new.self (item_of c.args.read.now.file c.args.read.now.item.now) (g.O.Sink.taken c.args.out.now) (g.O.Sink.taken c.args.out.now) (Err ended.NoMemory)) c.self.view_is
+    (no_memory told (plan_with (g.E.Known.base c.args.task.now.known.now) c.args.task.now.survey.now) (the_view c.self.inside) c.begin_part.new.self (item_of c.args.read.now.file c.args.read.now.item.now) (g.O.Sink.taken c.args.out.now) (ap (λ (k : Kept). k.pending) c.in-Err.ensures.same)))
 
 pub returns-in_default-last-clause-had : goal.returns-in_default-last-clause-had
 returns-in_default-last-clause-had g c =
