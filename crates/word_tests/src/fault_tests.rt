@@ -23,7 +23,7 @@ const THIRD_WRITE: &[u8] =
 const LETTERS: &[u8] = b"aaaaaaaaaaaaaaaaaaaaaaaaaaaaaaaaaaaaaaaaaaaaaaaaaaaaaaaaaaaaaaaa";
 
 // More reads than there are in a run.
-const READS: u64 = 60;
+const READS: u64 = 20;
 
 // More writes than there are in a run.
 const WRITES: u64 = 1_000;
@@ -50,7 +50,7 @@ fn many_commands(alloc: Global) -> Result<Blob, AllocError> {
     let mut stream = Blob::new(alloc);
     stream.push_all(HEADER)?;
     stream.push_all(SUBVOL_A)?;
-    for _ in 0..20_000 {
+    for _ in 0..6_000 {
         stream.push_all(MKFILE_X)?;
     }
     stream.push_all(END)?;
