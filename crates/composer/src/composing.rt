@@ -514,7 +514,7 @@ impl Composer {
     /// Adds END and writes all that is pending; then nothing is, and all else stays.
     ///
     /// # Errors
-    /// The output failed, or there is no memory; then nothing was written.
+    /// The output failed, and END is pending with what was; or there is no memory, and nothing was written or changed.
     #[tactic(auto, using(crate::proofs::EditSpelling::end_short), unfolding(send_commands::specs::Writing::IsWritable, send_model::specs::Command::row))]
     pub fn end<O: Sink>(&mut self, version: u32, out: &mut O) -> Result<(), SendStop>
         requires version { (version ≡ 1) ⊎ (version ≡ 2) }
@@ -523,6 +523,7 @@ impl Composer {
         ensures ended { EndEnd (self.old.pending ++ canonical version End)
             (O.taken out.old) (O.taken out.new) (O.faults out.old) (O.faults out.new) result }
         ensures all_out { OnOk result (self.new ≡ record self.old { pending = [] }) }
+        ensures still { EndStands version self.old self.new result }
     {
         if encode(&Command::End, version, &mut self.pending).is_err() {
             return Err(SendStop::NoMemory);
