@@ -501,12 +501,13 @@ impl Composer {
 
     /// The outcome of a run that ends here. What is pending is written first, so a fault of the output is answered in place of a
     /// refusal; but where the inputs have failed, or there is no memory, nothing more is asked of the output. Where all went out, nothing
-    /// is pending any more.
+    /// is pending any more; all else stays.
     pub fn stopped<O: Sink>(&mut self, outcome: Outcome, out: &mut O) -> Outcome
         ensures later { O.faults out.old ≤ O.faults out.new }
         ensures stops { IsStop outcome → IsStop result }
         ensures stopped { StopEnd (output O.Sink out.old self.old.pending)
             (output O.Sink out.new self.new.pending) outcome result }
+        ensures still { self.new ≡ record self.old { pending = self.new.pending } }
     {
         ended(outcome, &mut self.pending, out)
     }
