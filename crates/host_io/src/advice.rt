@@ -1,4 +1,4 @@
-// What a person is told about a note, in one sentence. `bench/manual.sh --write` puts these sentences into the manual, which says more
+// What a person is told about a note, in one sentence. `trials/manual.sh --write` puts these sentences into the manual, which says more
 // beside them. It knows the tables and the arms of `about_words` by their form.
 
 use escaped_words::meant_len;

@@ -159,7 +159,7 @@ for name, lines in (('SYNOPSIS', synopsis()), ('STATUSES', status_entries()), ('
     if len(parts) != 5:
         complain('the manual has no part ' + name)
         continue
-    parts[1] = begin + ', which bench/manual.sh --write writes from the program\'s texts\n'
+    parts[1] = begin + ', which trials/manual.sh --write writes from the program\'s texts\n'
     parts[2] = '\n'.join(lines) + '\n'
     new = ''.join(parts)
 
