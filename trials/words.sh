@@ -1,0 +1,114 @@
+#!/bin/sh
+# Looks at the words of what people read: README.md, the man page, `--help` and the explanations.
+#
+# - No private word stands there for which there is a common one. The list below has those that can be matched safely.
+# - No line is longer than 100 columns. Tables, examples and the output in them are not looked at.
+# - No sentence of README.md has more than 25 words, roughly counted: a piece of code counts as one. The quoted theorem is
+#   not looked at.
+#
+# Nothing is proved or built here. Status 0 if all is right. Needs python3.
+here=$(CDPATH='' cd -- "$(dirname -- "$0")/.." && pwd) || exit 2
+cd -- "$here" || exit 2
+python3 - <<'PYTHON'
+import re, sys
+
+# What is not said, and what is said in its place.
+PRIVATE = [
+    (r'stands? on|stood on|standing on', 'is based on; its parent is'),
+    (r'(answers? that (is|are)|what is|is) due', 'the specified answer; the expected result'),
+    (r'the receipt', 'acknowledgement'),
+    (r'second lines?', 'explanation'),
+    (r'(image|what) (that )?(may be|is) left', 'what a crash leaves'),
+    (r'(un)?lawful(ly)?', 'valid, invalid'),
+    (r'words?', 'command, or argument'),
+    (r'what is asked', 'precondition'),
+    (r'means? nothing', 'is not understood'),
+    (r'is no text', 'is not valid UTF-8'),
+    (r'a list of rows|a row of (files|streams)', 'chain'),
+    (r'the outside', 'the base'),
+]
+WIDTH, WORDS = 100, 25
+wrong = 0
+
+def complain(place, what):
+    global wrong
+    print('%s: %s' % (place, what))
+    wrong += 1
+
+def text_of(path):
+    return open(path).read()
+
+# The lines of a page that are prose: without tables, examples and quotations.
+def prose(text):
+    fenced = False
+    for number, line in enumerate(text.split('\n'), 1):
+        if line.startswith('```'):
+            fenced = not fenced
+        elif not fenced and not line.startswith(('    ', '|', '>')):
+            yield number, line
+
+# The strings of a source of texts, with the number of the line of each piece.
+def strings(text):
+    for found in re.finditer(r'"((?:[^"\\]|\\.|\\\n)*)"', re.sub(r'^\s*//.*$', '', text, flags=re.M)):
+        yield text.count('\n', 0, found.start()) + 1, found.group(1)
+
+def look_for_private(path, pieces):
+    for number, text in pieces:
+        for private, common in PRIVATE:
+            for found in re.finditer(r'\b(?:%s)\b' % private, text, re.S):
+                line = number + text.count('\n', 0, found.start())
+                complain('%s:%d' % (path, line), '"%s": say "%s"' % (' '.join(found.group().split()), common))
+
+# ---- private words
+
+# Paragraphs, so that words which a line end parts are found too.
+def paragraphs(lines):
+    found, begin = [], 0
+    for number, line in lines:
+        if not line.strip() or re.match(r'- |\d+\. |#', line):
+            if found:
+                yield begin, '\n'.join(found)
+            found = []
+        if line.strip():
+            begin = begin if found else number
+            found.append(line)
+    if found:
+        yield begin, '\n'.join(found)
+
+readme = text_of('README.md')
+look_for_private('README.md', paragraphs(prose(readme)))
+look_for_private('README.md', [(number, line) for number, line in enumerate(readme.split('\n'), 1) if line.startswith('|')])
+manual = text_of('docs/btrsend.1')
+look_for_private('docs/btrsend.1', [(1, '\n'.join('' if line.startswith('.\\"') else line for line in manual.split('\n')))])
+for path in ('crates/host_io/src/help.rt', 'crates/host_io/src/advice.rt'):
+    look_for_private(path, strings(text_of(path)))
+
+# ---- columns
+
+for path in ('README.md', 'CONTRIBUTING.md', 'CHANGELOG.md', 'trials/README.md', 'bench/README.md'):
+    for number, line in prose(text_of(path)):
+        if len(line) > WIDTH:
+            complain('%s:%d' % (path, number), '%d columns' % len(line))
+for number, line in enumerate(manual.split('\n'), 1):
+    if len(line) > WIDTH and not line.startswith('\\fB'):
+        complain('docs/btrsend.1:%d' % number, '%d columns' % len(line))
+for path in ('crates/host_io/src/help.rt', 'crates/host_io/src/advice.rt'):
+    for number, line in enumerate(text_of(path).split('\n'), 1):
+        if len(line) > WIDTH:
+            complain('%s:%d' % (path, number), '%d columns' % len(line))
+
+# ---- sentences
+
+for number, text in paragraphs(prose(readme)):
+    if text.startswith('#'):
+        continue
+    text = re.sub(r'\[([^\]]*)\]\([^)]*\)', r'\1', text)
+    text = re.sub(r'`[^`]*`', 'code', text).replace('*', '').replace('\n', ' ')
+    for sentence in re.split(r'[.!?](?=\s|$)', text):
+        count = len(re.findall(r"[A-Za-z0-9][^\s]*", sentence))
+        if count > WORDS:
+            complain('README.md:%d' % number, '%d words: %s ..' % (count, ' '.join(sentence.split()[:8])))
+
+print('words.sh: %s' % ('all right' if not wrong else '%d wrong' % wrong))
+sys.exit(wrong != 0)
+PYTHON
