@@ -1,9 +1,10 @@
 #!/bin/sh
-# The parts of the manual that say what the program says: its SYNOPSIS, the statuses, and the second line of each note and each refusal.
-# They stand between lines that begin them and end them, and are written from the program's own texts, in the sources of `host_io`: help.rt and
-# advice.rt. With the word --write they are written anew. Without it they are compared, and each line that differs is printed. The rest of the
-# manual is written by hand; of it is looked that each word of the SYNOPSIS and each refusal has its entry, and that `man` warns of nothing.
-# Nothing is proved or built here. It ends with status 0 only where all is right. Needs python3 and man.
+# The parts of the man page that say what the program says: its SYNOPSIS, which is the usage of `--help`, and the explanation of
+# each message and each refusal. They are between lines of their own, which name them, and come from the program's texts in
+# the sources of `host_io`: help.rt and advice.rt. With --write they are written anew. Without it they are compared, and each
+# line that differs is printed. The rest of the man page is written by hand. Each command of the usage, each status and each
+# refusal must have one entry there, README.md must name each command, and the same message for each status, and `man` must
+# warn of nothing. Nothing is proved or built here. Status 0 only if all is right. Needs python3 and man.
 here=$(CDPATH='' cd -- "$(dirname -- "$0")" && pwd)/.. || exit 2
 cd -- "$here" || exit 2
 case $*: in
@@ -14,6 +15,7 @@ python3 - "$@" <<'PYTHON' || exit 1
 import difflib
 import re
 import sys
+import textwrap
 
 MANUAL = 'docs/btrsend.1'
 ADVICE = 'crates/host_io/src/advice.rt'
@@ -47,21 +49,13 @@ def call(text):
             line += plain(token)
     return line
 
-# A sentence that says what a status means. What stands between ` in it is a word, and `values` stand for others.
-def sentence(text, values):
-    text = text[0].upper() + text[1:] + '.'
-    line = ''
-    for at, part in enumerate(text.split('`')):
-        if at % 2:
-            line += '\\fB' + plain(part) + '\\fP'
-        else:
-            for token in re.findall(r'[A-Z]{2,}|[^A-Z]+|[A-Z]', part):
-                line += '\\fI' + token + '\\fP' if token in values else plain(token)
-    return line
-
 # ---- what the sources say
 
-advice = open(ADVICE).read()
+# A backslash at the end of a line, and the indent of the next one, are no part of a text.
+def joined(source):
+    return re.sub(r'\\\n\s*', '', source)
+
+advice = joined(open(ADVICE).read())
 help = open(HELP).read()
 constants = dict(re.findall(r'const ([A-Z_]+): &str =\s*"([^"]*)";', advice))
 
@@ -77,24 +71,12 @@ about_words = re.search(r'fn about_words.*?\n}', advice, re.S).group(0)
 of_words = re.findall(r'=>\s*\{?\s*"([^"]*)"', about_words)
 usage = [line.replace('usage: ', '').strip() for line in re.search(r'\nusage: .*?\n\n', help, re.S).group(0).strip().split('\n')]
 
-# The statuses: the number, the note, the values behind it, and what it means.
-statuses = []
-for line in help[help.index('says why:'):help.index('";', help.index('says why:'))].split('\n')[1:]:
-    begins = re.match(r' {2,3}(\d+) {2}((?:\S+ )*\S+)(?: {2,}(\S.*))?$', line)
-    if begins:
-        note = re.match(r'[a-z ]*[a-z]', begins.group(2)).group(0)
-        statuses.append([begins.group(1), note, begins.group(2)[len(note):], begins.group(3) or ''])
-    elif line.strip():
-        statuses[-1][3] += ' ' + line.strip()
-
 # That each row of the sources was found.
 for table, found in (('REFUSALS', refusals), ('NOTES', notes[:-1])):
     if 'const %s: [' % table not in advice or '; %d] = [' % len(found) not in re.search('const %s.*' % table, advice).group(0):
         complain('%s: %d rows of %s are read, and there are others' % (ADVICE, len(found), table))
 if len(of_words) != about_words.count('=>'):
     complain('%s: %d sentences of about_words are read, and there are others' % (ADVICE, len(of_words)))
-if [status[0] for status in statuses] != [str(number) for number in range(1, 15)]:
-    complain(HELP + ': the statuses are not read')
 if not all(line.startswith('btrsend ') for line in usage):
     complain(HELP + ': the usage is not read')
 
@@ -106,74 +88,78 @@ def synopsis():
         lines += ['.br', call(line)]
     return lines[1:]
 
-# The sentences of a status, each with where it comes.
-def second_lines(number, note):
-    if note == 'refused':
-        return [('', 'that of the refusal, below')]
-    if note == 'usage':
-        return [('', said) for said in of_words]
-    found = []
-    for name, said in notes:
-        if name == note:
-            found.append(('', said))
-        elif name == note + ' 0':
-            found.append((' (of \\fB' + name + '\\fP)', said))
-    if note == 'output fault':
-        found += [('', constants['TO_A_TERMINAL']), ('', constants['TO_ITSELF'])]
-    if not found:
-        complain('no second line for status ' + number + ' ' + note)
-    return found
+# What the explanation of a message or a refusal is, by its name: one sentence, or several.
+explanations = {}
+for name, said in notes:
+    explanations.setdefault(name, []).append(said)
+explanations['not a store'] = explanations.pop('not a store 0') + explanations['not a store']
+explanations['output fault'] += [said for name, said in constants.items() if name.startswith('TO_')]
+explanations['usage'] = of_words
+first = {}
+for at, (name, said) in enumerate(refusals):
+    explanations[name] = [said if said not in first else 'that of %d' % first[said]]
+    first.setdefault(said, at + 1)
 
-def status_entries():
-    lines = ['.TP', '.B 0', 'All was done.']
-    for number, note, values, meaning in statuses:
-        lines += ['.TP', '\\fB' + number + ' ' + note + '\\fP' + call(values)]
-        if meaning:
-            lines += [sentence(meaning, values.split() + ['STORE']), '.br']
-        found = second_lines(number, note)
-        if len(found) == 1 or found[0][0]:
-            for at, (where, said) in enumerate(found):
-                lines += ['.br'] * min(at, 1) + ['\\fBSecond line\\fP' + where + ': ' + plain(said) + '.']
-        else:
-            lines += ['\\fBSecond line\\fP, one of these:', '.RS']
-            for _, said in found:
-                lines += ['.IP \\(bu 2', plain(said)]
-            lines += ['.RE']
-    return lines
+def explanation(name):
+    said = explanations[name]
+    if len(said) == 1:
+        return ['.br'] + filled('\\fBExplanation\\fP: ' + plain(said[0]) + '.')
+    lines = ['.br', '\\fBExplanation\\fP, one of these:', '.RS']
+    for one in said:
+        lines += ['.IP \\(bu 2'] + filled(plain(one))
+    return lines + ['.RE']
 
-# Refusals of one sentence stand together, at the first of them.
-def refusal_entries():
-    together = {}
-    for at, (name, said) in enumerate(refusals):
-        together.setdefault(said, []).append('%d \\%%%s' % (at + 1, name))
-    lines = []
-    for said, names in together.items():
-        lines += ['.PP', '\\fB' + ', '.join(names) + '\\fP', '.RS', plain(said), '.RE']
-    return lines
+# Lines of at most 100 columns. One that begins like a request is no request.
+def filled(text):
+    lines = textwrap.wrap(text, 100, break_long_words=False, break_on_hyphens=False)
+    return ['\\&' + line if line[:1] in ('.', "'") else line for line in lines]
+
+# The page with these lines between the line that begins a part and the one that ends it.
+def put(page, begin, end, lines):
+    before, begins, rest = page.partition('\n' + begin + '\n')
+    _, ends, after = rest.partition(end + '\n')
+    if not ends or begin + '\n' in after:
+        complain('the man page has not one part ' + begin)
+        return page
+    return before + begins + '\n'.join(lines) + '\n' + ends + after
 
 old = open(MANUAL).read()
-new = old
-for name, lines in (('SYNOPSIS', synopsis()), ('STATUSES', status_entries()), ('REFUSALS', refusal_entries())):
-    begin, end = '.\\" BEGIN %s' % name, '.\\" END %s' % name
-    parts = re.split('^(%s.*\n|%s\n)' % (re.escape(begin), re.escape(end)), new, flags=re.M)
-    if len(parts) != 5:
-        complain('the manual has no part ' + name)
-        continue
-    parts[1] = begin + ', which trials/manual.sh --write writes from the program\'s texts\n'
-    parts[2] = '\n'.join(lines) + '\n'
-    new = ''.join(parts)
+new = put(old, '.\\" BEGIN SYNOPSIS', '.\\" END SYNOPSIS', synopsis())
+for name in explanations:
+    new = put(new, '.\\" EXPLANATION ' + name, '.\\" END', explanation(name))
+for name in re.findall(r'^\.\\" EXPLANATION (.*)$', new, re.M):
+    if name not in explanations:
+        complain('the man page explains %s, and the program does not' % name)
 
 # ---- what is written by hand
 
-of_calls = new[new.index('.SH WORDS'):new.index('.SH "EXIT STATUS"')]
+def entries(text, what):
+    return len(re.findall(r'^\.TP\n' + what, text, re.M))
+
+readme = open('README.md').read()
+of_calls = new[new.index('.SH COMMANDS'):new.index('.SH NAMES')]
 for line in usage:
     for word in re.findall(r'--[a-z]+', line) or [line.split()[1]]:
-        if not re.search(r'^\.TP\n\.\w+ .*?' + re.escape(plain(word)) + r'\b', of_calls, re.M):
-            complain('the manual has no entry of the word ' + word)
-of_refusals = new[new.index('.SS What to do about a refusal'):]
+        if entries(of_calls, r'\.\w+ .*?' + re.escape(plain(word)) + r'\b') < 1:
+            complain('the man page has no entry of ' + word)
+        if word not in ('--help', '--version', 'gen', 'trial') and not re.search(r'^\|.*\| `%s ' % word, readme, re.M):
+            complain('README.md has no row for ' + word)
+of_refusals = new[new.index('.SH REFUSALS'):new.index('.SH STORES')]
 for at, (name, _) in enumerate(refusals):
-    if not re.search(r'^\.TP\n\.BI? "?%d %s\b' % (at + 1, name), of_refusals, re.M):
-        complain('the manual has no entry of the refusal %d %s' % (at + 1, name))
+    if entries(of_refusals, r'\.BI? "?%d %s\b' % (at + 1, name)) != 1:
+        complain('the man page has not one entry of the refusal %d %s' % (at + 1, name))
+
+# The statuses of the man page, each with its message, and those of README.md.
+of_statuses = new[new.index('.SH "EXIT STATUS"'):new.index('.SH REFUSALS')]
+in_manual = []
+for entry in re.findall(r'^\.TP\n(?:\.B |\\fB)(\d.*)$', of_statuses, re.M):
+    number, _, message = re.sub(r'\\f[BIP]|\\\||\\&', '', entry).partition(' ')
+    in_manual.append((number, message.replace('...', '..')))
+in_readme = re.findall(r'^\| (\d+) \| (?:`([^`]*)` )?\|', readme, re.M)
+if [number for number, _ in in_manual] != [str(number) for number in range(15)]:
+    complain('the man page has the statuses ' + ' '.join(number for number, _ in in_manual))
+for one in sorted(set(in_manual) ^ set(in_readme), key=lambda one: int(one[0])):
+    complain('%s alone has the status %s %s' % ('README.md' if one in in_readme else 'the man page', *one))
 
 if wrong:
     sys.exit(1)

@@ -3,8 +3,8 @@
 #
 # - No private word stands there for which there is a common one. The list below has those that can be matched safely.
 # - No line is longer than 100 columns. Tables, examples and the output in them are not looked at.
-# - No sentence of README.md has more than 25 words, roughly counted: a piece of code counts as one. The quoted theorem is
-#   not looked at.
+# - No sentence of README.md and of the man page has more than 25 words, roughly counted: a piece of code counts as one. The
+#   quoted theorem is not looked at.
 #
 # Nothing is proved or built here. Status 0 if all is right. Needs python3.
 here=$(CDPATH='' cd -- "$(dirname -- "$0")/.." && pwd) || exit 2
@@ -99,15 +99,40 @@ for path in ('crates/host_io/src/help.rt', 'crates/host_io/src/advice.rt'):
 
 # ---- sentences
 
-for number, text in paragraphs(prose(readme)):
-    if text.startswith('#'):
-        continue
+def look_at_sentences(path, pieces):
+    for number, text in pieces:
+        for sentence in re.split(r'[.!?](?=\s|$)', text.replace('\n', ' ')):
+            count = len(re.findall(r'[A-Za-z0-9]\S*', sentence))
+            if count > WORDS:
+                complain('%s:%d' % (path, number), '%d words: %s ..' % (count, ' '.join(sentence.split()[:8])))
+
+def plain(text):
     text = re.sub(r'\[([^\]]*)\]\([^)]*\)', r'\1', text)
-    text = re.sub(r'`[^`]*`', 'code', text).replace('*', '').replace('\n', ' ')
-    for sentence in re.split(r'[.!?](?=\s|$)', text):
-        count = len(re.findall(r"[A-Za-z0-9][^\s]*", sentence))
-        if count > WORDS:
-            complain('README.md:%d' % number, '%d words: %s ..' % (count, ' '.join(sentence.split()[:8])))
+    return re.sub(r'`[^`]*`', 'code', text).replace('*', '')
+
+# The paragraphs of the man page that are prose, each with the number of its first line. What an entry is called is none. An
+# explanation says what is wrong, and behind a colon what to do, which counts as two sentences.
+def manual_paragraphs(text):
+    found, begin, filled, before = [], 0, True, ''
+    text = re.sub(r'(?<=^\.\\" EXPLANATION ).*?(?=^\.\\" END)', lambda said: re.sub('[:;] ', '. ', said.group()), text, flags=re.M | re.S)
+    for number, line in enumerate(text.split('\n') + ['.PP'], 1):
+        request = re.match(r'\.([A-Za-z]+|\\")', line)
+        if before == '.TP':
+            request = re.match('(TP)', 'TP')
+        before = line
+        if line.startswith(('.nf', '.fi')):
+            filled = line.startswith('.fi')
+        if request and not re.match(r'[BIR]{1,2}$', request.group(1)):
+            if found:
+                yield begin, ' '.join(found)
+            found = []
+        elif filled and line:
+            begin = begin if found else number
+            line = re.sub(r'^\.[BIR]{1,2} ', '', line)
+            found.append(re.sub(r'\\f[BIPR]|\\[|&%]', '', line).replace('"', ''))
+
+look_at_sentences('README.md', [(at, plain(text)) for at, text in paragraphs(prose(readme)) if not text.startswith('#')])
+look_at_sentences('docs/btrsend.1', manual_paragraphs(manual))
 
 print('words.sh: %s' % ('all right' if not wrong else '%d wrong' % wrong))
 sys.exit(wrong != 0)

@@ -1,28 +1,35 @@
-// What a person is told about a note, in one sentence. `trials/manual.sh --write` puts these sentences into the manual, which says more
-// beside them. It knows the tables and the arms of `about_words` by their form.
+// Explanations: what a person is told about a message, in one sentence each. They are put into the
+// man page by `trials/manual.sh --write`, which knows the tables and the arms of `about_words` by
+// their form. In a sentence that takes two lines, a backslash ends the first.
 
 use escaped_words::meant_len;
 
-const LIKE_THIS: &str = "it was written like this: send the subvolume again with --proto 1";
+const LIKE_THIS: &str =
+    "the sender wrote an invalid command (this is no transmission damage): send the snapshot again \
+    with --proto 1";
 
-const COPY_AGAIN: &str = "the file is damaged: copy it again, or send the subvolume again";
+const COPY_AGAIN: &str = "the file is damaged: copy it again, or send the snapshot again";
 
 const NO_FIT: &str =
-    "the stream does not fit the subvolume that it says it stands on: send it again from the right parent";
+    "the stream does not fit the parent snapshot that it names: send it again from the right \
+    parent";
 
 // About a refusal, by its name.
 const REFUSALS: [(&str, &str); 35] = [
     (
         "BadMagic",
-        "other bytes stand where a stream begins: it is no send stream, or still compressed or encrypted",
+        "this is no send stream, or it is still compressed or encrypted, or it is a store, or a \
+        side file such as btrbk's .info",
     ),
     (
         "BadVersion",
-        "only versions 1 and 2 are taken: send the subvolume again with --proto 2, without --compressed-data",
+        "only protocol versions 1 and 2 are read: send the snapshot again with --proto 2, without \
+        --compressed-data",
     ),
     (
         "Truncated",
-        "the file is empty or ends inside a stream: copy it again, or send the subvolume again",
+        "the file is empty or ends inside a stream: copy it again, or send the snapshot again; if \
+        it is a part of a stream that was split, join the parts with cat first",
     ),
     ("LongCommand", COPY_AGAIN),
     ("BadChecksum", COPY_AGAIN),
@@ -32,19 +39,21 @@ const REFUSALS: [(&str, &str); 35] = [
     ("NoSubvolume", LIKE_THIS),
     (
         "BadName",
-        "the name is not lawful: write name:NEW in front of the file, with a lawful one",
+        "the name of the snapshot is not valid: write name:NEW in front of the file, with a valid \
+        name",
     ),
     (
         "NameThere",
-        "a subvolume of this name is there: leave out what is given twice, or write name:NEW in front of the file",
+        "a snapshot of this name is there already: leave out what is given twice, or write \
+        name:NEW in front of the file",
     ),
     (
         "UuidThere",
-        "the same subvolume was sent twice: leave one of the two streams out",
+        "the same snapshot was sent twice: leave one of the two streams out",
     ),
     (
         "NoParent",
-        "it stands on a subvolume that is not there: give the streams in the order in which they were sent",
+        "the parent snapshot is missing: give the streams in the order in which they were sent",
     ),
     ("BadPath", LIKE_THIS),
     ("NoEntry", NO_FIT),
@@ -62,14 +71,15 @@ const REFUSALS: [(&str, &str); 35] = [
     ("FileTooBig", LIKE_THIS),
     (
         "NoSource",
-        "a clone takes its data from a subvolume that is not there: give the streams of that one in front",
+        "a clone takes its data from a snapshot that is missing: give the streams of that one \
+        first",
     ),
     ("BadRange", NO_FIT),
     ("Unaligned", LIKE_THIS),
     ("Overlap", LIKE_THIS),
     (
         "Encoded",
-        "send the subvolume again without --compressed-data",
+        "send the snapshot again without --compressed-data",
     ),
     (
         "Guarded",
@@ -78,37 +88,47 @@ const REFUSALS: [(&str, &str); 35] = [
     ("BadFallocate", LIKE_THIS),
     (
         "NotConsecutive",
-        "each part has to stand on the one just before it: leave out streams that the last one does not need",
+        "this snapshot is not based on the one before it: if these are two chains, merge each \
+        alone; else leave out the streams that the last snapshot does not need",
     ),
 ];
 
-// About the other notes, by how they begin.
+// About the other messages, by how they begin.
 const NOTES: [(&[u8], &str); 12] = [
-    (b"input fault", "give it again when it can be read"),
+    (
+        b"input fault",
+        "give it again when it can be read; `compose` reads each file twice, so unpack a \
+        compressed stream into a file first",
+    ),
     (
         b"output fault",
-        "standard output could not be written: what stands there is not whole",
+        "standard output could not be written: its contents are incomplete",
     ),
     (
         b"store fault",
-        "see to the disk or to who uses the store, then look at `list`",
+        "see to the disk, or to who uses the store; then look at `list`",
     ),
     (
         b"not a store 0",
-        "it is no store: `init` makes one where there is nothing",
+        "this is no store: `init` makes a new one; if it is a stream, write `none` in front of it",
     ),
     (
         b"not a store",
-        "it was changed by something else: copy it, and receive into a new store",
+        "something else changed the store: copy it, and receive into a new store",
     ),
-    (b"no memory", "there was no memory: nothing more was done"),
+    (
+        b"no memory",
+        "there was not enough memory: nothing more was done",
+    ),
     (
         b"missing",
-        "`list` and `show` print the names that there are",
+        "`list` and `show` print the names that there are; an unfinished snapshot can only be \
+        dropped",
     ),
     (
         b"too much",
-        "merge the chain only up to a subvolume before it, or receive the streams one after the other",
+        "merge the chain only up to an earlier snapshot, or receive the streams one after the \
+        other",
     ),
     (b"log full", "the store has no room: begin a new one"),
     (b"input too long", "it has 2^62 bytes or more"),
@@ -134,30 +154,31 @@ pub(crate) fn about_refusal(name: &[u8]) -> Option<&'static str> {
     None
 }
 
-/// What words that mean nothing may have meant.
+/// What arguments that are not understood may have meant.
 pub(crate) fn about_words(words: &[String]) -> &'static str {
     match words {
-        [] => "no words, or one that is no text: --help shows the words that there are",
+        [] => "no command, or an argument that is not valid UTF-8: --help lists the commands",
         [word] if matches!(word.as_str(), "-h" | "help" | "-help" | "-?") => {
-            "the word for help is --help"
+            "the option for help is --help"
         }
         [word] if matches!(word.as_str(), "-V" | "-v" | "version") => {
-            "the word for the version is --version"
+            "the option for the version is --version"
         }
         [word, _] if matches!(word.as_str(), "audit" | "compose" | "export" | "receive") => {
-            "a STORE stands before the files, or none where they stand on nothing else"
+            "a STORE comes before the files, or none if the first stream is a full one"
         }
         [_, none, guard, ..]
             if none.as_str() == "none" && guard.as_bytes().starts_with(b"guard:") => {
-            "guards stand before the store"
+            "guards come before the store"
         }
         [.., word] if word.as_bytes().starts_with(b"name:") => {
-            "a file stands behind the name that is given for it"
+            "a file has to follow the name that is given for it"
         }
         words if is_no_form(words) => {
-            "behind escaped: stands a name as `list` and `show` print it: a backslash, x and two of 0-9 a-f for each byte that is not visible"
+            "after escaped: write a name as `list` and `show` print it: a backslash, x and two of \
+            0-9 a-f for each byte that is not visible"
         }
-        _ => "these words mean nothing: --help shows the words that there are",
+        _ => "these arguments are not understood: --help lists the commands",
     }
 }
 
@@ -174,13 +195,13 @@ fn is_no_form(words: &[String]) -> bool {
 
 /// What is said where standard output, a terminal, would get a stream.
 pub(crate) const TO_A_TERMINAL: &str =
-    "standard output is a terminal, and a stream is no text: write it to a file or into a pipe";
+    "standard output is a terminal, and a stream is binary data: write it to a file or into a pipe";
 
 /// What is said where standard output is one of the files that a stream is made of.
 pub(crate) const TO_ITSELF: &str =
     "standard output is one of the files that are read: write the stream to another file";
 
-/// What to do about another note.
+/// What to do about another message.
 pub(crate) fn about_note(note: &[u8]) -> Option<&'static str> {
     for (begins, advice) in NOTES {
         if note.starts_with(begins) {
