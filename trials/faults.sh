@@ -635,22 +635,22 @@ explain() { BTRSEND_EXPLAIN=1 timeout 20 "$program" "$@" >out 2>note; status=$?;
 on_terminal() { timeout 20 python3 on_terminal.py "$program" "$@" >shown; status=$?; }
 
 printf '%s\n' 'input fault' \
-    'btrsend: missing: No such file or directory (os error 2); give it again when it can be read' >wanted
+    'btrsend: missing: No such file or directory (os error 2); give it again when it can be read; `compose` reads each file twice, so unpack a compressed stream into a file first' >wanted
 explain audit none missing; explained 'what to do about a missing file' 3 note
 on_terminal audit none missing; explained 'the same on a terminal' 3 shown
 for name in once linked; do
-    printf '%s\n' 'input fault' "btrsend: $name: it can be read only once; give it again when it can be read" >wanted
+    printf '%s\n' 'input fault' "btrsend: $name: it can be read only once; give it again when it can be read; \`compose\` reads each file twice, so unpack a compressed stream into a file first" >wanted
     (exec cat m0 >once) &
     feeder=$!
     explain audit none once $name; explained "what to do about a pipe that is given twice, as $name" 3 note
     kill "$feeder" 2>/dev/null; wait "$feeder" 2>/dev/null
 done
 printf '%s\n' 'store fault' \
-    'btrsend: nostore: No such file or directory (os error 2); see to the disk or to who uses the store, then look at `list`' \
+    'btrsend: nostore: No such file or directory (os error 2); see to the disk, or to who uses the store; then look at `list`' \
     >wanted
 explain list nostore; explained 'what to do about a missing store' 5 note
 printf '%s\n' 'refused 1 1 17 13 NoParent' \
-    'btrsend: second, command 1: it stands on a subvolume that is not there: give the streams in the order in which they were sent; its UUID is 00000000-0000-0001-0000-000000000001' \
+    'btrsend: second, command 1: the parent snapshot is missing: give the streams in the order in which they were sent; its UUID is 00000000-0000-0001-0000-000000000001' \
     >wanted
 explain compose none second; explained 'what to do about a missing parent' 1 note
 explain audit none /dev/stdin <second; sed -i 's/second,/\/dev\/stdin,/' wanted
@@ -659,11 +659,11 @@ sed -i 's/; its UUID.*//' wanted
 cat second | BTRSEND_EXPLAIN=1 timeout 20 "$program" audit none /dev/stdin >out 2>note; status=$?
 explained 'a pipe is not' 1 note
 printf '%s\n' 'refused 1 3 79 28 NoSource' \
-    'btrsend: sourceless, command 3: a clone takes its data from a subvolume that is not there: give the streams of that one in front; its UUID is 00000000-0000-0001-0000-000000000001' \
+    'btrsend: sourceless, command 3: a clone takes its data from a snapshot that is missing: give the streams of that one first; its UUID is 00000000-0000-0001-0000-000000000001' \
     >wanted
 explain audit none sourceless; explained 'what to do about a missing source' 1 note
 printf '%s\n' 'output fault' \
-    'btrsend: standard output is a terminal, and a stream is no text: write it to a file or into a pipe' >wanted
+    'btrsend: standard output is a terminal, and a stream is binary data: write it to a file or into a pipe' >wanted
 on_terminal compose none small second; explained 'no stream goes to a terminal' 4 shown
 printf '%s\n' 'output fault' \
     'btrsend: standard output is one of the files that are read: write the stream to another file' >wanted
@@ -677,13 +677,13 @@ done
 # ---- names for the parts of files
 
 printf '%s\n' 'refused 2 1 17 10 BadName' \
-    'btrsend: second, command 1: the name is not lawful: write name:NEW in front of the file, with a lawful one' >wanted
+    'btrsend: second, command 1: the name of the snapshot is not valid: write name:NEW in front of the file, with a valid name' >wanted
 explain audit none small name:. second; explained 'the file is named and not the word in front of it' 1 note
 printf '%s\n' 'refused 1 1 17 13 NoParent' \
-    'btrsend: second, command 1: it stands on a subvolume that is not there: give the streams in the order in which they were sent; its UUID is 00000000-0000-0001-0000-000000000001' \
+    'btrsend: second, command 1: the parent snapshot is missing: give the streams in the order in which they were sent; its UUID is 00000000-0000-0001-0000-000000000001' \
     >wanted
 explain audit none name:other second; explained 'a missing parent of a file with a name' 1 note
-printf '%s\n' 'usage' 'btrsend: a file stands behind the name that is given for it' >wanted
+printf '%s\n' 'usage' 'btrsend: a file has to follow the name that is given for it' >wanted
 explain audit none small name:other; explained 'a name behind the last file' 2 note
 cp small itself
 printf '%s\n' 'output fault' \
@@ -717,7 +717,7 @@ case_is 'it is asked for as it is printed' "$([ "$status" = 0 ] && grep -q '^sub
 timeout 20 "$program" drop names 'escaped:\xff' >out 2>note; status=$?
 case_is 'another is not there' "$([ "$status" = 8 ] && [ "$(cat note)" = 'missing \xff' ] || echo "status $status, $(cat note)")"
 printf '%s\n' 'usage' \
-    'btrsend: behind escaped: stands a name as `list` and `show` print it: a backslash, x and two of 0-9 a-f for each byte that is not visible' >wanted
+    'btrsend: after escaped: write a name as `list` and `show` print it: a backslash, x and two of 0-9 a-f for each byte that is not visible' >wanted
 explain show names 'escaped:\xFF'; explained 'a word that list never prints' 2 note
 explain compose none name:escaped:a\ b small; explained 'a new name that list never prints' 2 note
 
