@@ -604,6 +604,78 @@ while [ $call -lt 100 ]; do
 done
 composed "each of $((call - 1)) reads of a store fails once while composing" second
 
+# ---- closed standard descriptors
+
+# Runs the program with some of the descriptors 0, 1 and 2 closed: bit N of the first argument closes descriptor N.
+cat >closed.py <<'PYTHON'
+import os, sys
+for descriptor in range(3):
+    if int(sys.argv[1]) >> descriptor & 1:
+        os.close(descriptor)
+os.execv(sys.argv[2], sys.argv[2:])
+PYTHON
+
+# OUTPUT COMMAND..: runs the command over a copy of a store with each of the eight ways to close descriptors. The store must
+# afterwards be what it is without a closed one. The status is then 4 if standard output is closed and OUTPUT is `writes`, else the
+# same. A message comes only if standard error is open.
+closed_ways() {
+    output=$1; shift
+    rm -f closed-new; cp closed-store closed-wanted
+    timeout 20 "$program" "$@" >out 2>note; plain=$?
+    mv closed-wanted closed-after
+    [ -e closed-new ] && mv closed-new closed-made
+    wrong_way=
+    for bits in 0 1 2 3 4 5 6 7; do
+        rm -f closed-new; cp closed-store closed-wanted
+        timeout 20 python3 closed.py $bits "$program" "$@" >out 2>note; status=$?
+        due=$plain
+        [ "$output" = writes ] && [ $((bits & 2)) != 0 ] && due=4
+        [ "$status" = "$due" ] || wrong_way="$wrong_way, closed $bits: status $status and not $due"
+        cmp -s closed-wanted closed-after || wrong_way="$wrong_way, closed $bits: another store"
+        if [ -e closed-made ]; then cmp -s closed-new closed-made || wrong_way="$wrong_way, closed $bits: another new store"; fi
+        if [ $((bits & 4)) != 0 ] && [ -s note ]; then wrong_way="$wrong_way, closed $bits: a message"; fi
+        if [ $((bits & 4)) = 0 ] && [ "$due" != 0 ] && ! [ -s note ]; then wrong_way="$wrong_way, closed $bits: no message"; fi
+    done
+    rm -f closed-made closed-new
+    case_is "eight ways to close descriptors, $*" "${wrong_way#, }"
+}
+rm -f closed-store; "$program" init closed-store; "$program" receive closed-store small >/dev/null
+for words in 'init closed-wanted' 'init closed-new' 'drop closed-wanted a' 'drop closed-wanted z' 'show closed-wanted z' \
+    'receive closed-wanted small' 'receive closed-wanted missing' 'receive' 'audit closed-wanted m5'; do
+    closed_ways silent $words
+done
+for words in 'receive closed-wanted second' 'interleave closed-wanted 0 second' 'list closed-wanted' 'show closed-wanted a' \
+    'cat closed-wanted a 1' 'scrub closed-wanted' 'send closed-wanted a' 'restore closed-wanted a' 'audit closed-wanted second' \
+    'compose closed-wanted second' 'export closed-wanted second' 'dump small' 'gen 2 1' 'trial 2 1' '--help'; do
+    closed_ways writes $words
+done
+
+# ---- standard output is the store
+
+# COMMAND..: appends the output to the store that the command opens, and writes it over the store.
+to_the_store() {
+    cp closed-store itself
+    timeout 20 "$program" "$@" >>itself 2>note; status=$?
+    refused "$* >> the store" 4 'output fault
+btrsend: standard output is the store itself: write to another file or into a pipe'
+    timeout 20 "$program" "$@" 1<>itself 2>note; status=$?
+    refused "$* over the store" 4 'output fault
+btrsend: standard output is the store itself: write to another file or into a pipe'
+    case_is "$* leaves the store as it was" "$(cmp closed-store itself 2>&1)"
+}
+: >out
+for words in 'init itself' 'receive itself second' 'interleave itself 0 second' 'list itself' 'show itself a' 'cat itself a 1' \
+    'drop itself a' 'scrub itself' 'send itself a' 'restore itself a' 'audit itself second' 'compose itself second' \
+    'export itself second'; do
+    to_the_store $words
+done
+cp closed-store itself
+timeout 20 "$program" send itself >>itself 2>note; status=$?
+refused 'a usage error comes first, also if standard output is the store' 2 usage
+timeout 20 "$program" show itself z >>itself 2>note; status=$?
+refused 'a missing snapshot comes first, also if standard output is the store' 8 'missing z'
+case_is 'the store is as it was' "$(cmp closed-store itself 2>&1)"
+
 # ---- the second line, which a terminal or the variable BTRSEND_EXPLAIN asks for
 
 # The words that follow, with a terminal for all three files; what it shows goes to standard output.
@@ -672,6 +744,20 @@ for word in export compose; do
     timeout 20 "$program" $word none itself >>itself 2>note; status=$?
     explained "$word >> its own file ends" 4 note
     case_is "$word leaves its own file as it was" "$(cmp small itself 2>&1)"
+done
+
+for words in 'compose:2' 'compose none:2' 'send closed-store:2' 'restore:2' 'send nostore a:5' 'export nostore small:5' \
+    'send store-other a:6' 'restore closed-store z:8' 'compose none missing:3'; do
+    on_terminal ${words%:*}
+    case_is "on a terminal another status comes first: ${words%:*}" "$([ "$status" = "${words##*:}" ] || echo "status $status")"
+done
+printf '%s\n' 'output fault' \
+    'btrsend: standard output is one of the files that are read: write the stream to another file' >wanted
+for words in 'audit none itself' 'dump itself' 'receive closed-store itself' 'interleave closed-store 0 itself'; do
+    cp second itself; cp closed-store closed-before
+    timeout 20 "$program" $words >>itself 2>note; status=$?
+    explained "$words >> the file that is read" 4 note
+    case_is "$words leaves its file as it was" "$(cmp second itself 2>&1; cmp closed-store closed-before 2>&1)"
 done
 
 # ---- names for the parts of files

@@ -201,6 +201,10 @@ pub(crate) const TO_A_TERMINAL: &str =
 pub(crate) const TO_ITSELF: &str =
     "standard output is one of the files that are read: write the stream to another file";
 
+/// What is said where standard output is the file of the store.
+pub(crate) const TO_THE_STORE: &str =
+    "standard output is the store itself: write to another file or into a pipe";
+
 /// What to do about another message.
 pub(crate) fn about_note(note: &[u8]) -> Option<&'static str> {
     for (begins, advice) in NOTES {

@@ -2,6 +2,8 @@
 #![tactic(auto)]
 
 mod advice;
+mod barred_inputs;
+mod barred_output;
 mod disk_progress;
 mod explaining;
 mod help;
@@ -14,6 +16,7 @@ mod path_inputs;
 mod program;
 mod progress;
 mod screen;
+mod standard_files;
 
 pub use disk_progress::DiskProgress;
 pub use line::{HowFar, line_of};

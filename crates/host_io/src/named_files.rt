@@ -46,13 +46,10 @@ impl<'a> NamedFiles<'a> {
         Some(sum)
     }
 
-    /// Whether one of them is the regular file that standard output goes to, of which `files` tells by the path /dev/stdout.
+    /// Whether one of them is the regular file that standard output goes to.
     pub(crate) fn have_output<R: Files>(&self, files: &R) -> bool {
-        let Some(output) = place_of(files, "/dev/stdout") else {
-            return false;
-        };
         self.words.iter().any(|word| !self.is_other(word.as_str())
-            && place_of(files, word.as_str()) == Some(output))
+            && is_output(files, word.as_str()))
     }
 
     // Whether a word names no file.
@@ -93,6 +90,14 @@ pub(crate) fn bytes_of<R: Files>(files: &R, name: &str) -> Option<u64> {
         return None;
     }
     Some(about.len())
+}
+
+/// Whether a file is the regular file that standard output goes to, of which `files` tells by the path /dev/stdout.
+pub(crate) fn is_output<R: Files>(files: &R, name: &str) -> bool {
+    match place_of(files, "/dev/stdout") {
+        Some(output) => place_of(files, name) == Some(output),
+        None => false,
+    }
 }
 
 // The numbers of the device and the inode of a file, where it is a regular one.

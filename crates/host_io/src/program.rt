@@ -1,5 +1,6 @@
 // From the system's arguments, files and streams to the call that does the work.
-use crate::advice::{TO_A_TERMINAL, TO_ITSELF};
+use crate::barred_inputs::BarredInputs;
+use crate::barred_output::{BarredOutput, BarredSink, barred_output};
 use crate::disk_progress::DiskProgress;
 use crate::explaining::{KeptNotes, explain, is_wanted};
 use crate::help::{HELP, VERSION};
@@ -9,6 +10,7 @@ use crate::out_sink::OutSink;
 use crate::path_inputs::PathInputs;
 use crate::progress::{Progress, millis_of};
 use crate::screen::{AfterLine, Screen, end_line};
+use crate::standard_files::StandardFiles;
 use file_disk::{FileDisk, OpenStop};
 use guard_rules::{AnyGuard, Guard, parse_guard};
 use send_top::{Answer, StoreUse, run, status, store_use, store_word, write_note};
@@ -19,13 +21,18 @@ use std::io::{ErrorKind, IsTerminal};
 use std::process::ExitCode;
 use std::rt::Files;
 use std::{env, fs, io};
-use sx_base::{Blob, Disk, Outcome, Sink, escape_into, write_whole};
+use sx_base::{Blob, Disk, Inputs, MemSink, Outcome, Sink, escape_into, write_whole};
 
 /// Does what the words after the program's name ask for, over the files and standard streams of the system, and gives the
-/// status to end with. A lone `--help` or `--version` is answered here.
+/// status to end with. A lone `--help` or `--version` is answered here. A standard stream that is closed fails as one that cannot be
+/// written, and no file takes its place.
 pub fn start(rt: &HostRuntime) -> ExitCode {
+    let held = StandardFiles::hold(rt);
     let mut out = OutSink::new(rt.stdout());
     let mut notes = KeptNotes::new(OutSink::new(rt.stderr()));
+    if held.is_err() {
+        return answered(&Answer::Ended(Outcome::OutputFault), &mut notes);
+    }
     let words = match words_of(rt) {
         Ok(words) => words,
         Err(error) if error.kind() == ErrorKind::OutOfMemory => {
@@ -40,38 +47,13 @@ pub fn start(rt: &HostRuntime) -> ExitCode {
             Err(_) => answered(&Answer::Ended(Outcome::OutputFault), &mut notes),
         };
     }
-    if let Some(why) = no_place_for_a_stream(rt, &words) {
-        let status = answered(&Answer::Ended(Outcome::OutputFault), &mut notes);
-        let _ = write_whole(&mut notes, b"btrsend: ");
-        let _ = write_whole(&mut notes, why.as_bytes());
-        let _ = write_whole(&mut notes, b"\n");
-        return status;
-    }
-    match run_over(rt, &words, &mut out, &mut notes) {
+    let ran = match barred_output(rt, &words) {
+        None => run_over(rt, &words, &mut out, &mut notes),
+        Some(why) => run_barred(rt, &words, why, &mut notes),
+    };
+    match ran {
         Ok(status) => ExitCode::from(status),
         Err(AllocError) => answered(&Answer::Ended(Outcome::NoMemory), &mut notes),
-    }
-}
-
-// Why standard output can not take the stream that words ask for, if it can not: it is a terminal, or a file that is read for it.
-fn no_place_for_a_stream(rt: &HostRuntime, words: &[String]) -> Option<&'static str> {
-    if !writes_stream(words) {
-        return None;
-    }
-    if rt.stdout().is_terminal() {
-        return Some(TO_A_TERMINAL);
-    }
-    if NamedFiles::of(words).have_output(rt) {
-        return Some(TO_ITSELF);
-    }
-    None
-}
-
-// Whether words ask for a stream on standard output.
-fn writes_stream(words: &[String]) -> bool {
-    match words {
-        [word, _, _, ..] => matches!(word.as_str(), "compose" | "export" | "send" | "restore"),
-        _ => false,
     }
 }
 
@@ -83,11 +65,78 @@ fn run_over<O: Sink, N: Sink>(
     notes: &mut KeptNotes<N>,
 ) -> Result<u8, AllocError> {
     match open_store(rt, words) {
-        Opened::Disk(disk) => run_words(rt, words, out, notes, disk, None),
-        Opened::NoStore => run_words(rt, words, out, notes, NoDisk::new(), None),
+        Opened::Disk(disk) => run_on(rt, words, out, notes, disk, None),
+        Opened::NoStore => run_on(rt, words, out, notes, NoDisk::new(), None),
         Opened::Stopped(OpenStop::NoMemory) => Err(AllocError),
-        Opened::Stopped(why) => run_words(rt, words, out, notes, NoDisk::new(), Some(why)),
+        Opened::Stopped(why) => run_on(rt, words, out, notes, NoDisk::new(), Some(why)),
     }
+}
+
+// Answers words whose output is barred: what is wrong with the words, the store or the snapshot comes first. Nothing is read of the
+// files, and nothing is changed.
+fn run_barred<N: Sink>(
+    rt: &HostRuntime,
+    words: &[String],
+    why: BarredOutput,
+    notes: &mut KeptNotes<N>,
+) -> Result<u8, AllocError> {
+    match open_store(rt, words) {
+        Opened::Disk(_) if changes_store(words) => Ok(bar(why, notes)),
+        Opened::Disk(disk) => run_unread(rt, words, why, notes, disk, None),
+        Opened::NoStore => run_unread(rt, words, why, notes, NoDisk::new(), None),
+        Opened::Stopped(OpenStop::NoMemory) => Err(AllocError),
+        Opened::Stopped(stop) => run_unread(rt, words, why, notes, NoDisk::new(), Some(stop)),
+    }
+}
+
+// Runs words that change no store without files and without an output. If they end because of that, the answer is that the output is
+// barred; else it is what the run says.
+fn run_unread<N: Sink, D: Disk + Drop>(
+    rt: &HostRuntime,
+    words: &[String],
+    why: BarredOutput,
+    notes: &mut KeptNotes<N>,
+    disk: D,
+    stop: Option<OpenStop>,
+) -> Result<u8, AllocError> {
+    let alloc = rt.alloc();
+    let mut inputs = BarredInputs::new();
+    let mut out = BarredSink::new();
+    let mut said = MemSink::new(alloc);
+    let mut disk = disk;
+    let status = run_words(alloc, words, &mut inputs, &mut out, &mut said, &mut disk)?;
+    if let DONE | INPUT_FAULT | OUTPUT_FAULT = status {
+        return Ok(bar(why, notes));
+    }
+    let _ = write_whole(notes, said.bytes());
+    if is_wanted(rt) {
+        let ended = EndedRun {
+            alloc,
+            words,
+            status,
+            why: stop,
+        };
+        explain_run(rt, &ended, &PathInputs::new(rt, alloc), notes);
+    }
+    Ok(status)
+}
+
+// Whether words ask for a change of the store that they name.
+fn changes_store(words: &[String]) -> bool {
+    match store_use(words) {
+        Some(StoreUse::Make | StoreUse::Write) => true,
+        Some(StoreUse::Read) | None => false,
+    }
+}
+
+// Answers that standard output may not be written, and says why.
+fn bar<N: Sink>(why: BarredOutput, notes: &mut KeptNotes<N>) -> u8 {
+    let answer = Answer::Ended(Outcome::OutputFault);
+    let _ = write_note(&answer, notes);
+    let _ = write_whole(notes, b"btrsend: ");
+    let _ = write_whole(notes, why.advice().as_bytes());
+    let _ = write_whole(notes, b"\n");
+    status(&answer)
 }
 
 // The store that words name.
@@ -116,8 +165,8 @@ fn open_store(rt: &HostRuntime, words: &[String]) -> Opened {
     }
 }
 
-// Runs the words, with one guard for each guard word of `audit` and `receive`. Where the store could not be opened, `why` says why.
-fn run_words<O: Sink, N: Sink, D: Disk + Drop>(
+// Runs the words over the files of the system and a disk. If the store could not be opened, `why` says why.
+fn run_on<O: Sink, N: Sink, D: Disk + Drop>(
     rt: &HostRuntime,
     words: &[String],
     out: &mut O,
@@ -125,33 +174,16 @@ fn run_words<O: Sink, N: Sink, D: Disk + Drop>(
     disk: D,
     why: Option<OpenStop>,
 ) -> Result<u8, AllocError> {
-    let mut guards: Vec<Box<dyn Guard>> = Vec::new(rt.alloc());
-    for word in guard_words(words) {
-        let Some(spec) = parse_guard(word.as_str()) else {
-            if do_turn(words) && !is_guard_word(word.as_str()) {
-                continue;
-            }
-            break;
-        };
-        guards.push(Box::new(rt.alloc(), AnyGuard::new(spec))?)?;
-    }
     if let Some(shown) = what_to_show(rt, words) {
-        return Ok(run_shown(rt, words, guards, shown, disk, why));
+        return run_shown(rt, words, shown, disk, why);
     }
-    let mut inputs = PathInputs::new(rt, rt.alloc());
+    let alloc = rt.alloc();
+    let mut inputs = PathInputs::new(rt, alloc);
     let mut disk = disk;
-    let status = run(
-        rt.alloc(),
-        words,
-        guards,
-        &mut inputs,
-        out,
-        notes,
-        &mut disk,
-    );
+    let status = run_words(alloc, words, &mut inputs, out, notes, &mut disk)?;
     if is_wanted(rt) {
         let ended = EndedRun {
-            alloc: rt.alloc(),
+            alloc,
             words,
             status,
             why,
@@ -161,7 +193,29 @@ fn run_words<O: Sink, N: Sink, D: Disk + Drop>(
     Ok(status)
 }
 
-// A run that is over: its words, its status, and why the store could not be opened, where it could not. And where memory comes from.
+// Runs the words, with one guard for each guard word of `audit` and `receive`.
+fn run_words<I: Inputs, O: Sink, N: Sink, D: Disk>(
+    alloc: Global,
+    words: &[String],
+    inputs: &mut I,
+    out: &mut O,
+    notes: &mut N,
+    disk: &mut D,
+) -> Result<u8, AllocError> {
+    let mut guards: Vec<Box<dyn Guard>> = Vec::new(alloc);
+    for word in guard_words(words) {
+        let Some(spec) = parse_guard(word.as_str()) else {
+            if do_turn(words) && !is_guard_word(word.as_str()) {
+                continue;
+            }
+            break;
+        };
+        guards.push(Box::new(alloc, AnyGuard::new(spec))?)?;
+    }
+    Ok(run(alloc, words, guards, inputs, out, notes, disk))
+}
+
+// A run that is over: its words, its status, and why the store could not be opened, if it could not. And where memory comes from.
 #[derive(Debug, Drop)]
 struct EndedRun<'a> {
     alloc: Global,
@@ -253,11 +307,10 @@ struct Shown {
 fn run_shown<D: Disk + Drop>(
     rt: &HostRuntime,
     words: &[String],
-    guards: Vec<Box<dyn Guard>>,
     shown: Shown,
     disk: D,
     why: Option<OpenStop>,
-) -> u8 {
+) -> Result<u8, AllocError> {
     let Shown {
         began,
         first,
@@ -273,26 +326,10 @@ fn run_shown<D: Disk + Drop>(
     let mut notes = KeptNotes::new(AfterLine::new(OutSink::new(rt.stderr()), &screen));
     let status = if rt.stdout().is_terminal() {
         let mut out = AfterLine::new(OutSink::new(rt.stdout()), &screen);
-        run(
-            alloc,
-            words,
-            guards,
-            &mut inputs,
-            &mut out,
-            &mut notes,
-            &mut disk,
-        )
+        run_words(alloc, words, &mut inputs, &mut out, &mut notes, &mut disk)?
     } else {
         let mut out = OutSink::new(rt.stdout());
-        run(
-            alloc,
-            words,
-            guards,
-            &mut inputs,
-            &mut out,
-            &mut notes,
-            &mut disk,
-        )
+        run_words(alloc, words, &mut inputs, &mut out, &mut notes, &mut disk)?
     };
     end_line(&screen);
     let ended = EndedRun {
@@ -302,11 +339,11 @@ fn run_shown<D: Disk + Drop>(
         why,
     };
     explain_run(rt, &ended, inputs.inputs(), &mut notes);
-    status
+    Ok(status)
 }
 
-// What to begin with, where standard error is a terminal; nothing, too, where there is no clock or no memory, and for words that name
-// neither a file nor a store.
+// What to begin with if standard error is a terminal; nothing if there is no clock or no memory, and for words that name neither a file
+// nor a store.
 fn what_to_show(rt: &HostRuntime, words: &[String]) -> Option<Shown> {
     if !rt.stderr().is_terminal() {
         return None;
@@ -346,7 +383,11 @@ fn answered<N: Sink>(answer: &Answer, notes: &mut N) -> ExitCode {
     ExitCode::from(status(answer))
 }
 
-// The statuses of which the system has something to say.
+// The status of a run that did all, and those of which there is more to say.
+const DONE: u8 = 0;
+
 const INPUT_FAULT: u8 = 3;
+
+const OUTPUT_FAULT: u8 = 4;
 
 const STORE_FAULT: u8 = 5;
