@@ -2,7 +2,8 @@
 # Looks at the words of what people read: README.md, the man page, `--help` and the explanations.
 #
 # - No private word stands there for which there is a common one. The list below has those that can be matched safely.
-# - No line is longer than 100 columns. Tables, examples and the output in them are not looked at.
+# - No line is longer than 100 columns. Tables, examples and the output in them are not looked at. README.md has at most 200
+#   lines.
 # - No sentence of README.md and of the man page has more than 25 words, roughly counted: a piece of code counts as one. The
 #   quoted theorem is not looked at.
 #
@@ -83,7 +84,10 @@ look_for_private('docs/btrsend.1', [(1, '\n'.join('' if line.startswith('.\\"') 
 for path in ('crates/host_io/src/help.rt', 'crates/host_io/src/advice.rt'):
     look_for_private(path, strings(text_of(path)))
 
-# ---- columns
+# ---- columns and lines
+
+if readme.count('\n') > 200:
+    complain('README.md', '%d lines' % readme.count('\n'))
 
 for path in ('README.md', 'CONTRIBUTING.md', 'CHANGELOG.md', 'trials/README.md', 'bench/README.md'):
     for number, line in prose(text_of(path)):
