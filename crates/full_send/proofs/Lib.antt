@@ -10,3 +10,4 @@ pub mod SendEnds
 pub mod SentPaths
 pub mod Walking
 pub mod WholeStreams
+pub mod WholePieces
