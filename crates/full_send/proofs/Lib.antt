@@ -2,6 +2,7 @@ pub mod Added
 pub mod Along
 pub mod HeldInodes
 pub mod HeldStretches
+pub mod LastCapabilities
 pub mod LastDirectories
 pub mod NamedSends
 pub mod Parts
