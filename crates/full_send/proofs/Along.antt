@@ -1,9 +1,9 @@
 -- How far the pieces of a file's contents are passed.
-use Rattle.std.specs.Prelude.{◌≡◌, ◌<◌, ◌≤◌, ℕ, zero, suc, ◌+◌, ◌-◌, Bool, true, false, List, [], ◌∷◌, ◌++◌, map, length, take, drop, get_or, Option, None, Some, if◌then◌else◌}
+use Rattle.std.specs.Prelude.{◌≡◌, ◌<◌, ◌≤◌, ℕ, zero, suc, ◌+◌, ◌*◌, ◌-◌, Bool, true, false, List, [], ◌∷◌, ◌++◌, map, length, take, drop, get_or, Option, None, Some, if◌then◌else◌}
 use Rattle.std.specs.List.{range_with_len}
 use Rattle.std.proofs.Common.{refl, sym, ap, ◌∙◌, arith, append_assoc, append-nil, length-append}
 use Rattle.std.proofs.Math.Seq.{take-append_seam, drop-append_seam}
-use Rattle.std.proofs.lemmas.List.{map-append, length-map, take_all}
+use Rattle.std.proofs.lemmas.List.{map-append, length-map, take_all, take-append-drop, length-take, length-drop}
 use Rattle.send_model.specs.Command.{Command, Truncate}
 use Rattle.extent_map.specs.Cells.{cells_between}
 use Rattle.extent_map.specs.Pieces.{zero_cells, run_cells, piece_cells}
@@ -18,6 +18,7 @@ use Rattle.sent_model.specs.Sent.{stretch_commands, ends_in_hole}
 use Rattle.full_send.specs.Held.{held_cell}
 use Rattle.full_send.proofs.Parts.{stretch_of}
 use Rattle.full_send.proofs.HeldStretches.{written, hole_next, end_next, ends_zero, ends_held}
+use Rattle.full_send.proofs.WholePieces.{pieces_next}
 
 abbrev Cells : Type 0
 Cells = List (Option Place)
@@ -96,6 +97,50 @@ module _ (cells : Cells) where
       at_is = let both = length-append a.places places in omega (arith, both, long, a.at_is);
     }
 
+    -- What follows.
+    rest_is : drop at cells ≡ rest
+    rest_is =
+        let front : List (Option Place) = a.before ++ map (λ p. Some p) a.places in
+        let size : length front ≡ at =
+        let one = length-append a.before (map (λ p. Some p) a.places) in let two = length-map a.places (λ p. Some p) in omega (arith, one, two, a.start_is, a.at_is) in
+        ap (λ (n : ℕ). drop n cells) (sym size) ∙ ap (drop (length front)) (sym (append_assoc a.before (map (λ p. Some p) a.places) rest ∙ a.parts)) ∙ drop-append_seam front rest
+
+    -- Up to a place in the stretch, and from there on.
+    module _ (to : ℕ) (low : start ≤ to) (high : to ≤ at) where
+      abbrev pub last_places : List Place
+      last_places = drop (to - start) a.places
+
+      abbrev first_places : List Place
+      first_places = take (to - start) a.places
+
+      first_long : start + length first_places ≡ to
+      first_long = let own = length-take (to - start) a.places in omega (arith, own, low, high, a.at_is)
+
+      places_split : map (λ p. Some p) first_places ++ (map (λ p. Some p) last_places ++ rest) ≡ map (λ p. Some p) a.places ++ rest
+      places_split =
+          sym (append_assoc (map (λ p. Some p) first_places) (map (λ p. Some p) last_places) rest)
+          ∙ ap (λ (l : Cells). l ++ rest) (sym (map-append (λ p. Some p) first_places last_places) ∙ ap (map (λ p. Some p)) (take-append-drop (to - start) a.places))
+
+      pub along_part : Along cells start to (map (λ p. Some p) last_places ++ rest)
+      along_part = record {
+        before = a.before;
+        places = first_places;
+        parts = ap (λ (l : Cells). a.before ++ l) places_split ∙ a.parts;
+        start_is = a.start_is;
+        at_is = first_long;
+      }
+
+      pub along_rest : Along cells to at rest
+      along_rest = record {
+        before = a.before ++ map (λ p. Some p) first_places;
+        places = last_places;
+        parts = append_assoc a.before (map (λ p. Some p) first_places) (map (λ p. Some p) last_places ++ rest) ∙ ap (λ (l : Cells). a.before ++ l) places_split ∙ a.parts;
+        start_is =
+            let one = length-append a.before (map (λ p. Some p) first_places) in
+            let two = length-map first_places (λ p. Some p) in omega (arith, one, two, a.start_is, first_long);
+        at_is = let own = length-drop (to - start) a.places in omega (arith, own, low, high, a.at_is);
+      }
+
     -- ---- with the bytes of an image
 
     module _ (image path : List ℕ) where
@@ -145,6 +190,17 @@ module _ (cells : Cells) where
           let place : (start + length bytes) + len ≡ at + len = let own = length-map a.places (λ p. get_or image p.at 0) in omega (arith, own, a.at_is) in
           ap (written path start) (left_held ∙ ap (λ (l : List (Option ℕ)). held bytes ++ l) (ap (map (held_cell image)) follows ∙ map-append (held_cell image) (zero_cells len) more ∙ ap (λ (l : List (Option ℕ)). l ++ map (held_cell image) more) (zeros_held len)))
           ∙ hole_next path start len bytes (map (held_cell image) more) some
+          ∙ (λ i. sym (pending all is) i ++ written path (place i) (map (held_cell image) (sym rest_is i)))
+
+      -- And where so many whole pieces were passed.
+      pub pieces_written : (n : ℕ) (all : List ℕ) → all ≡ map (place_byte image) cells → at ≡ start + n * 49_152
+          → written path start (map (held_cell image) (drop start cells)) ≡ stretch_of path start at all ++ written path at (map (held_cell image) (drop at cells))
+      pieces_written n all is pieces =
+          let own = length-map a.places (λ p. get_or image p.at 0) in
+          let long : length bytes ≡ n * 49_152 = omega (arith, own, a.at_is, pieces) in
+          let place : start + length bytes ≡ at = omega (arith, own, a.at_is) in
+          ap (written path start) left_held
+          ∙ pieces_next path n start bytes (map (held_cell image) rest) long
           ∙ (λ i. sym (pending all is) i ++ written path (place i) (map (held_cell image) (sym rest_is i)))
 
       -- And at the end.
@@ -232,6 +288,12 @@ module _ (spelled : ℕ → Command → List ℕ) (version : ℕ) (image path al
         ap (λ (l : List Command). spells (l ++ cut_off image path cells)) (hole_written cells start at rest a image path all len more is some follows)
         ∙ ap spells (append_assoc (stretch_of path start at all) (written path (at + len) (map (held_cell image) (drop (at + len) cells))) (cut_off image path cells))
         ∙ all_joined spelled version (stretch_of path start at all) (left_commands image path cells (at + len))
+
+    pub step_pieces : (n : ℕ) → at ≡ start + n * 49_152 → spells (left_commands image path cells start) ≡ spells (stretch_of path start at all) ++ spells (left_commands image path cells at)
+    step_pieces n pieces =
+        ap (λ (l : List Command). spells (l ++ cut_off image path cells)) (pieces_written cells start at rest a image path n all is pieces)
+        ∙ ap spells (append_assoc (stretch_of path start at all) (written path at (map (held_cell image) (drop at cells))) (cut_off image path cells))
+        ∙ all_joined spelled version (stretch_of path start at all) (left_commands image path cells at)
 
     pub step_end : rest ≡ [] → spells (left_commands image path cells start) ≡ spells (stretch_of path start at all) ++ spells (cut_off image path cells)
     step_end none =

@@ -20,7 +20,7 @@ differs : (a b : ℕ) (t : Bool) → (a == b) ≡ t → (a ≡ b → ⊥) → t 
 differs a b true e n = absurd (n (eqb-true a b e))
 differs a b false e n = refl
 
-itself : (a : ℕ) (t : Bool) → (a == a) ≡ t → t ≡ true
+pub itself : (a : ℕ) (t : Bool) → (a == a) ≡ t → t ≡ true
 itself a true e = refl
 itself a false e = absurd (eqb-false a a e refl)
 

@@ -33,13 +33,13 @@ ends_last s (f ∷ m) e = ap (λ (l : List Command). l ++ finishing f.0 (listed 
 -- ---- with the bytes of an image
 
 module _ (image : List ℕ) (s : Subvolume (Option Place)) where
-  abbrev once : Subvolume (Option ℕ)
+  abbrev pub once : Subvolume (Option ℕ)
   once = recelled (option_map (λ place. place.at)) s
 
-  abbrev seen : Option (Inode (Option Place)) → Option (Inode (Option ℕ))
+  abbrev pub seen : Option (Inode (Option Place)) → Option (Inode (Option ℕ))
   seen o = option_map (λ j. inode_with j (map (held_at image) j.cells)) (option_map (λ j. inode_with j (map (option_map (λ place. place.at)) j.cells)) o)
 
-  listed_seen : (ino : ℕ) → (listed (with_holes image s) ino).inode ≡ unwrap_or (seen (inode_at s ino)) new_directory
+  pub listed_seen : (ino : ℕ) → (listed (with_holes image s) ino).inode ≡ unwrap_or (seen (inode_at s ino)) new_directory
   unfolding listed
   listed_seen ino =
       ap (λ (o : Option (Inode (Option ℕ))). unwrap_or o new_directory)
@@ -79,10 +79,14 @@ module _ {C : Type 0} (s : Subvolume C) (ds rest : List Passed) (d : Passed) (is
   paths_are : paths_passed ds ≡ paths_passed rest ++ (d.path, d.ino) ∷ []
   paths_are = ap paths_passed is ∙ map-append path_passed rest (d ∷ [])
 
-  pub last_ends : (spelled : ℕ → Command → List ℕ) (version : ℕ) → spelled_all spelled version (ends_back s (paths_passed ds)) ≡ spelled_all spelled version (finishing d.path (listed s d.ino).inode) ++ spelled_all spelled version (ends_back s (paths_passed rest))
-  last_ends spelled version =
-      ap (λ (m : Map (List ℕ) ℕ). spelled_all spelled version (ends_back s m)) paths_are ∙ ap (spelled_all spelled version) (ends_last s (paths_passed rest) (d.path, d.ino))
-      ∙ all_joined spelled version (finishing d.path (listed s d.ino).inode) (ends_back s (paths_passed rest))
+  -- What it has comes in front of what those before it have, and of what comes behind all of them.
+  pub last_ends : (spelled : ℕ → Command → List ℕ) (version : ℕ) (more : List ℕ)
+      → spelled_all spelled version (ends_back s (paths_passed ds)) ++ more ≡ spelled_all spelled version (finishing d.path (listed s d.ino).inode) ++ (spelled_all spelled version (ends_back s (paths_passed rest)) ++ more)
+  last_ends spelled version more =
+      ap (λ (l : List ℕ). l ++ more)
+      (ap (λ (m : Map (List ℕ) ℕ). spelled_all spelled version (ends_back s m)) paths_are ∙ ap (spelled_all spelled version) (ends_last s (paths_passed rest) (d.path, d.ino))
+      ∙ all_joined spelled version (finishing d.path (listed s d.ino).inode) (ends_back s (paths_passed rest)))
+      ∙ append_assoc (spelled_all spelled version (finishing d.path (listed s d.ino).inode)) (spelled_all spelled version (ends_back s (paths_passed rest))) more
 
   abbrev Leads : Map (List ℕ) ℕ → Type 0
   Leads m = AllByRecursion (λ e. walk s e.0 ≡ Ok e.1) m

@@ -2,6 +2,7 @@ pub mod Added
 pub mod Along
 pub mod HeldInodes
 pub mod HeldStretches
+pub mod LastCapabilities
 pub mod LastDirectories
 pub mod NamedSends
 pub mod Parts
@@ -10,3 +11,4 @@ pub mod SendEnds
 pub mod SentPaths
 pub mod Walking
 pub mod WholeStreams
+pub mod WholePieces

@@ -1,5 +1,5 @@
 -- Texts that are added in parts, and the pieces of a stretch.
-use Rattle.std.specs.Prelude.{◌≡◌, ◌≤◌, ◌<◌, ◌⊎◌, ℕ, zero, suc, ◌+◌, ◌-◌, min, List, [], ◌∷◌, ◌++◌, length, take, drop, Option, Err}
+use Rattle.std.specs.Prelude.{◌≡◌, ◌≤◌, ◌<◌, ◌⊎◌, ℕ, zero, suc, ◌+◌, ◌-◌, min, List, [], ◌∷◌, ◌++◌, length, take, drop, Option, Result, Err}
 use Rattle.std.proofs.Common.{refl, sym, ap, subst, ◌∙◌, append_assoc, append-nil, arith, length-take, inl, inr}
 use Rattle.std.proofs.lemmas.List.{take-take, take_all, drop-take, drop-drop, drop_all, length-drop}
 use Rattle.send_model.specs.Command.{Command, Write}
@@ -32,6 +32,12 @@ module _ (all : List ℕ) where
       subst (λ (l : List ℕ). Adds l old new first last (Err end)) (append_assoc p.done piece more ∙ ap (λ (l : List ℕ). p.done ++ l) (sym is) ∙ p.whole)
       (stops_early (p.done ++ piece) more old new first last end (then_adds p.done piece old mid new first then last (Err end) p.added stops))
 
+  -- The rest is added, or stops.
+  pub part_last : (left piece old mid new : List ℕ) (first then last : Option (List ℕ)) (result : Result (Unit {0}) StoreEnd) → left ≡ piece → PartAdded all left old mid first then → Adds piece mid new then last result
+      → Adds all old new first last result
+  part_last left piece old mid new first then last result is p x =
+      subst (λ (l : List ℕ). Adds l old new first last result) (ap (λ (l : List ℕ). p.done ++ l) (sym is) ∙ p.whole) (then_adds p.done piece old mid new first then last result p.added x)
+
   pub part_all : (left old now : List ℕ) (first last : Option (List ℕ)) → left ≡ [] → PartAdded all left old now first last → TextAdded all old now first last
   part_all left old now first last is p = subst (λ (l : List ℕ). TextAdded l old now first last) (sym (append-nil p.done) ∙ ap (λ (l : List ℕ). p.done ++ l) (sym is) ∙ p.whole) p.added
 
@@ -55,7 +61,7 @@ fewer (suc k) (suc n) (suc m) path at (b ∷ bytes) short long more =
     ap (λ (cs : List Command). Write path at (take 49_152 (b ∷ bytes)) ∷ cs)
     (fewer k n m path (at + 49_152) (drop 49_152 (b ∷ bytes)) (omega (arith, cut, short)) (omega (arith, long)) (omega (arith, more)))
 
-first_write : (path : List ℕ) (at : ℕ) (bytes : List ℕ) → 0 < length bytes
+pub first_write : (path : List ℕ) (at : ℕ) (bytes : List ℕ) → 0 < length bytes
     → writes_from (length bytes) path at bytes ≡ Write path at (take 49_152 bytes) ∷ writes_from (length (drop 49_152 bytes)) path (at + 49_152) (drop 49_152 bytes)
 first_write path at [] some = absurd (omega (arith, some))
 first_write path at (b ∷ bytes) some =

@@ -14,7 +14,7 @@ use Rattle.send_model.proofs.LeastPaths.{Among, all_from_among, entry_found, fir
 use Rattle.send_model.proofs.Stores.{bytes_eq_same}
 use Rattle.sent_model.specs.Listing.{listed, paths_of}
 use Rattle.sent_model.specs.Sent.{making, contents_commands}
-use Rattle.sent_model.specs.Restored.{temporary, has_temporary, finishing, arriving, placed_inode, placed, directories_back, restored_edits}
+use Rattle.sent_model.specs.Restored.{temporary, has_temporary, finishing, arriving, placed_inode, placed, directories_back, capabilities, restored_edits}
 use Rattle.sent_model.proofs.SentPaths.{walked, walked_there, paths_ordered, path_found_walks}
 use Rattle.sent_model.proofs.SentWalks.{names_path, one_way}
 use Rattle.inode_commands.specs.Spelled.{spelled_all}
@@ -31,6 +31,7 @@ use Rattle.full_send.specs.Held.{held_cell, with_holes}
 use Rattle.full_send.specs.Adding.{IsCutBy, Adds}
 use Rattle.full_send.specs.Directories.{directories_in, LacksMemory}
 use Rattle.full_send.proofs.Added.{none_added, nothing_sent}
+use Rattle.full_send.proofs.LastCapabilities.{all_same}
 use Rattle.full_send.proofs.Parts.{PartAdded, part_stops}
 use Rattle.full_send.proofs.HeldInodes.{holed, holed_is, same_making, map_twice, first_same}
 use Rattle.full_send.proofs.Walking.{Reached, so_far, Goes, all_paths_are}
@@ -61,7 +62,7 @@ module _ {C : Type 0} (s : Subvolume C) (lawful : IsLawful s) (at : List ℕ) (i
   one_in b is = ap (λ (t : Bool). cond {A = Map (List ℕ) ℕ} t ((at, ino) ∷ []) []) is
 
   module _ (p : Passed C) (passed : p.subvolume ≡ s) (here : p.at ≡ at) where
-    earliest : is_directory s ino ≡ true → earlier p ino ≡ None
+    pub earliest : is_directory s ino ≡ true → earlier p ino ≡ None
     earliest dir =
         let first : (listed p.subvolume ino).first ≡ p.at = ap (λ (t : Subvolume C). (listed t ino).first) passed ∙ directory_first dir ∙ sym here in
         ap (λ (f : List ℕ). if bytes_eq p.at f then None else Some f) first ∙ rw (bytes_eq_same p.at) refl
@@ -187,7 +188,7 @@ module _ (image : List ℕ) (s : Subvolume (Option Place)) where
   abbrev pub places : Map (List ℕ) ℕ → List Command
   places m = flat_map (placed (with_holes image s)) m
 
-  pub restored_are : restored_edits (with_holes image s) ≡ places (paths_of s) ++ directories_back (with_holes image s) (paths_of s)
+  pub restored_are : restored_edits (with_holes image s) ≡ places (paths_of s) ++ (directories_back (with_holes image s) (paths_of s) ++ flat_map (capabilities (with_holes image s)) (paths_of s))
   unfolding restored_edits paths_of all_paths
   restored_are = refl
 
@@ -213,9 +214,14 @@ module _ (image : List ℕ) (s : Subvolume (Option Place)) where
         → spells (places r.rest) ≡ spells (placed (with_holes image s) (q.at, ino)) ++ spells (places goes.reached.rest)
     next_places p q r ino goes = ap (λ (m : Map (List ℕ) ℕ). spells (places m)) goes.rest_is ∙ all_joined spelled version (placed (with_holes image s) (q.at, ino)) (places goes.reached.rest)
 
-    -- What directories have comes behind all paths.
-    pub directories_behind : spells (restored_edits (with_holes image s)) ≡ spells (places (paths_of s)) ++ spells (directories_back (with_holes image s) (paths_of s))
-    directories_behind = ap spells restored_are ∙ all_joined spelled version (places (paths_of s)) (directories_back (with_holes image s) (paths_of s))
+    -- What directories have comes behind all paths, and capabilities behind that.
+    pub directories_behind : spells (restored_edits (with_holes image s)) ≡ spells (places (paths_of s)) ++ (spells (directories_back (with_holes image s) (paths_of s)) ++ spells (flat_map (capabilities s) (paths_of s)))
+    directories_behind =
+        let back : List Command = directories_back (with_holes image s) (paths_of s) in
+        ap spells restored_are
+        ∙ ap (λ (l : List Command). spells (places (paths_of s) ++ (back ++ l))) (all_same image s (paths_of s))
+        ∙ all_joined spelled version (places (paths_of s)) (back ++ flat_map (capabilities s) (paths_of s))
+        ∙ ap (λ (l : List ℕ). spells (places (paths_of s)) ++ l) (all_joined spelled version back (flat_map (capabilities s) (paths_of s)))
 
 -- The directories of the paths so far.
 pub directories_next : {C : Type 0} (s : Subvolume C) (done before after : Map (List ℕ) ℕ) (e : List ℕ × ℕ) → before ≡ directories_in s done → after ≡ before ++ directories_in s (e ∷ [])

@@ -38,7 +38,7 @@ module _ (image : List ℕ) (s : Subvolume (Option Place)) where
   only_root [] h = refl
   only_root (b ∷ p) h = absurd (h refl)
 
-  root_first : (listed s 256).first ≡ []
+  pub root_first : (listed s 256).first ≡ []
   unfolding listed
   root_first = let there = first_path_there s 256 [] (root_walks s) in ap (λ (o : Option (List ℕ)). unwrap_or o []) there.1 ∙ only_root there.0 there.2
 

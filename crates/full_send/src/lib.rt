@@ -1,6 +1,7 @@
 //! A whole subvolume of a store as a stream: as it is sent, and as the real receiver restores it.
 #![tactic(auto)]
 
+mod capable;
 mod contents;
 mod ends;
 mod entries;

@@ -1,13 +1,14 @@
 // The commands that set what an inode has beside its contents.
 ghost use Rattle.std.specs.Prelude.{◌≡◌, ◌==◌, ◌++◌, ◌∷◌, ◌&&◌, [], map, OnOk, if◌then◌else◌};
 ghost use Rattle.std.specs.List.{AllByRecursion};
+ghost use Rattle.std.specs.Str.{bytes_eq};
 ghost use Rattle.send_model.specs.Command.{SetXattr, Chown, Chmod, Utimes};
 ghost use Rattle.sent_model.specs.Sent.{flags_commands, setting_commands};
-ghost use Rattle.sent_model.specs.Restored.{finishing, is_link_kind};
+ghost use Rattle.sent_model.specs.Restored.{finishing, is_link_kind, capability, capability_commands};
 ghost use Rattle.inode_tree.specs.Kinds.{kind_of, time_of};
 ghost use Rattle.send_commands.specs.Meaning.{time_of as said_time};
 ghost use Rattle.send_model.specs.Exported.{IsMoment};
-ghost use Rattle.inode_commands.specs.Spelled.{spelled_all, IsShortPath, HasLength, IsSaid};
+ghost use Rattle.inode_commands.specs.Spelled.{spelled_all, kept_by, IsShortPath, HasLength, IsSaid};
 
 use crate::form::Form;
 use crate::spelling::Spelling;
@@ -36,6 +37,27 @@ impl<F: Form> Spelling<F> {
     {
         for (name, value) in xattrs {
             self.xattr(path, name.as_slice(), value.as_slice(), to)?;
+        }
+        Ok(())
+    }
+
+    // Appends those that are capabilities, or those that are not.
+    fn xattrs_by(
+        &self,
+        path: &[u8],
+        xattrs: Entries<'_, Bytes, Bytes>,
+        capabilities: bool,
+        to: &mut Blob,
+    ) -> Result<(), AllocError>
+        requires short { IsShortPath path.now }
+        requires said { AllByRecursion (λ x. HasLength x.0 × HasLength x.1) xattrs }
+        ensures added { OnOk result (to.new ≡ to.old ++ spelled_all F.spelled self.now.version
+            (map (λ e. SetXattr e.0 e.1 path.now) (kept_by capabilities xattrs.entry))) }
+    {
+        for (name, value) in xattrs {
+            if is_capability(name.as_slice()) == capabilities {
+                self.xattr(path, name.as_slice(), value.as_slice(), to)?;
+            }
         }
         Ok(())
     }
@@ -74,8 +96,8 @@ impl<F: Form> Spelling<F> {
         self.times(path, inode.mtime(), inode.atime(), to)
     }
 
-    /// Appends owners, mode, extended attributes, flags and times, in this order: what the real receiver asks for. The mode of a plain
-    /// link is not set.
+    /// Appends owners, mode, extended attributes but capabilities, flags and times, in this order: what the real receiver asks for.
+    /// The mode of a plain link is not set.
     pub fn finishing<R: Origin>(
         &self,
         path: &[u8],
@@ -89,9 +111,24 @@ impl<F: Form> Spelling<F> {
     {
         self.owners(path, inode.uid(), inode.gid(), to)?;
         self.mode_unless_plain(path, inode.kind(), inode.mode(), to)?;
-        self.xattrs(path, inode.xattrs(), to)?;
+        self.xattrs_by(path, inode.xattrs(), false, to)?;
         self.flags(path, inode.flags(), to)?;
         self.times(path, inode.mtime(), inode.atime(), to)
+    }
+
+    /// Appends the capabilities of an inode, if it has them: what the real receiver asks for behind all owners.
+    pub fn capabilities<R: Origin>(
+        &self,
+        path: &[u8],
+        inode: &Inode<R>,
+        to: &mut Blob,
+    ) -> Result<(), AllocError>
+        requires short { IsShortPath path.now }
+        requires said { IsSaid inode.now }
+        ensures added { OnOk result (to.new ≡ to.old
+            ++ spelled_all F.spelled self.now.version (capability_commands path.now inode.now)) }
+    {
+        self.xattrs_by(path, inode.xattrs(), true, to)
     }
 
     // Appends CHOWN.
@@ -165,6 +202,13 @@ impl<F: Form> Spelling<F> {
             to,
         )
     }
+}
+
+// Whether an extended attribute of this name is that of capabilities.
+fn is_capability(name: &[u8]) -> bool
+    ensures { result ≡ bytes_eq name.now capability }
+{
+    name == b"security.capability".as_slice()
 }
 
 // A moment of an inode as one of a command.

@@ -1,5 +1,6 @@
 pub mod SentCells
 pub mod SentWalks
+pub mod Capabilities
 pub mod SentInodes
 pub mod SentPaths
 pub mod SentParts
@@ -14,6 +15,7 @@ pub mod SentTold
 pub mod TemporaryNames
 pub mod RestoredSteps
 pub mod RestoredParts
+pub mod LastCapabilities
 pub mod RestoredAgain
 pub mod RestoredReceived
 pub mod Holes

@@ -3,6 +3,7 @@ use Rattle.std.specs.Prelude.{◌≡◌, ℕ, ◌+◌, ◌<◌, ◌≤◌, Bool,
 use Rattle.std.specs.declared.cmp.Ordering.TheVariants.{Less, Equal}
 use Rattle.std.specs.Cmp.{tied_itself}
 use Rattle.std.specs.Cmp.Lexicographic.{nat_list_cmp_total}
+use Rattle.std.specs.Option.{option_map}
 use Rattle.std.specs.Str.{bytes_eq}
 use Rattle.std.specs.List.{AllByRecursion, flat_map, filter}
 use Rattle.std.proofs.Common.{refl, sym, ap, subst, ◌∙◌, arith, inl, inr, append_assoc, append-nil}
@@ -17,7 +18,7 @@ use Rattle.send_model.specs.Subvolume.{Inode, Subvolume, root, root_alone, new_d
 use Rattle.send_model.specs.Edit.{greatest_number}
 use Rattle.sent_model.specs.Listing.{Listed, listed, listing, paths_of}
 use Rattle.sent_model.specs.Sent.{contents_commands, edit_all}
-use Rattle.sent_model.specs.Restored.{temporary, has_temporary, arriving, finishing, placed_inode, placed, directories_back, restored_edits}
+use Rattle.sent_model.specs.Restored.{temporary, has_temporary, arriving, finishing, placed_inode, placed, directories_back, capabilities, restored_edits}
 use Rattle.sent_model.specs.SentLaws.{is_first, IsSendable, MakesAgain, RestoredEditsAreTaken}
 use Rattle.send_model.proofs.Fuel.{ok_same}
 use Rattle.send_model.proofs.MapLaws.{T_left, T_right}
@@ -27,12 +28,14 @@ use Rattle.send_model.proofs.WalkLaws.{Leads, Step}
 use Rattle.send_model.proofs.LeastPaths.{Among, entry_found}
 use Rattle.sent_model.proofs.SentWalks.{names_path, one_way}
 use Rattle.sent_model.proofs.SentPaths.{walked, paths_ordered, path_found_walks, entry_below}
+use Rattle.sent_model.proofs.Capabilities.{bare}
 use Rattle.sent_model.proofs.SentInodes.{directories, directory_finished, edit_all-append}
 use Rattle.sent_model.proofs.SentParts.{first, Twin, Holds}
 use Rattle.sent_model.proofs.SentSteps.{edits_keep_lawful}
-use Rattle.sent_model.proofs.SentAgain.{in_paths, only_first, root_names, kind_by, NotRoot, own_alike, Entry, entry, made_directory, counted_one, root_first, root_walks, begins, root_entry, nothing_named, root_here, root_next, same_listing}
+use Rattle.sent_model.proofs.SentAgain.{in_paths, only_first, root_names, kind_by, NotRoot, Entry, entry, made_directory, counted_one, root_first, root_walks, begins, root_entry, nothing_named, root_here, root_next, same_listing}
 use Rattle.sent_model.proofs.TemporaryNames.{temporary_split}
 use Rattle.sent_model.proofs.RestoredParts.{staged, look, alike, next_placed}
+use Rattle.sent_model.proofs.LastCapabilities.{bare_at, bare_alike, last_capabilities}
 
 abbrev Cell : Type 0
 Cell = Option ℕ
@@ -72,8 +75,8 @@ module _ (s : Subvolume Cell) (sendable : IsSendable s) (low : s.next ≤ greate
   walks_s : (q : List ℕ) (k : ℕ) → Among (q, k) (paths_of s) → walk s q ≡ Ok k
   walks_s q k a = path_found_walks s sendable.lawful q k (entry_found bytes_cmp nat_list_cmp_total exact_bytes (q, k) (paths_of s) (paths_ordered s) a)
 
-  staged_plain : (i : ℕ) (inode : Inode Cell) (b : Bool) → inode_at s i ≡ Some inode → is_directory_kind inode.kind ≡ b → staged (inode_at s i) ≡ (if b then Some new_directory else Some inode)
-  staged_plain i inode b at kind = ap staged at ∙ ap (λ (c : Bool). if c then Some new_directory else Some inode) kind
+  staged_plain : (i : ℕ) (inode : Inode Cell) (b : Bool) → inode_at s i ≡ Some inode → is_directory_kind inode.kind ≡ b → staged (inode_at s i) ≡ (if b then Some new_directory else Some (bare inode))
+  staged_plain i inode b at kind = ap staged at ∙ ap (λ (c : Bool). if c then Some new_directory else Some (bare inode)) kind
 
   kind_at : (i : ℕ) (inode : Inode Cell) → inode_at s i ≡ Some inode → is_directory s i ≡ is_directory_kind inode.kind
   unfolding is_directory
@@ -83,8 +86,8 @@ module _ (s : Subvolume Cell) (sendable : IsSendable s) (low : s.next ≤ greate
     record Back (m : Map (List ℕ) ℕ) (v : Subvolume Cell) : Type 0 where
       names : v.names ≡ t.names
       dirs : (k : ℕ) → is_directory v k ≡ is_directory t k
-      plain : (q : List ℕ) (k j : ℕ) → Among (q, k) (paths_of s) → is_directory s k ≡ false → walk t q ≡ Ok j → inode_at v j ≡ inode_at s k
-      set : (q : List ℕ) (k j : ℕ) → Among (q, k) (paths_of s) → Among (q, k) m → is_directory s k ≡ true → walk t q ≡ Ok j → inode_at v j ≡ inode_at s k
+      plain : (q : List ℕ) (k j : ℕ) → Among (q, k) (paths_of s) → is_directory s k ≡ false → walk t q ≡ Ok j → inode_at v j ≡ bare_at s k
+      set : (q : List ℕ) (k j : ℕ) → Among (q, k) (paths_of s) → Among (q, k) m → is_directory s k ≡ true → walk t q ≡ Ok j → inode_at v j ≡ bare_at s k
       kept : (q : List ℕ) (k j : ℕ) → Among (q, k) (paths_of s) → (Among (q, k) m → ⊥) → is_directory s k ≡ true → walk t q ≡ Ok j → inode_at v j ≡ Some new_directory
 
     -- What a path leads to is as its stage says.
@@ -115,7 +118,7 @@ module _ (s : Subvolume Cell) (sendable : IsSendable s) (low : s.next ≤ greate
       record {
         names = refl;
         dirs = λ k. refl;
-        plain = λ q k j a no_dir w. at_stage q k j a w ∙ (let e = entry s sendable q k (walks_s q k a) in staged_plain k e.inode false e.at (sym (kind_at k e.inode e.at) ∙ no_dir) ∙ sym e.at);
+        plain = λ q k j a no_dir w. at_stage q k j a w ∙ (let e = entry s sendable q k (walks_s q k a) in staged_plain k e.inode false e.at (sym (kind_at k e.inode e.at) ∙ no_dir) ∙ sym (ap (option_map bare) e.at));
         set = λ q k j a none dir w. absurd none;
         kept = λ q k j a none dir w. at_stage q k j a w ∙ (let e = entry s sendable q k (walks_s q k a) in staged_plain k e.inode true e.at (sym (kind_at k e.inode e.at) ∙ dir));
       },
@@ -175,20 +178,20 @@ module _ (s : Subvolume Cell) (sendable : IsSendable s) (low : s.next ≤ greate
                   ∙ ap (λ (z : Result (Subvolume Cell) Refusal). z >>= edit_all (finishing x.0 e.inode)) r.1 ∙ c.1,
               record {
                 names = c.2.names ∙ r.2.names;
-                dirs = λ k. directories x.0 y v1 new_directory at way c.0 e.inode c.2 k ∙ r.2.dirs k;
+                dirs = λ k. directories x.0 y v1 new_directory at way c.0 (bare e.inode) c.2 k ∙ r.2.dirs k;
                 plain = λ q k j a no_dir w. c.2.others j (λ same. true≢false (sym is_dir ∙ ap (λ (f : List ℕ × ℕ). is_directory s f.1) (apart q k j a w same) ∙ no_dir)) ∙ r.2.plain q k j a no_dir w;
                 set = λ q k j a among dir w. elim among [
                   | inl same ↦
                       let to_y : y ≡ j = ok_same (sym b.walks ∙ ap (λ (f : List ℕ × ℕ). walk t f.0) same ∙ w) in
-                      subst (λ (n : ℕ). inode_at c.0 n ≡ inode_at s k) to_y (c.2.here ∙ sym e.at ∙ ap (λ (f : List ℕ × ℕ). inode_at s f.1) same)
+                      subst (λ (n : ℕ). inode_at c.0 n ≡ bare_at s k) to_y (c.2.here ∙ sym (ap (option_map bare) e.at) ∙ ap (λ (f : List ℕ × ℕ). bare_at s f.1) same)
                   | inr more ↦ c.2.others j (λ same. fresh_entry (subst (λ (f : List ℕ × ℕ). Among f m) (sym (apart q k j a w same)) more)) ∙ r.2.set q k j a more dir w
                 ];
                 kept = λ q k j a none dir w. c.2.others j (λ same. none (inl (apart q k j a w same))) ∙ r.2.kept q k j a (λ more. none (inr more)) dir w;
               },
             )
 
-    -- What stands when all directories have what is theirs.
-    whole : (v : Subvolume Cell) → edit_all (directories_back s (paths_of s)) t ≡ Ok v → Back (paths_of s) v → Holds s sendable.lawful (inode_at s) (own_alike s sendable) (paths_of s) v
+    -- What stands when all directories have what is theirs but the capabilities.
+    whole : (v : Subvolume Cell) → edit_all (directories_back s (paths_of s)) t ≡ Ok v → Back (paths_of s) v → Holds s sendable.lawful (bare_at s) (bare_alike s) (paths_of s) v
     whole v taken back = record {
       good = edits_keep_lawful (directories_back s (paths_of s)) t v h.good taken;
       same = λ q k a. let b = h.same q k a in record {
@@ -269,14 +272,18 @@ module _ (s : Subvolume Cell) (sendable : IsSendable s) (low : s.next ≤ greate
       let one = all_placed only_first b.rest (sym b.are) root_alone root_stage b.some rest_fits in
       let h : Stage (paths_of s) one.0 = subst (λ (m : Map (List ℕ) ℕ). Stage m one.0) (sym b.are) one.2 in
       let two = back_all one.0 h (paths_of s) (paths_ordered s) (λ e a. a) in
-      let w = whole one.0 h two.0 two.1 two.2 in
+      let most = whole one.0 h two.0 two.1 two.2 in
+      let three = last_capabilities s sendable two.0 most in
+      let behind : edit_all (directories_back s (paths_of s) ++ flat_map (capabilities s) (paths_of s)) one.0 ≡ Ok three.0 =
+      edit_all-append (directories_back s (paths_of s)) (flat_map (capabilities s) (paths_of s)) one.0 ∙ ap (λ (r : Result (Subvolume Cell) Refusal). r >>= edit_all (flat_map (capabilities s) (paths_of s))) two.1 ∙ three.1 in
       let first_taken : edit_all (flat_map (placed s) (paths_of s)) root_alone ≡ Ok one.0 =
       ap (λ (m : Map (List ℕ) ℕ). edit_all (flat_map (placed s) m) root_alone) b.are ∙ ap (λ (cs : List Command). edit_all (cs ++ flat_map (placed s) b.rest) root_alone) root_placed ∙ one.1 in (
-        two.0,
+        three.0,
         record {
-          taken = edit_all-append (flat_map (placed s) (paths_of s)) (directories_back s (paths_of s)) root_alone ∙ ap (λ (r : Result (Subvolume Cell) Refusal). r >>= edit_all (directories_back s (paths_of s))) first_taken ∙ two.1;
-          lawful = w.good;
-          same = same_listing s sendable two.0 w;
+          taken = edit_all-append (flat_map (placed s) (paths_of s)) (directories_back s (paths_of s) ++ flat_map (capabilities s) (paths_of s)) root_alone
+              ∙ ap (λ (r : Result (Subvolume Cell) Refusal). r >>= edit_all (directories_back s (paths_of s) ++ flat_map (capabilities s) (paths_of s))) first_taken ∙ behind;
+          lawful = three.2.good;
+          same = same_listing s sendable three.0 three.2;
         },
       )
     where

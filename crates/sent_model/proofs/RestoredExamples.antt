@@ -8,7 +8,7 @@ use Rattle.send_model.specs.Command.{Command, MkFile, MkDir, Symlink, Rename, Li
 use Rattle.send_model.specs.Subvolume.{root_alone, epoch}
 use Rattle.sent_model.specs.Listing.{Listed, listing, listed, paths_of}
 use Rattle.sent_model.specs.Sent.{edit_all}
-use Rattle.sent_model.specs.Restored.{restored_edits}
+use Rattle.sent_model.specs.Restored.{capability, restored_edits}
 use Rattle.send_model.proofs.ExampleWords.{composing_words}
 
 unfoldable restored_words : Unit {0}
@@ -60,3 +60,20 @@ clash_avoided = refl
 clash_again : again clash ≡ listing_of clash
 unfolding restored_words
 clash_again = refl
+
+-- A file with capabilities and one more attribute, and a file without: the capabilities come when no owner comes any more, so that no
+-- receiver gives them to the second file.
+abbrev capable : List Command
+capable = MkFile (codes "a") ∷ SetXattr capability (codes "c") (codes "a") ∷ SetXattr (codes "u") (codes "v") (codes "a") ∷ MkFile (codes "b") ∷ []
+
+capabilities_last : restored_of capable ≡ Ok (
+    MkFile (codes "o257-0-0") ∷ Rename (codes "o257-0-0") (codes "a") ∷ Chown 0 0 (codes "a") ∷ Chmod 0o600 (codes "a") ∷ SetXattr (codes "u") (codes "v") (codes "a") ∷ Utimes epoch epoch (codes "a")
+    ∷ MkFile (codes "o258-0-0") ∷ Rename (codes "o258-0-0") (codes "b") ∷ Chown 0 0 (codes "b") ∷ Chmod 0o600 (codes "b") ∷ Utimes epoch epoch (codes "b")
+    ∷ Chown 0 0 [] ∷ Chmod 0o700 [] ∷ Utimes epoch epoch []
+    ∷ SetXattr (codes "security.capability") (codes "c") (codes "a") ∷ [])
+unfolding restored_words
+capabilities_last = refl
+
+capable_again : again capable ≡ listing_of capable
+unfolding restored_words
+capable_again = refl

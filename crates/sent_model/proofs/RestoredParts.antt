@@ -22,6 +22,7 @@ use Rattle.send_model.proofs.WalkLaws.{Leads, Step}
 use Rattle.send_model.proofs.LeastPaths.{Among, among_left, entry_found}
 use Rattle.sent_model.proofs.SentWalks.{one_way}
 use Rattle.sent_model.proofs.SentPaths.{walked, walks_to, paths_ordered, path_found_walks}
+use Rattle.sent_model.proofs.Capabilities.{bare}
 use Rattle.sent_model.proofs.SentInodes.{Sets, finished, sets_none}
 use Rattle.sent_model.proofs.SentParts.{first, Holds, Room, grown_holds}
 use Rattle.sent_model.proofs.SentSteps.{making_is, the_room, comes, links, twin}
@@ -31,10 +32,10 @@ use Rattle.sent_model.proofs.RestoredSteps.{both_are}
 abbrev Cell : Type 0
 Cell = Option ℕ
 
--- What a path leads to before the directories have what is theirs.
+-- What a path leads to before the directories have what is theirs, and before capabilities come.
 abbrev pub staged : Option (Inode Cell) → Option (Inode Cell)
 staged None = None
-staged (Some inode) = if is_directory_kind inode.kind then Some new_directory else Some inode
+staged (Some inode) = if is_directory_kind inode.kind then Some new_directory else Some (bare inode)
 
 arriving_renamed : (ino : ℕ) (p : List ℕ) (inode : Inode Cell) → (p ≡ [] → ⊥) → arriving false ino p inode ≡ making (temporary ino) inode.kind inode ∷ Rename (temporary ino) p ∷ []
 arriving_renamed ino [] inode some = absurd (some refl)
@@ -52,7 +53,7 @@ module _ (s : Subvolume Cell) (sendable : IsSendable s) where
   unfolding is_directory
   alike i = one (inode_at s i)
     where
-      two : (b : Bool) (inode : Inode Cell) → is_directory_kind inode.kind ≡ b → passes_inode (λ (i : Inode Cell). is_directory_kind i.kind) (if b then Some new_directory else Some inode) ≡ is_directory_kind inode.kind
+      two : (b : Bool) (inode : Inode Cell) → is_directory_kind inode.kind ≡ b → passes_inode (λ (i : Inode Cell). is_directory_kind i.kind) (if b then Some new_directory else Some (bare inode)) ≡ is_directory_kind inode.kind
       two true inode e = sym e
       two false inode e = refl
 
@@ -157,11 +158,11 @@ module _ (s : Subvolume Cell) (sendable : IsSendable s) where
     rest_for b = if b then [] else contents_commands p e.inode.cells ++ finishing p e.inode
 
     abbrev final_for : Bool → Inode Cell
-    final_for b = if b then new_directory else e.inode
+    final_for b = if b then new_directory else bare e.inode
 
     is_final : (b : Bool) → is_directory_kind e.inode.kind ≡ b → look i ≡ Some (final_for b)
-    is_final true kind = ap staged e.at ∙ ap (λ (b : Bool). if b then Some new_directory else Some e.inode) kind
-    is_final false kind = ap staged e.at ∙ ap (λ (b : Bool). if b then Some new_directory else Some e.inode) kind
+    is_final true kind = ap staged e.at ∙ ap (λ (b : Bool). if b then Some new_directory else Some (bare e.inode)) kind
+    is_final false kind = ap staged e.at ∙ ap (λ (b : Bool). if b then Some new_directory else Some (bare e.inode)) kind
 
     sets_for : (b : Bool) → is_directory_kind e.inode.kind ≡ b → (x : ℕ) (u : Subvolume Cell) (here : inode_at u x ≡ Some (made e.inode.kind e.inode)) (at : walk u p ≡ Ok x)
         → Sets p x u (made e.inode.kind e.inode) here at (rest_for b) (made e.inode.kind e.inode) (final_for b)

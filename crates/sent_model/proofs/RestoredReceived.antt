@@ -1,11 +1,12 @@
 -- What is restored of a subvolume is accepted by every store that has neither its name nor its uuid, in the receivable spelling too.
 use Rattle.std.specs.Prelude.{◌≡◌, ℕ, ◌^◌, ◌<◌, ◌%◌, ◌==◌, Bool, true, false, not, ◌&&◌, List, [], ◌∷◌, ◌++◌, map, Option, Ok, is_some, if◌then◌else◌}
 use Rattle.std.specs.Str.{bytes_eq}
-use Rattle.std.specs.List.{AllByRecursion, flat_map}
+use Rattle.std.specs.List.{AllByRecursion, filter, flat_map}
 use Rattle.std.specs.Cmp.Lexicographic.{nat_list_cmp_total}
 use Rattle.std.proofs.Common.{refl, sym, ap, subst, ◌∙◌, arith, inl, inr}
 use Rattle.std.proofs.lemmas.Map.Lookups.{exact_bytes}
 use Rattle.std.proofs.Math.Nat.{mod-lt}
+use Rattle.send_model.specs.Attribute.{Bytes, FieldFits, XATTR_NAME, XATTR_DATA}
 use Rattle.send_model.specs.Command.{Command, Subvol, Rename, Link, SetXattr, Chmod, Chown, Utimes, End, row, kind_of_number}
 use Rattle.send_model.specs.Spelling.{IsSpellable, stream_header}
 use Rattle.send_model.specs.Receivable.{receivable, exported_from, said}
@@ -16,11 +17,12 @@ use Rattle.send_model.specs.Order.{commands_of}
 use Rattle.send_model.specs.Counts.{is_end}
 use Rattle.sent_model.specs.Listing.{listed, listing, paths_of}
 use Rattle.sent_model.specs.Sent.{contents_commands, flags_commands, sent_version}
-use Rattle.sent_model.specs.Restored.{temporary, has_temporary, is_link_kind, mode_commands, finishing, arriving, placed_inode, placed, directories_back, restored_edits, restored, restored_stream}
+use Rattle.sent_model.specs.Restored.{temporary, has_temporary, is_link_kind, mode_commands, is_capability, other_xattrs, finishing, capability_commands, arriving, placed_inode, placed, directories_back, capabilities, restored_edits, restored, restored_stream}
 use Rattle.sent_model.specs.SentLaws.{IsMade, IsTold, FileIsReceivedAs, RestoredIsReceived, RestoredIsSpellable, RestoredStreamIsReceived}
 use Rattle.send_model.proofs.ElementLaws.{all_both}
 use Rattle.send_model.proofs.Exporting.{StandsIn, exported_back}
 use Rattle.send_model.proofs.Headlines.{received_as}
+use Rattle.send_model.proofs.Keeping.{all_filtered}
 use Rattle.send_model.proofs.LeastPaths.{Among, entry_found}
 use Rattle.sent_model.proofs.SentPaths.{paths_ordered, path_found_walks}
 use Rattle.sent_model.proofs.SentAgain.{entry}
@@ -43,10 +45,10 @@ plain_mode path inode = one (is_link_kind inode.kind && (inode.mode == 0o777))
 
 plain_finishing : (path : List ℕ) (inode : Inode Cell) → AllByRecursion IsPlain (finishing path inode)
 plain_finishing path inode =
-    let xs : List Command = map (λ e. SetXattr e.0 e.1 path) inode.xattrs in (
+    let xs : List Command = map (λ e. SetXattr e.0 e.1 path) (other_xattrs inode.xattrs) in (
       refl,
       all_both IsPlain (mode_commands path inode) _ (plain_mode path inode)
-          (all_both IsPlain xs _ (plain_xattrs path inode.xattrs) (all_both IsPlain (flags_commands path inode.flags) _ (plain_flags path inode.flags) (refl, tt))),
+          (all_both IsPlain xs _ (plain_xattrs path (other_xattrs inode.xattrs)) (all_both IsPlain (flags_commands path inode.flags) _ (plain_flags path inode.flags) (refl, tt))),
     )
 
 plain_arriving : (at_once : Bool) (ino : ℕ) (path : List ℕ) (inode : Inode Cell) → AllByRecursion IsPlain (arriving at_once ino path inode)
@@ -73,9 +75,16 @@ module _ (s : Subvolume Cell) where
   plain_back [] = tt
   plain_back (e ∷ m) = all_both IsPlain (directories_back s m) _ (plain_back m) (plain_if (is_directory_kind (listed s e.1).inode.kind) (finishing e.0 (listed s e.1).inode) [] (plain_finishing e.0 (listed s e.1).inode) tt)
 
+  plain_capabilities : (m : Map (List ℕ) ℕ) → AllByRecursion IsPlain (flat_map (capabilities s) m)
+  plain_capabilities [] = tt
+  plain_capabilities (e ∷ m) = all_both IsPlain (capabilities s e) (flat_map (capabilities s) m)
+      (plain_if (bytes_eq e.0 (listed s e.1).first) (capability_commands e.0 (listed s e.1).inode) [] (plain_xattrs e.0 (filter is_capability (listed s e.1).inode.xattrs)) tt) (plain_capabilities m)
+
   plain_restored : AllByRecursion IsPlain (restored_edits s)
   unfolding restored_edits
-  plain_restored = all_both IsPlain (flat_map (placed s) (paths_of s)) (directories_back s (paths_of s)) (plain_placed (paths_of s)) (plain_back (paths_of s))
+  plain_restored =
+      all_both IsPlain (flat_map (placed s) (paths_of s)) _ (plain_placed (paths_of s))
+      (all_both IsPlain (directories_back s (paths_of s)) (flat_map (capabilities s) (paths_of s)) (plain_back (paths_of s)) (plain_capabilities (paths_of s)))
 
 pub restored_is_received : RestoredIsReceived
 unfolding restored
@@ -85,16 +94,21 @@ restored_is_received name key s items sendable low is are = let again = restored
 
 module _ (l : Bool) where
   module _ (path : List ℕ) (p : IsTellable path) (inode : Inode Cell) (h : IsTold inode) (is : IsMade inode) (only : not (inode.flags == 0) ≡ true → l ≡ true) where
+    -- Some of its attributes.
+    says_kept : (test : List ℕ × List ℕ → Bool) → AllByRecursion (Says l) (map (λ e. SetXattr e.0 e.1 path) (filter test inode.xattrs))
+    says_kept test = says_xattrs l path p (filter test inode.xattrs) (all_filtered (λ (e : List ℕ × List ℕ). FieldFits 1 XATTR_NAME (Bytes e.0)) test inode.xattrs h.attribute_names)
+        (all_filtered (λ (e : List ℕ × List ℕ). FieldFits 1 XATTR_DATA (Bytes e.1)) test inode.xattrs h.attribute_values)
+
     says_finishing : AllByRecursion (Says l) (finishing path inode)
     unfolding row kind_of_number
     says_finishing =
         let low : inode.mode % 0o10_000 < 0o10_000 = mod-lt inode.mode (omega arith) in
         let mode : inode.mode < 2 ^ 64 = omega (arith, low, is.mode) in
-        let xs : List Command = map (λ e. SetXattr e.0 e.1 path) inode.xattrs in
+        let xs : List Command = map (λ e. SetXattr e.0 e.1 path) (other_xattrs inode.xattrs) in
         let chmod : AllByRecursion (Says l) (Chmod inode.mode path ∷ []) = (says l (Chmod inode.mode path) refl refl (mode, (path_fits l path p 15, tt)), tt) in (
           says l (Chown inode.uid inode.gid path) refl refl (h.owners.0, (h.owners.1, (path_fits l path p 15, tt))),
           all_both (Says l) (mode_commands path inode) _ (unless (is_link_kind inode.kind && (inode.mode == 0o777)) (Chmod inode.mode path ∷ []) chmod)
-              (all_both (Says l) xs _ (says_xattrs l path p inode.xattrs h.attribute_names h.attribute_values)
+              (all_both (Says l) xs _ (says_kept (λ e. not (is_capability e)))
               (all_both (Says l) (flags_commands path inode.flags) (Utimes inode.mtime inode.atime path ∷ []) (says_flags l path p inode.flags h.flags only)
               (says l (Utimes inode.mtime inode.atime path) refl refl (h.mtime, (h.atime, (path_fits l path p 15, tt))), tt))),
         )
@@ -134,14 +148,19 @@ module _ (l : Bool) where
     says_back (e ∷ m) k = all_both (Says l) (directories_back s m) _ (says_back m k.1)
         (says_if (is_directory_kind (listed s e.1).inode.kind) (finishing e.0 (listed s e.1).inode) [] (says_finishing e.0 k.0.path (listed s e.1).inode k.0.told k.0.is k.0.only) tt)
 
+    says_capabilities : (m : Map (List ℕ) ℕ) → AllByRecursion (Known l) (map (λ (e : List ℕ × ℕ). (e.0, listed s e.1)) m) → AllByRecursion (Says l) (flat_map (capabilities s) m)
+    says_capabilities [] k = tt
+    says_capabilities (e ∷ m) k = all_both (Says l) (capabilities s e) (flat_map (capabilities s) m)
+        (says_if (bytes_eq e.0 (listed s e.1).first) (capability_commands e.0 (listed s e.1).inode) [] (says_kept e.0 k.0.path (listed s e.1).inode k.0.told k.0.is k.0.only is_capability) tt) (says_capabilities m k.1)
+
 pub restored_is_spellable : RestoredIsSpellable
 unfolding restored restored_edits sent_version listing
 restored_is_spellable name key s sendable low told =
     let l : Bool = later s sendable told.names told.inodes in
     let k = all_known s sendable told.names told.inodes in
     between_said name key s (restored_edits s) told
-    (all_both (Says l) (flat_map (placed s) (paths_of s)) (directories_back s (paths_of s))
-    (says_all_placed l s (paths_of s) k (all_low (paths_of s) (λ e a. a))) (says_back l s (paths_of s) k))
+    (all_both (Says l) (flat_map (placed s) (paths_of s)) _ (says_all_placed l s (paths_of s) k (all_low (paths_of s) (λ e a. a)))
+    (all_both (Says l) (directories_back s (paths_of s)) (flat_map (capabilities s) (paths_of s)) (says_back l s (paths_of s) k) (says_capabilities l s (paths_of s) k)))
   where
     one_low : (e : List ℕ × ℕ) → Among e (paths_of s) → IsTellable (temporary e.1)
     one_low e a =

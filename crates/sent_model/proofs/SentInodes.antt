@@ -1,11 +1,11 @@
 -- The commands that set all fields of an inode, one after the other, leave an inode with these fields, and all else as it was.
-use Rattle.std.specs.Prelude.{◌≡◌, ◌⊎◌, ℕ, zero, suc, ◌+◌, ◌≤◌, ◌%◌, ◌==◌, ◌&&◌, Bool, true, false, T, List, [], ◌∷◌, ◌++◌, map, length, take, drop, Option, None, Some, Result, Ok, Err, nat_le, if◌then◌else◌}
+use Rattle.std.specs.Prelude.{◌≡◌, ◌⊎◌, ℕ, zero, suc, ◌+◌, ◌≤◌, ◌%◌, ◌==◌, ◌&&◌, Bool, true, false, not, T, List, [], ◌∷◌, ◌++◌, map, length, take, drop, Option, None, Some, Result, Ok, Err, nat_le, if◌then◌else◌}
 use Rattle.std.specs.declared.cmp.Ordering.{Ordering}
 use Rattle.std.specs.declared.cmp.Ordering.TheVariants.{Less, Greater}
 use Rattle.std.specs.Ordering.{nat_cmp, ordering_reverse}
 use Rattle.std.specs.Cmp.{nat_cmp_total}
 use Rattle.std.specs.Cmp.Lexicographic.{nat_list_cmp_total}
-use Rattle.std.specs.List.{AllByRecursion, flat_map}
+use Rattle.std.specs.List.{AllByRecursion, filter, flat_map}
 use Rattle.std.specs.FinMap.Entries.{by_order, below_all}
 use Rattle.std.proofs.Common.{refl, sym, ap, subst, ◌∙◌, arith, inl, inr, append_assoc, append-nil, eqb-true}
 use Rattle.std.proofs.lemmas.Bool.{cases_eq, cases_Bool, le-leb, and_parts}
@@ -22,11 +22,13 @@ use Rattle.send_model.specs.Receive.{bytes_of}
 use Rattle.send_model.specs.Composed.{write_len, writes_from}
 use Rattle.sent_model.specs.Listing.{held}
 use Rattle.sent_model.specs.Sent.{Stretch, onto_stretches, stretches, ends_in_hole, stretch_commands, contents_commands, flags_commands, setting_commands, edit_all}
-use Rattle.sent_model.specs.Restored.{is_link_kind, mode_commands, finishing}
+use Rattle.sent_model.specs.Restored.{is_link_kind, mode_commands, capability, is_capability, other_xattrs, finishing, capability_commands}
 use Rattle.sent_model.specs.SentLaws.{made, IsMade}
 use Rattle.send_model.proofs.MapLaws.{T_left, T_right, is_less, with_value-here, with_value-other}
+use Rattle.send_model.proofs.Keeping.{all_filtered}
 use Rattle.send_model.proofs.Rewriting.{same_walk, changed}
 use Rattle.send_model.proofs.Overwriting.{written_at-append}
+use Rattle.sent_model.proofs.Capabilities.{bare, others_ordered, Capabilities, NoneThere, OneThere, capabilities_of}
 use Rattle.sent_model.proofs.SentCells.{write_all, ended, contents_again}
 
 abbrev Cell : Type 0
@@ -354,17 +356,19 @@ module _ (path : List ℕ) (x : ℕ) (t : Subvolume Cell) (old : Inode Cell) (at
           (sets_one (Chmod inode.mode path) a (record a { mode = inode.mode % 0o10_000 }) refl (λ u h. change_is (λ i. record i { mode = inode.mode % 0o10_000 }) a u h))
 
   finishing_set : (inode a : Inode Cell) → a.flags ≡ 0 → a.xattrs ≡ [] → a.mode ≡ (made inode.kind inode).mode → IsMade inode → IsMap bytes_cmp inode.xattrs
-      → Sets (finishing path inode) a (record a { uid = inode.uid; gid = inode.gid; mode = inode.mode; xattrs = inode.xattrs; flags = inode.flags; atime = inode.atime; mtime = inode.mtime })
+      → Sets (finishing path inode) a (record a { uid = inode.uid; gid = inode.gid; mode = inode.mode; xattrs = other_xattrs inode.xattrs; flags = inode.flags; atime = inode.atime; mtime = inode.mtime })
   unfolding edit
   finishing_set inode a no_flags no_xattrs mode is ordered =
-      let xs : List Command = map (λ e. SetXattr e.0 e.1 path) inode.xattrs in
+      let others : Map (List ℕ) (List ℕ) = other_xattrs inode.xattrs in
+      let xs : List Command = map (λ e. SetXattr e.0 e.1 path) others in
       let last : List Command = Utimes inode.mtime inode.atime path ∷ [] in
       let owned : Inode Cell = record a { uid = inode.uid; gid = inode.gid } in
       let moded : Inode Cell = record owned { mode = inode.mode } in
-      let known : Inode Cell = record moded { xattrs = inode.xattrs } in
+      let known : Inode Cell = record moded { xattrs = others } in
       let flagged : Inode Cell = record known { flags = inode.flags } in
       let timed : Inode Cell = record flagged { atime = inode.atime; mtime = inode.mtime } in
-      let attributes : Sets xs moded known = subst (λ (i : Inode Cell). Sets xs i known) (same_xattrs moded no_xattrs) (xattrs_set moded [] inode.xattrs ordered is.attributes) in
+      let attributes : Sets xs moded known = subst (λ (i : Inode Cell). Sets xs i known) (same_xattrs moded no_xattrs) (xattrs_set moded [] others (others_ordered inode.xattrs ordered)
+      (all_filtered (λ (e : List ℕ × List ℕ). is_xattr_name e.0 ≡ true) (λ e. not (is_capability e)) inode.xattrs is.attributes)) in
       sets_both (Chown inode.uid inode.gid path ∷ []) (mode_commands path inode ++ (xs ++ (flags_commands path inode.flags ++ last))) a owned timed
       (sets_one (Chown inode.uid inode.gid path) a owned refl (λ u h. change_is (λ i. record i { uid = inode.uid; gid = inode.gid }) a u h))
       (sets_both (mode_commands path inode) (xs ++ (flags_commands path inode.flags ++ last)) owned moded timed (mode_set inode owned mode is.mode)
@@ -372,13 +376,13 @@ module _ (path : List ℕ) (x : ℕ) (t : Subvolume Cell) (old : Inode Cell) (at
       (sets_both (flags_commands path inode.flags) last known flagged timed (flags_set inode.flags known no_flags)
       (sets_one (Utimes inode.mtime inode.atime path) flagged timed refl (λ u h. change_is (λ i. record i { atime = inode.atime; mtime = inode.mtime }) flagged u h)))))
 
-  -- A new inode becomes one with all fields of another of its kind.
-  pub finished : (inode : Inode Cell) → IsMade inode → IsMap bytes_cmp inode.xattrs → old ≡ made inode.kind inode → Sets (contents_commands path inode.cells ++ finishing path inode) old inode
+  -- A new inode becomes one with all fields of another of its kind but the capabilities.
+  pub finished : (inode : Inode Cell) → IsMade inode → IsMap bytes_cmp inode.xattrs → old ≡ made inode.kind inode → Sets (contents_commands path inode.cells ++ finishing path inode) old (bare inode)
   finished inode is ordered fresh =
       let cs : List Command = contents_commands path inode.cells in
       let a : Inode Cell = made inode.kind inode in
       let c : Inode Cell = record a { cells = inode.cells } in
-      let d : Inode Cell = record c { uid = inode.uid; gid = inode.gid; mode = inode.mode; xattrs = inode.xattrs; flags = inode.flags; atime = inode.atime; mtime = inode.mtime } in
+      let d : Inode Cell = record c { uid = inode.uid; gid = inode.gid; mode = inode.mode; xattrs = other_xattrs inode.xattrs; flags = inode.flags; atime = inode.atime; mtime = inode.mtime } in
       let f = made_fields inode.kind inode in
       let no_cells : record a { cells = [] } ≡ a = same_cells a f.cells in
       let first : Sets cs a c = elim (cases_Bool (is_file_kind inode.kind)) [
@@ -388,14 +392,14 @@ module _ (path : List ℕ) (x : ℕ) (t : Subvolume Cell) (old : Inode Cell) (at
             subst (λ (cells : List Cell). Sets (contents_commands path cells) a (record a { cells = cells })) (sym empty) (subst (λ (i : Inode Cell). Sets [] a i) (sym no_cells) (sets_none a))
       ] in
       let second : Sets (finishing path inode) c d = finishing_set inode c f.flags f.xattrs refl is ordered in
-      let same : d ≡ inode = λ i. record inode { kind = f.kind i; rdev = is.rdev i; target = is.target i } in
-      subst (λ (i : Inode Cell). Sets (cs ++ finishing path inode) i inode) (sym fresh)
+      let same : d ≡ bare inode = λ i. record (bare inode) { kind = f.kind i; rdev = is.rdev i; target = is.target i } in
+      subst (λ (i : Inode Cell). Sets (cs ++ finishing path inode) i (bare inode)) (sym fresh)
       (subst (λ (i : Inode Cell). Sets (cs ++ finishing path inode) a i) same (sets_both cs (finishing path inode) a c d first second))
 
   -- A directory has no contents.
-  pub directory_finished : (inode : Inode Cell) → is_directory_kind inode.kind ≡ true → IsMade inode → IsMap bytes_cmp inode.xattrs → old ≡ made inode.kind inode → Sets (finishing path inode) old inode
+  pub directory_finished : (inode : Inode Cell) → is_directory_kind inode.kind ≡ true → IsMade inode → IsMap bytes_cmp inode.xattrs → old ≡ made inode.kind inode → Sets (finishing path inode) old (bare inode)
   directory_finished inode dir is ordered fresh =
-      subst (λ (cells : List Cell). Sets (contents_commands path cells ++ finishing path inode) old inode) (is.contents (no_file inode.kind dir)) (finished inode is ordered fresh)
+      subst (λ (cells : List Cell). Sets (contents_commands path cells ++ finishing path inode) old (bare inode)) (is.contents (no_file inode.kind dir)) (finished inode is ordered fresh)
     where
       no_file : (k : NodeKind) → is_directory_kind k ≡ true → is_file_kind k ≡ false
       no_file Directory e = refl
@@ -405,3 +409,17 @@ module _ (path : List ℕ) (x : ℕ) (t : Subvolume Cell) (old : Inode Cell) (at
       no_file BlockDevice e = refl
       no_file Fifo e = refl
       no_file Socket e = refl
+
+  -- The capabilities come to an inode that has all else.
+  pub capabilities_set : (inode : Inode Cell) → IsMap bytes_cmp inode.xattrs → Sets (capability_commands path inode) (bare inode) inode
+  unfolding edit
+  capabilities_set inode ordered = one (capabilities_of inode.xattrs ordered)
+    where
+      set_all : Map (List ℕ) (List ℕ) → List Command
+      set_all m = map (λ e. SetXattr e.0 e.1 path) m
+
+      one : Capabilities inode.xattrs → Sets (set_all (filter is_capability inode.xattrs)) (bare inode) inode
+      one (NoneThere none same) = subst (λ (m : Map (List ℕ) (List ℕ)). Sets (set_all m) (bare inode) inode) (sym none) (subst (λ (m : Map (List ℕ) (List ℕ)). Sets [] (bare inode) (with_xattrs inode m)) same (sets_none (bare inode)))
+      one (OneThere value there whole) = subst (λ (m : Map (List ℕ) (List ℕ)). Sets (set_all m) (bare inode) inode) (sym there)
+          (subst (λ (m : Map (List ℕ) (List ℕ)). Sets (SetXattr capability value path ∷ []) (bare inode) (with_xattrs inode m)) whole
+          (sets_one (SetXattr capability value path) (bare inode) (with_xattrs inode (with_value bytes_cmp capability value (other_xattrs inode.xattrs))) refl (λ u h. xattr_is capability value (bare inode) u h refl)))

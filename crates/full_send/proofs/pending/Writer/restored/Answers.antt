@@ -7,8 +7,9 @@ use Rattle.sent_model.specs.Listing.{paths_of}
 use Rattle.inode_commands.specs.Spelled.{spelled_all}
 use Rattle.full_send.specs.Directories.{paths_passed}
 use Rattle.full_send.proofs.Added.{handed_on}
+use Rattle.full_send.proofs.LastCapabilities.{comes}
 use Rattle.full_send.proofs.LastDirectories.{ends_back, back_is, last_ends, last_leads, rest_lead, none_left}
-use Rattle.full_send.proofs.Parts.{part_first, part_next, part_stops, part_all}
+use Rattle.full_send.proofs.Parts.{part_first, part_next, part_stops, part_last}
 use Rattle.full_send.proofs.RestoredPaths.{places, directories_behind, directories_lead}
 use Rattle.full_send.proofs.pending.Writer.restored.Goals as goal
 
@@ -36,7 +37,7 @@ loop-directory-init g c =
       lead = subst (λ (m : Map (List ℕ) ℕ). AllByRecursion (λ e. walk s e.0 ≡ Ok e.1) m) (sym are) (directories_lead s c.requires.kept.lawful);
       added = λ tells.
           part_next _ _ _ _ _ _ _ _ _ _
-          (directories_behind image s F.spelled v ∙ ap (λ (l : List ℕ). spelled_all F.spelled v (places image s (paths_of s)) ++ l) (ap (spelled_all F.spelled v) (back_is image s (paths_of s) ∙ ap (ends_back s) (sym are))))
+          (directories_behind image s F.spelled v ∙ ap (λ (l : List ℕ). spelled_all F.spelled v (places image s (paths_of s)) ++ (l ++ spelled_all F.spelled v (comes s (paths_of s)))) (ap (spelled_all F.spelled v) (back_is image s (paths_of s) ∙ ap (ends_back s) (sym are))))
           (part_first _ _ _ _ refl) (c.in_ok-placed.ensures.adds tells);
     }
 
@@ -48,7 +49,7 @@ returns-in_err-finished-clause-adds g c tells =
     let F = g.F.Form in
     let v : ℕ = c.args.self.now.spelling.version in
     handed_on _ _ c.finished.new.bytes _ _ c.from_residual-in_err-finished.result _ c.from_residual-in_err-finished.ensures.1
-    (part_stops _ _ _ _ _ _ c.finished.new.bytes _ _ _ _ (last_ends c.args.self.now.tree.now c.loop-directory.directories.items c.pop.new.self.items c.in-Some.directory c.in-Some.ensures.items F.spelled v) (c.loop-directory.invariant.added tells)
+    (part_stops _ _ _ _ _ _ c.finished.new.bytes _ _ _ _ (last_ends c.args.self.now.tree.now c.loop-directory.directories.items c.pop.new.self.items c.in-Some.directory c.in-Some.ensures.items F.spelled v (spelled_all F.spelled v (comes c.args.self.now.tree.now (paths_of c.args.self.now.tree.now)))) (c.loop-directory.invariant.added tells)
     c.in_err-finished.ensures.adds)
 
 pub loop-directory-preserved : goal.loop-directory-preserved
@@ -64,7 +65,7 @@ loop-directory-preserved g c =
       out_steady = search rules;
       lead = rest_lead c.args.self.now.tree.now c.loop-directory.directories.items c.pop.new.self.items c.in-Some.directory c.in-Some.ensures.items i.lead;
       added = λ tells.
-          part_next _ _ _ _ _ _ _ _ _ _ (last_ends c.args.self.now.tree.now c.loop-directory.directories.items c.pop.new.self.items c.in-Some.directory c.in-Some.ensures.items F.spelled v) (i.added tells)
+          part_next _ _ _ _ _ _ _ _ _ _ (last_ends c.args.self.now.tree.now c.loop-directory.directories.items c.pop.new.self.items c.in-Some.directory c.in-Some.ensures.items F.spelled v (spelled_all F.spelled v (comes c.args.self.now.tree.now (paths_of c.args.self.now.tree.now)))) (i.added tells)
           c.in_ok-finished.ensures.adds;
     }
 
@@ -72,4 +73,6 @@ pub returns-in_default-clause-adds : goal.returns-in_default-clause-adds
 returns-in_default-clause-adds g c tells =
     let F = g.F.Form in
     let v : ℕ = c.args.self.now.spelling.version in
-    part_all _ _ _ _ _ _ (ap (λ (ds : List _). spelled_all F.spelled v (ends_back c.args.self.now.tree.now (paths_passed ds))) (none_left c.loop-directory.directories.items c.pop.new.self.items _ c.in_default.ensures.items c.in_default.ensures.rest c.in_default.ensures.cases.0)) (c.loop-directory.invariant.added tells)
+    let s = c.args.self.now.tree.now in
+    part_last _ _ _ _ _ _ _ _ _ _ (ap (λ (ds : List _). spelled_all F.spelled v (ends_back s (paths_passed ds)) ++ spelled_all F.spelled v (comes s (paths_of s)))
+    (none_left c.loop-directory.directories.items c.pop.new.self.items _ c.in_default.ensures.items c.in_default.ensures.rest c.in_default.ensures.cases.0)) (c.loop-directory.invariant.added tells) c.all_capabilities.ensures.adds
