@@ -1,19 +1,17 @@
 -- The capabilities of a subvolume that is restored, path by path.
-use Rattle.std.specs.Prelude.{◌≡◌, ℕ, Bool, true, false, List, [], ◌∷◌, ◌++◌, Option, None, Some, Ok, if◌then◌else◌}
+use Rattle.std.specs.Prelude.{◌≡◌, ℕ, Bool, true, false, List, [], ◌∷◌, ◌++◌, Option, None, Some, if◌then◌else◌}
 use Rattle.std.specs.List.{flat_map}
 use Rattle.std.specs.Option.{unwrap_or}
 use Rattle.std.specs.Str.{bytes_eq}
 use Rattle.std.proofs.Common.{refl, sym, ap, ◌∙◌}
 use Rattle.send_model.specs.Command.{Command}
 use Rattle.send_model.specs.Map.{Map}
-use Rattle.send_model.specs.Subvolume.{Inode, Subvolume, IsLawful, walk, inode_at, new_directory, first_path, all_paths}
-use Rattle.send_model.proofs.LeastPaths.{NotAfter, first_path_there}
+use Rattle.send_model.specs.Subvolume.{Inode, Subvolume, inode_at, new_directory, first_path, all_paths}
 use Rattle.sent_model.specs.Listing.{listed, paths_of}
 use Rattle.sent_model.specs.Restored.{capability_commands, capabilities}
 use Rattle.inode_commands.specs.Spelled.{spelled_all}
 use Rattle.inode_commands.proofs.Joined.{all_joined}
 use Rattle.path_walk.specs.Passing.{Passed, earlier}
-use Rattle.path_walk.proofs.Passes.{root_walks}
 use Rattle.store_groups.specs.declared.place.Place.{Place}
 use Rattle.full_send.specs.Held.{with_holes}
 use Rattle.full_send.proofs.LastDirectories.{seen, listed_seen}

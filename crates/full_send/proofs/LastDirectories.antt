@@ -33,7 +33,7 @@ ends_last s (f ∷ m) e = ap (λ (l : List Command). l ++ finishing f.0 (listed 
 -- ---- with the bytes of an image
 
 module _ (image : List ℕ) (s : Subvolume (Option Place)) where
-  abbrev pub once : Subvolume (Option ℕ)
+  abbrev once : Subvolume (Option ℕ)
   once = recelled (option_map (λ place. place.at)) s
 
   abbrev pub seen : Option (Inode (Option Place)) → Option (Inode (Option ℕ))

@@ -62,7 +62,7 @@ module _ {C : Type 0} (s : Subvolume C) (lawful : IsLawful s) (at : List ℕ) (i
   one_in b is = ap (λ (t : Bool). cond {A = Map (List ℕ) ℕ} t ((at, ino) ∷ []) []) is
 
   module _ (p : Passed C) (passed : p.subvolume ≡ s) (here : p.at ≡ at) where
-    pub earliest : is_directory s ino ≡ true → earlier p ino ≡ None
+    earliest : is_directory s ino ≡ true → earlier p ino ≡ None
     earliest dir =
         let first : (listed p.subvolume ino).first ≡ p.at = ap (λ (t : Subvolume C). (listed t ino).first) passed ∙ directory_first dir ∙ sym here in
         ap (λ (f : List ℕ). if bytes_eq p.at f then None else Some f) first ∙ rw (bytes_eq_same p.at) refl
