@@ -1,7 +1,8 @@
 // The disk.
-ghost use Rattle.std.specs.Prelude.{◌≡◌, ◌⊎◌, ◌-◌, ◌+◌, ◌^◌, ◌<◌, ◌≤◌, [], true, false, IsTrue, IsOk, IsErr, is_some, length, min, max, IfOk, OnOk, OnErr};
+ghost use Rattle.std.specs.Prelude.{◌≡◌, ◌⊎◌, ◌-◌, ◌+◌, ◌^◌, ◌<◌, ◌≤◌, ◌↔◌, [], true, false, IsTrue, IsOk, IsErr, is_some, length, min, max, IfOk, OnOk, OnErr};
 ghost use Rattle.sx_base.specs.Causes.{Steady};
 ghost use Rattle.sx_base.specs.Disk.{Passes, members};
+ghost use Rattle.file_disk.specs.Syncing.{IsStable, needs_no_sync};
 ghost use Rattle.file_disk.specs.State.{opened, passed, failed, size_of, moment_of, faults_of, unseen, unknown, never, sent, broken_down, follows, after_write, HasRoom, IsBroken, IsCounted};
 
 use std::alloc::{AllocError, Global};
@@ -179,12 +180,9 @@ impl<F: FileExt + OpenFile + Drop> FileDisk<F> {
         folder.sync_all()
     }
 
-    // A file that is only read has nothing to be made stable where the system takes no sync of it.
+    // Makes stable what was sent to a file that is not new.
     fn settle_data(&self) -> io::Result<()> {
-        match self.file.sync_data() {
-            Err(error) if !self.writable && takes_no_sync(&error) => Ok(()),
-            answer => answer,
-        }
+        settled(self.writable, self.file.sync_data())
     }
 }
 
@@ -199,12 +197,25 @@ fn room_for(alloc: Global, writable: bool) -> Result<Vec<u8>, AllocError>
     }
 }
 
-// Whether the error says that the file stands on a medium that takes no sync, since it can only be read.
-fn takes_no_sync(error: &io::Error) -> bool {
-    matches!(
-        error.kind(),
-        ErrorKind::InvalidInput | ErrorKind::ReadOnlyFilesystem
-    )
+// What the answer to a sync says: all is stable only if it was done, or there was nothing to be made stable.
+fn settled(writable: bool, answer: io::Result<()>) -> io::Result<()>
+    ensures stable { IsOk result ↔ IsStable writable answer }
+    ensures failed { OnErr result (result ≡ answer) }
+{
+    match answer {
+        Err(error) if needs_no_sync(writable, error.kind()) => Ok(()),
+        answer => answer,
+    }
+}
+
+// Whether a sync that fails so left nothing undone: the file is only read, and stands on a medium that takes no sync.
+fn needs_no_sync(writable: bool, kind: ErrorKind) -> bool
+    ensures { result ≡ needs_no_sync writable kind }
+{
+    match kind {
+        ErrorKind::InvalidInput | ErrorKind::ReadOnlyFilesystem => !writable,
+        _ => false,
+    }
 }
 
 impl<F: FileExt + OpenFile + Drop> Disk for FileDisk<F> {

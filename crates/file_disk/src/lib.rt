@@ -2,6 +2,7 @@
 #![tactic(auto)]
 
 mod disk;
+mod locked;
 mod opening;
 
 pub use disk::{FileDisk, ROOM};
