@@ -42,7 +42,7 @@ impl Locked {
         ensures { IfOk result (λ disk. disk ≡ opened disk.size self.writable (is_some folder)) }
     {
         let size = size_in(&self.file.metadata()?)?;
-        Ok(FileDisk::new(alloc, self.file, folder, self.writable, size)?)
+        Ok(FileDisk::new(alloc, self.file, folder, self.writable, size))
     }
 }
 
