@@ -5,7 +5,7 @@ ghost use Rattle.file_disk.specs.State.{opened};
 
 use crate::disk::FileDisk;
 use crate::locked::{Locked, check_file};
-use std::alloc::{AllocError, Global};
+use std::alloc::Global;
 use std::fs::{File, Files, OpenOptions};
 use std::io::ErrorKind;
 use std::{fs, io};
@@ -26,20 +26,11 @@ pub enum OpenStop {
     /// The system refused, and says why.
     #[error("the system refused")]
     System(io::Error),
-    /// There was no memory.
-    #[error("no memory")]
-    NoMemory,
 }
 
 impl From<io::Error> for OpenStop {
     fn from(error: io::Error) -> OpenStop {
         OpenStop::System(error)
-    }
-}
-
-impl From<AllocError> for OpenStop {
-    fn from(_: AllocError) -> OpenStop {
-        OpenStop::NoMemory
     }
 }
 

@@ -85,7 +85,6 @@ fn run_over<O: Sink, N: Sink>(
     match open_store(rt, words) {
         Opened::Disk(disk) => run_words(rt, words, out, notes, disk, None),
         Opened::NoStore => run_words(rt, words, out, notes, NoDisk::new(), None),
-        Opened::Stopped(OpenStop::NoMemory) => Err(AllocError),
         Opened::Stopped(why) => run_words(rt, words, out, notes, NoDisk::new(), Some(why)),
     }
 }
