@@ -4,6 +4,7 @@
 mod disk;
 mod locked;
 mod opening;
+mod place;
 
 pub use disk::{FileDisk, ROOM};
 pub use opening::OpenStop;

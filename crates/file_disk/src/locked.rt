@@ -1,11 +1,12 @@
 // A file that is locked. Only of such a file is the size asked, so it is asked while no other program can change it.
-ghost use Rattle.std.specs.Prelude.{◌≡◌, ◌^◌, ◌<◌, ◌≤◌, ◌↔◌, is_some, IfOk, IfErr, IsOk, IsErrAnd};
+ghost use Rattle.std.specs.Prelude.{◌≡◌, ◌^◌, ◌<◌, ◌≤◌, ◌↔◌, is_some, IfOk, IsOk, IsErrAnd};
 ghost use Rattle.std.specs.Fs.{IsFile, file_type, metadata_len};
 ghost use Rattle.file_disk.specs.Opening.{held};
 ghost use Rattle.file_disk.specs.State.{opened};
 
 use crate::disk::FileDisk;
 use crate::opening::OpenStop;
+use crate::place::check_file;
 use std::alloc::Global;
 use std::fs::{File, Metadata, TryLockError};
 
@@ -72,16 +73,4 @@ fn size_in(found: &Metadata) -> Result<u64, OpenStop>
         return Err(OpenStop::TooLarge);
     }
     Ok(found.len())
-}
-
-// Only a regular file is a disk. A pipe would let its opening wait for another program, and a device has no size.
-pub(crate) fn check_file(found: &Metadata) -> Result<(), OpenStop>
-    ensures regular { IsOk result ↔ IsFile (file_type found.now) }
-    ensures other { IfErr result (λ why. why ≡ OpenStop.NotFile) }
-{
-    if found.is_file() {
-        Ok(())
-    } else {
-        Err(OpenStop::NotFile)
-    }
 }

@@ -1,13 +1,13 @@
 // Opening a file as a disk.
 ghost use Rattle.std.specs.Prelude.{◌≡◌, true, false, IfOk};
-ghost use Rattle.file_disk.specs.Opening.{opening, folder_of};
+ghost use Rattle.file_disk.specs.Opening.{folder_of};
 ghost use Rattle.file_disk.specs.State.{opened};
 
 use crate::disk::FileDisk;
-use crate::locked::{Locked, check_file};
+use crate::locked::Locked;
+use crate::place::Place;
 use std::alloc::Global;
-use std::fs::{File, Files, OpenOptions};
-use std::io::ErrorKind;
+use std::fs::{File, Files};
 use std::{fs, io};
 use thiserror::Error;
 
@@ -44,16 +44,9 @@ impl FileDisk<File> {
     ) -> Result<FileDisk<File>, OpenStop>
         ensures { IfOk result (λ disk. disk ≡ opened disk.size true true) }
     {
-        let folder = opening(false, false).open(files, folder_of(path))?;
-        let new = match fs::metadata(files, path) {
-            Ok(found) => {
-                check_file(&found)?;
-                false
-            }
-            Err(error) if error.kind() == ErrorKind::NotFound => true,
-            Err(error) => return Err(OpenStop::System(error)),
-        };
-        let file = opening(true, new).open(files, path)?;
+        let folder = fs::open(files, folder_of(path))?;
+        let place = Place::of_file_or_none(path, fs::metadata(files, path))?;
+        let file = place.open(files, true)?;
         Locked::new(file, true)?.into_disk(alloc, Some(folder))
     }
 
@@ -65,8 +58,8 @@ impl FileDisk<File> {
     ) -> Result<FileDisk<File>, OpenStop>
         ensures { IfOk result (λ disk. disk ≡ opened disk.size true false) }
     {
-        check_file(&fs::metadata(files, path)?)?;
-        let file = opening(true, false).open(files, path)?;
+        let place = Place::of_file(path, fs::metadata(files, path))?;
+        let file = place.open(files, true)?;
         Locked::new(file, true)?.into_disk(alloc, None)
     }
 
@@ -79,19 +72,10 @@ impl FileDisk<File> {
     ) -> Result<FileDisk<File>, OpenStop>
         ensures { IfOk result (λ disk. disk ≡ opened disk.size false false) }
     {
-        check_file(&fs::metadata(files, path)?)?;
-        let file = opening(false, false).open(files, path)?;
+        let place = Place::of_file(path, fs::metadata(files, path))?;
+        let file = place.open(files, false)?;
         Locked::new(file, false)?.into_disk(alloc, None)
     }
-}
-
-// How a file is opened: to be read, to be written too, and to be made, if it is new. What is there already stays.
-fn opening(writable: bool, new: bool) -> OpenOptions
-    ensures { result ≡ opening writable new }
-{
-    let mut options = OpenOptions::new();
-    options.read(true).write(writable).create_new(new);
-    options
 }
 
 // The folder in which the file of this path stands.

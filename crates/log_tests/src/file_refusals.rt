@@ -184,15 +184,12 @@ fn expect_lost<R: Files<File = File> + AllocGlobal + Abort>(
 fn a_sync_that_failed_is_not_done(rt: HostRuntime) -> Result<(), Fail> {
     let name = "file_disk.lost";
     for (kind, _) in ERRORS {
-        let error = Some(*kind);
-        for (file, folder) in [
-            (error, None),
-            (error, Some(None)),
-            (None, Some(error)),
-            (error, Some(error)),
-        ] {
-            expect_lost(&rt, name, Answers { file, folder })?;
-        }
+        let (file, folder) = (Some(*kind), None);
+        expect_lost(&rt, name, Answers { file, folder })?;
+    }
+    let refused = Some(ErrorKind::InvalidInput);
+    for (file, folder) in [(refused, Some(None)), (None, Some(refused))] {
+        expect_lost(&rt, name, Answers { file, folder })?;
     }
     Ok(())
 }
@@ -214,7 +211,7 @@ fn one_that_is_read_may_stand_where_nothing_is_synced(rt: HostRuntime) -> Result
     Ok(())
 }
 
-// A pipe that nobody writes to: who opened it to read would wait.
+// What a path leads to that is a pipe.
 #[test]
 fn a_pipe_is_no_disk(rt: HostRuntime) -> Result<(), Fail> {
     let (reader, writer) = io::pipe(&rt)?;
