@@ -1,1 +1,3 @@
+pub mod Opening
 pub mod State
+pub mod Syncing

@@ -3,33 +3,34 @@ use Rattle.std.specs.Prelude.{◌≡◌, ℕ, ◌+◌, ◌-◌, ◌^◌, ◌<◌
 use Rattle.sx_base.specs.Causes.{Rose}
 use Rattle.sx_base.specs.Disk.{Pending, Rises, settled}
 
--- The size; the bytes that are gathered, and where the first of them goes; whether a write, a cut or a sync failed; whether the file
--- was opened to be written; whether the file's name may be new; the calls that failed; the clock.
+-- The size; the bytes that are gathered, and where the first of them goes; whether there is memory to gather bytes in; whether a write,
+-- a cut or a sync failed; whether the file was opened to be written; whether the file's name may be new; the calls that failed; the clock.
 pub record FileState : Type 0 where
   pub size : ℕ
   pub from : ℕ
   pub gathered : List ℕ
+  pub roomy : Bool
   pub broken : Bool
   pub writable : Bool
   pub fresh : Bool
   pub faults : ℕ
   pub moment : ℕ
 
--- There is room for 1 MiB where bytes may be gathered, and else none.
+-- There is room for 1 MiB, or none.
 abbrev pub HasRoom : Bool → List ℕ → Type 0
 HasRoom true room = length room ≡ 2 ^ 20
 HasRoom false room = room ≡ []
 
--- The gathered bytes lie in the file, and there is room for them, 1 MiB if the file may be written.
-pub record IsHeld (writable : Bool) (size from filled : ℕ) (room : List ℕ) : Type 0 where
+-- The gathered bytes lie in the file, and there is room for them.
+pub record IsHeld (roomy : Bool) (size from filled : ℕ) (room : List ℕ) : Type 0 where
   pub small : size < 2 ^ 63
-  pub room_is : HasRoom writable room
+  pub room_is : HasRoom roomy room
   pub fits : filled ≤ length room
   pub within : from + filled ≤ size
 
--- A file that was opened.
+-- A file that was opened. Nothing is gathered, and no memory is taken.
 abbrev pub opened : (size : ℕ) (writable fresh : Bool) → FileState
-opened size writable fresh = record { size = size; from = 0; gathered = []; broken = false; writable = writable; fresh = fresh; faults = 0; moment = 0 }
+opened size writable fresh = record { size = size; from = 0; gathered = []; roomy = false; broken = false; writable = writable; fresh = fresh; faults = 0; moment = 0 }
 
 -- One more, up to the greatest u64.
 abbrev pub one_more : ℕ → ℕ
@@ -80,11 +81,11 @@ abbrev pub follows : ℕ → ℕ → FileState → Bool
 follows at count d = nat_lt 0 (length d.gathered) && (at == d.from + length d.gathered) && nat_le (length d.gathered + count) (2 ^ 20)
 
 -- After a write: the piece is gathered behind the others where it follows them, it is gathered alone where it does not, and where it
--- is longer than 1 MiB it is sent.
+-- is longer than 1 MiB or there is no room it is sent.
 abbrev pub after_write : ℕ → List ℕ → FileState → FileState
 after_write at piece d =
     if follows at (length piece) d then record d { size = max d.size (at + length piece); gathered = d.gathered ++ piece }
-    else if nat_le (length piece) (2 ^ 20) then record d { size = max d.size (at + length piece); from = at; gathered = piece }
+    else if (d.roomy && nat_le (length piece) (2 ^ 20)) then record d { size = max d.size (at + length piece); from = at; gathered = piece }
     else record d { size = max d.size (at + length piece); from = 0; gathered = [] }
 
 -- A call failed, and nothing is tried from then on.

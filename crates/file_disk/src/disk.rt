@@ -1,8 +1,9 @@
 // The disk.
-ghost use Rattle.std.specs.Prelude.{◌≡◌, ◌⊎◌, ◌-◌, ◌+◌, ◌^◌, ◌<◌, ◌≤◌, [], true, false, IsTrue, IsOk, IsErr, is_some, length, min, max, IfOk, OnOk, OnErr};
+ghost use Rattle.std.specs.Prelude.{◌≡◌, ◌⊎◌, ◌-◌, ◌+◌, ◌^◌, ◌<◌, ◌≤◌, ◌↔◌, [], true, false, IsTrue, IsOk, IsErr, is_some, length, min, max, IfOk, OnOk, OnErr};
 ghost use Rattle.sx_base.specs.Causes.{Steady};
 ghost use Rattle.sx_base.specs.Disk.{Passes, members};
-ghost use Rattle.file_disk.specs.State.{opened, passed, failed, size_of, moment_of, faults_of, unseen, unknown, never, sent, broken_down, follows, after_write, HasRoom, IsBroken, IsCounted};
+ghost use Rattle.file_disk.specs.Syncing.{IsStable, needs_no_sync};
+ghost use Rattle.file_disk.specs.State.{opened, passed, failed, size_of, moment_of, faults_of, unseen, unknown, never, sent, broken_down, follows, after_write, IsBroken, IsCounted};
 
 use std::alloc::{AllocError, Global};
 use std::fs::OpenFile;
@@ -22,6 +23,8 @@ pub const ROOM: usize = 1 << 20;
 /// write. After a write, a cut or a sync that failed nothing is tried again, since the system may have dropped the bytes and say
 /// so only once: from then on each call answers `Failed`.
 ///
+/// Memory is taken at the first write that is gathered. While there is none, each write goes straight to the file.
+///
 /// The size is kept here, with what is gathered. Each `Failed` raises the count of faults, which ends at the greatest u64.
 #[derive(Debug, Drop)]
 pub struct FileDisk<F> {
@@ -30,8 +33,10 @@ pub struct FileDisk<F> {
     folder: Option<F>,
     writable: bool,
     size: u64,
-    // The bytes that are gathered stand first. A file that is only read has no room for them.
+    alloc: Global,
+    // The bytes that are gathered stand first. There is no room for them before there are any.
     room: Vec<u8>,
+    roomy: bool,
     filled: usize,
     // Where the first of them goes.
     from: u64,
@@ -50,6 +55,7 @@ impl<F> Model for FileDisk<F> {
       size = d.size;
       from = d.from;
       gathered = take d.filled d.room.items;
+      roomy = d.roomy;
       broken = d.broken;
       writable = d.writable;
       fresh = is_some d.folder;
@@ -59,34 +65,30 @@ impl<F> Model for FileDisk<F> {
 
     ghost use Rattle.file_disk.specs.State.{IsHeld};
 
-    ghost invariant = { λ d. IsHeld d.writable d.size d.from d.filled d.room.items };
+    ghost invariant = { λ d. IsHeld d.roomy d.size d.from d.filled d.room.items };
 }
 
 impl<F: FileExt + OpenFile + Drop> FileDisk<F> {
     /// A file that is open, of this size, which is below 2^63. The folder is given where the file may be new there: the first
-    /// sync then makes the file's name stable too. Fails for want of memory alone.
-    pub fn new(
-        alloc: Global,
-        file: F,
-        folder: Option<F>,
-        writable: bool,
-        size: u64,
-    ) -> Result<FileDisk<F>, AllocError>
+    /// sync then makes the file's name stable too. Takes no memory.
+    pub fn new(alloc: Global, file: F, folder: Option<F>, writable: bool, size: u64) -> FileDisk<F>
         requires small { size < 2 ^ 63 }
-        ensures new { IfOk result (λ disk. disk ≡ opened size writable (is_some folder)) }
+        ensures new { result ≡ opened size writable (is_some folder) }
     {
-        Ok(FileDisk {
+        FileDisk {
             file,
             folder,
             writable,
             size,
-            room: room_for(alloc, writable)?,
+            alloc,
+            room: Vec::new(alloc),
+            roomy: false,
             filled: 0,
             from: 0,
             broken: false,
             faults: 0,
             moment: 0,
-        })
+        }
     }
 
     // Counts a call.
@@ -144,7 +146,6 @@ impl<F: FileExt + OpenFile + Drop> FileDisk<F> {
     fn gather(&mut self, at: u64, piece: &[u8])
         requires room { at + length piece.now < 2 ^ 63 }
         requires follows { follows at (length piece.now) self.old ≡ true }
-        requires writable { self.old.writable ≡ true }
         ensures { self.new ≡ after_write at piece.now self.old }
     {
         let end = self.filled + piece.len();
@@ -153,11 +154,25 @@ impl<F: FileExt + OpenFile + Drop> FileDisk<F> {
         self.size = self.size.max(at + piece.len() as u64);
     }
 
+    // Whether there is room, which is made where there is none.
+    fn make_room(&mut self) -> bool
+        ensures room { self.new ≡ record self.old { roomy = result } }
+        ensures stays { IsTrue self.old.roomy → IsTrue result }
+    {
+        if !self.roomy {
+            if let Ok(room) = room_for(self.alloc) {
+                self.room = room;
+                self.roomy = true;
+            }
+        }
+        self.roomy
+    }
+
     // Gathers a piece, where nothing is gathered.
     fn begin(&mut self, at: u64, piece: &[u8])
         requires room { at + length piece.now < 2 ^ 63 }
         requires short { length piece.now ≤ 2 ^ 20 }
-        requires writable { self.old.writable ≡ true }
+        requires roomy { self.old.roomy ≡ true }
         ensures { self.new ≡ record self.old {
           size = max self.old.size (at + length piece.now);
           from = at;
@@ -179,32 +194,38 @@ impl<F: FileExt + OpenFile + Drop> FileDisk<F> {
         folder.sync_all()
     }
 
-    // A file that is only read has nothing to be made stable where the system takes no sync of it.
+    // Makes stable what was sent to a file that is not new.
     fn settle_data(&self) -> io::Result<()> {
-        match self.file.sync_data() {
-            Err(error) if !self.writable && takes_no_sync(&error) => Ok(()),
-            answer => answer,
-        }
+        settled(self.writable, self.file.sync_data())
     }
 }
 
-// Room for what is gathered, where anything may be.
-fn room_for(alloc: Global, writable: bool) -> Result<Vec<u8>, AllocError>
-    ensures { IfOk result (λ room. HasRoom writable room.items) }
+// Room for what is gathered.
+fn room_for(alloc: Global) -> Result<Vec<u8>, AllocError>
+    ensures { IfOk result (λ room. length room.items ≡ 2 ^ 20) }
 {
-    if writable {
-        vec![in alloc; 0; ROOM]
-    } else {
-        Ok(Vec::new(alloc))
+    vec![in alloc; 0; ROOM]
+}
+
+// What the answer to a sync says: all is stable only if it was done, or there was nothing to be made stable.
+fn settled(writable: bool, answer: io::Result<()>) -> io::Result<()>
+    ensures stable { IsOk result ↔ IsStable writable answer }
+    ensures failed { OnErr result (result ≡ answer) }
+{
+    match answer {
+        Err(error) if needs_no_sync(writable, error.kind()) => Ok(()),
+        answer => answer,
     }
 }
 
-// Whether the error says that the file stands on a medium that takes no sync, since it can only be read.
-fn takes_no_sync(error: &io::Error) -> bool {
-    matches!(
-        error.kind(),
-        ErrorKind::InvalidInput | ErrorKind::ReadOnlyFilesystem
-    )
+// Whether a sync that fails so left nothing undone: the file is only read, and stands on a medium that takes no sync.
+fn needs_no_sync(writable: bool, kind: ErrorKind) -> bool
+    ensures { result ≡ needs_no_sync writable kind }
+{
+    match kind {
+        ErrorKind::InvalidInput | ErrorKind::ReadOnlyFilesystem => !writable,
+        _ => false,
+    }
 }
 
 impl<F: FileExt + OpenFile + Drop> Disk for FileDisk<F> {
@@ -285,7 +306,9 @@ impl<F: FileExt + OpenFile + Drop> Disk for FileDisk<F> {
         ensures passes { Passes (members ⊥ moment_of never unknown faults_of)
             self.old self.new result }
         ensures steady { Steady self.old.faults self.new.faults result }
-        ensures passed { OnOk result (self.new ≡ passed (after_write at piece.now self.old)) }
+        ensures room { IsTrue self.old.roomy → IsTrue self.new.roomy }
+        ensures passed { OnOk result (self.new
+            ≡ passed (after_write at piece.now (record self.old { roomy = self.new.roomy }))) }
         ensures failed { OnErr result (IsBroken self.old self.new) }
         ensures stuck { IsTrue self.old.broken → IsErr result }
         ensures only_read { self.old.writable ≡ false → IsErr result }
@@ -301,7 +324,7 @@ impl<F: FileExt + OpenFile + Drop> Disk for FileDisk<F> {
         let Ok(()) = self.send() else {
             return Err(self.break_down());
         };
-        if piece.len() <= ROOM {
+        if piece.len() <= ROOM && self.make_room() {
             self.begin(at, piece);
             self.pass();
             return Ok(());

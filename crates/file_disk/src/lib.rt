@@ -2,7 +2,9 @@
 #![tactic(auto)]
 
 mod disk;
+mod locked;
 mod opening;
+mod place;
 
 pub use disk::{FileDisk, ROOM};
 pub use opening::OpenStop;

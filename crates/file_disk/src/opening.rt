@@ -1,16 +1,15 @@
 // Opening a file as a disk.
-ghost use Rattle.std.specs.Prelude.{◌≡◌, true, false, is_some, IfOk};
+ghost use Rattle.std.specs.Prelude.{◌≡◌, true, false, IfOk};
+ghost use Rattle.file_disk.specs.Opening.{folder_of};
 ghost use Rattle.file_disk.specs.State.{opened};
 
 use crate::disk::FileDisk;
-use std::alloc::{AllocError, Global};
-use std::fs::{File, Files, Metadata, OpenOptions, TryLockError};
-use std::io::ErrorKind;
+use crate::locked::Locked;
+use crate::place::Place;
+use std::alloc::Global;
+use std::fs::{File, Files};
 use std::{fs, io};
 use thiserror::Error;
-
-// A size that is larger than this is no size of a disk.
-const GREATEST: u64 = (1 << 63) - 1;
 
 /// Why a file was not opened as a disk.
 #[derive(Debug, Drop, Error)]
@@ -27,20 +26,11 @@ pub enum OpenStop {
     /// The system refused, and says why.
     #[error("the system refused")]
     System(io::Error),
-    /// There was no memory.
-    #[error("no memory")]
-    NoMemory,
 }
 
 impl From<io::Error> for OpenStop {
     fn from(error: io::Error) -> OpenStop {
         OpenStop::System(error)
-    }
-}
-
-impl From<AllocError> for OpenStop {
-    fn from(_: AllocError) -> OpenStop {
-        OpenStop::NoMemory
     }
 }
 
@@ -55,15 +45,9 @@ impl FileDisk<File> {
         ensures { IfOk result (λ disk. disk ≡ opened disk.size true true) }
     {
         let folder = fs::open(files, folder_of(path))?;
-        let file = match fs::metadata(files, path) {
-            Ok(found) => {
-                check_file(&found)?;
-                OpenOptions::new().read(true).write(true).open(files, path)?
-            }
-            Err(error) if error.kind() == ErrorKind::NotFound => File::create_new(files, path)?,
-            Err(error) => return Err(OpenStop::System(error)),
-        };
-        hold(alloc, file, Some(folder), true)
+        let place = Place::of_file_or_none(path, fs::metadata(files, path))?;
+        let file = place.open(files, true)?;
+        Locked::new(file, true)?.into_disk(alloc, Some(folder))
     }
 
     /// Opens the file of this path, which is there, to be read and written. No other program may have it open as a disk.
@@ -74,9 +58,9 @@ impl FileDisk<File> {
     ) -> Result<FileDisk<File>, OpenStop>
         ensures { IfOk result (λ disk. disk ≡ opened disk.size true false) }
     {
-        check_file(&fs::metadata(files, path)?)?;
-        let file = OpenOptions::new().read(true).write(true).open(files, path)?;
-        hold(alloc, file, None, true)
+        let place = Place::of_file(path, fs::metadata(files, path))?;
+        let file = place.open(files, true)?;
+        Locked::new(file, true)?.into_disk(alloc, None)
     }
 
     /// Opens the file of this path, which is there, to be read alone. Other programs may do so too, but none may have it open to
@@ -88,56 +72,16 @@ impl FileDisk<File> {
     ) -> Result<FileDisk<File>, OpenStop>
         ensures { IfOk result (λ disk. disk ≡ opened disk.size false false) }
     {
-        check_file(&fs::metadata(files, path)?)?;
-        let file = fs::open(files, path)?;
-        hold(alloc, file, None, false)
-    }
-}
-
-// Locks a file that was opened, and takes its size.
-fn hold(
-    alloc: Global,
-    file: File,
-    folder: Option<File>,
-    writable: bool,
-) -> Result<FileDisk<File>, OpenStop>
-    ensures { IfOk result (λ disk. disk ≡ opened disk.size writable (is_some folder)) }
-{
-    lock(&file, writable)?;
-    let found = file.metadata()?;
-    check_file(&found)?;
-    let size = found.len();
-    if size > GREATEST {
-        return Err(OpenStop::TooLarge);
-    }
-    Ok(FileDisk::new(alloc, file, folder, writable, size)?)
-}
-
-// Takes the file for this program alone, or with others that only read. The lock goes with the file.
-fn lock(file: &File, writable: bool) -> Result<(), OpenStop> {
-    let answer = if writable {
-        file.try_lock()
-    } else {
-        file.try_lock_shared()
-    };
-    match answer {
-        Ok(()) => Ok(()),
-        Err(TryLockError::WouldBlock) => Err(OpenStop::InUse),
-        Err(TryLockError::Error(error)) => Err(OpenStop::System(error)),
-    }
-}
-
-// A pipe would let its opening wait for another program, and a device has no size.
-fn check_file(found: &Metadata) -> Result<(), OpenStop> {
-    if found.is_file() {
-        Ok(())
-    } else {
-        Err(OpenStop::NotFile)
+        let place = Place::of_file(path, fs::metadata(files, path))?;
+        let file = place.open(files, false)?;
+        Locked::new(file, false)?.into_disk(alloc, None)
     }
 }
 
 // The folder in which the file of this path stands.
-fn folder_of(path: &str) -> &str {
+fn folder_of(path: &str) -> &str
+    ensures { result.now ≡ folder_of path.now }
+{
     match path.rsplit_once('/') {
         None => ".",
         Some(("", _)) => "/",

@@ -67,7 +67,6 @@ fn run_over<O: Sink, N: Sink>(
     match open_store(rt, words) {
         Opened::Disk(disk) => run_on(rt, words, out, notes, disk, None),
         Opened::NoStore => run_on(rt, words, out, notes, NoDisk::new(), None),
-        Opened::Stopped(OpenStop::NoMemory) => Err(AllocError),
         Opened::Stopped(why) => run_on(rt, words, out, notes, NoDisk::new(), Some(why)),
     }
 }
@@ -84,7 +83,6 @@ fn run_barred<N: Sink>(
         Opened::Disk(_) if changes_store(words) => Ok(bar(why, notes)),
         Opened::Disk(disk) => run_unread(rt, words, why, notes, disk, None),
         Opened::NoStore => run_unread(rt, words, why, notes, NoDisk::new(), None),
-        Opened::Stopped(OpenStop::NoMemory) => Err(AllocError),
         Opened::Stopped(stop) => run_unread(rt, words, why, notes, NoDisk::new(), Some(stop)),
     }
 }

@@ -86,7 +86,12 @@ fn new_file(rt: &HostRuntime, path: &str) -> io::Result<File> {
 }
 
 // What a read of the bytes from a place on gives.
-fn expect_at<D: Disk>(rt: &impl Abort, disk: &mut D, at: u64, bytes: &[u8]) -> Result<(), Failed> {
+pub(crate) fn expect_at<D: Disk>(
+    rt: &impl Abort,
+    disk: &mut D,
+    at: u64,
+    bytes: &[u8],
+) -> Result<(), Failed> {
     let mut buf = [0; 16];
     let count = disk.read(at, &mut buf)?;
     same(rt, &buf[..count], bytes);
@@ -94,7 +99,7 @@ fn expect_at<D: Disk>(rt: &impl Abort, disk: &mut D, at: u64, bytes: &[u8]) -> R
 }
 
 // Writes a small piece that begins within the disk or at its end.
-fn put<D: Disk>(disk: &mut D, at: u64, piece: &[u8]) -> Result<(), Failed> {
+pub(crate) fn put<D: Disk>(disk: &mut D, at: u64, piece: &[u8]) -> Result<(), Failed> {
     let size = disk.size()?;
     if at > size || at > 1 << 40 || piece.len() > 1 << 30 {
         return Err(Failed);
@@ -103,7 +108,7 @@ fn put<D: Disk>(disk: &mut D, at: u64, piece: &[u8]) -> Result<(), Failed> {
 }
 
 // Cuts a disk that is as long.
-fn cut_to<D: Disk>(disk: &mut D, size: u64) -> Result<(), Failed> {
+pub(crate) fn cut_to<D: Disk>(disk: &mut D, size: u64) -> Result<(), Failed> {
     let now = disk.size()?;
     if size > now {
         return Err(Failed);
@@ -192,7 +197,7 @@ fn one_that_is_read_is_not_written(rt: HostRuntime) -> Result<(), Fail> {
 }
 
 // Whether the file is in use.
-fn in_use(answer: Result<FileDisk<File>, OpenStop>) -> bool {
+pub(crate) fn in_use(answer: Result<FileDisk<File>, OpenStop>) -> bool {
     matches!(answer, Err(OpenStop::InUse))
 }
 
@@ -227,7 +232,7 @@ fn reason(answer: Result<FileDisk<File>, OpenStop>) -> Option<ErrorKind> {
 }
 
 // Whether it is no regular file.
-fn no_file(answer: Result<FileDisk<File>, OpenStop>) -> bool {
+pub(crate) fn no_file(answer: Result<FileDisk<File>, OpenStop>) -> bool {
     matches!(answer, Err(OpenStop::NotFile))
 }
 
@@ -284,7 +289,7 @@ fn small_file<'a>(
 fn thousands_of_writes_are_one(rt: HostRuntime) -> Result<(), Fail> {
     let calls = no_calls();
     let file = small_file(&rt, "file_disk.many", &calls, usize::MAX, u64::MAX)?;
-    let mut disk = FileDisk::new(rt.alloc(), file, None, true, 0)?;
+    let mut disk = FileDisk::new(rt.alloc(), file, None, true, 0);
     for place in 0..5_000u64 {
         put(&mut disk, 10 * place, b"0123456789")?;
     }
@@ -316,7 +321,7 @@ fn a_new_file_and_its_folder_are_synced(rt: HostRuntime) -> Result<(), Fail> {
         most: 0,
         room: 0,
     };
-    let mut disk = FileDisk::new(rt.alloc(), file, Some(folder), true, 0)?;
+    let mut disk = FileDisk::new(rt.alloc(), file, Some(folder), true, 0);
     disk.write_at(0, b"a line of twenty-two.\n")?;
     disk.sync()?;
     same(&rt, calls.counts(), (4, 0, 2));
@@ -333,7 +338,7 @@ fn a_new_file_and_its_folder_are_synced(rt: HostRuntime) -> Result<(), Fail> {
 }
 
 // Each call fails.
-fn all_fails(rt: &impl Abort, disk: &mut FileDisk<Small<'_>>) {
+pub(crate) fn all_fails<F: FileExt + OpenFile + Drop>(rt: &impl Abort, disk: &mut FileDisk<F>) {
     same(rt, disk.size(), Err(Failed));
     same(rt, disk.read(0, &mut [0; 1]), Err(Failed));
     same(rt, disk.write_at(0, b"a"), Err(Failed));
@@ -345,7 +350,7 @@ fn all_fails(rt: &impl Abort, disk: &mut FileDisk<Small<'_>>) {
 fn after_a_fault_nothing_is_tried_again(rt: HostRuntime) -> Result<(), Fail> {
     let calls = no_calls();
     let file = small_file(&rt, "file_disk.full", &calls, 4, 8)?;
-    let mut disk = FileDisk::new(rt.alloc(), file, None, true, 0)?;
+    let mut disk = FileDisk::new(rt.alloc(), file, None, true, 0);
     same(&rt, disk.write_at(0, b"0123456789"), Ok(()));
     same(&rt, disk.sync(), Err(Failed));
     same(&rt, calls.writes.get(), 3);

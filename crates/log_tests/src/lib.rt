@@ -6,6 +6,8 @@ mod client;
 #[cfg(test)]
 mod disk_tests;
 #[cfg(test)]
+mod file_refusals;
+#[cfg(test)]
 mod file_tests;
 #[cfg(test)]
 mod journal_tests;
