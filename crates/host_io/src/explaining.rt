@@ -1,4 +1,4 @@
-// The second line of a run that was not done, for people: which file it speaks of, the system's reason, and what to do.
+// The explanation of a message, for people: which file it is about, the system's reason, and what to do.
 ghost use Rattle.std.specs.Prelude.{◌≡◌};
 
 use crate::advice::{about_note, about_refusal, about_words};
@@ -68,14 +68,13 @@ impl<N: Sink> Sink for KeptNotes<N> {
     }
 }
 
-/// Whether the second line is wanted: where standard error is a terminal, or the variable BTRSEND_EXPLAIN is set.
+/// Whether explanations are wanted: standard error is a terminal, or the variable BTRSEND_EXPLAIN is set.
 pub(crate) fn is_wanted(rt: &HostRuntime) -> bool {
     rt.stderr().is_terminal() || env::var(rt, "BTRSEND_EXPLAIN").is_ok()
 }
 
-/// Writes the second line behind the note, where there is one and something is to be said of it. `trouble` is what the system said, with
-/// what it said it of, or nothing.
-/// Faults of the notes, and want of memory, are passed over.
+/// Writes the explanation behind the message, if there is a message and something is to be said of it. `trouble` is what the system said,
+/// with what it said it of, or nothing. Faults of the notes, and want of memory, are passed over.
 pub(crate) fn explain<R: Files, N: Sink>(
     files: &R,
     alloc: Global,

@@ -222,7 +222,7 @@ struct EndedRun<'a> {
     why: Option<OpenStop>,
 }
 
-// Writes the second line of a run, for people, with what the system said.
+// Writes the explanation of a run that failed, with what the system said.
 fn explain_run<R: Files, N: Sink>(
     files: &R,
     ended: &EndedRun<'_>,
@@ -267,7 +267,7 @@ fn put_input_trouble<R: Files>(
     to.push_all(b": ")?;
     to.push_all(reason.as_bytes())?;
     if name.as_bytes().starts_with(b"guard:") {
-        to.push_all(b"; guards stand before the store")?;
+        to.push_all(b"; guards come before the store")?;
     }
     to.push_all(b"; ")
 }
