@@ -3,8 +3,8 @@ ghost use Rattle.std.specs.Prelude.{◌≡◌, ⊤, [], None};
 
 use sx_base::{Failed, Inputs, Lost};
 
-/// Inputs for a run that is to end before it reads a file: each call is answered `Failed` and raises the count of faults, which ends at
-/// the greatest u64. They tell nothing of their bytes.
+/// Inputs for a run that is to end before it reads a file: each call is answered `Failed` and
+/// raises the count of faults, which ends at the greatest u64. They tell nothing of their bytes.
 #[derive(Debug, Drop)]
 pub(crate) struct BarredInputs {
     faults: u64,

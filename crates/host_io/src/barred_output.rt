@@ -60,7 +60,8 @@ fn writes_stream(words: &[String]) -> bool {
     }
 }
 
-/// A sink that takes nothing: each write is answered `Failed` and raises the count of faults, which ends at the greatest u64.
+/// A sink that takes nothing: each write is answered `Failed` and raises the count of faults, which
+/// ends at the greatest u64.
 #[derive(Debug, Drop)]
 pub(crate) struct BarredSink {
     faults: u64,

@@ -9,9 +9,9 @@ use std::cell::RefCell;
 use std::rt::Clock;
 use sx_base::{Disk, Failed, Sink};
 
-/// A disk that says on a terminal how far it is read, once a run goes on for more than two seconds: up to which of its places, of how
-/// many. All that it does is what the inner disk does; faults of the clock and of the terminal, and want of memory for a line, only leave
-/// lines out.
+/// A disk that says on a terminal how far it is read, once a run goes on for more than two seconds:
+/// up to which of its places, of how many. All that it does is what the inner disk does; faults of
+/// the clock and of the terminal, and want of memory for a line, only leave lines out.
 #[derive(Debug, Drop)]
 pub struct DiskProgress<'a, D, C, S> {
     disk: D,

@@ -1,4 +1,5 @@
-// The explanation of a message, for people: which file it is about, the system's reason, and what to do.
+// The explanation of a message, for people: which file it is about, the system's reason, and what
+// to do.
 ghost use Rattle.std.specs.Prelude.{◌≡◌};
 
 use crate::advice::{about_note, about_refusal, about_words};
@@ -14,7 +15,8 @@ use sx_base::{Blob, Failed, Sink, escape_into, write_whole};
 // How many bytes of the notes are kept: all notes are shorter but those that say what is missing.
 const KEPT: usize = 160;
 
-/// A sink that remembers the first bytes that it took. What it takes and its faults are those of the inner sink.
+/// A sink that remembers the first bytes that it took. What it takes and its faults are those of
+/// the inner sink.
 #[derive(Debug, Drop)]
 pub(crate) struct KeptNotes<N> {
     inner: N,
@@ -45,7 +47,8 @@ impl<N: Sink> KeptNotes<N> {
     }
 }
 
-// Puts bytes behind the first ones of a buffer, as far as there is room, and gives how many stand there then.
+// Puts bytes behind the first ones of a buffer, as far as there is room, and gives how many stand
+// there then.
 fn put_behind(kept: &mut [u8], count: usize, bytes: &[u8]) -> usize {
     let mut count = count;
     for byte in bytes {
@@ -68,13 +71,15 @@ impl<N: Sink> Sink for KeptNotes<N> {
     }
 }
 
-/// Whether explanations are wanted: standard error is a terminal, or the variable BTRSEND_EXPLAIN is set.
+/// Whether explanations are wanted: standard error is a terminal, or the variable BTRSEND_EXPLAIN
+/// is set.
 pub(crate) fn is_wanted(rt: &HostRuntime) -> bool {
     rt.stderr().is_terminal() || env::var(rt, "BTRSEND_EXPLAIN").is_ok()
 }
 
-/// Writes the explanation behind the message, if there is a message and something is to be said of it. `trouble` is what the system said,
-/// with what it said it of, or nothing. Faults of the notes, and want of memory, are passed over.
+/// Writes the explanation behind the message, if there is a message and something is to be said of
+/// it. `trouble` is what the system said, with what it said it of, or nothing. Faults of the notes,
+/// and want of memory, are passed over.
 pub(crate) fn explain<R: Files, N: Sink>(
     files: &R,
     alloc: Global,

@@ -1,4 +1,5 @@
-//! The edge of btrsend: files and streams of the system as inputs and sinks, and the program's start.
+//! The edge of btrsend: files and streams of the system as inputs and sinks, and the program's
+//! start.
 #![tactic(auto)]
 
 mod advice;

@@ -26,9 +26,9 @@ pub struct HowFar<'a> {
     pub all: Option<u64>,
 }
 
-/// The line that says how far a run is: it goes to the first column, says the file that is read, the number of the pass,
-/// and how many bytes of the pass are read of how many, and clears what stood behind. But for the four bytes that move
-/// and clear, it is at most 79 columns wide.
+/// The line that says how far a run is: it goes to the first column, says the file that is read,
+/// the number of the pass, and how many bytes of the pass are read of how many, and clears what
+/// stood behind. But for the four bytes that move and clear, it is at most 79 columns wide.
 pub fn line_of(alloc: Global, how_far: &HowFar<'_>) -> Result<Blob, AllocError>
     ensures says { IfOk result (λ line. line ≡ line_of how_far.now.name.now how_far.now.pass
         how_far.now.done how_far.now.all) }

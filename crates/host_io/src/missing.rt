@@ -10,11 +10,13 @@ use tlv_frame::attribute_numbers::CLONE_UUID;
 use tlv_frame::{FRAME_HEAD_LEN, attrs, frame_in};
 use uuid::Uuid;
 
-// So many bytes of a command are looked at. The head of a snapshot and a clone are shorter, but for very long paths.
+// So many bytes of a command are looked at. The head of a snapshot and a clone are shorter, but for
+// very long paths.
 const LOOKED_AT: usize = 8192;
 
-/// Appends the UUID of the parent or the source that a refused command names, by the number of its file and by its place there. The
-/// file is read again for it, where it is a regular one; nothing is appended where the UUID can not be had.
+/// Appends the UUID of the parent or the source that a refused command names, by the number of its
+/// file and by its place there. The file is read again for it, where it is a regular one; nothing
+/// is appended where the UUID can not be had.
 pub(crate) fn push_missing<R: Files>(
     files: &R,
     alloc: Global,

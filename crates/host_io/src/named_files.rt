@@ -2,7 +2,8 @@
 use std::fs::{self, Files};
 use std::os::unix::fs::MetadataExt;
 
-/// The words of a run that name files. Where files take turns, guards stand among them; where the parts in them may be given names, these.
+/// The words of a run that name files. Where files take turns, guards stand among them; where the
+/// parts in them may be given names, these.
 #[derive(Debug, Clone, Copy)]
 pub(crate) struct NamedFiles<'a> {
     words: &'a [String],
@@ -92,7 +93,8 @@ pub(crate) fn bytes_of<R: Files>(files: &R, name: &str) -> Option<u64> {
     Some(about.len())
 }
 
-/// Whether a file is the regular file that standard output goes to, of which `files` tells by the path /dev/stdout.
+/// Whether a file is the regular file that standard output goes to, of which `files` tells by the
+/// path /dev/stdout.
 pub(crate) fn is_output<R: Files>(files: &R, name: &str) -> bool {
     match place_of(files, "/dev/stdout") {
         Some(output) => place_of(files, name) == Some(output),

@@ -5,8 +5,9 @@ ghost use Rattle.sx_base.specs.Disk.{settled};
 
 use sx_base::{Disk, Failed};
 
-/// A disk behind which there is no file, for words that name none and where the file could not be opened. Its size is 0, and each
-/// call answers `Failed` and raises the count of faults, which ends at the greatest u64.
+/// A disk behind which there is no file, for words that name none and where the file could not be
+/// opened. Its size is 0, and each call answers `Failed` and raises the count of faults, which ends
+/// at the greatest u64.
 #[derive(Debug, Drop)]
 pub struct NoDisk {
     faults: u64,

@@ -9,8 +9,9 @@ use sx_base::{Failed, Sink};
 // So often a call is made again that a signal interrupts.
 const TRIES: u64 = 1000;
 
-/// A stream of the system that takes bytes, as standard output. It tells nothing of them. Each `Failed` raises its count
-/// of faults, which ends at the greatest u64. A write that a signal interrupts is made again.
+/// A stream of the system that takes bytes, as standard output. It tells nothing of them. Each
+/// `Failed` raises its count of faults, which ends at the greatest u64. A write that a signal
+/// interrupts is made again.
 #[derive(Debug, Drop)]
 pub struct OutSink<W> {
     stream: W,

@@ -23,24 +23,28 @@ const TRIES: u64 = 1000;
 // What is wrong with moving a pipe, and with opening it again.
 const READ_ONCE: &str = "it can be read only once";
 
-/// Files of the system, named by their paths. They tell nothing of their bytes, and keep nothing of what was asked. Each `Failed` raises the count of faults, and
-/// each `Ended` that of ends; both end at the greatest u64. Of the last end the name and the place are kept; where there is no
+/// Files of the system, named by their paths. They tell nothing of their bytes, and keep nothing of
+/// what was asked. Each `Failed` raises the count of faults, and each `Ended` that of ends; both
+/// end at the greatest u64. Of the last end the name and the place are kept; where there is no
 /// memory for the name, `Failed` is answered in its place.
 ///
-/// The 16 files that were asked for last stay open, each with its place, and one is moved only where the place that is asked
-/// for is not the one at which it stands. A file that is opened again is always moved. A pipe, a terminal, or whatever else is
-/// neither a regular file nor a block device can be read in order, and only once: moving it is a fault, and so is opening it
-/// again, also by another name. The second opening is not tried, since it could wait for ever for who writes into the pipe.
+/// The 16 files that were asked for last stay open, each with its place, and one is moved only
+/// where the place that is asked for is not the one at which it stands. A file that is opened again
+/// is always moved. A pipe, a terminal, or whatever else is neither a regular file nor a block
+/// device can be read in order, and only once: moving it is a fault, and so is opening it again,
+/// also by another name. The second opening is not tried, since it could wait for ever for who
+/// writes into the pipe.
 ///
-/// Opening a file takes no time that grows with those before but for the steps of a search in an ordered set. Memory grows with
-/// the files that were opened, and with nothing else.
+/// Opening a file takes no time that grows with those before but for the steps of a search in an
+/// ordered set. Memory grows with the files that were opened, and with nothing else.
 #[derive(Debug, Drop)]
 pub struct PathInputs<'a, R: Files> {
     files: &'a R,
     alloc: Global,
     // The names of all files that were opened so far.
     names: BTreeSet<String>,
-    // The device and the inode of each file among them that can be read only once: they are the same under all its names.
+    // The device and the inode of each file among them that can be read only once: they are the
+    // same under all its names.
     read_once: BTreeSet<(u64, u64)>,
     // The file that was asked for last stands first.
     open: Vec<OpenInput<R::File>>,
@@ -89,7 +93,8 @@ impl<'a, R: Files> PathInputs<'a, R> {
         }
     }
 
-    /// The name of the file that the system failed last at; none where it did not, or there was no memory for it.
+    /// The name of the file that the system failed last at; none where it did not, or there was no
+    /// memory for it.
     pub fn failed_name(&self) -> Option<&str> {
         match &self.failed {
             Some(failed) => Some(failed.name.as_str()),
@@ -116,7 +121,8 @@ impl<'a, R: Files> PathInputs<'a, R> {
         }
     }
 
-    // Fills the buffer from the place on, as far as the file goes, and gives how many bytes there were.
+    // Fills the buffer from the place on, as far as the file goes, and gives how many bytes there
+    // were.
     fn fill(&mut self, name: &str, at: u64, buf: &mut [u8]) -> io::Result<usize>
         ensures bound { IfOk result (λ count. count ≤ length buf.new) }
         ensures faults { self.new.faults ≡ self.old.faults }

@@ -23,9 +23,9 @@ use std::rt::Files;
 use std::{env, fs, io};
 use sx_base::{Blob, Disk, Inputs, MemSink, Outcome, Sink, escape_into, write_whole};
 
-/// Does what the words after the program's name ask for, over the files and standard streams of the system, and gives the
-/// status to end with. A lone `--help` or `--version` is answered here. A standard stream that is closed fails as one that cannot be
-/// written, and no file takes its place.
+/// Does what the words after the program's name ask for, over the files and standard streams of the
+/// system, and gives the status to end with. A lone `--help` or `--version` is answered here. A
+/// standard stream that is closed fails as one that cannot be written, and no file takes its place.
 pub fn start(rt: &HostRuntime) -> ExitCode {
     let held = StandardFiles::hold(rt);
     let mut out = OutSink::new(rt.stdout());
@@ -71,8 +71,8 @@ fn run_over<O: Sink, N: Sink>(
     }
 }
 
-// Answers words whose output is barred: what is wrong with the words, the store or the snapshot comes first. Nothing is read of the
-// files, and nothing is changed.
+// Answers words whose output is barred: what is wrong with the words, the store or the snapshot
+// comes first. Nothing is read of the files, and nothing is changed.
 fn run_barred<N: Sink>(
     rt: &HostRuntime,
     words: &[String],
@@ -87,8 +87,8 @@ fn run_barred<N: Sink>(
     }
 }
 
-// Runs words that change no store without files and without an output. If they end because of that, the answer is that the output is
-// barred; else it is what the run says.
+// Runs words that change no store without files and without an output. If they end because of that,
+// the answer is that the output is barred; else it is what the run says.
 fn run_unread<N: Sink, D: Disk + Drop>(
     rt: &HostRuntime,
     words: &[String],
@@ -163,7 +163,8 @@ fn open_store(rt: &HostRuntime, words: &[String]) -> Opened {
     }
 }
 
-// Runs the words over the files of the system and a disk. If the store could not be opened, `why` says why.
+// Runs the words over the files of the system and a disk. If the store could not be opened, `why`
+// says why.
 fn run_on<O: Sink, N: Sink, D: Disk + Drop>(
     rt: &HostRuntime,
     words: &[String],
@@ -213,7 +214,8 @@ fn run_words<I: Inputs, O: Sink, N: Sink, D: Disk>(
     Ok(run(alloc, words, guards, inputs, out, notes, disk))
 }
 
-// A run that is over: its words, its status, and why the store could not be opened, if it could not. And where memory comes from.
+// A run that is over: its words, its status, and why the store could not be opened, if it could
+// not. And where memory comes from.
 #[derive(Debug, Drop)]
 struct EndedRun<'a> {
     alloc: Global,
@@ -340,8 +342,8 @@ fn run_shown<D: Disk + Drop>(
     Ok(status)
 }
 
-// What to begin with if standard error is a terminal; nothing if there is no clock or no memory, and for words that name neither a file
-// nor a store.
+// What to begin with if standard error is a terminal; nothing if there is no clock or no memory,
+// and for words that name neither a file nor a store.
 fn what_to_show(rt: &HostRuntime, words: &[String]) -> Option<Shown> {
     if !rt.stderr().is_terminal() {
         return None;

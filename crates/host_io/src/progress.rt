@@ -13,7 +13,8 @@ use std::cell::RefCell;
 use std::rt::Clock;
 use sx_base::{Failed, Inputs, Lost, Sink};
 
-/// How much was read: the number of the pass, the bytes read in it, and whether a file has ended in it.
+/// How much was read: the number of the pass, the bytes read in it, and whether a file has ended in
+/// it.
 #[derive(Debug, Clone, Copy)]
 pub struct Tally {
     pass: u64,
@@ -35,8 +36,9 @@ impl Tally {
         }
     }
 
-    /// Counts a read, which may have begun at place 0 of the first file, and may have met the end of its file. The first begins
-    /// the next pass where a file has ended in this one. Numbers end at the greatest u64.
+    /// Counts a read, which may have begun at place 0 of the first file, and may have met the end
+    /// of its file. The first begins the next pass where a file has ended in this one. Numbers end
+    /// at the greatest u64.
     pub fn count(&mut self, at_start: bool, at_end: bool, count: usize)
         ensures pass { self.new.pass ≡ next_pass at_start self.old.ended self.old.pass }
         ensures done { self.new.done ≡ next_done at_start self.old.ended count self.old.done }
@@ -51,9 +53,10 @@ impl Tally {
     }
 }
 
-/// Inputs that say on a terminal how far a run is, once it goes on for more than two seconds. What is read is what the inner
-/// inputs give, and the counts of faults and of ends, the last end and what was asked are theirs; faults of the clock and of the terminal, and
-/// want of memory for a line, only leave lines out.
+/// Inputs that say on a terminal how far a run is, once it goes on for more than two seconds. What
+/// is read is what the inner inputs give, and the counts of faults and of ends, the last end and
+/// what was asked are theirs; faults of the clock and of the terminal, and want of memory for a
+/// line, only leave lines out.
 ///
 /// A pass is counted by what `read_at` gives. What `read_again` gives was counted before.
 #[derive(Debug, Drop)]
@@ -75,7 +78,8 @@ impl<'a, I: Inputs, C: Clock, S: Sink> Progress<'a, I, C, S> {
         &self.inputs
     }
 
-    /// Of the inputs nothing was read yet. `first` is the file that each pass reads first, and `all` the bytes of all files.
+    /// Of the inputs nothing was read yet. `first` is the file that each pass reads first, and
+    /// `all` the bytes of all files.
     pub fn new(
         inputs: I,
         clock: &'a C,

@@ -15,7 +15,8 @@ const BEFORE: u64 = 2000;
 // So many milliseconds stand between a line and the next one.
 const BETWEEN: u64 = 200;
 
-/// A line on a terminal that is written over again, and taken back at the end. Times are milliseconds of one clock.
+/// A line on a terminal that is written over again, and taken back at the end. Times are
+/// milliseconds of one clock.
 #[derive(Debug, Drop)]
 pub struct Screen<S> {
     sink: S,
@@ -26,7 +27,8 @@ pub struct Screen<S> {
 }
 
 impl<S: Sink> Screen<S> {
-    /// A terminal that shows nothing, and will show nothing for the first two seconds from `began` on.
+    /// A terminal that shows nothing, and will show nothing for the first two seconds from `began`
+    /// on.
     pub fn new(sink: S, began: u64) -> Screen<S>
         ensures sink { result.sink ≡ sink }
         ensures next { result.next ≡ min (began + 2000) (2 ^ 64 - 1) }
@@ -39,8 +41,9 @@ impl<S: Sink> Screen<S> {
         }
     }
 
-    /// Says how far a run is: the terminal takes its line for this, or a part of it where the sink's count of faults rose; the
-    /// next one may come a fifth of a second later. Nothing where it is too early, or with an error that there is no memory.
+    /// Says how far a run is: the terminal takes its line for this, or a part of it where the
+    /// sink's count of faults rose; the next one may come a fifth of a second later. Nothing where
+    /// it is too early, or with an error that there is no memory.
     pub fn say(&mut self, alloc: Global, now: u64, how_far: &HowFar<'_>) -> Result<(), AllocError>
         ensures early { now < self.old.next → self.new ≡ self.old }
         ensures says { Shows (S.taken self.old.sink) (S.taken self.new.sink)
@@ -66,8 +69,9 @@ impl<S: Sink> Screen<S> {
         Ok(())
     }
 
-    /// Writes the line, or nothing where it is too early; the next one may come a fifth of a second later. `Failed` comes only
-    /// where the sink's count of faults rose; it then took a proper prefix of the line.
+    /// Writes the line, or nothing where it is too early; the next one may come a fifth of a second
+    /// later. `Failed` comes only where the sink's count of faults rose; it then took a proper
+    /// prefix of the line.
     pub fn show(&mut self, now: u64, line: &[u8]) -> Result<(), Failed>
         ensures early { now < self.old.next → self.new ≡ self.old }
         ensures next { self.old.next ≤ now → self.new.next ≡ min (now + 200) (2 ^ 64 - 1) }
@@ -86,8 +90,9 @@ impl<S: Sink> Screen<S> {
         write_whole(&mut self.sink, line)
     }
 
-    /// Takes the line back, where one may stand there, and lets none come after it. `Failed` comes only where the sink's count of
-    /// faults rose; it then took a proper prefix of what takes the line back.
+    /// Takes the line back, where one may stand there, and lets none come after it. `Failed` comes
+    /// only where the sink's count of faults rose; it then took a proper prefix of what takes the
+    /// line back.
     pub fn end(&mut self) -> Result<(), Failed>
         ensures gone { self.new.shown ≡ false }
         ensures over { self.new.next ≡ 2 ^ 64 - 1 }
@@ -114,8 +119,8 @@ impl<S: Sink> Screen<S> {
     }
 }
 
-/// A sink that has the line of a terminal taken back before it takes bytes, after which none comes any more. What it takes and
-/// its faults are those of the inner sink.
+/// A sink that has the line of a terminal taken back before it takes bytes, after which none comes
+/// any more. What it takes and its faults are those of the inner sink.
 #[derive(Debug, Drop)]
 pub struct AfterLine<'a, O, S> {
     inner: O,
@@ -142,7 +147,8 @@ impl<'a, O: Sink, S: Sink> Sink for AfterLine<'a, O, S> {
     }
 }
 
-/// Takes the line of a terminal back, and lets none come after it. Faults of the terminal are passed over.
+/// Takes the line of a terminal back, and lets none come after it. Faults of the terminal are
+/// passed over.
 pub fn end_line<S: Sink>(screen: &RefCell<Screen<S>>) {
     if let Ok(mut screen) = screen.try_borrow_mut() {
         let _ = screen.end();
