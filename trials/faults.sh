@@ -747,7 +747,7 @@ for word in export compose; do
 done
 
 for words in 'compose:2' 'compose none:2' 'send closed-store:2' 'restore:2' 'send nostore a:5' 'export nostore small:5' \
-    'send store-other a:6' 'restore closed-store z:8' 'compose none missing:3'; do
+    'send store-other a:6' 'restore closed-store z:8' 'compose none missing:4'; do
     on_terminal ${words%:*}
     case_is "on a terminal another status comes first: ${words%:*}" "$([ "$status" = "${words##*:}" ] || echo "status $status")"
 done
