@@ -604,6 +604,17 @@ while [ $call -lt 100 ]; do
 done
 composed "each of $((call - 1)) reads of a store fails once while composing" second
 
+# ---- a file of 2^50 runs, and a reader that goes away
+
+rm -f doubled-store; "$program" init doubled-store
+run receive doubled-store doubled; case_is 'a file of 2^50 runs is received' "$([ "$status" = 0 ] || echo "status $status")"
+: >out
+for word in send restore; do
+    (timeout 20 "$program" $word doubled-store a 2>note; echo $? >ended) | head -c 100000 >/dev/null
+    status=$(cat ended)
+    refused "$word of it ends with its reader" 4 'output fault'
+done
+
 # ---- closed standard descriptors
 
 # Runs the program with some of the descriptors 0, 1 and 2 closed: bit N of the first argument closes descriptor N.
