@@ -28,6 +28,7 @@ trial() {
 
 trial words.sh "$here/words.sh"
 trial manual.sh "$here/manual.sh"
+trial levels.sh "$here/levels.sh"
 trial readme.sh "$here/readme.sh" "$program"
 trial launcher.sh "$here/launcher.sh" "$program"
 trial folder.sh "$here/folder.sh" "$here/../docs" "$program"
